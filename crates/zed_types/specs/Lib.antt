@@ -1,0 +1,6 @@
+pub mod Lending
+pub mod Names
+pub mod Register
+pub mod Stamp
+pub mod Table
+pub mod Text

@@ -1,0 +1,21 @@
+-- The table of a board: its places row after row.
+use Rattle.std.specs.Prelude.{ℕ, ◌+◌, ◌*◌, ◌-◌, ◌/◌, ◌%◌, Bool, ◌&&◌, nat_le, List, [], ◌∷◌}
+use Rattle.zed_types.specs.declared.tile.Place.{Place}
+use Rattle.zed_types.specs.declared.tile.Rectangle.{Rectangle}
+
+-- whether a place is in a rectangle
+abbrev pub is_inside : Rectangle → Place → Bool
+is_inside r p = (nat_le r.left p.x && nat_le p.x r.right) && (nat_le r.top p.y && nat_le p.y r.bottom)
+
+-- the place of tile i of a table
+abbrev pub place_at : ℕ → Place
+place_at i = record { x = i % 60 + 1; y = i / 60 + 1 }
+
+-- which tile of the table stands at a place of it
+abbrev pub index_of : Place → ℕ
+index_of p = (p.y - 1) * 60 + (p.x - 1)
+
+-- f of the number and the value of each member, numbered from i
+abbrev pub map_from : {X Y : Type 0} → (ℕ → X → Y) → ℕ → List X → List Y
+map_from f i [] = []
+map_from f i (x ∷ xs) = f i x ∷ map_from f (i + 1) xs

@@ -1,0 +1,27 @@
+//! The words that every crate of the editor shares: stamps, the names of things, tiles, registers and what they are set to,
+//! the bytes of texts, and limits. Nothing here takes memory but copies.
+#![tactic(auto)]
+
+mod bytes;
+mod header;
+mod limits;
+mod names;
+mod property;
+mod seq;
+mod stamp;
+mod stat_field;
+mod text;
+mod tile;
+mod written;
+
+pub use bytes::Bytes;
+pub use header::{FlagSlot, HeaderNumber, HeaderSetting, KeyColour};
+pub use limits::{BOARDS_LIMIT, BODY_LIMIT, READ_BODY_LIMIT, STATS_LIMIT};
+pub use names::{BoardId, ElemId, StatId, TextId};
+pub use property::{BoardByte, BoardFlag, BoardSetting, BoardText, Side};
+pub use seq::Seq;
+pub use stamp::{Stamp, one_order};
+pub use stat_field::{StatByte, StatFields, StatNumber, StatSetting, ThirdParameter};
+pub use text::{ByteRange, TextElement};
+pub use tile::{COLUMNS, Place, ROWS, Rectangle, TILES, Tile};
+pub use written::Written;

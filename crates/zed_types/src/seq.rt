@@ -1,0 +1,69 @@
+ghost use Rattle.std.specs.Prelude.{◌≡◌, [], ◌∷◌, ◌++◌, OnOk, OnErr, length, take, drop, ◌≤◌};
+ghost use Rattle.std.specs.Borrow.{sem};
+ghost use Rattle.zed_types.specs.Lending.{LendsElements};
+
+use std::alloc::{AllocError, Global};
+use std::marker::Model;
+
+/// A list of values, which contracts see as a list.
+#[derive(Debug, Drop)]
+pub struct Seq<T> {
+    items: Vec<T>,
+}
+
+impl<T> Model for Seq<T> {
+    ghost use Rattle.std.specs.Prelude.{List};
+
+    ghost Value = { List T };
+
+    ghost view = { λ s. s.items.items };
+}
+
+impl<T: Drop> Seq<T> {
+    /// The empty list, which takes no memory.
+    pub fn new(alloc: Global) -> Seq<T>
+        ensures { result ≡ [] }
+    {
+        Seq {
+            items: Vec::new(alloc),
+        }
+    }
+
+    /// The elements of a vector, which takes no memory.
+    pub fn from_vec(items: Vec<T>) -> Seq<T>
+        ensures { result ≡ items.items }
+    {
+        Seq { items }
+    }
+
+    pub fn as_slice(&self) -> &[T]
+        ensures { result.now ≡ self.now }
+    {
+        self.items.as_slice()
+    }
+
+    pub fn as_mut_slice(&mut self) -> &mut [T]
+        ensures* writes_back { sem 𝓛 (LendsElements T.row self.entry result) }
+        ensures value { result.now ≡ self.old }
+    {
+        self.items.as_mut_slice()
+    }
+
+    /// Puts an element before the element `i`.
+    pub fn insert(&mut self, i: usize, x: T) -> Result<(), AllocError>
+        requires { i ≤ length self.old }
+        ensures ok { OnOk result (self.new ≡ take i self.old ++ x ∷ drop i self.old) }
+        ensures err { OnErr result (self.new ≡ self.old) }
+    {
+        self.items.insert(i, x)?;
+        Ok(())
+    }
+
+    pub fn push(&mut self, x: T) -> Result<(), AllocError>
+        ensures ok { OnOk result (self.new ≡ self.old ++ x ∷ []) }
+        ensures err { OnErr result (self.new ≡ self.old) }
+    {
+        self.items.push(x)?;
+        Ok(())
+    }
+}

@@ -1,0 +1,18 @@
+use crate::names::ElemId;
+use crate::stamp::Stamp;
+
+/// A byte of a text, under its name. A deleted one stays as a tombstone: it is no longer alive.
+#[derive(Clone, Copy, Debug, PartialEq, Eq)]
+pub struct TextElement {
+    pub id: ElemId,
+    pub byte: u8,
+    pub alive: bool,
+}
+
+/// Bytes `first` to `last`, both included, of the insertion with this stamp.
+#[derive(Clone, Copy, Debug, PartialEq, Eq)]
+pub struct ByteRange {
+    pub stamp: Stamp,
+    pub first: u32,
+    pub last: u32,
+}

@@ -1,0 +1,41 @@
+/// Columns of a board's table.
+pub const COLUMNS: usize = 60;
+
+/// Rows of a board's table.
+pub const ROWS: usize = 25;
+
+/// Tiles of a board's table, row after row.
+pub const TILES: usize = 1500;
+
+const _: () = prove!(TILES == COLUMNS * ROWS);
+
+/// What stands at one place of a board.
+#[derive(Clone, Copy, Debug, PartialEq, Eq, PartialOrd, Ord, Hash, Default)]
+pub struct Tile {
+    pub element: u8,
+    pub colour: u8,
+}
+
+impl Tile {
+    /// Nothing at all.
+    pub const EMPTY: Tile = Tile {
+        element: 0,
+        colour: 0,
+    };
+}
+
+/// A place of a board: column 1 to 60 and row 1 to 25 are in the table, all others are outside.
+#[derive(Clone, Copy, Debug, PartialEq, Eq, PartialOrd, Ord, Hash)]
+pub struct Place {
+    pub x: u8,
+    pub y: u8,
+}
+
+/// The places in columns `left` to `right` and rows `top` to `bottom`, all included.
+#[derive(Clone, Copy, Debug, PartialEq, Eq)]
+pub struct Rectangle {
+    pub left: u8,
+    pub top: u8,
+    pub right: u8,
+    pub bottom: u8,
+}
