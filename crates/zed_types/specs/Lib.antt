@@ -1,3 +1,4 @@
+pub mod Elements
 pub mod Lending
 pub mod Names
 pub mod Register

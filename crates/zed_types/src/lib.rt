@@ -3,7 +3,9 @@
 #![tactic(auto)]
 
 mod bytes;
+mod elements;
 mod header;
+mod kind;
 mod limits;
 mod names;
 mod property;
@@ -15,7 +17,9 @@ mod tile;
 mod written;
 
 pub use bytes::Bytes;
+pub use elements::element;
 pub use header::{FlagSlot, HeaderNumber, HeaderSetting, KeyColour};
+pub use kind::{Element, Look, Push};
 pub use limits::{BOARDS_LIMIT, BODY_LIMIT, READ_BODY_LIMIT, STATS_LIMIT};
 pub use names::{BoardId, ElemId, StatId, TextId};
 pub use property::{BoardByte, BoardFlag, BoardSetting, BoardText, Side};
@@ -25,3 +29,6 @@ pub use stat_field::{StatByte, StatFields, StatNumber, StatSetting, ThirdParamet
 pub use text::{ByteRange, TextElement};
 pub use tile::{COLUMNS, Place, ROWS, Rectangle, TILES, Tile};
 pub use written::Written;
+
+#[cfg(test)]
+mod tests;

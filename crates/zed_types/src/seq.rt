@@ -59,6 +59,20 @@ impl<T: Drop> Seq<T> {
         Ok(())
     }
 
+    /// Puts elements before the element `i`.
+    pub fn insert_all(&mut self, i: usize, xs: Vec<T>) -> Result<(), AllocError>
+        requires { i ≤ length self.old }
+        ensures ok { OnOk result (self.new ≡ take i self.old ++ (xs.items ++ drop i self.old)) }
+        ensures err { OnErr result (self.new ≡ self.old) }
+    {
+        let mut run = xs;
+        self.items.reserve(run.len())?;
+        let mut tail = self.items.split_off(i)?;
+        self.items.append(&mut run).unwrap();
+        self.items.append(&mut tail).unwrap();
+        Ok(())
+    }
+
     pub fn push(&mut self, x: T) -> Result<(), AllocError>
         ensures ok { OnOk result (self.new ≡ self.old ++ x ∷ []) }
         ensures err { OnErr result (self.new ≡ self.old) }

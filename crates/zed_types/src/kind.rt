@@ -1,0 +1,30 @@
+/// Which way an element may be pushed.
+#[derive(Clone, Copy, Debug, PartialEq, Eq)]
+pub enum Push {
+    Not,
+    Any,
+    NorthSouth,
+    EastWest,
+}
+
+/// What is shown where an element stands: this project's own characters, not ZZT's graphics.
+#[derive(Clone, Copy, Debug, PartialEq, Eq)]
+pub enum Look {
+    Character(u8),
+    /// The first parameter of the lowest stat there.
+    FirstParameter,
+    /// The colour byte of the tile: a letter of a text.
+    Colour,
+}
+
+/// A kind of tile.
+#[derive(Clone, Copy, Debug)]
+pub struct Element {
+    /// Its word in ZZT-OOP; empty where it has none.
+    pub word: &'static str,
+    pub look: Look,
+    /// Whether the player and creatures may go there.
+    pub walkable: bool,
+    pub push: Push,
+    pub destructible: bool,
+}
