@@ -1,0 +1,12 @@
+use thiserror::Error;
+
+/// Why runs can't be written or read.
+#[derive(Clone, Copy, Debug, PartialEq, Eq, Error)]
+pub enum RunsError {
+    /// A growth was refused.
+    #[error("out of memory")]
+    Memory,
+    /// The bytes end before the runs fill a board.
+    #[error("the runs end before the board is full")]
+    Truncated,
+}
