@@ -1,0 +1,17 @@
+pub mod Steps
+pub mod Binds
+pub mod Tiles
+pub mod Adding
+pub mod Writable
+pub mod FieldsAgain
+pub mod StatAgain
+pub mod ItemsAgain
+pub mod BoardAgain
+pub mod HeaderAgain
+pub mod WorldAgain
+pub mod ReadNormal
+pub mod Places
+pub mod CodesByPlace
+pub mod StatsByPlace
+pub mod FilesByPlace
+pub mod Rewritten

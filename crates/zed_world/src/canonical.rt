@@ -1,0 +1,27 @@
+ghost use Rattle.std.specs.Prelude.{◌≡◌, ◌↔◌, IsTrue, IfOk, IfErr};
+ghost use Rattle.zed_world.specs.Canonical.{IsCanonical};
+
+use crate::error::WorldError;
+use crate::reading::read_world;
+use crate::writing::write_world;
+use std::alloc::Global;
+use zed_types::READ_BODY_LIMIT;
+
+/// Whether the bytes are a world file just as `write_world` makes it: they are read, and writing what was read gives them back.
+///
+/// A file that is read with leniency isn't canonical, nor one with bytes behind its last board. `Memory` is the only refusal.
+pub fn is_canonical(alloc: Global, bytes: &[u8]) -> Result<bool, WorldError>
+    ensures exact { IfOk result (λ is. IsTrue is ↔ IsCanonical bytes.now) }
+    ensures memory { IfErr result (λ e. e ≡ WorldError.Memory) }
+{
+    let world = match read_world(alloc, bytes) {
+        Ok(world) => world,
+        Err(WorldError::Memory) => return Err(WorldError::Memory),
+        Err(_) => return Ok(false),
+    };
+    match write_world(alloc, &world, READ_BODY_LIMIT) {
+        Ok(text) => Ok(text.as_slice() == bytes),
+        Err(WorldError::Memory) => Err(WorldError::Memory),
+        Err(_) => Ok(false),
+    }
+}

@@ -1,0 +1,31 @@
+//! World files of ZZT 3.2: the values that stand in them, how they are read and how they are written. docs/FORMATS.md has the
+//! layout.
+#![tactic(auto)]
+
+mod blocks;
+mod board;
+mod boards;
+mod canonical;
+mod error;
+mod fields;
+mod header;
+mod laws;
+mod put;
+mod reading;
+mod stat;
+mod stats;
+mod world;
+mod writing;
+
+pub use board::{BoardData, Properties};
+pub use canonical::is_canonical;
+pub use error::WorldError;
+pub use header::Header;
+pub use laws::{files_are_read_by_place, read_is_normal, written_is_read};
+pub use reading::read_world;
+pub use stat::{Code, StatData};
+pub use world::World;
+pub use writing::write_world;
+
+#[cfg(test)]
+mod tests;

@@ -1,0 +1,7 @@
+mod building;
+mod faults;
+mod growths;
+mod largest;
+mod leniency;
+mod random;
+mod sizes;

@@ -1,0 +1,53 @@
+ghost use Rattle.std.specs.Prelude.{◌≡◌};
+ghost use Rattle.zed_world.specs.Normal.{IsNormal};
+
+use crate::board::BoardData;
+use crate::header::Header;
+use std::marker::Model;
+use zed_types::Seq;
+
+/// A world that can stand in a file: each number, string and list fits its field, and each board, stat and program that it names
+/// is there. Contracts see its header and the list of its boards.
+#[derive(Debug, Drop)]
+pub struct World {
+    header: Header,
+    boards: Seq<BoardData>,
+}
+
+impl Model for World {
+    ghost use Rattle.zed_world.specs.Contents.{Contents};
+
+    ghost Value = { Contents };
+
+    ghost use Rattle.zed_world.specs.Normal.{IsNormal};
+
+    ghost view = { λ a. record { header = a.header; boards = a.boards } };
+
+    ghost invariant = { λ a. IsNormal (record { header = a.header; boards = a.boards }) };
+}
+
+impl World {
+    /// A world of these boards, the title first.
+    pub fn new(header: Header, boards: Seq<BoardData>) -> World
+        requires { IsNormal (record { header = header; boards = boards }) }
+        ensures { result ≡ record { header = header; boards = boards } }
+    {
+        World { header, boards }
+    }
+
+    /// What stands in front of the boards.
+    pub fn header(&self) -> &Header
+        ensures is { result.now ≡ self.now.header }
+        ensures normal { IsNormal self.now }
+    {
+        &self.header
+    }
+
+    /// The boards, 1 to 101, the title first.
+    pub fn boards(&self) -> &[BoardData]
+        ensures are { result.now ≡ self.now.boards }
+        ensures normal { IsNormal self.now }
+    {
+        self.boards.as_slice()
+    }
+}

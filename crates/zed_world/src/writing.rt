@@ -1,0 +1,124 @@
+ghost use Rattle.std.specs.Prelude.{◌≡◌, ℕ, ◌+◌, ◌<◌, ◌≤◌, ◌++◌, ◌⊎◌, None, Some, length, FitsSigned, OnOk, IfOk, IfErr};
+ghost use Rattle.std.specs.Int.{w16};
+ghost use Rattle.std.specs.List.{flat_map, AllByRecursion};
+ghost use Rattle.zed_world.specs.Reading.{Gives, world_at};
+ghost use Rattle.zed_world.specs.Writing.{code_length, stat_text, body_text, board_text, first_over, written};
+ghost use Rattle.zed_world.specs.Normal.{IsWritable, IsNormal};
+ghost use Rattle.zed_world.specs.Canonical.{IsCanonical};
+
+use crate::board::BoardData;
+use crate::error::WorldError;
+use crate::laws::written_is_read;
+use crate::put::{put_header, put_number, put_properties, put_stat, put_string};
+use crate::stat::StatData;
+use crate::world::World;
+use byteorder::{ByteOrder, LittleEndian};
+use std::alloc::{AllocError, Global};
+use zed_runs::write_runs;
+
+fn put_stats(out: &mut Vec<u8>, stats: &[StatData]) -> Result<(), AllocError>
+    requires { AllByRecursion (λ s. FitsSigned w16 (code_length s.code)) stats.now }
+    ensures { OnOk result (out.new.items ≡ out.old.items ++ flat_map stat_text stats.now) }
+{
+    for stat in stats {
+        put_stat(out, stat)?;
+    }
+    Ok(())
+}
+
+/// Appends the body of a board.
+#[tactic(auto, unfolding(crate::specs::Writing::body_text))]
+fn put_body(out: &mut Vec<u8>, board: &BoardData) -> Result<(), AllocError>
+    requires { IsWritable board.now }
+    ensures { OnOk result (out.new.items ≡ out.old.items ++ body_text board.now) }
+{
+    put_string(out, 50, &board.name)?;
+    if write_runs(&board.tiles, out).is_err() {
+        return Err(AllocError);
+    }
+    put_properties(out, &board.properties)?;
+    let stats = board.stats.as_slice();
+    put_number(out, (stats.len() - 1) as u8)?;
+    put_stats(out, stats)
+}
+
+/// Appends a board, if its body isn't over the limit.
+#[tactic(auto, unfolding(crate::specs::Writing::board_text))]
+fn put_board(
+    alloc: Global,
+    out: &mut Vec<u8>,
+    limit: usize,
+    number: usize,
+    board: &BoardData,
+) -> Result<(), WorldError>
+    requires writable { IsWritable board.now }
+    requires limit { limit ≤ 32767 }
+    ensures within { OnOk result (length (body_text board.now) ≤ limit) }
+    ensures ok { OnOk result (out.new.items ≡ out.old.items ++ board_text board.now) }
+    ensures err { IfErr result (λ e. (e ≡ WorldError.Memory) ⊎ ((limit < length (body_text board.now)) × (e ≡ WorldError.BoardOver number (length (body_text board.now))))) }
+{
+    let mut body = Vec::new(alloc);
+    put_body(&mut body, board)?;
+    let bytes = body.len();
+    if limit < bytes {
+        return Err(WorldError::BoardOver {
+            board: number,
+            bytes,
+        });
+    }
+    let mut size = [0; 2];
+    LittleEndian::write_u16(&mut size, bytes as u16);
+    out.extend_from_slice(&size)?;
+    out.extend_from_slice(&body)?;
+    Ok(())
+}
+
+/// Appends the boards, if no body is over the limit.
+fn put_boards(
+    alloc: Global,
+    out: &mut Vec<u8>,
+    limit: usize,
+    boards: &[BoardData],
+) -> Result<(), WorldError>
+    requires writable { AllByRecursion IsWritable boards.now }
+    requires limit { limit ≤ 32767 }
+    ensures within { OnOk result (first_over limit 0 boards.now ≡ None) }
+    ensures ok { OnOk result (out.new.items ≡ out.old.items ++ flat_map board_text boards.now) }
+    ensures err { IfErr result (λ e. (e ≡ WorldError.Memory) ⊎ (first_over limit 0 boards.now ≡ Some e)) }
+{
+    for (number, board) in boards.iter().enumerate() {
+        put_board(alloc, out, limit, number, board)?;
+    }
+    Ok(())
+}
+
+#[tactic(auto, unfolding(crate::specs::Writing::written, crate::specs::Writing::world_text))]
+fn text_of(alloc: Global, world: &World, limit: usize) -> Result<Vec<u8>, WorldError>
+    requires { limit ≤ 32767 }
+    ensures exact { Gives (λ v. v.items) result (written limit world.now) }
+    ensures normal { IsNormal world.now }
+{
+    let mut out = Vec::new(alloc);
+    let header = world.header();
+    let boards = world.boards();
+    put_header(&mut out, (boards.len() - 1) as u8, header)?;
+    put_boards(alloc, &mut out, limit, boards)?;
+    Ok(out)
+}
+
+/// Writes the one text of a world.
+///
+/// The limit is the most bytes that the body of a board may have, at most 32,767, which is the most that `read_world` takes.
+/// `BoardOver` for the first board whose body has more, with its number and how many; `Memory` where a growth was refused.
+/// Unused bytes and pointers are 0, flags are 0 or 1, runs are greedy, and a shared program stands with the stat that owns it.
+pub fn write_world(alloc: Global, world: &World, limit: usize) -> Result<Vec<u8>, WorldError>
+    requires { limit ≤ 32767 }
+    ensures exact { Gives (λ v. v.items) result (written limit world.now) }
+
+    // What is written is read again.
+    ensures back { IfOk result (λ v. world_at v.items ≡ Ok world.now) }
+    ensures canonical { IfOk result (λ v. IsCanonical v.items) }
+{
+    written_is_read();
+    text_of(alloc, world, limit)
+}
