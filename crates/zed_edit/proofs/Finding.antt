@@ -1,0 +1,65 @@
+-- Looking for a member of a list in parts, and counting those that are alive.
+use Rattle.std.proofs.Common.{◌≡◌, ℕ, ◌+◌, ◌<◌, Bool, true, false, cond, List, [], ◌∷◌, ◌++◌, length, map, filter, count_by, Option, Some, None, refl, drop, get_or, sym, ap, arith, suc, zero, not, ◌-◌, ◌∙◌, slice_get, add-one, drop-cons}
+use Rattle.std.proofs.lemmas.List.{length-map}
+use Rattle.std.proofs.lemmas.List.Folds.{find-append}
+use Rattle.std.proofs.lemmas.List.Sums.{length-filter}
+use Rattle.std.specs.List.{find, flat_map}
+use Rattle.zed_types.specs.declared.text.TextElement.{TextElement}
+use Rattle.zed_types.specs.Text.{alive_bytes}
+use Rattle.zed_edit.specs.declared.plain.Board.{Board}
+use Rattle.zed_edit.specs.declared.plain.Stat.{Stat}
+
+find-append_none : {X : Type 0} (q : X → Bool) (xs ys : List X) → find q xs ≡ None → find q (xs ++ ys) ≡ find q ys
+find-append_none q xs ys h = let e = find-append q xs ys in rw h at e
+
+find-append_some : {X : Type 0} (q : X → Bool) (xs ys : List X) (y : X) → find q xs ≡ Some y → find q (xs ++ ys) ≡ Some y
+find-append_some q xs ys y h = let e = find-append q xs ys in rw h at e
+
+-- a stat that is not on board i is on a later one
+pub find_further : (q : Stat → Bool) (bs : List Board) (i : ℕ) (d : Board) → i < length bs → find q (get_or bs i d).stats ≡ None → find q (flat_map (λ b. b.stats) (drop i bs)) ≡ find q (flat_map (λ b. b.stats) (drop (i + 1) bs))
+find_further q bs i d l h = rw (drop-cons bs i d l, add-one) (find-append_none q (get_or bs i d).stats (flat_map (λ b. b.stats) (drop (suc i) bs)) h)
+
+-- a stat that is on board i
+pub find_here : (q : Stat → Bool) (bs : List Board) (i : ℕ) (d : Board) (x : Stat) → i < length bs → find q (get_or bs i d).stats ≡ Some x → find q (flat_map (λ b. b.stats) (drop i bs)) ≡ Some x
+find_here q bs i d x l h = rw (drop-cons bs i d l) (find-append_some q (get_or bs i d).stats (flat_map (λ b. b.stats) (drop (suc i) bs)) x h)
+
+pub count_alive : (xs : List TextElement) → count_by (λ x. x.alive) xs ≡ length (alive_bytes xs)
+count_alive xs = sym (length-map (filter (λ x. x.alive) xs) (λ (x : TextElement). x.byte) ∙ length-filter (λ (x : TextElement). x.alive) xs)
+
+module _ {X : Type 0} (p : X → Bool) (xs : List X) (i : ℕ) (d : X) (l : i < length xs) where
+  nth-skip : (n : ℕ) → p (get_or xs i d) ≡ false → slice_get (filter p (drop i xs)) n ≡ slice_get (filter p (drop (i + 1) xs)) n
+  nth-skip n h = rw (drop-cons xs i d l, add-one) (rw h refl)
+
+  nth-here : p (get_or xs i d) ≡ true → slice_get (filter p (drop i xs)) 0 ≡ Some (get_or xs i d)
+  nth-here h = rw (drop-cons xs i d l) (rw h refl)
+
+  nth-further : (n : ℕ) → p (get_or xs i d) ≡ true → slice_get (filter p (drop i xs)) (suc n) ≡ slice_get (filter p (drop (i + 1) xs)) n
+  nth-further n h = rw (drop-cons xs i d l, add-one) (rw h refl)
+
+abbrev pub live_boards : List Board → List Board
+live_boards bs = filter (λ b. not b.removed) bs
+
+-- the number of a board among those that are not removed, one board further
+pub board_removed : (bs : List Board) (i : ℕ) (d : Board) (n : ℕ) → i < length bs → (get_or bs i d).removed ≡ true → slice_get (live_boards (drop i bs)) n ≡ slice_get (live_boards (drop (i + 1) bs)) n
+board_removed bs i d n l h = nth-skip (λ (b : Board). not b.removed) bs i d l n (rw h refl)
+
+pub board_here : (bs : List Board) (i : ℕ) (d : Board) → i < length bs → (get_or bs i d).removed ≡ false → slice_get (live_boards (drop i bs)) 0 ≡ Some (get_or bs i d)
+board_here bs i d l h = nth-here (λ (b : Board). not b.removed) bs i d l (rw h refl)
+
+pub board_further : (bs : List Board) (i : ℕ) (d : Board) (n : ℕ) → i < length bs → (get_or bs i d).removed ≡ false → 0 < n → slice_get (live_boards (drop i bs)) n ≡ slice_get (live_boards (drop (i + 1) bs)) (n - 1)
+board_further bs i d zero l h m = absurd (omega arith)
+board_further bs i d (suc n) l h m = let e : suc n - 1 ≡ n = omega arith in rw e (nth-further (λ (b : Board). not b.removed) bs i d l n (rw h refl))
+
+abbrev pub live_stats : List Stat → List Stat
+live_stats ss = filter (λ s. not s.removed) ss
+
+-- the number of a stat among those that are not removed, one stat further
+pub stat_removed : (ss : List Stat) (i : ℕ) (d : Stat) (n : ℕ) → i < length ss → (get_or ss i d).removed ≡ true → slice_get (live_stats (drop i ss)) n ≡ slice_get (live_stats (drop (i + 1) ss)) n
+stat_removed ss i d n l h = nth-skip (λ (s : Stat). not s.removed) ss i d l n (rw h refl)
+
+pub stat_here : (ss : List Stat) (i : ℕ) (d : Stat) → i < length ss → (get_or ss i d).removed ≡ false → slice_get (live_stats (drop i ss)) 0 ≡ Some (get_or ss i d)
+stat_here ss i d l h = nth-here (λ (s : Stat). not s.removed) ss i d l (rw h refl)
+
+pub stat_further : (ss : List Stat) (i : ℕ) (d : Stat) (n : ℕ) → i < length ss → (get_or ss i d).removed ≡ false → 0 < n → slice_get (live_stats (drop i ss)) n ≡ slice_get (live_stats (drop (i + 1) ss)) (n - 1)
+stat_further ss i d zero l h m = absurd (omega arith)
+stat_further ss i d (suc n) l h m = let e : suc n - 1 ≡ n = omega arith in rw e (nth-further (λ (s : Stat). not s.removed) ss i d l n (rw h refl))

@@ -1,0 +1,11 @@
+use Rattle.std.proofs.Common.{arith, cond}
+use Rattle.zed_types.specs.Names.{same_text}
+use Rattle.zed_types.specs.Text.{put_after, run_from}
+use Rattle.zed_edit.specs.declared.plain.Text.{Text}
+use Rattle.zed_edit.specs.Document.{change_elements}
+use Rattle.zed_edit.proofs.Tables.{map_over_at}
+use Rattle.zed_edit.proofs.text.insert_bytes.Goals as goal
+
+pub loop-x-preserved : goal.loop-x-preserved
+loop-x-preserved c =
+    map_over_at (λ (y : Text). cond (same_text y.id c.args.t) (change_elements (put_after c.args.after (run_from c.args.stamp 0 c.args.bytes.now)) y) y) c.args.texts.now c.loop-x.texts c.loop-x.x-index c.x-item.result c.insert_if.new.text (omega arith) c.loop-x.auto.texts c.loop-x.invariant c.in_ok-insert_if.ensures.put

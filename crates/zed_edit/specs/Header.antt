@@ -1,0 +1,78 @@
+-- The header of a document, and what a setting does to it.
+use Rattle.std.specs.Prelude.{ℕ, ℤ, pos, false, [], slice_set, replicate}
+use Rattle.zed_types.specs.declared.names.BoardId.{BoardId}
+use Rattle.zed_types.specs.declared.header.HeaderNumber.{HeaderNumber}
+use Rattle.zed_types.specs.declared.header.HeaderNumber.TheVariants.{Ammo, Gems, Health, Torches, TorchTicks, EnergizerTicks, Score, TimePassed, Hundredths}
+use Rattle.zed_types.specs.declared.header.KeyColour.{KeyColour}
+use Rattle.zed_types.specs.declared.header.KeyColour.TheVariants.{Blue, Green, Cyan, Red, Purple, Yellow, White}
+use Rattle.zed_types.specs.declared.header.FlagSlot.{FlagSlot}
+use Rattle.zed_types.specs.declared.header.FlagSlot.TheVariants.{First, Second, Third, Fourth, Fifth, Sixth, Seventh, Eighth, Ninth, Tenth}
+use Rattle.zed_types.specs.declared.header.HeaderSetting.{HeaderSetting}
+use Rattle.zed_types.specs.declared.header.HeaderSetting.TheVariants.{Number, Key, Saved, CurrentBoard, WorldName, Flag}
+use Rattle.zed_edit.specs.declared.plain.Header.{Header}
+
+-- the name of the title
+abbrev pub title : BoardId
+title = record { stamp = record { time = 1; replica = 0 }; index = 0 }
+
+-- a header of 0 and empty values
+abbrev pub empty_header : Header
+empty_header = record {
+  ammo = pos 0;
+  gems = pos 0;
+  health = pos 0;
+  torches = pos 0;
+  torch_ticks = pos 0;
+  energizer_ticks = pos 0;
+  score = pos 0;
+  time_passed = pos 0;
+  hundredths = pos 0;
+  keys = replicate 7 false;
+  saved = false;
+  current_board = title;
+  world_name = [];
+  flags = replicate 10 [];
+}
+
+-- which of the seven keys has a colour
+abbrev pub key_index : KeyColour → ℕ
+key_index Blue = 0
+key_index Green = 1
+key_index Cyan = 2
+key_index Red = 3
+key_index Purple = 4
+key_index Yellow = 5
+key_index White = 6
+
+-- which of the ten flags is in a slot
+abbrev pub flag_index : FlagSlot → ℕ
+flag_index First = 0
+flag_index Second = 1
+flag_index Third = 2
+flag_index Fourth = 3
+flag_index Fifth = 4
+flag_index Sixth = 5
+flag_index Seventh = 6
+flag_index Eighth = 7
+flag_index Ninth = 8
+flag_index Tenth = 9
+
+abbrev pub with_number : HeaderNumber → ℤ → Header → Header
+with_number Ammo n h = record h { ammo = n }
+with_number Gems n h = record h { gems = n }
+with_number Health n h = record h { health = n }
+with_number Torches n h = record h { torches = n }
+with_number TorchTicks n h = record h { torch_ticks = n }
+with_number EnergizerTicks n h = record h { energizer_ticks = n }
+with_number Score n h = record h { score = n }
+with_number TimePassed n h = record h { time_passed = n }
+with_number Hundredths n h = record h { hundredths = n }
+
+-- the register of a setting is overwritten
+abbrev pub set_header : HeaderSetting → Header → Header
+set_header (Number f n) h = with_number f n h
+set_header (Key k b) h = record h { keys = slice_set h.keys (key_index k) b }
+set_header (Saved b) h = record h { saved = b }
+set_header (CurrentBoard b) h = record h { current_board = b }
+set_header (WorldName s) h = record h { world_name = s }
+set_header (Flag k s) h = record h { flags = slice_set h.flags (flag_index k) s }

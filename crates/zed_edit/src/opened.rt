@@ -1,0 +1,260 @@
+// What stands in a world file, as it is in a document.
+
+ghost use Rattle.std.specs.Prelude.{◌≡◌, ◌+◌, ◌<◌, ◌≤◌, ◌^◌, length, is_some, option_map, IfOk, IfErr};
+ghost use Rattle.zed_types.specs.Table.{map_from};
+ghost use Rattle.zed_world.specs.Offsets.{is_passage_at};
+ghost use Rattle.zed_edit.specs.Genesis.{stat_of, text_of as name_of_text, exit_of as exit_to, header_of as header_in, properties_of as properties_in, own_program, programs_before as programs_below, text_number, parameter_of as parameter_in, opened_stat as stat_opened, opened_board as board_opened};
+
+use crate::cause::EditError;
+use crate::growth::of_growth;
+use crate::plain::{Board, Header, Properties, Stat};
+use std::alloc::Global;
+use zed_types::{
+    BoardId, Bytes, Seq, Stamp, StatFields, StatId, TILES, TextId, ThirdParameter, Tile,
+};
+use zed_world::{BoardData, Code, StatData};
+
+/// The element of a passage.
+const PASSAGE: u8 = 11;
+
+fn exit_of(stamp: Stamp, n: u8) -> Option<BoardId>
+    ensures { result ≡ exit_to stamp n }
+{
+    if n == 0 {
+        return None;
+    }
+    Some(BoardId {
+        stamp,
+        index: u32::from(n),
+    })
+}
+
+fn copy_of(bytes: &Bytes) -> Result<Bytes, EditError>
+    ensures is { IfOk result (λ copy. copy ≡ bytes.now) }
+    ensures memory { IfErr result (λ e. e ≡ EditError.Memory) }
+{
+    bytes.copy().map_err(of_growth)
+}
+
+fn flags_of(flags: &[Bytes]) -> Result<[Bytes; 10], EditError>
+    requires { length flags.now ≡ 10 }
+    ensures is { IfOk result (λ fs. fs ≡ flags.now) }
+    ensures memory { IfErr result (λ e. e ≡ EditError.Memory) }
+{
+    let [a, b, c, d, e, f, g, h, i, j] = flags else {
+        unreachable!()
+    };
+    Ok([
+        copy_of(a)?,
+        copy_of(b)?,
+        copy_of(c)?,
+        copy_of(d)?,
+        copy_of(e)?,
+        copy_of(f)?,
+        copy_of(g)?,
+        copy_of(h)?,
+        copy_of(i)?,
+        copy_of(j)?,
+    ])
+}
+
+pub(crate) fn header_of(stamp: Stamp, header: &zed_world::Header) -> Result<Header, EditError>
+    requires { length header.now.flags ≡ 10 }
+    ensures is { IfOk result (λ h. h ≡ header_in stamp header.now) }
+    ensures memory { IfErr result (λ e. e ≡ EditError.Memory) }
+{
+    let flags = flags_of(header.flags.as_slice())?;
+    Ok(Header {
+        ammo: header.ammo,
+        gems: header.gems,
+        health: header.health,
+        torches: header.torches,
+        torch_ticks: header.torch_ticks,
+        energizer_ticks: header.energizer_ticks,
+        score: header.score,
+        time_passed: header.time_passed,
+        hundredths: header.hundredths,
+        keys: header.keys,
+        saved: header.saved,
+        current_board: BoardId {
+            stamp,
+            index: u32::from(header.current_board),
+        },
+        world_name: copy_of(&header.name)?,
+        flags,
+    })
+}
+
+fn properties_of(
+    stamp: Stamp,
+    name: &Bytes,
+    properties: &zed_world::Properties,
+) -> Result<Properties, EditError>
+    ensures is { IfOk result (λ p. p ≡ properties_in stamp name.now properties.now) }
+    ensures memory { IfErr result (λ e. e ≡ EditError.Memory) }
+{
+    Ok(Properties {
+        name: copy_of(name)?,
+        max_shots: properties.max_shots,
+        dark: properties.dark,
+        north: exit_of(stamp, properties.north),
+        south: exit_of(stamp, properties.south),
+        west: exit_of(stamp, properties.west),
+        east: exit_of(stamp, properties.east),
+        re_enter: properties.re_enter,
+        message: copy_of(&properties.message)?,
+        start_x: properties.start_x,
+        start_y: properties.start_y,
+        time_limit: properties.time_limit,
+    })
+}
+
+/// Whether a stat has a program of its own.
+fn has_program(stat: &StatData) -> bool
+    ensures { result ≡ is_some (own_program stat.now) }
+{
+    matches!(stat.code, Code::Own(_))
+}
+
+/// How many of the first `n` stats have a program of their own.
+pub(crate) fn programs_before(n: usize, stats: &[StatData]) -> usize
+    ensures is { result ≡ programs_below n stats.now }
+    ensures few { result ≤ length stats.now }
+{
+    stats.iter().take(n).filter(|x| has_program(x)).count()
+}
+
+/// The text of stat `j` of a board whose first text has number `t`.
+fn text_of(stamp: Stamp, t: usize, stats: &[StatData], j: usize, code: &Code) -> Option<TextId>
+    requires stats { length stats.now ≤ 151 }
+    requires texts { t < 2 ^ 31 }
+    ensures { result ≡ option_map (name_of_text stamp) (text_number t stats.now j code.now) }
+{
+    let below = match code {
+        Code::None => return None,
+        Code::Own(_) => programs_before(j, stats),
+        Code::Same(n) => programs_before(usize::from(*n), stats),
+    };
+    Some(TextId {
+        stamp,
+        index: (t + below) as u32,
+    })
+}
+
+/// Whether a passage stands at a place. Outside the table nothing does.
+#[tactic(auto, unfolding(zed_world::specs::Offsets::is_passage_at))]
+fn is_passage(tiles: &[Tile; TILES], x: u8, y: u8) -> bool
+    ensures { result ≡ is_passage_at tiles.now x y }
+{
+    if x == 0 || 60 < x || y == 0 || 25 < y {
+        return false;
+    }
+    tiles[60 * (usize::from(y) - 1) + (usize::from(x) - 1)].element == PASSAGE
+}
+
+fn parameter_of(stamp: Stamp, board: &BoardData, stat: &StatData) -> ThirdParameter
+    ensures { result ≡ parameter_in stamp board.now stat.now }
+{
+    if !is_passage(&board.tiles, stat.x, stat.y) {
+        return ThirdParameter::Byte(stat.p3);
+    }
+    ThirdParameter::Board(BoardId {
+        stamp,
+        index: u32::from(stat.p3),
+    })
+}
+
+/// Stat `k` of a board whose stats are numbered from `m`.
+fn stat_if(stamp: Stamp, m: usize, k: Option<u8>) -> Option<StatId>
+    requires { m < 2 ^ 31 }
+    ensures { result ≡ option_map (λ n. stat_of stamp (m + n)) k }
+{
+    match k {
+        None => None,
+        Some(k) => Some(StatId {
+            stamp,
+            index: (m + usize::from(k)) as u32,
+        }),
+    }
+}
+
+fn opened_stat(stamp: Stamp, m: usize, t: usize, board: &BoardData, j: usize, x: &StatData) -> Stat
+    requires few { length board.now.stats ≤ 151 }
+    requires number { j < 151 }
+    requires stats { m < 2 ^ 31 }
+    requires texts { t < 2 ^ 31 }
+    ensures { result ≡ stat_opened stamp m t board.now j x.now }
+{
+    Stat {
+        id: StatId {
+            stamp,
+            index: (m + j) as u32,
+        },
+        is_player: j == 0,
+        fields: StatFields {
+            x: x.x,
+            y: x.y,
+            step_x: x.step_x,
+            step_y: x.step_y,
+            cycle: x.cycle,
+            p1: x.p1,
+            p2: x.p2,
+            p3: parameter_of(stamp, board, x),
+            under: x.under,
+            text: text_of(stamp, t, board.stats.as_slice(), j, &x.code),
+        },
+        position: x.position,
+        follower: stat_if(stamp, m, x.follower),
+        leader: stat_if(stamp, m, x.leader),
+        removed: false,
+    }
+}
+
+fn opened_stats(
+    alloc: Global,
+    stamp: Stamp,
+    m: usize,
+    t: usize,
+    board: &BoardData,
+) -> Result<Seq<Stat>, EditError>
+    requires few { length board.now.stats ≤ 151 }
+    requires stats { m < 2 ^ 31 }
+    requires texts { t < 2 ^ 31 }
+    ensures are { IfOk result (λ ss. ss ≡ map_from (stat_opened stamp m t board.now) 0 board.now.stats) }
+    ensures memory { IfErr result (λ e. e ≡ EditError.Memory) }
+{
+    let mut opened = Seq::new(alloc);
+    for (j, x) in board.stats.as_slice().iter().enumerate() {
+        opened
+            .push(opened_stat(stamp, m, t, board, j, x))
+            .map_err(of_growth)?;
+    }
+    Ok(opened)
+}
+
+pub(crate) fn opened_board(
+    alloc: Global,
+    stamp: Stamp,
+    n: usize,
+    m: usize,
+    t: usize,
+    board: &BoardData,
+) -> Result<Board, EditError>
+    requires few { length board.now.stats ≤ 151 }
+    requires boards { n < 2 ^ 31 }
+    requires stats { m < 2 ^ 31 }
+    requires texts { t < 2 ^ 31 }
+    ensures is { IfOk result (λ b. b ≡ board_opened stamp n m t board.now) }
+    ensures memory { IfErr result (λ e. e ≡ EditError.Memory) }
+{
+    Ok(Board {
+        id: BoardId {
+            stamp,
+            index: n as u32,
+        },
+        tiles: board.tiles,
+        properties: properties_of(stamp, &board.name, &board.properties)?,
+        stats: opened_stats(alloc, stamp, m, t, board)?,
+        removed: false,
+    })
+}
