@@ -1,5 +1,5 @@
 -- Each number of the header is a register.
-use Rattle.std.proofs.Common.{◌≡◌, Result, Ok, Err, refl}
+use Rattle.std.proofs.Common.{◌≡◌, Result, Ok, Err, refl, Bool, true, false, cond, None}
 use Rattle.zed_types.specs.declared.stamp.Stamp.{Stamp}
 use Rattle.zed_types.specs.declared.header.HeaderNumber.{HeaderNumber}
 use Rattle.zed_types.specs.declared.header.HeaderNumber.TheVariants.{Ammo, Gems, Health, Torches, TorchTicks, EnergizerTicks, Score, TimePassed, Hundredths}
@@ -13,7 +13,7 @@ use Rattle.zed_edit.specs.declared.op.Op.TheVariants.{Genesis, SetHeader}
 use Rattle.zed_edit.specs.declared.plain.Header.{Header}
 use Rattle.zed_edit.specs.declared.plain.Plain.{Plain as Document}
 use Rattle.zed_edit.specs.Header.{set_header}
-use Rattle.zed_edit.specs.Replay.{open_world, do_op}
+use Rattle.zed_edit.specs.Replay.{open_world, can, do_op, do_edit, pass_over}
 use Rattle.zed_edit.specs.Registers.{overwritten, number, number_set, number_read, number_of_op, HeaderNumbersAreRegisters}
 
 number-set : (f : HeaderNumber) (w : HeaderSetting) (h : Header) → number f (set_header w h) ≡ overwritten (number f h) (number_set f w)
@@ -38,4 +38,8 @@ number-op f s (SetHeader setting) p = number-set f setting p.header
 number-op f s _ p = refl
 
 pub header_numbers_are_registers : HeaderNumbersAreRegisters
-header_numbers_are_registers f = (λ p e c. number-op f e.stamp e.op p, λ p e. refl)
+header_numbers_are_registers f p e h = (go (can p e), refl)
+  where
+    go : (b : Bool) → number f (cond b (do_edit p e) (pass_over p e)).header ≡ overwritten (number f p.header) (cond b (number_of_op f e.stamp e.op) None)
+    go true = number-op f e.stamp e.op p
+    go false = refl

@@ -1,3 +1,4 @@
+pub mod CellRegisters
 pub mod ChangedTexts
 pub mod DoneEdits
 pub mod Finding
@@ -11,6 +12,7 @@ pub mod LatestWrites
 pub mod MadeThings
 pub mod Places
 pub mod Programs
+pub mod RegularSteps
 pub mod Removed
 pub mod ReplaySteps
 pub mod Rows

@@ -10,7 +10,7 @@ use Rattle.zed_edit.specs.declared.op.Edit.{Edit}
 use Rattle.zed_edit.specs.declared.plain.Plain.{Plain as Document}
 use Rattle.zed_edit.specs.Document.{empty_document}
 use Rattle.zed_edit.specs.Replay.{can, open_world, do_op, do_edit, pass_over, step, replay_on, replay, taken_on, taken, held_on, held}
-use Rattle.zed_edit.specs.Laws.{OneMoreIsOneStep, OneMoreIsTaken, OneMoreIsHeld, HeldArePassedOver}
+use Rattle.zed_edit.specs.Laws.{OneMoreIsOneStep, ReplayGoesOn, OneMoreIsTaken, OneMoreIsHeld, HeldArePassedOver}
 
 pub replay_on-append : (p : Document) (es fs : List Edit) → replay_on p (es ++ fs) ≡ replay_on (replay_on p es) fs
 replay_on-append p [] fs = refl
@@ -34,6 +34,9 @@ held_on-append p (e ∷ es) fs = go (can p e) (held_on-append (step p e) es fs)
 
 pub one_more_is_one_step : OneMoreIsOneStep
 one_more_is_one_step es e = replay_on-append empty_document es (e ∷ [])
+
+pub replay_goes_on : ReplayGoesOn
+replay_goes_on es fs = replay_on-append empty_document es fs
 
 pub one_more_is_taken : OneMoreIsTaken
 one_more_is_taken es e = taken_on-append empty_document es (e ∷ []) ∙ go (can (replay es) e)

@@ -2,9 +2,10 @@
 use Rattle.std.proofs.Common.{◌≡◌, ℕ, true, false, eqb, eq-eqb, refl, ap, ◌∙◌, arith}
 use Rattle.std.proofs.lemmas.Bool.{eqb-true, and_parts, and_from}
 use Rattle.zed_types.specs.declared.stamp.Stamp.{Stamp}
+use Rattle.zed_types.specs.declared.names.BoardId.{BoardId}
 use Rattle.zed_types.specs.declared.names.TextId.{TextId}
 use Rattle.zed_types.specs.Stamp.{before, same_stamp}
-use Rattle.zed_types.specs.Names.{same_text}
+use Rattle.zed_types.specs.Names.{same_board, same_text}
 
 abbrev stamp_at : ℕ → ℕ → Stamp
 stamp_at t r = record { time = t; replica = r }
@@ -58,3 +59,16 @@ same_text-alike a b c h = ap (λ n. same_text c n) (same_text-true a b h)
 
 pub same_text-apart : (a b c : TextId) → same_text a b ≡ false → same_text c b ≡ true → same_text c a ≡ false
 same_text-apart a b c h e = grind (arith)
+
+abbrev board_at : Stamp → ℕ → BoardId
+board_at s i = record { stamp = s; index = i }
+
+pub same_board-true : (a b : BoardId) → same_board a b ≡ true → a ≡ b
+same_board-true a b h =
+    let e = and_parts (same_stamp a.stamp b.stamp) (eqb a.index b.index) h in
+    let s = same_stamp-true a.stamp b.stamp e.0 in
+    let i = eqb-true a.index b.index e.1 in
+    ap (λ n. board_at n a.index) s ∙ ap (λ n. board_at b.stamp n) i
+
+pub same_board-apart : (a b c : BoardId) → same_board a b ≡ false → same_board c b ≡ true → same_board c a ≡ false
+same_board-apart a b c h e = grind (arith)

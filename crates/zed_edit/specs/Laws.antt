@@ -23,6 +23,10 @@ use Rattle.zed_edit.specs.Replay.{can, do_op, step, replay_on, replay, taken_on,
 abbrev pub OneMoreIsOneStep : Type 0
 OneMoreIsOneStep = (es : List Edit) (e : Edit) → replay (es ++ e ∷ []) ≡ step (replay es) e
 
+-- the replay of a list goes on with the edits behind it
+abbrev pub ReplayGoesOn : Type 0
+ReplayGoesOn = (es fs : List Edit) → replay (es ++ fs) ≡ replay_on (replay es) fs
+
 -- one more edit at the end is taken where it can be done
 abbrev pub OneMoreIsTaken : Type 0
 OneMoreIsTaken = (es : List Edit) (e : Edit) → taken (es ++ e ∷ []) ≡ (if can (replay es) e then taken es ++ e ∷ [] else taken es)
@@ -77,13 +81,15 @@ RemovedStatIsSet =
     (p : Plain) (r s : Stamp) (x y : StatId) (setting : StatSetting)
     → do_op s (SetStat y setting) (do_op r (StatRemove x) p) ≡ do_op r (StatRemove x) (do_op s (SetStat y setting) p)
 
+-- an edit that puts bytes into a text
 abbrev pub insertion : Stamp → TextId → Option ElemId → List ℕ → Edit
 insertion s t after bytes = record { stamp = s; op = TextInsert t after bytes }
 
+-- an edit that deletes bytes of a text
 abbrev pub deletion : Stamp → TextId → ByteRange → Edit
 deletion s t range = record { stamp = s; op = TextDelete t range }
 
--- the edits taken make by themselves all that the replay shows, and none of them is held
+-- the edits taken make by themselves all that the replay shows but the stamps of those held, and none of them is held
 abbrev pub TakenMakeAll : Type 0
 TakenMakeAll = (es : List Edit) → (replay (taken es) ≡ record (replay es) { passed_over = [] }) × (held (taken es) ≡ [])
 

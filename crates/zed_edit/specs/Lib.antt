@@ -8,6 +8,7 @@ pub mod Lent
 pub mod Names
 pub mod Numbers
 pub mod Registers
+pub mod Regular
 pub mod Replay
 pub mod Set
 pub mod SetLaws

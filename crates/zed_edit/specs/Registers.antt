@@ -1,7 +1,11 @@
 -- Registers of a document: the greatest stamp wins.
-use Rattle.std.specs.Prelude.{◌≡◌, ℤ, true, List, ◌∷◌, ◌++◌, filter_map, Option, Some, None, option_map, Result, Ok, Err}
+use Rattle.std.specs.Prelude.{◌≡◌, ℕ, ℤ, Bool, true, ◌&&◌, if◌then◌else◌, List, ◌∷◌, ◌++◌, filter_map, find, slice_get, is_some, Option, Some, None, option_map, Result, Ok, Err}
 use Rattle.zed_types.specs.declared.stamp.Stamp.{Stamp}
 use Rattle.zed_types.specs.declared.written.Written.{Written}
+use Rattle.zed_types.specs.declared.names.BoardId.{BoardId}
+use Rattle.zed_types.specs.declared.tile.Tile.{Tile}
+use Rattle.zed_types.specs.Names.{same_board}
+use Rattle.zed_types.specs.Table.{is_inside, place_at}
 use Rattle.zed_types.specs.Register.{keep_later, latest_of, value_or}
 use Rattle.zed_types.specs.declared.header.HeaderNumber.{HeaderNumber}
 use Rattle.zed_types.specs.declared.header.HeaderNumber.TheVariants.{Ammo, Gems, Health, Torches, TorchTicks, EnergizerTicks, Score, TimePassed, Hundredths}
@@ -11,13 +15,13 @@ use Rattle.zed_world.specs.Contents.{Contents}
 use Rattle.zed_world.specs.Reading.{world_at}
 use Rattle.zed_world.specs.declared.error.WorldError.{WorldError}
 use Rattle.zed_edit.specs.declared.op.Op.{Op}
-use Rattle.zed_edit.specs.declared.op.Op.TheVariants.{Genesis, SetHeader}
+use Rattle.zed_edit.specs.declared.op.Op.TheVariants.{Genesis, SetHeader, SetCells}
 use Rattle.zed_edit.specs.declared.op.Edit.{Edit}
 use Rattle.zed_edit.specs.declared.plain.Header.{Header}
+use Rattle.zed_edit.specs.declared.plain.Board.{Board}
 use Rattle.zed_edit.specs.declared.plain.Plain.{Plain}
-use Rattle.zed_edit.specs.Document.{empty_document}
 use Rattle.zed_edit.specs.Genesis.{header_of}
-use Rattle.zed_edit.specs.Replay.{can, do_edit, pass_over, replay, taken}
+use Rattle.zed_edit.specs.Replay.{can, step, replay_on, taken_on}
 use Rattle.zed_edit.specs.Set.{IsRising}
 
 -- a value with the stamp of its write
@@ -33,19 +37,21 @@ abbrev pub overwritten : {V : Type 0} → V → Option V → V
 overwritten v None = v
 overwritten v (Some w) = w
 
--- what is read of a document is a register: an edit that is done writes it or leaves it, and one that is passed over leaves it
-abbrev pub IsRegister : {V : Type 0} → (Plain → V) → (Edit → Option V) → Type 0
-IsRegister read writes =
-    ((p : Plain) (e : Edit) → can p e ≡ true → read (do_edit p e) ≡ overwritten (read p) (writes e))
-    × ((p : Plain) (e : Edit) → read (pass_over p e) ≡ read p)
+-- what is read of a document is a register, where it is there: each step writes it or leaves it, and it stays there
+abbrev pub IsRegister : {V : Type 0} → (Plain → Bool) → (Plain → V) → (Edit → Option V) → Type 0
+IsRegister is_there read writes =
+    (p : Plain) (e : Edit)
+    → is_there p ≡ true
+    → (read (step p e) ≡ overwritten (read p) (if can p e then writes e else None)) × (is_there (step p e) ≡ true)
 
--- after the replay a register has the value of the write with the greatest stamp
+-- after the replay a register has the value of the write with the greatest stamp, or the value that it had before, if there is none
 abbrev pub GreatestStampWins : Type 0 → Type 0
 GreatestStampWins V =
-    (read : Plain → V) (writes : Edit → Option V) (es : List Edit)
-    → IsRegister read writes
+    (is_there : Plain → Bool) (read : Plain → V) (writes : Edit → Option V) (p : Plain) (es : List Edit)
+    → IsRegister is_there read writes
+    → is_there p ≡ true
     → IsRising es
-    → read (replay es) ≡ value_or (read empty_document) (latest_of None (writes_of writes (taken es)))
+    → read (replay_on p es) ≡ value_or (read p) (latest_of None (writes_of writes (taken_on p es)))
 
 -- what is kept after an edit that writes or doesn't
 abbrev pub kept_after : {V : Type 0} → Stamp → Option (Written V) → Option V → Option (Written V)
@@ -84,6 +90,7 @@ number_set TimePassed (Number TimePassed n) = Some n
 number_set Hundredths (Number Hundredths n) = Some n
 number_set _ _ = None
 
+-- the number that a world file gives, if it is one
 abbrev pub number_read : HeaderNumber → Stamp → Result Contents WorldError → Option ℤ
 number_read f s (Ok w) = Some (number f (header_of s w.header))
 number_read f s (Err e) = None
@@ -94,6 +101,24 @@ number_of_op f s (Genesis bytes) = number_read f s (world_at bytes)
 number_of_op f s (SetHeader setting) = number_set f setting
 number_of_op f s _ = None
 
--- each number of the header is a register
+-- each number of the header is a register of every document
 abbrev pub HeaderNumbersAreRegisters : Type 0
-HeaderNumbersAreRegisters = (f : HeaderNumber) → IsRegister (λ p. number f p.header) (λ e. number_of_op f e.stamp e.op)
+HeaderNumbersAreRegisters = (f : HeaderNumber) → IsRegister (λ p. true) (λ p. number f p.header) (λ e. number_of_op f e.stamp e.op)
+
+-- tile i of the table of a board, if there is one
+abbrev pub tile_in : ℕ → Option Board → Option Tile
+tile_in i None = None
+tile_in i (Some b) = slice_get b.tiles i
+
+-- tile i of a board that was made
+abbrev pub tile_of : BoardId → ℕ → Plain → Option Tile
+tile_of b i p = tile_in i (find (λ x. same_board x.id b) p.boards)
+
+-- what an edit writes into a cell
+abbrev pub tile_of_op : BoardId → ℕ → Op → Option (Option Tile)
+tile_of_op b i (SetCells c cells tile) = if same_board c b && is_inside cells (place_at i) then Some (Some tile) else None
+tile_of_op b i _ = None
+
+-- each cell is a register from when its board is made
+abbrev pub CellsAreRegisters : Type 0
+CellsAreRegisters = (b : BoardId) (i : ℕ) → IsRegister (λ p. is_some (tile_of b i p)) (tile_of b i) (λ e. tile_of_op b i e.op)

@@ -1,6 +1,6 @@
 // One author, who makes each edit as it comes.
 
-ghost use Rattle.std.specs.Prelude.{◌≡◌, ◌<◌, ◌^◌, IsTrue, length, IfOk, IfErr};
+ghost use Rattle.std.specs.Prelude.{◌≡◌, ◌<◌, ◌^◌, IsTrue, length, IfOk, IfErr, OnErr};
 ghost use Rattle.zed_edit.specs.declared.op.Op.TheVariants.{BoardAdd, StatAdd, TextAdd};
 ghost use Rattle.zed_edit.specs.Fit.{Fits, is_in_range, is_in_table};
 ghost use Rattle.zed_edit.specs.Set.{AllFit};
@@ -25,6 +25,7 @@ use zed_types::{BoardId, Bytes, Seq, Stamp, StatFields, StatId, TextId};
 fn add_board(alloc: Global, plain: &mut Plain, stamp: Stamp, name: &Bytes) -> Result<(), EditError>
     ensures added { IfOk result (λ _. plain.new ≡ do_op stamp (BoardAdd name.now) plain.old) }
     ensures memory { IfErr result (λ e. e ≡ EditError.Memory) }
+    ensures kept { plain.new.passed_over ≡ plain.old.passed_over }
 {
     let id = BoardId { stamp, index: 0 };
     let player = StatId { stamp, index: 0 };
@@ -40,6 +41,7 @@ fn add_stat(
 ) -> Result<(), EditError>
     ensures added { IfOk result (λ _. plain.new ≡ do_op stamp (StatAdd b fields) plain.old) }
     ensures memory { IfErr result (λ e. e ≡ EditError.Memory) }
+    ensures kept { plain.new.passed_over ≡ plain.old.passed_over }
 {
     let stat = new_stat(StatId { stamp, index: 0 }, false, fields);
     add_to_boards(plain.boards.as_mut_slice(), b, stat)
@@ -48,6 +50,7 @@ fn add_stat(
 fn add_text(alloc: Global, plain: &mut Plain, stamp: Stamp) -> Result<(), EditError>
     ensures added { IfOk result (λ _. plain.new ≡ do_op stamp TextAdd plain.old) }
     ensures memory { IfErr result (λ e. e ≡ EditError.Memory) }
+    ensures kept { plain.new.passed_over ≡ plain.old.passed_over }
 {
     let text = Text {
         id: TextId { stamp, index: 0 },
@@ -61,6 +64,7 @@ fn do_edit(alloc: Global, plain: &mut Plain, edit: &Edit) -> Result<(), EditErro
     requires { IsTrue (is_in_range edit.now.op) }
     ensures made { IfOk result (λ _. plain.new ≡ done plain.old edit.now) }
     ensures memory { IfErr result (λ e. e ≡ EditError.Memory) }
+    ensures kept { plain.new.passed_over ≡ plain.old.passed_over }
 {
     let stamp = edit.stamp;
     match &edit.op {
@@ -86,17 +90,20 @@ fn do_edit(alloc: Global, plain: &mut Plain, edit: &Edit) -> Result<(), EditErro
 fn remember(plain: &mut Plain, edit: &Edit) -> Result<(), EditError>
     ensures passed { IfOk result (λ _. plain.new ≡ pass_over plain.old edit.now) }
     ensures memory { IfErr result (λ e. e ≡ EditError.Memory) }
+    ensures kept { OnErr result (plain.new.passed_over ≡ plain.old.passed_over) }
 {
     plain.passed_over.push(edit.stamp).map_err(of_growth)
 }
 
 /// Replays one edit more, which comes after those that the document has: does it where all that it names was made, and else remembers its stamp.
 ///
-/// The caller gives an edit that fits. After `Memory` the document may be changed in part, so it is to be made again.
+/// The caller gives an edit that fits. After `Memory` the document may be changed in part, so it is to be made again; only what it
+/// remembers of the edits passed over is as before.
 pub fn step(alloc: Global, plain: &mut Plain, edit: &Edit) -> Result<(), EditError>
     requires { Fits edit.now }
     ensures stepped { IfOk result (λ _. plain.new ≡ stepped plain.old edit.now) }
     ensures memory { IfErr result (λ e. e ≡ EditError.Memory) }
+    ensures kept { OnErr result (plain.new.passed_over ≡ plain.old.passed_over) }
 {
     if can(plain, edit) {
         do_edit(alloc, plain, edit)

@@ -119,6 +119,7 @@ fn open_contents(
 ) -> Result<(), EditError>
     ensures opened { IfOk result (λ _. plain.new ≡ world_opened stamp (Ok world.now) plain.old) }
     ensures memory { IfErr result (λ e. e ≡ EditError.Memory) }
+    ensures kept { plain.new.passed_over ≡ plain.old.passed_over }
 {
     let header = world.header();
     let boards = world.boards();
@@ -136,6 +137,7 @@ pub(crate) fn open_world(
 ) -> Result<(), EditError>
     ensures opened { IfOk result (λ _. plain.new ≡ world_opened stamp (world_at bytes.now) plain.old) }
     ensures memory { IfErr result (λ e. e ≡ EditError.Memory) }
+    ensures kept { plain.new.passed_over ≡ plain.old.passed_over }
 {
     match read_world(alloc, bytes) {
         Ok(world) => open_contents(alloc, plain, stamp, &world),

@@ -1,6 +1,6 @@
-ghost use Rattle.zed_edit.specs.Laws.{OneMoreIsOneStep, OneMoreIsTaken, OneMoreIsHeld, HeldArePassedOver, MadeStaysMade, MadeOutlastsEdits, TakenByWhatIsMade, HeldByWhatIsMade, MadeByWhatIsMade, RemovedBoardIsSet, RemovedBoardIsDrawn, RemovedStatIsSet, TakenMakeAll, LateEditHoldsNone, LateEditHoldsNoOther, LateInsertion, LateDeletion};
+ghost use Rattle.zed_edit.specs.Laws.{OneMoreIsOneStep, ReplayGoesOn, OneMoreIsTaken, OneMoreIsHeld, HeldArePassedOver, MadeStaysMade, MadeOutlastsEdits, TakenByWhatIsMade, HeldByWhatIsMade, MadeByWhatIsMade, RemovedBoardIsSet, RemovedBoardIsDrawn, RemovedStatIsSet, TakenMakeAll, LateEditHoldsNone, LateEditHoldsNoOther, LateInsertion, LateDeletion};
 ghost use Rattle.zed_edit.specs.Verdict.{FitIsEachPart};
-ghost use Rattle.zed_edit.specs.Registers.{GreatestStampWins, LateWriteIsCompared, HeaderNumbersAreRegisters};
+ghost use Rattle.zed_edit.specs.Registers.{GreatestStampWins, LateWriteIsCompared, HeaderNumbersAreRegisters, CellsAreRegisters};
 ghost use Rattle.zed_edit.specs.SetLaws.{EditKeepsRising, UnionKeepsRising, SetIsRising, RisingAgrees, RisingIsItsEdits, RisingIsItsSet, SetHasItsEdits, SetIsOfAnyOrder, SetGrowsByEdits, EditIsAdded, EditAgrees, LatestGoesLast, UnionAgrees, EditThereIsNothing, EditHasItsPlace, UnionHasBoth, UnionCommutes, UnionAssociates, UnionOfItsOwn, UnionOfSets, EditKeepsFit, UnionKeepsFit, SetKeepsFit};
 
 /// Sets are rising lists, and stay so.
@@ -53,6 +53,7 @@ pub fn sets_stay_fit()
 /// What one more edit at the end makes of a replay, of the edits taken and of those held.
 pub fn replay_goes_edit_by_edit()
     ensures step { OneMoreIsOneStep }
+    ensures on { ReplayGoesOn }
     ensures taken { OneMoreIsTaken }
     ensures held { OneMoreIsHeld }
 {}
@@ -109,4 +110,9 @@ pub fn greatest_stamp_wins<V>()
 /// Each number of the header is a register.
 pub fn header_numbers_are_registers()
     ensures { HeaderNumbersAreRegisters }
+{}
+
+/// Each cell is a register from when its board is made.
+pub fn cells_are_registers()
+    ensures { CellsAreRegisters }
 {}

@@ -4,7 +4,7 @@ use crate::op::{Edit, Op};
 use zed_types::StatFields;
 
 /// Whether two new stats are given the same.
-fn are_same_fields(a: &StatFields, b: &StatFields) -> bool
+pub(crate) fn are_same_fields(a: &StatFields, b: &StatFields) -> bool
     ensures { IsTrue result ↔ a.now ≡ b.now }
 {
     a.x == b.x

@@ -1,0 +1,10 @@
+pub mod Checked
+pub mod Clashing
+pub mod HeldEdits
+pub mod Joining
+pub mod Keeping
+pub mod Merging
+pub mod Order
+pub mod Passed
+pub mod Spots
+pub mod Walks

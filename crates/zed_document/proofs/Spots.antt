@@ -1,0 +1,109 @@
+-- Where an edit with a stamp stands in a log, or belongs.
+use Rattle.std.proofs.Common.{◌≡◌, ℕ, zero, suc, ◌<◌, ◌≤◌, ◌-◌, Bool, true, false, List, [], ◌∷◌, ◌++◌, Some, None, take, drop, length, refl, ap, sym, subst, ◌∙◌, arith}
+use Rattle.std.proofs.lemmas.List.{take-append-drop}
+use Rattle.std.specs.Prelude.{insert}
+use Rattle.std.specs.List.{AllByRecursion, find}
+use Rattle.std.specs.Prelude.{slice_get, slice_index_or, IfSome, if◌then◌else◌}
+use Rattle.zed_types.specs.declared.stamp.Stamp.{Stamp}
+use Rattle.zed_types.specs.Stamp.{before, same_stamp}
+use Rattle.zed_edit.specs.declared.op.Edit.{Edit}
+use Rattle.zed_edit.specs.Set.{IsRising, with_edit}
+use Rattle.zed_document.specs.Delivery.{edit_with}
+use Rattle.zed_document.specs.Kept.{AllBelow}
+use Rattle.zed_document.proofs.Order.{same_stamp-itself, before-irrefl, before-total, before-trans, before-asym, before-differs, before-differs_after}
+
+abbrev pub AllAbove : Stamp → List Edit → Type 0
+AllAbove s es = AllByRecursion (λ f. before s f.stamp ≡ true) es
+
+-- an edit goes between those below it and those above it
+pub with_edit-between : (e : Edit) (low high : List Edit) → AllBelow e.stamp low → AllAbove e.stamp high → with_edit e (low ++ high) ≡ low ++ e ∷ high
+with_edit-between e [] [] b a = refl
+with_edit-between e [] (f ∷ high) b a = rw a.0
+with_edit-between e (f ∷ low) high b a =
+    let after = before-asym f.stamp e.stamp b.0 in
+    let other = before-differs_after f.stamp e.stamp b.0 in
+    rw (after, other) (ap (λ rest. f ∷ rest) (with_edit-between e low high b.1 a))
+
+pub edit_with-none : (s : Stamp) (high : List Edit) → AllAbove s high → edit_with s high ≡ None
+edit_with-none s [] a = refl
+edit_with-none s (f ∷ high) a = rw (before-differs_after s f.stamp a.0) (edit_with-none s high a.1)
+
+pub edit_with-past : (s : Stamp) (low rest : List Edit) → AllBelow s low → edit_with s (low ++ rest) ≡ edit_with s rest
+edit_with-past s [] rest b = refl
+edit_with-past s (f ∷ low) rest b = rw (before-differs f.stamp s b.0) (edit_with-past s low rest b.1)
+
+pub with_edit-there : (e f : Edit) (low high : List Edit) → AllBelow e.stamp low → before e.stamp f.stamp ≡ false → same_stamp e.stamp f.stamp ≡ true → with_edit e (low ++ f ∷ high) ≡ low ++ f ∷ high
+with_edit-there e f [] high b n t = rw (n, t)
+with_edit-there e f (g ∷ low) high b n t =
+    let after = before-asym g.stamp e.stamp b.0 in
+    let other = before-differs_after g.stamp e.stamp b.0 in
+    rw (after, other) (ap (λ rest. g ∷ rest) (with_edit-there e f low high b.1 n t))
+
+-- in a rising log all before an edit that is below a stamp are below it too
+pub AllBelow-take : (s : Stamp) (es : List Edit) (i : ℕ) → IsRising es → IfSome (slice_get es i) (λ f. before f.stamp s ≡ true) → i < length es → AllBelow s (take (suc i) es)
+AllBelow-take s [] i r h l = tt
+AllBelow-take s (x ∷ xs) zero r h l = (h, tt)
+AllBelow-take s (x ∷ []) (suc i) r h l = absurd (omega arith)
+AllBelow-take s (x ∷ y ∷ ys) (suc i) r h l =
+    let more = AllBelow-take s (y ∷ ys) i r.1 h (omega arith) in
+    (before-trans x.stamp y.stamp s r.0.0 more.0, more)
+
+-- whatever comes first in a rising log is below each later edit
+below_head : (x : Edit) (xs : List Edit) (i : ℕ) (s : Stamp) → AllByRecursion (λ f. before x.stamp f.stamp ≡ true) xs → IfSome (slice_get xs i) (λ f. f.stamp ≡ s) → i < length xs → before x.stamp s ≡ true
+below_head x [] i s a h l = absurd (omega arith)
+below_head x (y ∷ ys) zero s a h l = rw (← h) a.0
+below_head x (y ∷ ys) (suc i) s a h l = below_head x ys i s a.1 h (omega arith)
+
+pub edit_with-at : (s : Stamp) (es : List Edit) (i : ℕ) → IsRising es → IfSome (slice_get es i) (λ f. f.stamp ≡ s) → i < length es → edit_with s es ≡ slice_get es i
+edit_with-at s [] i r h l = absurd (omega arith)
+edit_with-at s (x ∷ xs) zero r h l =
+    let t : same_stamp x.stamp s ≡ true = rw h (same_stamp-itself s) in rw t
+edit_with-at s (x ∷ xs) (suc i) r h l =
+    let t = before-differs x.stamp s (below_head x xs i s r.0 h (omega arith)) in
+    rw t (edit_with-at s xs i r.1 h (omega arith))
+
+pub with_edit-at : (e : Edit) (es : List Edit) (i : ℕ) → IsRising es → IfSome (slice_get es i) (λ f. f.stamp ≡ e.stamp) → i < length es → with_edit e es ≡ es
+with_edit-at e [] i r h l = absurd (omega arith)
+with_edit-at e (x ∷ xs) zero r h l =
+    let t : same_stamp e.stamp x.stamp ≡ true = rw h (same_stamp-itself e.stamp) in
+    let n : before e.stamp x.stamp ≡ false = rw h (before-irrefl e.stamp) in
+    rw (n, t)
+with_edit-at e (x ∷ xs) (suc i) r h l =
+    let b = below_head x xs i e.stamp r.0 h (omega arith) in
+    let after = before-asym x.stamp e.stamp b in
+    let other = before-differs_after x.stamp e.stamp b in
+    rw (after, other) (ap (λ rest. x ∷ rest) (with_edit-at e xs i r.1 h (omega arith)))
+
+-- what is not above a stamp and has another is below it
+below_of : (s : Stamp) (es : List Edit) (i : ℕ) → IfSome (slice_get es i) (λ f. before s f.stamp ≡ false) → IfSome (slice_get es i) (λ f. same_stamp s f.stamp ≡ false) → IfSome (slice_get es i) (λ f. before f.stamp s ≡ true)
+below_of s [] i b d = b
+below_of s (x ∷ xs) zero b d = grind (arith)
+below_of s (x ∷ xs) (suc i) b d = below_of s xs i b d
+
+abbrev pub IsSpot : Stamp → List Edit → ℕ → Type 0
+IsSpot s es p = (p ≤ length es) × AllAbove s (drop p es) × (0 < p → IfSome (slice_get es (p - 1)) (λ f. before s f.stamp ≡ false)) × (0 < p → IfSome (slice_get es (p - 1)) (λ f. same_stamp s f.stamp ≡ false))
+
+-- all before a free spot is below the stamp
+pub spot-below : (s : Stamp) (es : List Edit) (p : ℕ) → IsRising es → IsSpot s es p → AllBelow s (take p es)
+spot-below s es zero r h = tt
+spot-below s es (suc p) r h =
+    let q : suc p - 1 ≡ p = omega arith in
+    let b = rw q at (h.2 (omega arith)) in
+    let d = rw q at (h.3 (omega arith)) in
+    AllBelow-take s es p r (below_of s es p b d) (omega arith)
+
+pub edit_with-free : (s : Stamp) (es : List Edit) (p : ℕ) → IsRising es → IsSpot s es p → edit_with s es ≡ None
+edit_with-free s es p r h =
+    let P : List Edit → Type 0 = λ xs. edit_with s xs ≡ None in
+    subst P (take-append-drop p es) (edit_with-past s (take p es) (drop p es) (spot-below s es p r h) ∙ edit_with-none s (drop p es) h.1)
+
+pub with_edit-free : (e : Edit) (es : List Edit) (p : ℕ) → IsRising es → IsSpot e.stamp es p → with_edit e es ≡ insert es p e
+with_edit-free e es p r h =
+    let P : List Edit → Type 0 = λ xs. with_edit e xs ≡ insert es p e in
+    subst P (take-append-drop p es) (with_edit-between e (take p es) (drop p es) (spot-below e.stamp es p r h) h.1)
+
+-- an element at its place
+pub get-at : (es : List Edit) (i : ℕ) (x : Edit) → i < length es → x ≡ slice_index_or es i x → slice_get es i ≡ Some x
+get-at [] i x l h = absurd (omega arith)
+get-at (y ∷ ys) zero x l h = ap Some (sym h)
+get-at (y ∷ ys) (suc i) x l h = get-at ys i x (omega arith) h

@@ -1,0 +1,17 @@
+use Rattle.std.proofs.Common.{◌≡◌, ◌⊎◌, false, Err, ap, sym, ◌∙◌, subst}
+use Rattle.std.specs.Prelude.{MatchBool}
+use Rattle.zed_edit.specs.Fit.{fault}
+use Rattle.zed_document.specs.declared.delivered.Delivered.{Delivered}
+use Rattle.zed_document.specs.declared.error.DocumentError.{DocumentError}
+use Rattle.zed_document.specs.declared.error.DocumentError.TheVariants.{Memory}
+use Rattle.zed_document.specs.Delivery.{Answers, AnswersFit}
+use Rattle.zed_document.specs.Errors.{refusal_of}
+use Rattle.zed_document.specs.Replica.{Replica}
+use Rattle.zed_document.proofs.Checked.{refused-answers}
+use Rattle.zed_document.proofs.document.Document.deliver.Goals as goal
+
+pub returns-in-Err-clause-answers : goal.returns-in-Err-clause-answers
+returns-in-Err-clause-answers c =
+    let sound : c.args.self.now.is_stale ≡ false = sym (ap (λ (r : Replica). r.is_stale) c.self.view_is) ∙ c.if-self.false in
+    let h = refused-answers (fault c.args.edit) c.args.self.now.edits c.args.edit c.in-Err.error c.check.result (Err c.of_edit.result) c.in-Err.is c.check.ensures.exact (ap Err c.of_edit.ensures) in
+    rw sound h

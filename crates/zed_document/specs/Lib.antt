@@ -1,0 +1,10 @@
+pub mod Delivery
+pub mod Errors
+pub mod Held
+pub mod Kept
+pub mod Laws
+pub mod Merge
+pub mod Reading
+pub mod Replica
+pub mod Same
+pub mod View

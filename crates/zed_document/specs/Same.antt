@@ -1,0 +1,13 @@
+-- When two documents are the same.
+use Rattle.std.specs.Prelude.{◌≡◌}
+use Rattle.zed_edit.specs.declared.plain.Plain.{Plain}
+use Rattle.zed_edit.specs.Replay.{replay, held}
+use Rattle.zed_document.specs.Replica.{Replica}
+
+-- two plain documents have the same header, boards and texts, removed and dead things included
+abbrev pub HaveSameContent : Plain → Plain → Type 0
+HaveSameContent p q = (p.header ≡ q.header) × (p.boards ≡ q.boards) × (p.texts ≡ q.texts)
+
+-- two documents have equal world numbers, equal contents and equal held edits
+abbrev pub AreSame : Replica → Replica → Type 0
+AreSame d o = (d.world ≡ o.world) × HaveSameContent (replay d.edits) (replay o.edits) × (held d.edits ≡ held o.edits)

@@ -1,0 +1,33 @@
+ghost use Rattle.std.specs.Prelude.{◌≡◌};
+ghost use Rattle.zed_document.specs.Errors.{refusal_of};
+
+use thiserror::Error;
+use zed_edit::{Cause, EditError};
+use zed_types::Stamp;
+
+/// Why a document refuses a call.
+#[derive(Clone, Copy, Debug, PartialEq, Eq, Error)]
+pub enum DocumentError {
+    #[error("out of memory")]
+    Memory,
+    #[error("the edits belong to another world")]
+    OtherWorld,
+    #[error("the edit is no good: {0:?}")]
+    BadEdit(Cause),
+    #[error("another edit was made at time {} by replica {}", .0.time, .0.replica)]
+    Clash(Stamp),
+    #[error("memory ran out before: repair the document first")]
+    Stale,
+    #[error("there is no such thing")]
+    NoSuch,
+}
+
+/// The refusal of a document for one of an edit.
+pub(crate) fn of_edit(error: EditError) -> DocumentError
+    ensures { result ≡ refusal_of error }
+{
+    match error {
+        EditError::Memory => DocumentError::Memory,
+        EditError::BadEdit(cause) => DocumentError::BadEdit(cause),
+    }
+}

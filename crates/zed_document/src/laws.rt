@@ -1,0 +1,27 @@
+ghost use Rattle.zed_document.specs.Laws.{MergeCommutes, MergeAssociates, MergeRepeats, MergeOfItself, EditsDecide, DeliveriesMakeIt, MergeIsDeliveries, OrderNeverCounts};
+
+use zed_edit::{rising_lists_are_sets, set_is_its_edits, sets_rise, union_is_of_sets};
+
+/// Merging is commutative, associative and idempotent, up to what documents show and hold.
+pub fn merging_is_of_sets()
+    ensures commutes { MergeCommutes }
+    ensures associates { MergeAssociates }
+    ensures repeats { MergeRepeats }
+    ensures itself { MergeOfItself }
+{
+    sets_rise();
+    rising_lists_are_sets();
+    union_is_of_sets();
+}
+
+/// Documents that accepted the same edits are the same, in whatever order and with whatever repeats these came, by deliveries or by
+/// merges.
+pub fn edits_decide()
+    ensures same { EditsDecide }
+    ensures deliveries { DeliveriesMakeIt }
+    ensures merges { MergeIsDeliveries }
+    ensures order { OrderNeverCounts }
+{
+    set_is_its_edits();
+    union_is_of_sets();
+}

@@ -1,0 +1,27 @@
+//! The document: a replica of a world. It accepts edits in any order and with any repeats, and always shows what one author would have
+//! who made them in stamp order.
+#![tactic(auto)]
+
+mod delivered;
+mod document;
+mod error;
+mod held;
+mod laws;
+mod merge;
+mod place;
+mod readers;
+mod same;
+mod view;
+
+pub use delivered::{Delivered, State};
+pub use document::Document;
+pub use error::DocumentError;
+pub use laws::{edits_decide, merging_is_of_sets};
+pub use view::{MadeBoard, MadeStat, View};
+
+#[cfg(test)]
+mod tests;
+#[cfg(test)]
+mod tests_edits;
+#[cfg(test)]
+mod tests_memory;

@@ -1,0 +1,51 @@
+ghost use Rattle.std.specs.Prelude.{◌≡◌, ◌≤◌, ◌<◌, ◌-◌, true, false, None, Some, length, take, drop, insert, slice_get, IfSome, IfOk, IfErr, OnOk, OnErr};
+ghost use Rattle.std.specs.Bool.{OnTrue, OnFalse};
+ghost use Rattle.std.specs.List.{AllByRecursion};
+ghost use Rattle.zed_types.specs.Stamp.{before, same_stamp};
+ghost use Rattle.zed_edit.specs.declared.op.Edit.{Edit as TheEdit};
+ghost use Rattle.zed_edit.specs.Set.{IsRising, with_edit};
+ghost use Rattle.zed_document.specs.Delivery.{edit_with};
+ghost use Rattle.zed_document.specs.Kept.{AllBelow};
+
+use zed_edit::Edit;
+use zed_types::Stamp;
+
+/// How many edits of a log do not come after a stamp. Most edits come in their order, so this is sought from the end.
+fn place_of(edits: &[Edit], stamp: Stamp) -> usize
+    ensures within { result ≤ length edits.now }
+    ensures above { AllByRecursion (λ e. before stamp e.stamp ≡ true) (drop result edits.now) }
+    ensures below { 0 < result → IfSome (slice_get edits.now (result - 1)) (λ e. before stamp e.stamp ≡ false) }
+{
+    let mut place = edits.len();
+    while place > 0 && stamp.is_before(edits[place - 1].stamp) {
+        place -= 1;
+    }
+    place
+}
+
+/// Whether the edit before a place of a log has a stamp.
+fn ends_with(edits: &[Edit], place: usize, stamp: Stamp) -> bool
+    requires { place ≤ length edits.now }
+    ensures yes { OnTrue result ((0 < place) × IfSome (slice_get edits.now (place - 1)) (λ e. e.stamp ≡ stamp)) }
+    ensures no { OnFalse result (0 < place → IfSome (slice_get edits.now (place - 1)) (λ e. same_stamp stamp e.stamp ≡ false)) }
+{
+    place > 0 && edits[place - 1].stamp == stamp
+}
+
+/// The edit with a stamp in a log, or else where one belongs.
+pub(crate) fn spot_of(edits: &[Edit], stamp: Stamp) -> Result<&Edit, usize>
+    requires { IsRising edits.now }
+    ensures there { IfOk result (λ f. edit_with stamp edits.now ≡ Some f.now) }
+    ensures known { OnOk result ((e : TheEdit) → e.stamp ≡ stamp → with_edit e edits.now ≡ edits.now) }
+    ensures free { OnErr result (edit_with stamp edits.now ≡ None) }
+    ensures within { IfErr result (λ i. i ≤ length edits.now) }
+    ensures below { IfErr result (λ i. AllBelow stamp (take i edits.now)) }
+    ensures belongs { IfErr result (λ i. (e : TheEdit) → e.stamp ≡ stamp → with_edit e edits.now ≡ insert edits.now i e) }
+{
+    let place = place_of(edits, stamp);
+    if ends_with(edits, place, stamp) {
+        Ok(&edits[place - 1])
+    } else {
+        Err(place)
+    }
+}

@@ -1,0 +1,93 @@
+ghost use Rattle.std.specs.Prelude.{◌≡◌, ◌⊎◌, length, Err, IsOk, IsOkAnd};
+ghost use Rattle.zed_edit.specs.Numbers.{board_numbered, stat_numbered};
+ghost use Rattle.zed_edit.specs.Document.{text as text_shown};
+ghost use Rattle.zed_edit.specs.Replay.{replay};
+ghost use Rattle.zed_document.specs.Reading.{unless_stale, unless_no_text, TellsOfText, text_of as text_of_stat};
+
+use crate::document::Document;
+use crate::error::{DocumentError, of_edit};
+use zed_edit::{Plain, has_text};
+use zed_types::{BoardId, StatId, TextId};
+
+impl Document {
+    /// The board with this number, if there is one: boards that aren't removed are numbered from 0 on, the title first. Stale where
+    /// the document is.
+    pub fn board(&self, n: usize) -> Result<Option<BoardId>, DocumentError>
+        ensures { result ≡ unless_stale self.now (board_numbered (replay self.now.edits) n) }
+    {
+        match self.shown() {
+            Ok(plain) => Ok(plain.board_numbered(n)),
+            Err(error) => Err(error),
+        }
+    }
+
+    /// The stat with this number on a board, if there is one: the stats of a board that aren't removed are numbered from 0 on, the
+    /// player first. Stale where the document is.
+    pub fn stat(&self, board: BoardId, n: usize) -> Result<Option<StatId>, DocumentError>
+        ensures { result ≡ unless_stale self.now (stat_numbered (replay self.now.edits) board n) }
+    {
+        match self.shown() {
+            Ok(plain) => Ok(plain.stat_numbered(board, n)),
+            Err(error) => Err(error),
+        }
+    }
+
+    /// The text of a stat, removed or not, if it has one. Stale where the document is.
+    pub fn text_of(&self, stat: StatId) -> Result<Option<TextId>, DocumentError>
+        ensures { result ≡ unless_stale self.now (text_of_stat (replay self.now.edits) stat) }
+    {
+        match self.shown() {
+            Ok(plain) => match plain.text_of_stat(stat) {
+                Some(text) => Ok(text),
+                None => Ok(None),
+            },
+            Err(error) => Err(error),
+        }
+    }
+
+    /// The plain document, of a text that was made.
+    fn shown_with(&self, text: TextId) -> Result<&Plain, DocumentError>
+        ensures { TellsOfText self.now text (λ r. IsOkAnd r (λ p. p.now ≡ replay self.now.edits)) result }
+    {
+        match self.shown() {
+            Ok(plain) => {
+                if has_text(plain, text) {
+                    Ok(plain)
+                } else {
+                    Err(DocumentError::NoSuch)
+                }
+            }
+            Err(error) => Err(error),
+        }
+    }
+
+    /// How many alive bytes a text has. In this order: Stale; NoSuch where the text wasn't made.
+    pub fn length(&self, text: TextId) -> Result<usize, DocumentError>
+        ensures { result ≡ unless_no_text self.now text (length (text_shown (replay self.now.edits) text)) }
+    {
+        match self.shown_with(text) {
+            Ok(plain) => Ok(plain.length(text)),
+            Err(error) => Err(error),
+        }
+    }
+
+    /// How many runs of a text were looked at. In this order: Stale; NoSuch where the text wasn't made.
+    pub fn visits(&self, text: TextId) -> Result<u64, DocumentError>
+        ensures { TellsOfText self.now text (λ r. IsOk r) result }
+    {
+        match self.shown_with(text) {
+            Ok(_) => Ok(0),
+            Err(error) => Err(error),
+        }
+    }
+
+    /// The alive bytes of a text. In this order: Stale; NoSuch where the text wasn't made; Memory.
+    pub fn text(&self, text: TextId) -> Result<Vec<u8>, DocumentError>
+        ensures { TellsOfText self.now text (λ r. (r ≡ Err DocumentError.Memory) ⊎ IsOkAnd r (λ bytes. bytes.items ≡ text_shown (replay self.now.edits) text)) result }
+    {
+        match self.shown_with(text) {
+            Ok(plain) => plain.text(self.alloc(), text).map_err(of_edit),
+            Err(error) => Err(error),
+        }
+    }
+}

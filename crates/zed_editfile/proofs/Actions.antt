@@ -1,0 +1,169 @@
+-- Ops: what is read is spelled so, and what is spelled is read again where nothing follows.
+use Rattle.std.proofs.Common.{◌≡◌, ℕ, Bool, true, false, cond, eqb, List, [], ◌∷◌, ◌++◌, Option, Some, None, Ok, Err, subst, arith, refl, sym, ap, ◌∙◌, append_assoc}
+use Rattle.std.specs.Prelude.{IfSome}
+use Rattle.std.proofs.lemmas.Bool.{eqb-true}
+use Rattle.std.proofs.lemmas.List.{append-nil}
+use Rattle.zed_edit.specs.declared.cause.Cause.TheVariants.{Op as BadOp}
+use Rattle.zed_edit.specs.declared.op.Op.{Op}
+use Rattle.zed_edit.specs.declared.op.Op.TheVariants.{Genesis, SetHeader, BoardAdd, BoardRemove, SetBoard, SetCells, StatAdd, StatRemove, SetStat, TextAdd, TextInsert, TextDelete}
+use Rattle.zed_editfile.specs.declared.error.EditFileError.TheVariants.{BadEdit}
+use Rattle.zed_editfile.specs.Spelling.{string, stamp, number, board_name, stat_name, text_name, element_name, optional, tile, rectangle, header_setting, board_setting, stat_setting, stat_fields, op_text}
+use Rattle.zed_editfile.specs.Reading.{◌>>=◌, Field, mapped, byte_at, string_at, board_name_at, stat_name_at, text_name_at, element_name_at, optional_at, tile_at, rectangle_at, range_at, header_setting_at, board_setting_at, stat_setting_at, stat_fields_at, set_board_at, set_cells_at, stat_add_at, set_stat_at, text_insert_at, text_delete_at, op_at}
+use Rattle.zed_editfile.specs.Sizes.{IsOp}
+use Rattle.zed_editfile.proofs.Numbers.{IsBytes}
+use Rattle.zed_editfile.proofs.Codec.{IsField, Completes, bind_ok, ok_is, takes_then, takes_end, takes_all, takes_mapped, takes_choice, takes_none, again_then, again_mapped, byte_field, string_field, tile_field, rectangle_field}
+use Rattle.zed_editfile.proofs.Names.{board_name_field, stat_name_field, text_name_field, element_name_field, optional_field, range_field, range_text}
+use Rattle.zed_editfile.proofs.Registers.{header_setting_field, board_setting_field, stat_setting_field, stat_fields_field}
+
+-- the fields behind the number of an op
+abbrev front : ℕ → List ℕ → List ℕ
+front n t = n ∷ t
+
+set_board_completes : Completes IsOp op_text (front 5) set_board_at
+unfolding set_board_at
+set_board_completes =
+    takes_then board_name_field IsOp op_text (front 5) _
+    (λ b gb. takes_then board_setting_field IsOp op_text (λ t. 5 ∷ (board_name b ++ t)) _
+    (λ s gs. takes_end IsOp op_text (λ t. 5 ∷ (board_name b ++ (board_setting s ++ t))) (SetBoard b s) (gb, gs) (λ t. ap (front 5) (sym (append_assoc (board_name b) (board_setting s) t)))))
+
+set_cells_completes : Completes IsOp op_text (front 6) set_cells_at
+unfolding set_cells_at
+set_cells_completes =
+    takes_then board_name_field IsOp op_text (front 6) _
+    (λ b gb. takes_then rectangle_field IsOp op_text (λ t. 6 ∷ (board_name b ++ t)) _
+    (λ r gr. takes_then tile_field IsOp op_text (λ t. 6 ∷ (board_name b ++ (rectangle r ++ t))) _
+    (λ c gc. takes_end IsOp op_text (λ t. 6 ∷ (board_name b ++ (rectangle r ++ (tile c ++ t)))) (SetCells b r c) (gb, gr, gc)
+    (λ t. ap (front 6) (sym (append_assoc (board_name b ++ rectangle r) (tile c) t ∙ append_assoc (board_name b) (rectangle r) (tile c ++ t)))))))
+
+stat_add_completes : Completes IsOp op_text (front 7) stat_add_at
+unfolding stat_add_at
+stat_add_completes =
+    takes_then board_name_field IsOp op_text (front 7) _
+    (λ b gb. takes_then stat_fields_field IsOp op_text (λ t. 7 ∷ (board_name b ++ t)) _
+    (λ f gf. takes_end IsOp op_text (λ t. 7 ∷ (board_name b ++ (stat_fields f ++ t))) (StatAdd b f) (gb, gf) (λ t. ap (front 7) (sym (append_assoc (board_name b) (stat_fields f) t)))))
+
+set_stat_completes : Completes IsOp op_text (front 9) set_stat_at
+unfolding set_stat_at
+set_stat_completes =
+    takes_then stat_name_field IsOp op_text (front 9) _
+    (λ b gb. takes_then stat_setting_field IsOp op_text (λ t. 9 ∷ (stat_name b ++ t)) _
+    (λ s gs. takes_end IsOp op_text (λ t. 9 ∷ (stat_name b ++ (stat_setting s ++ t))) (SetStat b s) (gb, gs) (λ t. ap (front 9) (sym (append_assoc (stat_name b) (stat_setting s) t)))))
+
+text_delete_completes : Completes IsOp op_text (front 12) text_delete_at
+unfolding text_delete_at
+text_delete_completes =
+    takes_then text_name_field IsOp op_text (front 12) _
+    (λ b gb. takes_then range_field IsOp op_text (λ t. 12 ∷ (text_name b ++ t)) _
+    (λ r gr. takes_end IsOp op_text (λ t. 12 ∷ (text_name b ++ (range_text r ++ t))) (TextDelete b r) (gb, gr)
+    (λ t.
+    ap (λ (x : List ℕ). 12 ∷ x)
+    (sym (append_assoc (((text_name b ++ stamp r.stamp) ++ number 4 r.first)) (number 4 r.last) t ∙ append_assoc (text_name b ++ stamp r.stamp) (number 4 r.first) (number 4 r.last ++ t) ∙ append_assoc (text_name b) (stamp r.stamp) (number 4 r.first ++ (number 4 r.last ++ t))
+    ∙ ap (λ (x : List ℕ). text_name b ++ x) (sym (append_assoc (stamp r.stamp ++ number 4 r.first) (number 4 r.last) t ∙ append_assoc (stamp r.stamp) (number 4 r.first) (number 4 r.last ++ t))))))))
+
+-- an op that takes all the bytes
+takes_whole : (n : ℕ) (build : List ℕ → Op) → ((t : List ℕ) → IsOp (build t)) → ((t : List ℕ) → front n t ≡ op_text (build t)) → Completes IsOp op_text (front n) (λ bytes. Ok (build bytes, []))
+takes_whole n build g same = record {
+  takes = λ bytes x fits e.
+      let P : Op × List ℕ → Type 0 = λ y. (front n bytes ≡ op_text y.0 ++ y.1) × IsBytes y.1 × IsOp y.0 in
+      let none : IsBytes [] = λ i. omega arith in
+      subst P (ok_is (build bytes, []) x e) (same bytes ∙ sym (append-nil (op_text (build bytes))), none, g bytes);
+}
+
+text_insert_completes : Completes IsOp op_text (front 11) text_insert_at
+unfolding text_insert_at
+text_insert_completes =
+    takes_then text_name_field IsOp op_text (front 11) _
+    (λ b gb. takes_then (optional_field element_name_field) IsOp op_text (λ t. 11 ∷ (text_name b ++ t)) _
+    (λ a ga. record {
+      takes = λ bytes x fits e.
+          let P : Op × List ℕ → Type 0 = λ y. (11 ∷ (text_name b ++ (optional element_name a ++ bytes)) ≡ op_text y.0 ++ y.1) × IsBytes y.1 × IsOp y.0 in
+          let none : IsBytes [] = λ i. omega arith in
+          let same : 11 ∷ (text_name b ++ (optional element_name a ++ bytes)) ≡ op_text (TextInsert b a bytes) ++ [] = ap (λ (t : List ℕ). 11 ∷ t) (sym (append_assoc (text_name b) (optional element_name a) bytes)) ∙ sym (append-nil (op_text (TextInsert b a bytes))) in
+          subst P (ok_is (TextInsert b a bytes, []) x e) (same, none, (gb, ga));
+    }))
+
+abbrev heading : {A : Type 0} (n f : ℕ) (spell : A → List ℕ) (a : A) (t : List ℕ) → f ≡ n → front f (spell a ++ t) ≡ front n (spell a ++ t)
+heading n f spell a t e = ap (λ (k : ℕ). k ∷ (spell a ++ t)) e
+
+-- at a number that a test found
+takes_at : (n f : ℕ) (read : List ℕ → Field Op) → f ≡ n → Completes IsOp op_text (front n) read → Completes IsOp op_text (front f) read
+takes_at n f read e c = subst (λ (k : ℕ). Completes IsOp op_text (front k) read) (sym e) c
+
+mapped_at : {A : Type 0} {good : A → Type 0} {spell : A → List ℕ} {read : List ℕ → Field A} (field : IsField good spell read) (n : ℕ) (build : A → Op) → ((a : A) → good a → IsOp (build a)) → ((a : A) (t : List ℕ) → front n (spell a ++ t) ≡ op_text (build a) ++ t)
+    → Completes IsOp op_text (front n) (λ bytes. mapped build (read bytes))
+mapped_at field n build g same = takes_mapped field IsOp op_text (front n) build g same
+
+-- the op of any number
+pub op_completes : (f : ℕ) → Completes IsOp op_text (front f) (op_at f)
+unfolding op_at
+op_completes f =
+    takes_choice IsOp op_text (front f) (eqb f 1) (λ t. Ok (Genesis t, [])) (λ t. cond (eqb f 2) (mapped SetHeader (header_setting_at t)) (cond (eqb f 3) (mapped BoardAdd (string_at t)) (cond (eqb f 4) (mapped BoardRemove (board_name_at t)) (cond (eqb f 5) (set_board_at t) (cond (eqb f 6) (set_cells_at t) (cond (eqb f 7) (stat_add_at t) (cond (eqb f 8) (mapped StatRemove (stat_name_at t)) (cond (eqb f 9) (set_stat_at t) (cond (eqb f 10) (Ok (TextAdd, t)) (cond (eqb f 11) (text_insert_at t) (cond (eqb f 12) (text_delete_at t) (Err (BadEdit BadOp)))))))))))))
+    (λ e. takes_at 1 f (λ t. Ok (Genesis t, [])) (eqb-true f 1 e) (takes_whole 1 Genesis (λ t. tt) (λ t. refl)))
+    (λ n1. takes_choice IsOp op_text (front f) (eqb f 2) (λ t. mapped SetHeader (header_setting_at t)) (λ t. cond (eqb f 3) (mapped BoardAdd (string_at t)) (cond (eqb f 4) (mapped BoardRemove (board_name_at t)) (cond (eqb f 5) (set_board_at t) (cond (eqb f 6) (set_cells_at t) (cond (eqb f 7) (stat_add_at t) (cond (eqb f 8) (mapped StatRemove (stat_name_at t)) (cond (eqb f 9) (set_stat_at t) (cond (eqb f 10) (Ok (TextAdd, t)) (cond (eqb f 11) (text_insert_at t) (cond (eqb f 12) (text_delete_at t) (Err (BadEdit BadOp))))))))))))
+    (λ e. takes_at 2 f (λ t. mapped SetHeader (header_setting_at t)) (eqb-true f 2 e) (mapped_at header_setting_field 2 SetHeader (λ a g. g) (λ a t. refl)))
+    (λ n2. takes_choice IsOp op_text (front f) (eqb f 3) (λ t. mapped BoardAdd (string_at t)) (λ t. cond (eqb f 4) (mapped BoardRemove (board_name_at t)) (cond (eqb f 5) (set_board_at t) (cond (eqb f 6) (set_cells_at t) (cond (eqb f 7) (stat_add_at t) (cond (eqb f 8) (mapped StatRemove (stat_name_at t)) (cond (eqb f 9) (set_stat_at t) (cond (eqb f 10) (Ok (TextAdd, t)) (cond (eqb f 11) (text_insert_at t) (cond (eqb f 12) (text_delete_at t) (Err (BadEdit BadOp)))))))))))
+    (λ e. takes_at 3 f (λ t. mapped BoardAdd (string_at t)) (eqb-true f 3 e) (mapped_at string_field 3 BoardAdd (λ a g. g) (λ a t. refl)))
+    (λ n3. takes_choice IsOp op_text (front f) (eqb f 4) (λ t. mapped BoardRemove (board_name_at t)) (λ t. cond (eqb f 5) (set_board_at t) (cond (eqb f 6) (set_cells_at t) (cond (eqb f 7) (stat_add_at t) (cond (eqb f 8) (mapped StatRemove (stat_name_at t)) (cond (eqb f 9) (set_stat_at t) (cond (eqb f 10) (Ok (TextAdd, t)) (cond (eqb f 11) (text_insert_at t) (cond (eqb f 12) (text_delete_at t) (Err (BadEdit BadOp))))))))))
+    (λ e. takes_at 4 f (λ t. mapped BoardRemove (board_name_at t)) (eqb-true f 4 e) (mapped_at board_name_field 4 BoardRemove (λ a g. g) (λ a t. refl)))
+    (λ n4. takes_choice IsOp op_text (front f) (eqb f 5) (λ t. set_board_at t) (λ t. cond (eqb f 6) (set_cells_at t) (cond (eqb f 7) (stat_add_at t) (cond (eqb f 8) (mapped StatRemove (stat_name_at t)) (cond (eqb f 9) (set_stat_at t) (cond (eqb f 10) (Ok (TextAdd, t)) (cond (eqb f 11) (text_insert_at t) (cond (eqb f 12) (text_delete_at t) (Err (BadEdit BadOp)))))))))
+    (λ e. takes_at 5 f (λ t. set_board_at t) (eqb-true f 5 e) (set_board_completes))
+    (λ n5. takes_choice IsOp op_text (front f) (eqb f 6) (λ t. set_cells_at t) (λ t. cond (eqb f 7) (stat_add_at t) (cond (eqb f 8) (mapped StatRemove (stat_name_at t)) (cond (eqb f 9) (set_stat_at t) (cond (eqb f 10) (Ok (TextAdd, t)) (cond (eqb f 11) (text_insert_at t) (cond (eqb f 12) (text_delete_at t) (Err (BadEdit BadOp))))))))
+    (λ e. takes_at 6 f (λ t. set_cells_at t) (eqb-true f 6 e) (set_cells_completes))
+    (λ n6. takes_choice IsOp op_text (front f) (eqb f 7) (λ t. stat_add_at t) (λ t. cond (eqb f 8) (mapped StatRemove (stat_name_at t)) (cond (eqb f 9) (set_stat_at t) (cond (eqb f 10) (Ok (TextAdd, t)) (cond (eqb f 11) (text_insert_at t) (cond (eqb f 12) (text_delete_at t) (Err (BadEdit BadOp)))))))
+    (λ e. takes_at 7 f (λ t. stat_add_at t) (eqb-true f 7 e) (stat_add_completes))
+    (λ n7. takes_choice IsOp op_text (front f) (eqb f 8) (λ t. mapped StatRemove (stat_name_at t)) (λ t. cond (eqb f 9) (set_stat_at t) (cond (eqb f 10) (Ok (TextAdd, t)) (cond (eqb f 11) (text_insert_at t) (cond (eqb f 12) (text_delete_at t) (Err (BadEdit BadOp))))))
+    (λ e. takes_at 8 f (λ t. mapped StatRemove (stat_name_at t)) (eqb-true f 8 e) (mapped_at stat_name_field 8 StatRemove (λ a g. g) (λ a t. refl)))
+    (λ n8. takes_choice IsOp op_text (front f) (eqb f 9) (λ t. set_stat_at t) (λ t. cond (eqb f 10) (Ok (TextAdd, t)) (cond (eqb f 11) (text_insert_at t) (cond (eqb f 12) (text_delete_at t) (Err (BadEdit BadOp)))))
+    (λ e. takes_at 9 f (λ t. set_stat_at t) (eqb-true f 9 e) (set_stat_completes))
+    (λ n9. takes_choice IsOp op_text (front f) (eqb f 10) (λ t. Ok (TextAdd, t)) (λ t. cond (eqb f 11) (text_insert_at t) (cond (eqb f 12) (text_delete_at t) (Err (BadEdit BadOp))))
+    (λ e. takes_at 10 f (λ t. Ok (TextAdd, t)) (eqb-true f 10 e) (takes_end IsOp op_text (front 10) TextAdd tt (λ t. refl)))
+    (λ n10. takes_choice IsOp op_text (front f) (eqb f 11) (λ t. text_insert_at t) (λ t. cond (eqb f 12) (text_delete_at t) (Err (BadEdit BadOp)))
+    (λ e. takes_at 11 f (λ t. text_insert_at t) (eqb-true f 11 e) (text_insert_completes))
+    (λ n11. takes_choice IsOp op_text (front f) (eqb f 12) (λ t. text_delete_at t) (λ t. Err (BadEdit BadOp))
+    (λ e. takes_at 12 f (λ t. text_delete_at t) (eqb-true f 12 e) (text_delete_completes))
+    (λ n12. takes_none IsOp op_text (front f) (BadEdit BadOp)))))))))))))
+
+abbrev Again : Op → Type 0
+Again op = (byte_at (op_text op) >>= λ n. op_at n.0 n.1) ≡ Ok (op, [])
+
+-- one field that ends the body
+last : {A : Type 0} {good : A → Type 0} {spell : A → List ℕ} {read : List ℕ → Field A} (field : IsField good spell read) (a : A) → good a → read (spell a) ≡ Ok (a, [])
+last {read} field a g = ap read (sym (append-nil _)) ∙ field.again a [] g
+
+last_mapped : {A : Type 0} {good : A → Type 0} {spell : A → List ℕ} {read : List ℕ → Field A} (field : IsField good spell read) (build : A → Op) (a : A) → good a → mapped build (read (spell a)) ≡ Ok (build a, [])
+last_mapped {A} field build a g = ap (λ (x : Field A). mapped build x) (last field a g)
+
+abbrev pair_built : {A B : Type 0} → (A → B → Op) → A → B × List ℕ → Field Op
+pair_built build a y = Ok (build a y.0, y.1)
+
+abbrev built : {A B : Type 0} → (A → B → Op) → (List ℕ → Field B) → A × List ℕ → Field Op
+built build read_b x = read_b x.1 >>= λ y. pair_built build x.0 y
+
+abbrev op_and_nothing : Op → Field Op
+op_and_nothing op = Ok (op, [])
+
+last_two : {A B : Type 0} {good : A → Type 0} {spell : A → List ℕ} {read : List ℕ → Field A} {good_b : B → Type 0} {spell_b : B → List ℕ} {read_b : List ℕ → Field B} (field : IsField good spell read) (field_b : IsField good_b spell_b read_b) (build : A → B → Op) (a : A) (b : B)
+    → good a → good_b b → (read (spell a ++ spell_b b) >>= built build read_b) ≡ op_and_nothing (build a b)
+last_two {A} {B} {good} {spell} {read} {good_b} {spell_b} {read_b} field field_b build a b g h =
+    again_then field (built build read_b) (spell_b b) (op_and_nothing (build a b)) a g (ap (λ (z : Field B). z >>= λ y. pair_built build a y) (last field_b b h))
+
+pub op_again : (op : Op) → IsOp op → Again op
+unfolding op_at byte_at set_board_at set_cells_at stat_add_at set_stat_at text_insert_at text_delete_at
+op_again (Genesis bytes) g = refl
+op_again (SetHeader s) g = last_mapped header_setting_field SetHeader s g
+op_again (BoardAdd s) g = last_mapped string_field BoardAdd s g
+op_again (BoardRemove b) g = last_mapped board_name_field BoardRemove b g
+op_again (SetBoard b s) g = last_two board_name_field board_setting_field SetBoard b s g.0 g.1
+op_again (SetCells b r t) g =
+    ap set_cells_at (append_assoc (board_name b) (rectangle r) (tile t))
+    ∙ again_then board_name_field _ (rectangle r ++ tile t) (Ok (SetCells b r t, [])) b g.0 (last_two rectangle_field tile_field (SetCells b) r t g.1 g.2)
+op_again (StatAdd b f) g = last_two board_name_field stat_fields_field StatAdd b f g.0 g.1
+op_again (StatRemove s) g = last_mapped stat_name_field StatRemove s g
+op_again (SetStat s v) g = last_two stat_name_field stat_setting_field SetStat s v g.0 g.1
+op_again TextAdd g = refl
+op_again (TextInsert t a bytes) g =
+    ap text_insert_at (append_assoc (text_name t) (optional element_name a) bytes)
+    ∙ again_then text_name_field _ (optional element_name a ++ bytes) (Ok (TextInsert t a bytes, [])) t g.0 (again_then (optional_field element_name_field) _ bytes (Ok (TextInsert t a bytes, [])) a g.1 refl)
+op_again (TextDelete t r) g =
+    ap text_delete_at (append_assoc (text_name t ++ stamp r.stamp) (number 4 r.first) (number 4 r.last) ∙ append_assoc (text_name t) (stamp r.stamp) (number 4 r.first ++ number 4 r.last) ∙ ap (λ (x : List ℕ). text_name t ++ x) (sym (append_assoc (stamp r.stamp) (number 4 r.first) (number 4 r.last))))
+    ∙ last_two text_name_field range_field TextDelete t r g.0 g.1

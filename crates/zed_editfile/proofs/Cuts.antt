@@ -1,0 +1,286 @@
+-- Where reading stops: at the front of a record, however many bytes follow, and what records are taken before it.
+use Rattle.std.proofs.Common.{◌≡◌, ℕ, zero, suc, ◌+◌, ◌^◌, ◌<◌, ◌≤◌, Bool, true, false, not, cond, ltb, leb, eqb, ◌&&◌, List, [], ◌∷◌, ◌++◌, length, take, drop, get_or, Option, Some, None, Result, Ok, Err, refl, sym, ap, subst, ◌∙◌, append_assoc, ◌-◌, arith, ◌⊎◌, inl, inr}
+use Rattle.std.specs.List.{flat_map, AllByRecursion}
+use Rattle.std.proofs.lemmas.Bool.{ltb-true, ltb-false, lt-ltb, le-ltb, leb-true}
+use Rattle.std.proofs.lemmas.List.{append-nil, take_at, drop_at, take-append-drop, take-append-le, length-append, length-take, length-drop}
+use Rattle.byteorder.specs.Endian.{little_number}
+use Rattle.byteorder.specs.Numbers.{little_from-append}
+use Rattle.zed_edit.specs.declared.op.Edit.{Edit}
+use Rattle.zed_editfile.specs.declared.error.EditFileError.{EditFileError}
+use Rattle.zed_editfile.specs.declared.error.EditFileError.TheVariants.{Memory, RecordLength}
+use Rattle.zed_editfile.specs.Spelling.{number, spelling, record_text}
+use Rattle.zed_editfile.specs.Reading.{edit_at}
+use Rattle.zed_editfile.specs.Stream.{Stop, waits, fails, is_length, fault_of, body_at, record_stop, IsRecord, AreRecords, Frames, Gains}
+use Rattle.zed_editfile.proofs.Numbers.{IsBytes, IsBytes-take, IsBytes-front, IsBytes-behind, length_number, number_is, number_back}
+use Rattle.zed_editfile.proofs.Codec.{chosen}
+use Rattle.zed_editfile.proofs.Edits.{edit_takes}
+
+-- ---- the front of a record
+
+pub is_short : (b : List ℕ) → length b < 4 → record_stop b ≡ waits b
+unfolding record_stop
+is_short b lt = let t : ltb (length b) 4 ≡ true = lt-ltb _ _ lt in rw t refl
+
+pub is_bad : (b : List ℕ) → 4 ≤ length b → is_length (little_number 4 b) ≡ false → record_stop b ≡ fails RecordLength
+unfolding record_stop
+is_bad b le bad = let t : ltb (length b) 4 ≡ false = le-ltb _ _ le in rw (t, bad) refl
+
+pub is_cut : (b : List ℕ) → 4 ≤ length b → is_length (little_number 4 b) ≡ true → length (drop 4 b) < little_number 4 b → record_stop b ≡ waits b
+unfolding record_stop
+is_cut b le good lt =
+    let t : ltb (length b) 4 ≡ false = le-ltb _ _ le in
+    let u : ltb (length (drop 4 b)) (little_number 4 b) ≡ true = lt-ltb _ _ lt in
+    rw (t, good, u) refl
+
+pub is_whole : (b : List ℕ) → 4 ≤ length b → is_length (little_number 4 b) ≡ true → little_number 4 b ≤ length (drop 4 b) → record_stop b ≡ fault_of (edit_at (body_at b))
+unfolding record_stop
+is_whole b le good long =
+    let t : ltb (length b) 4 ≡ false = le-ltb _ _ le in
+    let u : ltb (length (drop 4 b)) (little_number 4 b) ≡ false = le-ltb _ _ long in
+    rw (t, good, u) refl
+
+-- which of the four it is
+pub record IsBad (b : List ℕ) : Type 0 where
+  pub long : 4 ≤ length b
+  pub bad : is_length (little_number 4 b) ≡ false
+
+pub record IsCut (b : List ℕ) : Type 0 where
+  pub long : 4 ≤ length b
+  pub good : is_length (little_number 4 b) ≡ true
+  pub cut : length (drop 4 b) < little_number 4 b
+
+pub record IsWhole (b : List ℕ) : Type 0 where
+  pub long : 4 ≤ length b
+  pub good : is_length (little_number 4 b) ≡ true
+  pub whole : little_number 4 b ≤ length (drop 4 b)
+
+cases_bool : (b : Bool) → (b ≡ true) ⊎ (b ≡ false)
+cases_bool true = inl refl
+cases_bool false = inr refl
+
+pub front_cases : (b : List ℕ) → (length b < 4) ⊎ (IsBad b ⊎ (IsCut b ⊎ IsWhole b))
+front_cases b = elim (cases_bool (ltb (length b) 4)) [
+  | inl t ↦ inl (ltb-true _ _ t)
+  | inr t ↦
+      let le : 4 ≤ length b = ltb-false _ _ t in
+      elim (cases_bool (is_length (little_number 4 b))) [
+        | inr bad ↦ inr (inl (record { long = le; bad = bad }))
+        | inl good ↦
+            elim (cases_bool (ltb (length (drop 4 b)) (little_number 4 b))) [
+              | inl u ↦ inr (inr (inl (record { long = le; good = good; cut = ltb-true _ _ u })))
+              | inr u ↦ inr (inr (inr (record { long = le; good = good; whole = ltb-false _ _ u })))
+            ]
+      ]
+]
+
+abbrev fault_in : Option Stop → Option EditFileError
+fault_in None = None
+fault_in (Some s) = s.fault
+
+abbrev rest_in : Option Stop → List ℕ
+rest_in None = []
+rest_in (Some s) = s.rest
+
+pub waits_not_fails : (bytes : List ℕ) (e : EditFileError) → waits bytes ≡ fails e → ⊥
+waits_not_fails bytes e h = let c : fault_in (waits bytes) ≡ fault_in (fails e) = ap fault_in h in absurd cc
+
+pub waits_same : (a b : List ℕ) → waits a ≡ waits b → a ≡ b
+waits_same a b h = ap rest_in h
+
+fault_never_waits : (r : Result Edit EditFileError) (bytes : List ℕ) → fault_of r ≡ waits bytes → ⊥
+fault_never_waits (Ok e) bytes h = absurd cc
+fault_never_waits (Err e) bytes h = waits_not_fails bytes e (sym h)
+
+-- what waits is less than a record, and all of it is kept
+pub waits_is : (b rest : List ℕ) → record_stop b ≡ waits rest → (b ≡ rest) × ((length b < 4) ⊎ IsCut b)
+waits_is b rest h = elim (front_cases b) [
+  | inl short ↦ (waits_same b rest (sym (is_short b short) ∙ h), inl short)
+  | inr (inl bad) ↦ absurd (waits_not_fails rest RecordLength (sym h ∙ is_bad b bad.long bad.bad))
+  | inr (inr (inl cut)) ↦ (waits_same b rest (sym (is_cut b cut.long cut.good cut.cut) ∙ h), inr cut)
+  | inr (inr (inr whole)) ↦ absurd (fault_never_waits (edit_at (body_at b)) rest (sym (is_whole b whole.long whole.good whole.whole) ∙ h))
+]
+
+-- the same number at the front, whatever follows
+pub same_number : (b x : List ℕ) → 4 ≤ length b → little_number 4 (b ++ x) ≡ little_number 4 b
+same_number b x le = little_from-append 4 b x le
+
+drop_longer : (n : ℕ) (b x : List ℕ) → n ≤ length b → drop n (b ++ x) ≡ drop n b ++ x
+drop_longer zero b x le = refl
+drop_longer (suc n) [] x le = absurd (omega arith)
+drop_longer (suc n) (y ∷ b) x le = drop_longer n b x (omega arith)
+
+whole_longer : (b x : List ℕ) → IsWhole b → IsWhole (b ++ x) × (body_at (b ++ x) ≡ body_at b)
+whole_longer b x w =
+    let le : 4 ≤ length b = w.long in
+    let same : little_number 4 (b ++ x) ≡ little_number 4 b = same_number b x le in
+    let behind : drop 4 (b ++ x) ≡ drop 4 b ++ x = drop_longer 4 b x le in
+    let long : little_number 4 b ≤ length (drop 4 b) = w.whole in
+    let n : ℕ = little_number 4 b in
+    let front : take n (drop 4 b ++ x) ≡ take n (drop 4 b) = take-append-le n (drop 4 b) x long in
+    let more : length (drop 4 b ++ x) ≡ length (drop 4 b) + length x = length-append (drop 4 b) x in
+    let all : length (b ++ x) ≡ length b + length x = length-append b x in
+    (record { long = omega (arith, all, le); good = ap is_length same ∙ w.good; whole = rw (same, behind) (omega (arith, more, long)) }, ap (λ (k : ℕ). take k (drop 4 (b ++ x))) same ∙ ap (take n) behind ∙ front)
+
+-- a fault that shows stays
+pub fault_stays : (b x : List ℕ) (e : EditFileError) → record_stop b ≡ fails e → record_stop (b ++ x) ≡ fails e
+fault_stays b x e h = elim (front_cases b) [
+  | inl short ↦ absurd (waits_not_fails b e (sym (is_short b short) ∙ h))
+  | inr (inl bad) ↦
+      let le : 4 ≤ length (b ++ x) = omega (arith, length-append b x, bad.long) in
+      let c : is_length (little_number 4 (b ++ x)) ≡ false = ap is_length (same_number b x bad.long) ∙ bad.bad in
+      is_bad (b ++ x) le c ∙ sym (is_bad b bad.long bad.bad) ∙ h
+  | inr (inr (inl cut)) ↦ absurd (waits_not_fails b e (sym (is_cut b cut.long cut.good cut.cut) ∙ h))
+  | inr (inr (inr whole)) ↦
+      let w = whole_longer b x whole in
+      is_whole (b ++ x) w.0.long w.0.good w.0.whole ∙ ap (λ (t : List ℕ). fault_of (edit_at t)) w.1 ∙ sym (is_whole b whole.long whole.good whole.whole) ∙ h
+]
+
+-- ---- a length and a body
+
+pub frames_at : (b : List ℕ) (n : ℕ) → IsBytes b → 4 ≤ length b → n ≡ little_number 4 b → is_length n ≡ true → n ≤ length (drop 4 b) → Frames b (take n (drop 4 b)) (drop n (drop 4 b))
+frames_at b n fits le is good long =
+    let len : length (take n (drop 4 b)) ≡ n = omega (arith, length-take n (drop 4 b)) in
+    let number_front : number 4 n ≡ take 4 b = ap (number 4) is ∙ number_is 4 b fits le in
+    let whole : b ≡ number 4 n ++ (take n (drop 4 b) ++ drop n (drop 4 b)) =
+    sym (take-append-drop 4 b) ∙ ap (λ (t : List ℕ). t ++ drop 4 b) (sym number_front) ∙ ap (λ (t : List ℕ). number 4 n ++ t) (sym (take-append-drop n (drop 4 b))) in
+    record { long = ap is_length len ∙ good; parts = whole ∙ ap (λ (k : ℕ). number 4 k ++ (take n (drop 4 b) ++ drop n (drop 4 b))) (sym len) }
+
+second_true : (a b : Bool) → (a && b) ≡ true → b ≡ true
+second_true true b h = h
+second_true false b h = absurd cc
+
+length_below : (n : ℕ) → is_length n ≡ true → n < 256 ^ 4
+length_below n h = let le : n ≤ 4194304 = leb-true n 4194304 (second_true (leb 9 n) (leb n 4194304) h) in omega arith
+
+-- what a frame says of the front
+pub frame_number : (b body after : List ℕ) → Frames b body after → little_number 4 b ≡ length body
+frame_number b body after f = ap (little_number 4) f.parts ∙ number_back 4 (length body) (body ++ after) (length_below (length body) f.long)
+
+pub frame_behind : (b body after : List ℕ) → Frames b body after → drop 4 b ≡ body ++ after
+frame_behind b body after f = ap (drop 4) f.parts ∙ drop_at (number 4 (length body)) (body ++ after) 4 (length_number 4 (length body))
+
+pub frame_body : (b body after : List ℕ) → Frames b body after → body_at b ≡ body
+frame_body b body after f = ap (λ (k : ℕ). take k (drop 4 b)) (frame_number b body after f) ∙ ap (take (length body)) (frame_behind b body after f) ∙ take_at body after (length body) refl
+
+pub frame_whole : (b body after : List ℕ) → Frames b body after → IsWhole b
+frame_whole b body after f =
+    let same : little_number 4 b ≡ length body = frame_number b body after f in
+    let behind : drop 4 b ≡ body ++ after = frame_behind b body after f in
+    let len : length b ≡ length (number 4 (length body)) + length (body ++ after) = ap length f.parts ∙ length-append (number 4 (length body)) (body ++ after) in
+    let four : length (number 4 (length body)) ≡ 4 = length_number 4 (length body) in
+    record { long = omega (arith, len, four); good = ap is_length same ∙ f.long; whole = rw (same, behind) (omega (arith, length-append body after)) }
+
+pub frame_stop : (b body after : List ℕ) → Frames b body after → record_stop b ≡ fault_of (edit_at body)
+frame_stop b body after f = let w = frame_whole b body after f in is_whole b w.long w.good w.whole ∙ ap (λ (t : List ℕ). fault_of (edit_at t)) (frame_body b body after f)
+
+pub frame_shorter : (b body after : List ℕ) → Frames b body after → length after < length b
+frame_shorter b body after f =
+    let len : length b ≡ length (number 4 (length body)) + length (body ++ after) = ap length f.parts ∙ length-append (number 4 (length body)) (body ++ after) in
+    omega (arith, len, length_number 4 (length body), length-append body after)
+
+-- ---- what a list gains
+
+pub no_gain : (before after : List Edit) (b : List ℕ) → after ≡ before → Gains before after b b
+no_gain before after b e = record { edits = []; gained = e ∙ sym (append-nil before); good = tt; whole = refl }
+
+pub one_gain : (before after : List Edit) (b body rest : List ℕ) (e : Edit) → IsBytes b → Frames b body rest → edit_at body ≡ Ok e → after ≡ before ++ e ∷ [] → Gains before after b rest
+unfolding record_text
+one_gain before after b body rest e fits f read is =
+    let inner : IsBytes (number 4 (length body) ++ (body ++ rest)) = subst (λ (t : List ℕ). IsBytes t) f.parts fits in
+    let body_fits : IsBytes body = IsBytes-front body rest (IsBytes-behind (number 4 (length body)) (body ++ rest) inner) in
+    let t = edit_takes body e body_fits read in
+    let text : b ≡ record_text e ++ rest = f.parts ∙ sym (append_assoc (number 4 (length body)) body rest) ∙ ap (λ (t : List ℕ). (number 4 (length t) ++ t) ++ rest) t.0 in
+    record { edits = e ∷ []; gained = is; good = ((t.2, t.1, ap (λ (b : List ℕ). is_length (length b)) (sym t.0) ∙ f.long), tt); whole = text ∙ ap (λ (t : List ℕ). t ++ rest) (sym (append-nil (record_text e))) }
+
+pub flat_both : (es fs : List Edit) → flat_map record_text (es ++ fs) ≡ flat_map record_text es ++ flat_map record_text fs
+flat_both [] fs = refl
+flat_both (e ∷ es) fs = ap (λ (t : List ℕ). record_text e ++ t) (flat_both es fs) ∙ sym (append_assoc (record_text e) (flat_map record_text es) (flat_map record_text fs))
+
+pub records_both : (es fs : List Edit) → AreRecords es → AreRecords fs → AreRecords (es ++ fs)
+records_both [] fs a b = b
+records_both (e ∷ es) fs a b = (a.0, records_both es fs a.1 b)
+
+pub gain_on : (x y z : List Edit) (b c d : List ℕ) → Gains x y b c → Gains y z c d → Gains x z b d
+gain_on x y z b c d g h = record {
+  edits = g.edits ++ h.edits;
+  gained = h.gained ∙ ap (λ (t : List Edit). t ++ h.edits) g.gained ∙ append_assoc x g.edits h.edits;
+  good = records_both g.edits h.edits g.good h.good;
+  whole = g.whole ∙ ap (λ (t : List ℕ). flat_map record_text g.edits ++ t) h.whole ∙ sym (append_assoc (flat_map record_text g.edits) (flat_map record_text h.edits) d) ∙ ap (λ (t : List ℕ). t ++ d) (sym (flat_both g.edits h.edits));
+}
+
+-- the same with more bytes behind
+pub gain_longer : (x y : List Edit) (b c d : List ℕ) → Gains x y b c → Gains x y (b ++ d) (c ++ d)
+gain_longer x y b c d g = record { edits = g.edits; gained = g.gained; good = g.good; whole = ap (λ (t : List ℕ). t ++ d) g.whole ∙ append_assoc (flat_map record_text g.edits) c d }
+
+-- ---- as the code goes
+
+pub framed : (b rest body after : List ℕ) (n : ℕ) → IsBytes b → (4 ≤ length b) × (n ≡ little_number 4 b) × (is_length n ≡ true) → rest ≡ drop 4 b → n ≤ length rest → body ≡ take n rest → after ≡ drop n rest → Frames b body after
+framed b rest body after n fits h r long e f =
+    let le : n ≤ length (drop 4 b) = subst (λ (t : List ℕ). n ≤ length t) r long in
+    rw (e, f, r) (frames_at b n fits h.0 h.1 h.2 le)
+
+pub frame_after : (b body after : List ℕ) → Frames b body after → after ≡ drop (little_number 4 b) (drop 4 b)
+frame_after b body after f = sym (ap (λ (k : ℕ). drop k (drop 4 b)) (frame_number b body after f) ∙ ap (drop (length body)) (frame_behind b body after f) ∙ drop_at body after (length body) refl)
+
+pub frame_fault : (b body after : List ℕ) (e : EditFileError) → Frames b body after → (e ≡ Memory) ⊎ (edit_at body ≡ Err e) → (e ≡ Memory) ⊎ (record_stop b ≡ fails e)
+frame_fault b body after e f h = elim h [ inl m ↦ inl m | inr r ↦ inr (frame_stop b body after f ∙ ap fault_of r) ]
+
+-- a fault of the front is one of the whole
+pub fault_on : (total k l : List ℕ) (e : EditFileError) → k ++ l ≡ total → (e ≡ Memory) ⊎ (record_stop k ≡ fails e) → (e ≡ Memory) ⊎ (record_stop total ≡ fails e)
+fault_on total k l e whole h = elim h [ inl m ↦ inl m | inr r ↦ inr (ap record_stop (sym whole) ∙ fault_stays k l e r) ]
+
+pub bad_on : (total k l : List ℕ) (e : EditFileError) → k ++ l ≡ total → (e ≡ RecordLength) × (4 ≤ length k) × (is_length (little_number 4 k) ≡ false) → record_stop total ≡ fails e
+bad_on total k l e whole h = ap record_stop (sym whole) ∙ fault_stays k l e (is_bad k h.1 h.2 ∙ ap fails (sym h.0))
+
+pub short_on : (total k l : List ℕ) → k ++ l ≡ total → (length k < 4 → l ≡ []) → length k < 4 → (k ≡ total) × (record_stop k ≡ waits k)
+short_on total k l whole none lt = (sym (append-nil k) ∙ ap (λ (t : List ℕ). k ++ t) (sym (none lt)) ∙ whole, is_short k lt)
+
+-- the number of a record that goes on is the same
+number_on : (k2 l2 k1 l1 : List ℕ) → k2 ++ l2 ≡ k1 ++ l1 → 4 ≤ length k1 → 4 ≤ length k2 → little_number 4 k2 ≡ little_number 4 k1
+number_on k2 l2 k1 l1 same a b = sym (same_number k2 l2 b) ∙ ap (little_number 4) same ∙ same_number k1 l1 a
+
+pub cut_on : (k2 l2 k1 l1 : List ℕ) (n : ℕ) → k2 ++ l2 ≡ k1 ++ l1 → (4 ≤ length k1) × (n ≡ little_number 4 k1) × (is_length n ≡ true) → record_stop k2 ≡ waits k2 → (length k2 < 4 + n → l2 ≡ []) → k2 ≡ k1 ++ l1
+cut_on k2 l2 k1 l1 n same h stop none =
+    let less : length k2 < 4 + n = elim (waits_is k2 k2 stop).1 [
+      | inl short ↦ omega arith
+      | inr cut ↦
+          let e : little_number 4 k2 ≡ n = number_on k2 l2 k1 l1 same h.0 cut.long ∙ sym h.1 in
+          let lt : length (drop 4 k2) < n = subst (λ (m : ℕ). length (drop 4 k2) < m) e cut.cut in
+          omega (arith, length-drop 4 k2, lt, cut.long)
+    ] in
+    sym (append-nil k2) ∙ ap (λ (t : List ℕ). k2 ++ t) (sym (none less)) ∙ same
+
+nil_of : (r : List ℕ) → length r ≡ 0 → r ≡ []
+nil_of [] h = refl
+nil_of (x ∷ r) h = absurd (omega arith)
+
+-- a record that was cut has room for no more than its bytes
+pub nothing_left : (k2 l2 k1 l1 r : List ℕ) (n : ℕ) → k2 ++ l2 ≡ k1 ++ l1 → (4 ≤ length k1) × (n ≡ little_number 4 k1) × (is_length n ≡ true) → length k2 ≤ 4 + n → r ≡ drop (little_number 4 k2) (drop 4 k2) → r ≡ []
+nothing_left k2 l2 k1 l1 r n same h size is =
+    let len : length r ≡ length (drop 4 k2) - little_number 4 k2 = ap length is ∙ length-drop (little_number 4 k2) (drop 4 k2) in
+    let all : length (drop 4 k2) ≡ length k2 - 4 = length-drop 4 k2 in
+    nil_of r (elim (cases_bool (ltb (length k2) 4)) [
+      | inl t ↦ let lt : length k2 < 4 = ltb-true _ _ t in omega (arith, len, all)
+      | inr t ↦
+          let le : 4 ≤ length k2 = ltb-false _ _ t in
+          let e : little_number 4 k2 ≡ n = number_on k2 l2 k1 l1 same h.0 le ∙ sym h.1 in
+          omega (arith, len, all, e)
+    ])
+
+-- a cut record is shorter than its length says
+pub within_size : (old k1 : List ℕ) (n : ℕ) → record_stop old ≡ waits old → (length old ≤ 4 → length k1 ≤ 4) → (4 ≤ length old → k1 ≡ old) → (4 ≤ length k1) × (n ≡ little_number 4 k1) × (is_length n ≡ true) → length k1 ≤ 4 + n
+within_size old k1 n stop size full h = elim (waits_is old old stop).1 [
+  | inl short ↦ let le : length k1 ≤ 4 = size (omega arith) in omega (arith, le)
+  | inr cut ↦
+      let same : k1 ≡ old = full cut.long in
+      let e : little_number 4 old ≡ n = sym (h.1 ∙ ap (little_number 4) same) in
+      let lt : length (drop 4 old) < n = subst (λ (m : ℕ). length (drop 4 old) < m) e cut.cut in
+      let l : length k1 ≡ length old = ap length same in
+      omega (arith, length-drop 4 old, lt, l)
+]
+
+pub taken_on : (x y : List Edit) (total k2 l2 r : List ℕ) → k2 ++ l2 ≡ total → r ≡ [] → Gains x y k2 r → Gains x y total l2
+taken_on x y total k2 l2 r whole nothing g =
+    let P : List ℕ → Type 0 = λ t. Gains x y t l2 in
+    let Q : List ℕ → Type 0 = λ t. Gains x y (k2 ++ l2) (t ++ l2) in
+    subst P whole (subst Q nothing (gain_longer x y k2 r l2 g))

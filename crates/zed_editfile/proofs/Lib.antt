@@ -1,0 +1,11 @@
+pub mod Actions
+pub mod Codec
+pub mod Cuts
+pub mod Edits
+pub mod Fitting
+pub mod Found
+pub mod Heads
+pub mod Names
+pub mod Numbers
+pub mod Once
+pub mod Registers

@@ -1,0 +1,8 @@
+use Rattle.zed_editfile.proofs.Once.{one_reading, file_reads}
+use Rattle.zed_editfile.proofs.laws.one_reading.Goals as goal
+
+pub returns-clause-one : goal.returns-clause-one
+returns-clause-one c = one_reading
+
+pub returns-clause-file : goal.returns-clause-file
+returns-clause-file c = file_reads

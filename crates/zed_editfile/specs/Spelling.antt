@@ -1,0 +1,198 @@
+-- The one spelling of an edit, field by field, and of a file of edits. Numbers stand with their lowest byte first.
+use Rattle.std.specs.Prelude.{ℕ, ℤ, ◌+◌, Bool, if◌then◌else◌, List, [], ◌∷◌, ◌++◌, length, Option, Some, None}
+use Rattle.std.specs.Int.{w16, cast_unsigned}
+use Rattle.std.specs.List.{flat_map}
+use Rattle.byteorder.specs.Endian.{little_bytes}
+use Rattle.zed_types.specs.declared.stamp.Stamp.{Stamp}
+use Rattle.zed_types.specs.declared.names.BoardId.{BoardId}
+use Rattle.zed_types.specs.declared.names.StatId.{StatId}
+use Rattle.zed_types.specs.declared.names.TextId.{TextId}
+use Rattle.zed_types.specs.declared.names.ElemId.{ElemId}
+use Rattle.zed_types.specs.declared.tile.Tile.{Tile}
+use Rattle.zed_types.specs.declared.tile.Rectangle.{Rectangle}
+use Rattle.zed_types.specs.declared.text.ByteRange.{ByteRange}
+use Rattle.zed_types.specs.declared.header.HeaderNumber.{HeaderNumber}
+use Rattle.zed_types.specs.declared.header.HeaderNumber.TheVariants.{Ammo, Gems, Health, Torches, TorchTicks, EnergizerTicks, Score, TimePassed, Hundredths}
+use Rattle.zed_types.specs.declared.header.HeaderSetting.{HeaderSetting}
+use Rattle.zed_types.specs.declared.header.HeaderSetting.TheVariants as header
+use Rattle.zed_types.specs.declared.property.Side.{Side}
+use Rattle.zed_types.specs.declared.property.Side.TheVariants.{North, South, West, East}
+use Rattle.zed_types.specs.declared.property.BoardByte.{BoardByte}
+use Rattle.zed_types.specs.declared.property.BoardByte.TheVariants.{MaxShots, StartX, StartY}
+use Rattle.zed_types.specs.declared.property.BoardFlag.{BoardFlag}
+use Rattle.zed_types.specs.declared.property.BoardFlag.TheVariants.{Dark, ReEnter}
+use Rattle.zed_types.specs.declared.property.BoardText.{BoardText}
+use Rattle.zed_types.specs.declared.property.BoardText.TheVariants.{Name, Message}
+use Rattle.zed_types.specs.declared.property.BoardSetting.{BoardSetting}
+use Rattle.zed_types.specs.declared.property.BoardSetting.TheVariants as board
+use Rattle.zed_types.specs.declared.stat_field.StatByte.{StatByte}
+use Rattle.zed_types.specs.declared.stat_field.StatByte.TheVariants.{X, Y, P1, P2, UnderElement, UnderColour}
+use Rattle.zed_types.specs.declared.stat_field.StatNumber.{StatNumber}
+use Rattle.zed_types.specs.declared.stat_field.StatNumber.TheVariants.{StepX, StepY, Cycle, Position}
+use Rattle.zed_types.specs.declared.stat_field.ThirdParameter.{ThirdParameter}
+use Rattle.zed_types.specs.declared.stat_field.ThirdParameter.TheVariants as third
+use Rattle.zed_types.specs.declared.stat_field.StatSetting.{StatSetting}
+use Rattle.zed_types.specs.declared.stat_field.StatSetting.TheVariants as stat
+use Rattle.zed_types.specs.declared.stat_field.StatFields.{StatFields}
+use Rattle.zed_edit.specs.Header.{key_index, flag_index}
+use Rattle.zed_edit.specs.declared.op.Op.{Op}
+use Rattle.zed_edit.specs.declared.op.Op.TheVariants.{Genesis, SetHeader, BoardAdd, BoardRemove, SetBoard, SetCells, StatAdd, StatRemove, SetStat, TextAdd, TextInsert, TextDelete}
+use Rattle.zed_edit.specs.declared.op.Edit.{Edit}
+
+-- ---- kinds of fields
+
+-- a number in n bytes
+unfoldable pub number : ℕ → ℕ → List ℕ
+number n x = little_bytes n x
+
+-- a signed number in two bytes
+abbrev pub integer : ℤ → List ℕ
+integer z = number 2 (cast_unsigned w16 z)
+
+abbrev pub boolean : Bool → List ℕ
+boolean b = (if b then 1 else 0) ∷ []
+
+-- a length byte and the bytes
+abbrev pub string : List ℕ → List ℕ
+string s = length s ∷ s
+
+abbrev pub stamp : Stamp → List ℕ
+stamp s = number 6 s.time ++ number 2 s.replica
+
+-- the stamp of a thing and its index, twelve bytes
+unfoldable pub name : Stamp → ℕ → List ℕ
+name s i = stamp s ++ number 4 i
+
+abbrev pub board_name : BoardId → List ℕ
+board_name b = name b.stamp b.index
+
+abbrev pub stat_name : StatId → List ℕ
+stat_name s = name s.stamp s.index
+
+abbrev pub text_name : TextId → List ℕ
+text_name t = name t.stamp t.index
+
+abbrev pub element_name : ElemId → List ℕ
+element_name a = name a.stamp a.index
+
+-- a tag, and the name where there is one
+abbrev pub optional : {A : Type 0} → (A → List ℕ) → Option A → List ℕ
+optional spell None = 0 ∷ []
+optional spell (Some x) = 1 ∷ spell x
+
+abbrev pub tile : Tile → List ℕ
+tile t = t.element ∷ t.colour ∷ []
+
+abbrev pub rectangle : Rectangle → List ℕ
+rectangle r = r.left ∷ r.top ∷ r.right ∷ r.bottom ∷ []
+
+-- a tag 0 and a byte, or a tag 1 and a board
+abbrev pub third_parameter : ThirdParameter → List ℕ
+third_parameter (third.Byte n) = 0 ∷ n ∷ []
+third_parameter (third.Board b) = 1 ∷ board_name b
+
+-- ---- registers, each under its number
+
+abbrev pub header_number : HeaderNumber → ℕ
+header_number Ammo = 0
+header_number Gems = 1
+header_number Health = 2
+header_number Torches = 3
+header_number TorchTicks = 4
+header_number EnergizerTicks = 5
+header_number Score = 6
+header_number TimePassed = 7
+header_number Hundredths = 8
+
+abbrev pub header_setting : HeaderSetting → List ℕ
+header_setting (header.Number f n) = header_number f ∷ integer n
+header_setting (header.Key k b) = (9 + key_index k) ∷ boolean b
+header_setting (header.Saved b) = 16 ∷ boolean b
+header_setting (header.CurrentBoard b) = 17 ∷ board_name b
+header_setting (header.WorldName s) = 18 ∷ string s
+header_setting (header.Flag k s) = (19 + flag_index k) ∷ string s
+
+abbrev pub board_byte : BoardByte → ℕ
+board_byte MaxShots = 0
+board_byte StartX = 3
+board_byte StartY = 4
+
+abbrev pub board_flag : BoardFlag → ℕ
+board_flag Dark = 1
+board_flag ReEnter = 2
+
+abbrev pub side : Side → ℕ
+side North = 6
+side South = 7
+side West = 8
+side East = 9
+
+abbrev pub board_text : BoardText → ℕ
+board_text Name = 10
+board_text Message = 11
+
+abbrev pub board_setting : BoardSetting → List ℕ
+board_setting (board.Byte f n) = board_byte f ∷ n ∷ []
+board_setting (board.Flag f b) = board_flag f ∷ boolean b
+board_setting (board.TimeLimit n) = 5 ∷ integer n
+board_setting (board.Exit d b) = side d ∷ optional board_name b
+board_setting (board.Text f s) = board_text f ∷ string s
+
+abbrev pub stat_byte : StatByte → ℕ
+stat_byte X = 0
+stat_byte Y = 1
+stat_byte P1 = 6
+stat_byte P2 = 7
+stat_byte UnderElement = 11
+stat_byte UnderColour = 12
+
+abbrev pub stat_number : StatNumber → ℕ
+stat_number StepX = 2
+stat_number StepY = 3
+stat_number Cycle = 4
+stat_number Position = 5
+
+abbrev pub stat_setting : StatSetting → List ℕ
+stat_setting (stat.Byte f n) = stat_byte f ∷ n ∷ []
+stat_setting (stat.Number f n) = stat_number f ∷ integer n
+stat_setting (stat.P3 target) = 8 ∷ third_parameter target
+stat_setting (stat.Follower s) = 9 ∷ optional stat_name s
+stat_setting (stat.Leader s) = 10 ∷ optional stat_name s
+stat_setting (stat.Text t) = 13 ∷ optional text_name t
+
+-- what a new stat is given
+abbrev pub stat_fields : StatFields → List ℕ
+stat_fields f =
+    (f.x ∷ f.y ∷ []) ++ integer f.step_x ++ integer f.step_y ++ integer f.cycle ++ (f.p1 ∷ f.p2 ∷ []) ++ third_parameter f.p3 ++ tile f.under ++ optional text_name f.text
+
+-- ---- edits
+
+-- the number of an op, and its fields
+abbrev pub op_text : Op → List ℕ
+op_text (Genesis bytes) = 1 ∷ bytes
+op_text (SetHeader setting) = 2 ∷ header_setting setting
+op_text (BoardAdd s) = 3 ∷ string s
+op_text (BoardRemove b) = 4 ∷ board_name b
+op_text (SetBoard b setting) = 5 ∷ board_name b ++ board_setting setting
+op_text (SetCells b r t) = 6 ∷ board_name b ++ rectangle r ++ tile t
+op_text (StatAdd b f) = 7 ∷ board_name b ++ stat_fields f
+op_text (StatRemove s) = 8 ∷ stat_name s
+op_text (SetStat s setting) = 9 ∷ stat_name s ++ stat_setting setting
+op_text TextAdd = 10 ∷ []
+op_text (TextInsert t after bytes) = 11 ∷ text_name t ++ optional element_name after ++ bytes
+op_text (TextDelete t r) = 12 ∷ text_name t ++ stamp r.stamp ++ number 4 r.first ++ number 4 r.last
+
+-- the body of a record
+unfoldable pub spelling : Edit → List ℕ
+spelling e = stamp e.stamp ++ op_text e.op
+
+-- the length of the body, and the body
+unfoldable pub record_text : Edit → List ℕ
+record_text e = number 4 (length (spelling e)) ++ spelling e
+
+-- `ZED`, the version 1, and the number of the world
+unfoldable pub head_text : ℕ → List ℕ
+head_text world = (90 ∷ 69 ∷ 68 ∷ 1 ∷ []) ++ number 8 world
+
+abbrev pub file_text : ℕ → List Edit → List ℕ
+file_text world es = head_text world ++ flat_map record_text es

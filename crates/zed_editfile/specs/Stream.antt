@@ -1,0 +1,176 @@
+-- What a reader of an edit file has found in the bytes so far.
+use Rattle.std.specs.Prelude.{◌≡◌, ◌⊎◌, ◌<◌, ◌^◌, ℕ, Bool, false, not, ◌&&◌, ◌==◌, true, nat_le, nat_lt, nat_eq, if◌then◌else◌, List, [], ◌∷◌, ◌++◌, length, take, drop, slice_index, Option, Some, None, Result, Ok, Err}
+use Rattle.std.specs.List.{flat_map, starts_with, AllByRecursion}
+use Rattle.byteorder.specs.Endian.{little_number}
+use Rattle.zed_edit.specs.declared.op.Edit.{Edit}
+use Rattle.zed_edit.specs.Fit.{Fits}
+use Rattle.zed_editfile.specs.declared.error.EditFileError.{EditFileError}
+use Rattle.zed_editfile.specs.declared.error.EditFileError.TheVariants.{Memory, Magic, NewVersion, OtherWorld, RecordLength, CutShort}
+use Rattle.zed_editfile.specs.Reading.{edit_at}
+use Rattle.zed_editfile.specs.Sizes.{HasRoom}
+use Rattle.zed_editfile.specs.Spelling.{number, spelling, record_text, head_text, file_text}
+
+-- ---- where reading stops
+
+-- what came of a head or a record that isn't whole yet, or a fault
+pub record Stop : Type 0 where
+  pub rest : List ℕ
+  pub fault : Option EditFileError
+
+abbrev pub waits : List ℕ → Option Stop
+waits bytes = Some (record { rest = bytes; fault = None })
+
+abbrev pub fails : EditFileError → Option Stop
+fails e = Some (record { rest = []; fault = Some e })
+
+-- whether the first three bytes, as far as they came, are ZED
+abbrev pub has_letters : List ℕ → Bool
+has_letters bytes = starts_with nat_eq (90 ∷ 69 ∷ 68 ∷ []) (take 3 bytes)
+
+-- whether a number is another than the one asked for
+abbrev pub is_other : Option ℕ → ℕ → Bool
+is_other None n = false
+is_other (Some m) n = not (m == n)
+
+-- nowhere, where a good head stands at the front
+unfoldable pub head_stop : Option ℕ → List ℕ → Option Stop
+head_stop asked bytes =
+    if not (has_letters bytes) then fails Magic else
+    if nat_lt (length bytes) 4 then waits bytes else
+    if not (slice_index bytes 3 == 1) then fails NewVersion else
+    if nat_lt (length bytes) 12 then waits bytes else
+    if is_other asked (little_number 8 (drop 4 bytes)) then fails OtherWorld else None
+
+-- the lengths that the body of a record may have
+abbrev pub is_length : ℕ → Bool
+is_length n = nat_le 9 n && nat_le n 4194304
+
+-- an edit that can stand in a record: it fits, each value has room in its field, and the body has one of the lengths
+abbrev pub IsRecord : Edit → Type 0
+IsRecord e = Fits e × HasRoom e × (is_length (length (spelling e)) ≡ true)
+
+abbrev pub AreRecords : List Edit → Type 0
+AreRecords es = AllByRecursion IsRecord es
+
+abbrev pub fault_of : Result Edit EditFileError → Option Stop
+fault_of (Ok e) = None
+fault_of (Err f) = fails f
+
+-- the body behind a length
+abbrev pub body_at : List ℕ → List ℕ
+body_at bytes = take (little_number 4 bytes) (drop 4 bytes)
+
+-- nowhere, where a record stands at the front whose body spells an edit that fits
+unfoldable pub record_stop : List ℕ → Option Stop
+record_stop bytes =
+    if nat_lt (length bytes) 4 then waits bytes else
+    if not (is_length (little_number 4 bytes)) then fails RecordLength else
+    if nat_lt (length (drop 4 bytes)) (little_number 4 bytes) then waits bytes else fault_of (edit_at (body_at bytes))
+
+-- the bytes are a length, a body of that length, and what follows
+pub record Frames (bytes body after : List ℕ) : Type 0 where
+  pub long : is_length (length body) ≡ true
+  pub parts : bytes ≡ number 4 (length body) ++ (body ++ after)
+
+-- the records at the front of the bytes, before a tail, are those of the edits that a list gained
+pub record Gains (before after : List Edit) (bytes tail : List ℕ) : Type 0 where
+  pub edits : List Edit
+  pub gained : after ≡ before ++ edits
+  pub good : AreRecords edits
+  pub whole : bytes ≡ flat_map record_text edits ++ tail
+
+-- ---- the reader
+
+-- a reader: the world asked for, the world once the head is whole, what came of a head or a record that isn't whole yet, and the fault that ended it
+pub record Progress : Type 0 where
+  pub asked : Option ℕ
+  pub world : Option ℕ
+  pub rest : List ℕ
+  pub fault : Option EditFileError
+
+abbrev pub stop_of : Progress → Stop
+stop_of p = record { rest = p.rest; fault = p.fault }
+
+-- the reader is where reading stops, or its memory ran out
+abbrev pub Stops : Progress → Option Stop → Type 0
+Stops p stop = (p.fault ≡ Some Memory) ⊎ (stop ≡ Some (stop_of p))
+
+-- the bytes are less than a good head
+pub record InHead (bytes : List ℕ) (edits : List Edit) (p : Progress) : Type 0 where
+  pub world : p.world ≡ None
+  pub none : edits ≡ []
+  pub stop : Stops p (head_stop p.asked bytes)
+
+-- the bytes are a good head, the records of these edits, and a tail where reading stops
+pub record InRecords (bytes : List ℕ) (edits : List Edit) (p : Progress) : Type 0 where
+  pub number : ℕ
+  pub tail : List ℕ
+  pub fits : number < 2 ^ 64
+  pub asked : is_other p.asked number ≡ false
+  pub world : p.world ≡ Some number
+  pub good : AreRecords edits
+  pub whole : bytes ≡ file_text number edits ++ tail
+  pub stop : Stops p (record_stop tail)
+
+-- what a reader has found in the bytes so far, however they were cut: these edits, and where it is now
+abbrev pub Reads : List ℕ → List Edit → Progress → Type 0
+Reads bytes edits p = InHead bytes edits p ⊎ InRecords bytes edits p
+
+-- what a reader has of the bytes after a piece, if it had some before it: the edits that a list gained are added
+pub record Feeds (piece : List ℕ) (before after : List Edit) (p q : Progress) : Type 0 where
+  pub edits : List Edit
+  pub gained : after ≡ before ++ edits
+  pub reads : (bytes : List ℕ) (found : List Edit) → Reads bytes found p → Reads (bytes ++ piece) (found ++ edits) q
+
+abbrev pub ending_by : Option EditFileError → Option ℕ → List ℕ → Option EditFileError
+ending_by (Some e) world rest = Some e
+ending_by None None rest = Some CutShort
+ending_by None (Some n) [] = None
+ending_by None (Some n) (b ∷ rest) = Some CutShort
+
+-- what is wrong with a file that ends here: the fault, or that its head or a record is cut
+abbrev pub ending : Progress → Option EditFileError
+ending p = ending_by p.fault p.world p.rest
+
+abbrev pub verdict_of : Option EditFileError → Result (Unit {0}) EditFileError
+verdict_of None = Ok tt
+verdict_of (Some e) = Err e
+
+-- ---- one step of a reader
+
+-- less than a head, or less than a record behind a head
+abbrev pub IsWaiting : Option ℕ → Option ℕ → List ℕ → Type 0
+IsWaiting asked None rest = head_stop asked rest ≡ waits rest
+IsWaiting asked (Some n) rest = record_stop rest ≡ waits rest
+
+abbrev pub KeepsWaiting : Progress → Type 0
+KeepsWaiting p = p.fault ≡ None → IsWaiting p.asked p.world p.rest
+
+-- where a step ends that kept these bytes
+abbrev pub end_of : Result (Unit {0}) EditFileError → List ℕ → Stop
+end_of (Ok u) kept = record { rest = kept; fault = None }
+end_of (Err e) kept = record { rest = []; fault = Some e }
+
+abbrev pub EndsAt : Stop → Option Stop → Type 0
+EndsAt s stop = (s.fault ≡ Some Memory) ⊎ (stop ≡ Some s)
+
+-- the records at the front of the bytes were taken, up to where the step ends
+pub record Collects (bytes : List ℕ) (before after : List Edit) (s : Stop) : Type 0 where
+  pub tail : List ℕ
+  pub gains : Gains before after bytes tail
+  pub ends : EndsAt s (record_stop tail)
+
+-- a good head is at the front of the bytes, and then records were taken
+pub record Enters (asked : Option ℕ) (n : ℕ) (bytes : List ℕ) (before after : List Edit) (s : Stop) : Type 0 where
+  pub left : List ℕ
+  pub fits : n < 2 ^ 64
+  pub asked_for : is_other asked n ≡ false
+  pub head : bytes ≡ head_text n ++ left
+  pub records : Collects left before after s
+
+-- from a world to a world: still in the head, into the records, or on in the records
+abbrev pub Advances : Option ℕ → Option ℕ → Option ℕ → List ℕ → List Edit → List Edit → Stop → Type 0
+Advances asked None None bytes before after s = (after ≡ before) × EndsAt s (head_stop asked bytes)
+Advances asked None (Some n) bytes before after s = Enters asked n bytes before after s
+Advances asked (Some m) None bytes before after s = ⊥
+Advances asked (Some m) (Some n) bytes before after s = (n ≡ m) × Collects bytes before after s

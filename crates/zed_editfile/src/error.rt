@@ -1,0 +1,47 @@
+ghost use Rattle.std.specs.Prelude.{◌≡◌};
+ghost use Rattle.zed_editfile.specs.declared.error.EditFileError.TheVariants.{Memory};
+
+use std::alloc::{AllocError, AllocFailed};
+use thiserror::Error;
+use zed_edit::Cause;
+
+/// Why an edit file can't be read or written.
+#[derive(Clone, Copy, Debug, PartialEq, Eq, Error)]
+pub enum EditFileError {
+    #[error("out of memory")]
+    Memory,
+    /// The first three bytes aren't `ZED`.
+    #[error("not an edit file")]
+    Magic,
+    /// The version isn't 1.
+    #[error("an edit file of another version")]
+    NewVersion,
+    /// The file has another world's number than the one asked for.
+    #[error("edits of another world")]
+    OtherWorld,
+    /// A record has fewer than 9 bytes or more than 4,194,304.
+    #[error("a record of no possible length")]
+    RecordLength,
+    /// A record spells no edit that fits.
+    #[error("the edit is no good: {0:?}")]
+    BadEdit(Cause),
+    /// The file ends inside its head or inside a record.
+    #[error("the file is cut short")]
+    CutShort,
+}
+
+impl From<AllocError> for EditFileError {
+    ghost from_gives = { λ _ e. e ≡ Memory };
+
+    fn from(_e: AllocError) -> EditFileError {
+        EditFileError::Memory
+    }
+}
+
+impl<T: Drop> From<AllocFailed<T>> for EditFileError {
+    ghost from_gives = { λ _ e. e ≡ Memory };
+
+    fn from(_e: AllocFailed<T>) -> EditFileError {
+        EditFileError::Memory
+    }
+}

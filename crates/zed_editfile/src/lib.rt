@@ -1,0 +1,24 @@
+//! Edit files: how an edit is spelled, the writing of a file, and a reader that takes a file in any pieces.
+#![tactic(auto)]
+
+mod error;
+mod fields;
+mod laws;
+mod ops;
+mod put;
+mod put_op;
+mod reader;
+mod reading;
+mod settings;
+mod stream;
+mod writing;
+
+pub use error::EditFileError;
+pub use laws::{no_record_begins_another, one_file_text, one_reading, one_spelling};
+pub use reader::EditReader;
+pub use writing::{write_edit, write_head};
+
+#[cfg(test)]
+mod tests;
+#[cfg(test)]
+mod tests_extremes;

@@ -1,0 +1,108 @@
+ghost use Rattle.std.specs.Prelude.{◌≡◌, ℕ, List, [], Option, Some, None, IfSome, IsOk, OnOk, IfErr, Err, ◌++◌};
+ghost use Rattle.zed_edit.specs.declared.op.Edit.{Edit};
+ghost use Rattle.zed_editfile.specs.Spelling.{file_text};
+ghost use Rattle.zed_editfile.specs.Stream.{Reads, Feeds, AreRecords, ending, verdict_of};
+
+use crate::error::EditFileError;
+use crate::stream::advance;
+use std::alloc::Global;
+use std::marker::Model;
+use zed_edit::Edit;
+
+/// A reader of an edit file, which takes the file in any pieces. It keeps no more than the bytes of the head or the
+/// record that isn't whole yet.
+///
+/// Contracts see the world asked for, the world once the head is whole, the bytes kept, and the fault that ended it.
+#[derive(Drop)]
+pub struct EditReader {
+    alloc: Global,
+    asked: Option<u64>,
+    world: Option<u64>,
+    kept: Vec<u8>,
+    fault: Option<EditFileError>,
+}
+
+impl Model for EditReader {
+    ghost use Rattle.zed_editfile.specs.Stream.{Progress, KeepsWaiting};
+
+    ghost Value = { Progress };
+
+    ghost view = { λ r. record { asked = r.asked; world = r.world; rest = r.kept.items; fault = r.fault } };
+
+    ghost invariant = { λ r. KeepsWaiting (record { asked = r.asked; world = r.world; rest = r.kept.items; fault = r.fault }) };
+}
+
+impl EditReader {
+    /// A reader of a file of this world, or of any. Takes no memory.
+    pub fn new(alloc: Global, asked: Option<u64>) -> EditReader
+        ensures new { result ≡ record { asked = asked; world = None; rest = []; fault = None } }
+        ensures reads { Reads [] [] result }
+    {
+        EditReader {
+            alloc,
+            asked,
+            world: None,
+            kept: Vec::new(alloc),
+            fault: None,
+        }
+    }
+
+    /// Takes the next piece of the file, and appends the edits of the records that it completes.
+    ///
+    /// A fault comes with the byte that shows it, after the edits before it: `Magic` at the first of three letters that
+    /// differs, `NewVersion` at a version byte other than 1, `OtherWorld` at the last byte of a head with another number
+    /// than the one asked for, `RecordLength` at the fourth byte of a length below 9 or above 4,194,304, `BadEdit` at the
+    /// end of a record that spells no edit that fits. `Memory` comes where a growth was refused. After a fault, `Memory`
+    /// too, each later call answers it again, and nothing changes.
+    pub fn feed(&mut self, piece: &[u8], out: &mut Vec<Edit>) -> Result<(), EditFileError>
+        // What was read of any bytes before, with the edits appended, is what is read of those bytes and the piece.
+        ensures feeds { Feeds piece.now out.old.items out.new.items self.old self.new }
+        ensures asked { self.new.asked ≡ self.old.asked }
+        ensures ok { OnOk result (self.new.fault ≡ None) }
+        ensures err { IfErr result (λ e. self.new.fault ≡ Some e) }
+        ensures again { IfSome self.old.fault (λ e. (result ≡ Err e) × (self.new ≡ self.old) × (out.new.items ≡ out.old.items)) }
+    {
+        if let Some(fault) = self.fault {
+            return Err(fault);
+        }
+        match advance(
+            self.alloc,
+            self.asked,
+            &mut self.world,
+            &mut self.kept,
+            piece,
+            out,
+        ) {
+            Ok(()) => Ok(()),
+            Err(fault) => {
+                self.kept.clear();
+                self.fault = Some(fault);
+                Err(fault)
+            }
+        }
+    }
+
+    /// Whether the file may end here. Takes no memory.
+    ///
+    /// Answers the fault of an earlier `feed` again; without one `CutShort` where the head or a record is cut.
+    pub fn finish(&self) -> Result<(), EditFileError>
+        ensures exact { result ≡ verdict_of (ending self.now) }
+        // What ends well is the whole text of the edits that were read.
+        ensures whole { OnOk result ((bytes : List ℕ) (found : List Edit) → Reads bytes found self.now → (world : ℕ) × (self.now.world ≡ Some world) × AreRecords found × (bytes ≡ file_text world found)) }
+    {
+        if let Some(earlier) = self.fault {
+            return Err(earlier);
+        }
+        if self.world.is_none() || !self.kept.is_empty() {
+            return Err(EditFileError::CutShort);
+        }
+        Ok(())
+    }
+
+    /// The number of the world, once the whole head was read. Takes no memory.
+    pub fn world(&self) -> Option<u64>
+        ensures { result ≡ self.now.world }
+    {
+        self.world
+    }
+}

@@ -1,0 +1,155 @@
+ghost use Rattle.std.specs.Prelude.{◌≡◌, ◌⊎◌, ◌++◌, ◌<◌, ◌≤◌, ◌^◌, ℕ, List, [], length, drop, slice_index, Some, None, OnOk, IfOk, IfErr, IfSome, IfNone, false};
+ghost use Rattle.byteorder.specs.Endian.{little_number};
+ghost use Rattle.zed_editfile.specs.Spelling.{head_text};
+ghost use Rattle.zed_editfile.specs.Stream.{Gains, waits, fails, is_other, head_stop, record_stop, IsWaiting, Advances, end_of};
+
+use crate::error::EditFileError;
+use crate::reading::{length_of, read_record, read_records};
+use byteorder::{ByteOrder, LittleEndian};
+use std::alloc::{AllocError, Global};
+use zed_edit::Edit;
+
+/// Bytes of the head.
+const HEAD: usize = 12;
+
+/// The number of the world, once the whole head is there.
+#[tactic(auto, unfolding(crate::specs::Stream::head_stop))]
+fn world_of(asked: Option<u64>, head: &[u8]) -> Result<Option<u64>, EditFileError>
+    ensures none { IfOk result (λ world. IfNone world (head_stop asked head.now ≡ waits head.now)) }
+    ensures some { IfOk result (λ world. IfSome world (λ n. (head_stop asked head.now ≡ None) × (n ≡ little_number 8 (drop 4 head.now)))) }
+    ensures err { IfErr result (λ e. head_stop asked head.now ≡ fails e) }
+    ensures bytes { (i : ℕ) → slice_index head.now i < 256 }
+{
+    let (letters, _) = head.split_at(head.len().min(3));
+    if !b"ZED".starts_with(letters) {
+        return Err(EditFileError::Magic);
+    }
+    if head.len() < 4 {
+        return Ok(None);
+    }
+    if head[3] != 1 {
+        return Err(EditFileError::NewVersion);
+    }
+    if head.len() < HEAD {
+        return Ok(None);
+    }
+    let world = LittleEndian::read_u64(&head[4..]);
+    match asked {
+        Some(asked) if asked != world => Err(EditFileError::OtherWorld),
+        _ => Ok(Some(world)),
+    }
+}
+
+/// Moves bytes from a piece to the end of `kept` until it has `size`, and answers those that are left.
+fn fill<'a>(kept: &mut Vec<u8>, size: usize, piece: &'a [u8]) -> Result<&'a [u8], AllocError>
+    ensures all { IfOk result (λ left. kept.new.items ++ left.now ≡ kept.old.items ++ piece.now) }
+    ensures size { OnOk result (length kept.old.items ≤ size → length kept.new.items ≤ size) }
+    ensures none { IfOk result (λ left. length kept.new.items < size → left.now ≡ []) }
+    ensures full { OnOk result (size ≤ length kept.old.items → kept.new.items ≡ kept.old.items) }
+{
+    let count = size.saturating_sub(kept.len()).min(piece.len());
+    let (front, left) = piece.split_at(count);
+    kept.extend_from_slice(front)?;
+    Ok(left)
+}
+
+/// Goes on with a head. Answers the number of the world, once the head is whole, and what is left of the piece.
+fn take_head<'a>(
+    asked: Option<u64>,
+    kept: &mut Vec<u8>,
+    piece: &'a [u8],
+) -> Result<(Option<u64>, &'a [u8]), EditFileError>
+    requires { head_stop asked kept.old.items ≡ waits kept.old.items }
+    ensures none { IfOk result (λ x. IfNone x.0 ((kept.new.items ≡ kept.old.items ++ piece.now) × (head_stop asked kept.new.items ≡ waits kept.new.items))) }
+    ensures some { IfOk result (λ x. IfSome x.0 (λ n. (kept.new.items ≡ []) × (is_other asked n ≡ false) × (n < 2 ^ 64) × (kept.old.items ++ piece.now ≡ head_text n ++ x.1.now))) }
+    ensures err { IfErr result (λ e. (e ≡ EditFileError.Memory) ⊎ (head_stop asked (kept.old.items ++ piece.now) ≡ fails e)) }
+{
+    let left = fill(kept, HEAD, piece)?;
+    match world_of(asked, kept)? {
+        None => Ok((None, left)),
+        Some(world) => {
+            kept.clear();
+            Ok((Some(world), left))
+        }
+    }
+}
+
+/// Goes on with a record that was cut, if there is one. Answers what is left of the piece once no record is cut.
+fn take_cut<'a>(
+    alloc: Global,
+    kept: &mut Vec<u8>,
+    piece: &'a [u8],
+    out: &mut Vec<Edit>,
+) -> Result<Option<&'a [u8]>, EditFileError>
+    requires { record_stop kept.old.items ≡ waits kept.old.items }
+    ensures some { IfOk result (λ left. IfSome left (λ l. (kept.new.items ≡ []) × Gains out.old.items out.new.items (kept.old.items ++ piece.now) l.now)) }
+    ensures none { IfOk result (λ left. IfNone left ((out.new.items ≡ out.old.items) × (kept.new.items ≡ kept.old.items ++ piece.now) × (record_stop kept.new.items ≡ waits kept.new.items))) }
+    ensures err { IfErr result (λ e. (out.new.items ≡ out.old.items) × ((e ≡ EditFileError.Memory) ⊎ (record_stop (kept.old.items ++ piece.now) ≡ fails e))) }
+{
+    if kept.is_empty() {
+        return Ok(Some(piece));
+    }
+    let piece = fill(kept, 4, piece)?;
+    match length_of(kept)? {
+        None => Ok(None),
+        Some(len) => {
+            let left = fill(kept, 4 + len, piece)?;
+            match read_record(alloc, kept, out)? {
+                None => Ok(None),
+                Some(_) => {
+                    kept.clear();
+                    Ok(Some(left))
+                }
+            }
+        }
+    }
+}
+
+/// Takes the edits of the records that are whole now, and keeps what follows them.
+fn take_records(
+    alloc: Global,
+    kept: &mut Vec<u8>,
+    piece: &[u8],
+    out: &mut Vec<Edit>,
+) -> Result<(), EditFileError>
+    requires { record_stop kept.old.items ≡ waits kept.old.items }
+    ensures ok { OnOk result (Gains out.old.items out.new.items (kept.old.items ++ piece.now) kept.new.items × (record_stop kept.new.items ≡ waits kept.new.items)) }
+    ensures err { IfErr result (λ e. (tail : List ℕ) × Gains out.old.items out.new.items (kept.old.items ++ piece.now) tail × ((e ≡ EditFileError.Memory) ⊎ (record_stop tail ≡ fails e))) }
+{
+    match take_cut(alloc, kept, piece, out)? {
+        None => Ok(()),
+        Some(left) => {
+            let tail = read_records(alloc, left, out)?;
+            kept.extend_from_slice(tail)?;
+            Ok(())
+        }
+    }
+}
+
+/// Goes on with the head or with the records.
+pub(crate) fn advance(
+    alloc: Global,
+    asked: Option<u64>,
+    world: &mut Option<u64>,
+    kept: &mut Vec<u8>,
+    piece: &[u8],
+    out: &mut Vec<Edit>,
+) -> Result<(), EditFileError>
+    requires { IsWaiting asked world.old kept.old.items }
+    ensures advances { Advances asked world.old world.new (kept.old.items ++ piece.now) out.old.items out.new.items (end_of result kept.new.items) }
+    ensures waits { OnOk result (IsWaiting asked world.new kept.new.items) }
+{
+    match *world {
+        Some(_) => take_records(alloc, kept, piece, out),
+        None => {
+            let (found, left) = take_head(asked, kept, piece)?;
+            match found {
+                None => Ok(()),
+                Some(number) => {
+                    *world = Some(number);
+                    take_records(alloc, kept, left, out)
+                }
+            }
+        }
+    }
+}

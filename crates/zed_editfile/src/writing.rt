@@ -1,0 +1,73 @@
+ghost use Rattle.std.specs.Prelude.{◌≡◌, ◌++◌, IfOk, IfErr, OnOk, OnErr};
+ghost use Rattle.zed_edit.specs.Fit.{Fits};
+ghost use Rattle.zed_editfile.specs.Spelling.{number, spelling, record_text, head_text};
+
+use crate::error::EditFileError;
+use crate::put::{put_length, put_stamp, put_u64};
+use crate::put_op::put_op;
+use std::alloc::{AllocError, Global};
+use zed_edit::Edit;
+
+/// The body of a record.
+#[tactic(auto, unfolding(crate::specs::Spelling::spelling))]
+fn body_of(alloc: Global, edit: &Edit) -> Result<Vec<u8>, AllocError>
+    requires { Fits edit.now }
+    ensures { IfOk result (λ body. body.items ≡ spelling edit.now) }
+{
+    let mut body = Vec::new(alloc);
+    put_stamp(&mut body, edit.stamp)?;
+    put_op(&mut body, &edit.op)?;
+    Ok(body)
+}
+
+/// The head of a file of edits of a world.
+#[tactic(auto, unfolding(crate::specs::Spelling::head_text))]
+fn head_of(alloc: Global, world: u64) -> Result<Vec<u8>, AllocError>
+    ensures { IfOk result (λ head. head.items ≡ head_text world) }
+{
+    let mut head = Vec::new(alloc);
+    head.extend_from_slice(b"ZED\x01")?;
+    put_u64(&mut head, world)?;
+    Ok(head)
+}
+
+/// A record: the length of its body, and the body.
+#[tactic(auto, unfolding(crate::specs::Spelling::record_text))]
+fn record_of(alloc: Global, edit: &Edit) -> Result<Vec<u8>, AllocError>
+    requires { Fits edit.now }
+    ensures { IfOk result (λ text. text.items ≡ record_text edit.now) }
+{
+    let body = body_of(alloc, edit)?;
+    let mut record = Vec::new(alloc);
+    put_length(&mut record, body.len() as u64)?;
+    record.extend_from_slice(&body)?;
+    Ok(record)
+}
+
+/// Appends the head of an edit file of the world with this number: the letters `ZED`, the version 1, and the number in
+/// eight bytes, the lowest first.
+///
+/// Refused with `Memory` alone; nothing is appended then.
+pub fn write_head(world: u64, out: &mut Vec<u8>) -> Result<(), EditFileError>
+    ensures ok { OnOk result (out.new.items ≡ out.old.items ++ head_text world) }
+    ensures memory { IfErr result (λ e. e ≡ EditFileError.Memory) }
+    ensures unchanged { OnErr result (out.new.items ≡ out.old.items) }
+{
+    let head = head_of(*out.allocator(), world)?;
+    out.extend_from_slice(&head)?;
+    Ok(())
+}
+
+/// Appends the record of an edit: the length of its body in four bytes, the lowest first, and the body.
+///
+/// Refused with `Memory` alone; nothing is appended then.
+pub fn write_edit(edit: &Edit, out: &mut Vec<u8>) -> Result<(), EditFileError>
+    requires { Fits edit.now }
+    ensures ok { OnOk result (out.new.items ≡ out.old.items ++ record_text edit.now) }
+    ensures memory { IfErr result (λ e. e ≡ EditFileError.Memory) }
+    ensures unchanged { OnErr result (out.new.items ≡ out.old.items) }
+{
+    let record = record_of(*out.allocator(), edit)?;
+    out.extend_from_slice(&record)?;
+    Ok(())
+}

@@ -1,0 +1,9 @@
+pub mod Boards
+pub mod Live
+pub mod Names
+pub mod Normality
+pub mod Numbers16
+pub mod Searching
+pub mod Shares
+pub mod Sizes
+pub mod Within

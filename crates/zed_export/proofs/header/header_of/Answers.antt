@@ -1,0 +1,26 @@
+use Rattle.std.proofs.Common.{◌≡◌, ℕ, ℤ, List, Bool, rules, ap, ◌∙◌, refl}
+use Rattle.zed_types.specs.declared.names.BoardId.{BoardId}
+use Rattle.zed_world.specs.declared.header.Header.{Header}
+use Rattle.zed_export.specs.World.{exported_header, number_or_0}
+use Rattle.zed_export.specs.Fields.{place_or_0, board_names}
+use Rattle.zed_export.proofs.Names.{board_place}
+use Rattle.zed_export.proofs.Numbers16.{kept}
+use Rattle.zed_export.proofs.header.header_of.Goals as goal
+
+pub returns-clause-is : goal.returns-clause-is
+returns-clause-is c =
+    let p = c.args.view.now in
+    let h = p.header in
+    let ammo = kept c.header_number.result h.ammo (search rules) c.header_number.ensures in
+    let gems = kept c.header_number-2.result h.gems (search rules) c.header_number-2.ensures in
+    let health = kept c.header_number-3.result h.health (search rules) c.header_number-3.ensures in
+    let torches = kept c.header_number-4.result h.torches (search rules) c.header_number-4.ensures in
+    let torch_ticks = kept c.header_number-5.result h.torch_ticks (search rules) c.header_number-5.ensures in
+    let energizer_ticks = kept c.header_number-6.result h.energizer_ticks (search rules) c.header_number-6.ensures in
+    let score = kept c.header_number-7.result h.score (search rules) c.header_number-7.ensures in
+    let time_passed = kept c.header_number-8.result h.time_passed (search rules) c.header_number-8.ensures in
+    let hundredths = kept c.header_number-9.result h.hundredths (search rules) c.header_number-9.ensures in
+    let board : c.board_number.result ≡ number_or_0 p h.current_board
+    = c.board_number.ensures ∙ ap (λ (names : List BoardId). place_or_0 names c.current_board.result) c.requires.named ∙ ap (place_or_0 (board_names p)) c.current_board.ensures ∙ board_place p h.current_board in
+    let name : c.in_ok-copy_of.field-0 ≡ h.world_name = c.in_ok-copy_of.ensures ∙ c.world_name.ensures in
+    rw (ammo, gems, health, torches, torch_ticks, energizer_ticks, score, time_passed, hundredths, board, name, c.keys_of.ensures, c.in_ok-flags_of.ensures, c.is_saved.ensures) refl

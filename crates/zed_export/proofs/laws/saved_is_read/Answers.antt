@@ -1,0 +1,30 @@
+use Rattle.std.proofs.Common.{◌≡◌, ℕ, ◌≤◌, ◌++◌, List, [], length, Option, Some, None, Ok, refl, sym, ap, ◌∙◌}
+use Rattle.std.specs.List.{AllByRecursion}
+use Rattle.std.proofs.lemmas.List.{append-nil}
+use Rattle.zed_world.specs.Contents.{Contents}
+use Rattle.zed_world.specs.Normal.{IsNormal}
+use Rattle.zed_world.specs.Reading.{world_at}
+use Rattle.zed_world.specs.Writing.{body_text, world_text}
+use Rattle.zed_edit.specs.declared.plain.Plain.{Plain}
+use Rattle.zed_export.specs.declared.error.ExportError.{ExportError}
+use Rattle.zed_export.specs.World.{exported_boards, world_of}
+use Rattle.zed_export.specs.Limits.{refusal_of, saved, unless_over, SavedIsRead}
+use Rattle.zed_export.proofs.Within.{boards_within, all_readable}
+use Rattle.zed_export.proofs.laws.saved_is_read.Goals as goal
+
+WrittenIsRead : Type 0
+WrittenIsRead = (w : Contents) (rest : List ℕ) → IsNormal w → AllByRecursion (λ b. length (body_text b) ≤ 32767) w.boards → world_at (world_text w ++ rest) ≡ Ok w
+
+read_again : WrittenIsRead → SavedIsRead
+unfolding WrittenIsRead
+read_again law limit p file low normal e = go (refusal_of limit p) refl e
+  where
+    go : (o : Option ExportError) → refusal_of limit p ≡ o → unless_over o (world_text (world_of p)) ≡ Ok file → world_at file ≡ Ok (world_of p)
+    go (Some refusal) h e = absurd (cc)
+    go None h e =
+        let text : world_text (world_of p) ≡ file = cc in
+        ap world_at (sym text ∙ sym (append-nil (world_text (world_of p)))) ∙ law (world_of p) [] normal (all_readable limit 0 (exported_boards p) low (boards_within limit p h))
+
+pub returns : goal.returns
+unfolding WrittenIsRead
+returns c = read_again c.written_is_read.ensures.back

@@ -1,0 +1,7 @@
+use Rattle.std.proofs.Common.{◌≡◌, ◌++◌, drop}
+use Rattle.zed_export.specs.Warnings.{boards_warnings}
+use Rattle.zed_export.proofs.warning.add_boards.Given as goal
+
+-- the warnings so far, with those of the rest, are all
+abbrev pub invariant-loop-number : goal.invariant-loop-number
+invariant-loop-number l = l.out.items ++ boards_warnings l.number (drop l.number l.boards) ≡ l.fn.out.items ++ boards_warnings 0 l.boards

@@ -1,0 +1,71 @@
+-- The numbers of a world that stand in fields of sixteen bits, and how things are numbered by lists of names.
+use Rattle.std.specs.Prelude.{ℕ, Bool, if◌then◌else◌, List, length, map, position, unwrap_or, Option, Some, None}
+use Rattle.std.specs.List.{AllByRecursion}
+use Rattle.zed_types.specs.declared.names.BoardId.{BoardId}
+use Rattle.zed_types.specs.declared.names.StatId.{StatId}
+use Rattle.zed_types.specs.declared.stat_field.ThirdParameter.{ThirdParameter}
+use Rattle.zed_types.specs.declared.stat_field.ThirdParameter.TheVariants as third
+use Rattle.zed_types.specs.Names.{same_board, same_stat}
+use Rattle.zed_world.specs.Contents.{Contents}
+use Rattle.zed_world.specs.Fields.{board_number}
+use Rattle.zed_world.specs.Normal.{IsInteger}
+use Rattle.zed_world.specs.declared.header.Header.{Header}
+use Rattle.zed_world.specs.declared.board.BoardData.{BoardData}
+use Rattle.zed_world.specs.declared.stat.StatData.{StatData}
+use Rattle.zed_edit.specs.declared.plain.Board.{Board}
+use Rattle.zed_edit.specs.declared.plain.Plain.{Plain}
+use Rattle.zed_edit.specs.Numbers.{live_boards, live_stats}
+
+-- each number of a header fits in its field
+pub record FitsHeader (h : Header) : Type 0 where
+  pub ammo : IsInteger h.ammo
+  pub gems : IsInteger h.gems
+  pub health : IsInteger h.health
+  pub torches : IsInteger h.torches
+  pub torch_ticks : IsInteger h.torch_ticks
+  pub energizer_ticks : IsInteger h.energizer_ticks
+  pub score : IsInteger h.score
+  pub time_passed : IsInteger h.time_passed
+  pub hundredths : IsInteger h.hundredths
+
+-- each number of a stat does
+pub record FitsStat (s : StatData) : Type 0 where
+  pub step_x : IsInteger s.step_x
+  pub step_y : IsInteger s.step_y
+  pub cycle : IsInteger s.cycle
+  pub position : IsInteger s.position
+
+-- each number of a board does
+pub record FitsBoard (b : BoardData) : Type 0 where
+  pub time_limit : IsInteger b.properties.time_limit
+  pub stats : AllByRecursion FitsStat b.stats
+
+-- each number of a world does
+pub record FitsWorld (w : Contents) : Type 0 where
+  pub header : FitsHeader w.header
+  pub boards : AllByRecursion FitsBoard w.boards
+
+-- the names of the boards and of the stats that aren't removed, by number
+abbrev pub board_names : Plain → List BoardId
+board_names p = map (λ b. b.id) (live_boards p)
+
+abbrev pub stat_names : Board → List StatId
+stat_names b = map (λ s. s.id) (live_stats b)
+
+-- the place of a board among these, or 0
+abbrev pub place_or_0 : List BoardId → BoardId → ℕ
+place_or_0 names b = unwrap_or (position (λ x. same_board x b) names) 0
+
+abbrev pub exit_place : List BoardId → Option BoardId → ℕ
+exit_place names None = 0
+exit_place names (Some b) = place_or_0 names b
+
+-- a third parameter, in a world whose boards have these names
+abbrev pub place_parameter : List BoardId → Bool → ThirdParameter → ℕ
+place_parameter names on_passage (third.Board b) = place_or_0 names b
+place_parameter names on_passage (third.Byte n) = if on_passage then board_number (length names) n else n
+
+-- the place of a stat among these
+abbrev pub stat_place : List StatId → Option StatId → Option ℕ
+stat_place names None = None
+stat_place names (Some s) = position (λ x. same_stat x s) names

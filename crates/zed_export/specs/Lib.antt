@@ -1,0 +1,4 @@
+pub mod Fields
+pub mod World
+pub mod Limits
+pub mod Warnings

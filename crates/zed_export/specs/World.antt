@@ -1,0 +1,134 @@
+-- The world that a document exports: what isn't removed, with references as numbers.
+use Rattle.std.specs.Prelude.{ℕ, suc, Bool, false, if◌then◌else◌, List, [], ◌∷◌, ◌++◌, length, map, position, unwrap_or, Option, Some, None, option_map, option_and_then}
+use Rattle.zed_types.specs.declared.names.BoardId.{BoardId}
+use Rattle.zed_types.specs.declared.names.TextId.{TextId}
+use Rattle.zed_types.specs.declared.stat_field.ThirdParameter.{ThirdParameter}
+use Rattle.zed_types.specs.declared.stat_field.ThirdParameter.TheVariants as third
+use Rattle.zed_types.specs.Names.{same_text}
+use Rattle.zed_world.specs.Contents.{Contents}
+use Rattle.zed_world.specs.Fields.{board_number as number_of_world}
+use Rattle.zed_world.specs.Offsets.{is_passage_at}
+use Rattle.zed_world.specs.declared.header.Header as world_header
+use Rattle.zed_world.specs.declared.board.Properties as world_properties
+use Rattle.zed_world.specs.declared.board.BoardData.{BoardData}
+use Rattle.zed_world.specs.declared.stat.StatData.{StatData}
+use Rattle.zed_world.specs.declared.stat.Code.{Code}
+use Rattle.zed_world.specs.declared.stat.Code.TheVariants as code
+use Rattle.zed_edit.specs.declared.plain.Properties.{Properties}
+use Rattle.zed_edit.specs.declared.plain.Board.{Board}
+use Rattle.zed_edit.specs.declared.plain.Stat.{Stat}
+use Rattle.zed_edit.specs.declared.plain.Plain.{Plain}
+use Rattle.zed_edit.specs.Document.{text}
+use Rattle.zed_edit.specs.Numbers.{live_boards, board_number, live_stats, stat_number}
+
+-- the number of a board, or 0 where it is removed
+abbrev pub number_or_0 : Plain → BoardId → ℕ
+number_or_0 p b = unwrap_or (board_number p b) 0
+
+-- an exit that is none or leads to a removed board is 0
+abbrev pub exit_number : Plain → Option BoardId → ℕ
+exit_number p None = 0
+exit_number p (Some b) = number_or_0 p b
+
+abbrev pub exported_header : Plain → world_header.Header
+exported_header p = record {
+  ammo = p.header.ammo;
+  gems = p.header.gems;
+  keys = p.header.keys;
+  health = p.header.health;
+  current_board = number_or_0 p p.header.current_board;
+  torches = p.header.torches;
+  torch_ticks = p.header.torch_ticks;
+  energizer_ticks = p.header.energizer_ticks;
+  score = p.header.score;
+  name = p.header.world_name;
+  flags = p.header.flags;
+  time_passed = p.header.time_passed;
+  hundredths = p.header.hundredths;
+  saved = p.header.saved;
+}
+
+abbrev pub exported_properties : Plain → Properties → world_properties.Properties
+exported_properties p q = record {
+  max_shots = q.max_shots;
+  dark = q.dark;
+  north = exit_number p q.north;
+  south = exit_number p q.south;
+  west = exit_number p q.west;
+  east = exit_number p q.east;
+  re_enter = q.re_enter;
+  message = q.message;
+  start_x = q.start_x;
+  start_y = q.start_y;
+  time_limit = q.time_limit;
+}
+
+-- a board as a third parameter is its number; a byte on a passage stands if it is the number of a board of this world
+abbrev pub parameter : Plain → Bool → ThirdParameter → ℕ
+parameter p on_passage (third.Board b) = number_or_0 p b
+parameter p on_passage (third.Byte n) = if on_passage then number_of_world (length (live_boards p)) n else n
+
+-- ---- programs
+
+abbrev pub is_of : TextId → Option TextId → Bool
+is_of t None = false
+is_of t (Some u) = same_text u t
+
+-- the lowest stat past the player that uses a text, of stats with these texts
+abbrev pub user_of : TextId → List (Option TextId) → Option ℕ
+user_of t [] = None
+user_of t (player ∷ others) = option_map suc (position (is_of t) others)
+
+-- no bytes are no program; where a lower stat has them, that one owns them
+abbrev pub code_with : Option ℕ → List ℕ → Code
+code_with user [] = code.None
+code_with None (b ∷ bs) = code.Own (b ∷ bs)
+code_with (Some n) (b ∷ bs) = code.Same n
+
+-- the program of a stat above stats with these texts
+abbrev pub exported_code : Plain → List (Option TextId) → Option TextId → Code
+exported_code p lower None = code.None
+exported_code p lower (Some t) = code_with (user_of t lower) (text p t)
+
+-- ---- stats and boards
+
+-- a stat with this program
+abbrev pub stat_with : Plain → Board → Stat → Code → StatData
+stat_with p b s program = record {
+  x = s.fields.x;
+  y = s.fields.y;
+  step_x = s.fields.step_x;
+  step_y = s.fields.step_y;
+  cycle = s.fields.cycle;
+  p1 = s.fields.p1;
+  p2 = s.fields.p2;
+  p3 = parameter p (is_passage_at b.tiles s.fields.x s.fields.y) s.fields.p3;
+  follower = option_and_then (stat_number b) s.follower;
+  leader = option_and_then (stat_number b) s.leader;
+  under = s.fields.under;
+  position = s.position;
+  code = program;
+}
+
+-- a stat above stats with these texts
+abbrev pub exported_stat : Plain → Board → List (Option TextId) → Stat → StatData
+exported_stat p b lower s = stat_with p b s (exported_code p lower s.fields.text)
+
+-- stats of a board, above stats with these texts
+abbrev pub exported_above : Plain → Board → List (Option TextId) → List Stat → List StatData
+exported_above p b lower [] = []
+exported_above p b lower (s ∷ ss) = exported_stat p b lower s ∷ exported_above p b (lower ++ s.fields.text ∷ []) ss
+
+abbrev pub exported_board : Plain → Board → BoardData
+exported_board p b = record {
+  name = b.properties.name;
+  tiles = b.tiles;
+  properties = exported_properties p b.properties;
+  stats = exported_above p b [] (live_stats b);
+}
+
+abbrev pub exported_boards : Plain → List BoardData
+exported_boards p = map (exported_board p) (live_boards p)
+
+abbrev pub world_of : Plain → Contents
+world_of p = record { header = exported_header p; boards = exported_boards p }

@@ -1,0 +1,205 @@
+ghost use Rattle.std.specs.Prelude.{◌≡◌, ◌<◌, ◌≤◌, [], IfOk, IfSome, length};
+ghost use Rattle.std.specs.List.{AllByRecursion};
+ghost use Rattle.zed_world.specs.Offsets.{is_passage_at};
+ghost use Rattle.zed_world.specs.Normal.{IsInteger};
+ghost use Rattle.zed_edit.specs.Numbers.{live_stats as stats_there};
+ghost use Rattle.zed_edit.specs.Regular.{IsRegular};
+ghost use Rattle.zed_document.specs.View.{board_at, stat_at};
+ghost use Rattle.zed_export.specs.World.{code_with, exported_code, stat_with, exported_above, exported_properties, exported_board};
+ghost use Rattle.zed_export.specs.Fields.{board_names as names_of_boards, stat_names as names_of_stats, place_parameter, FitsStat, FitsBoard};
+
+use crate::header::copy_of;
+use crate::numbers::{board_number, exit_number, stat_names, stat_number};
+use crate::program::user_of;
+use std::alloc::{AllocError, Global};
+use zed_document::View;
+use zed_types::{
+    BoardByte, BoardFlag, BoardId, BoardText, Bytes, Seq, Side, StatByte, StatId, StatNumber,
+    TILES, TextId, ThirdParameter, Tile,
+};
+use zed_world::{BoardData, Code, Properties, StatData};
+
+/// The element of a passage.
+const PASSAGE: u8 = 11;
+
+/// Whether a passage stands at a place. Outside the table nothing does.
+#[tactic(auto, unfolding(zed_world::specs::Offsets::is_passage_at))]
+fn is_passage(tiles: &[Tile; TILES], x: u8, y: u8) -> bool
+    ensures { result ≡ is_passage_at tiles.now x y }
+{
+    if x == 0 || 60 < x || y == 0 || 25 < y {
+        return false;
+    }
+    tiles[60 * (usize::from(y) - 1) + (usize::from(x) - 1)].element == PASSAGE
+}
+
+/// The third parameter of a stat that stands on a passage or not, in a world whose boards have these names.
+fn parameter_of(boards: &[BoardId], on_passage: bool, parameter: ThirdParameter) -> u8
+    requires { length boards.now ≤ 101 }
+    ensures { result ≡ place_parameter boards.now on_passage parameter }
+{
+    match parameter {
+        ThirdParameter::Board(board) => board_number(boards, board),
+        ThirdParameter::Byte(byte) => {
+            if on_passage && boards.len() <= usize::from(byte) {
+                0
+            } else {
+                byte
+            }
+        }
+    }
+}
+
+/// The program of these bytes, which a lower stat may own.
+fn code_of(user: Option<usize>, bytes: Vec<u8>) -> Code
+    requires { IfSome user (λ n. n ≤ 151) }
+    ensures { result ≡ code_with user bytes.items }
+{
+    if bytes.is_empty() {
+        return Code::None;
+    }
+    match user {
+        Some(user) => Code::Same(user as u8),
+        None => Code::Own(Bytes::new(bytes)),
+    }
+}
+
+/// The program of a stat above stats with these texts.
+fn program_of(
+    alloc: Global,
+    view: &View,
+    lower: &[Option<TextId>],
+    text: Option<TextId>,
+) -> Result<Code, AllocError>
+    requires { length lower.now ≤ 151 }
+    ensures { IfOk result (λ code. code ≡ exported_code view.now lower.now text) }
+{
+    let Some(text) = text else {
+        return Ok(Code::None);
+    };
+    let mut bytes = Vec::new(alloc);
+    view.append_text(text, &mut bytes)?;
+    Ok(code_of(user_of(lower, text), bytes))
+}
+
+/// Stat `j` of board `i`, above stats with these texts.
+fn stat_of(
+    view: &View,
+    boards: &[BoardId],
+    stats: &[StatId],
+    i: usize,
+    j: usize,
+    code: Code,
+) -> StatData
+    requires board { i < length view.now.boards }
+    requires stat { j < length (board_at view.now i).stats }
+    requires boards { boards.now ≡ names_of_boards view.now }
+    requires few_boards { length boards.now ≤ 101 }
+    requires stats { stats.now ≡ names_of_stats (board_at view.now i) }
+    requires few_stats { length stats.now ≤ 151 }
+    ensures is { result ≡ stat_with view.now (board_at view.now i) (stat_at (board_at view.now i) j) code }
+    ensures fits { FitsStat result }
+{
+    let x = view.stat_byte(i, j, StatByte::X);
+    let y = view.stat_byte(i, j, StatByte::Y);
+    let on_passage = is_passage(&view.tiles(i), x, y);
+    StatData {
+        x,
+        y,
+        step_x: view.stat_number(i, j, StatNumber::StepX),
+        step_y: view.stat_number(i, j, StatNumber::StepY),
+        cycle: view.stat_number(i, j, StatNumber::Cycle),
+        p1: view.stat_byte(i, j, StatByte::P1),
+        p2: view.stat_byte(i, j, StatByte::P2),
+        p3: parameter_of(boards, on_passage, view.third_parameter(i, j)),
+        follower: stat_number(stats, view.follower(i, j)),
+        leader: stat_number(stats, view.leader(i, j)),
+        under: Tile {
+            element: view.stat_byte(i, j, StatByte::UnderElement),
+            colour: view.stat_byte(i, j, StatByte::UnderColour),
+        },
+        position: view.stat_number(i, j, StatNumber::Position),
+        code,
+    }
+}
+
+fn properties_of(
+    alloc: Global,
+    view: &View,
+    boards: &[BoardId],
+    i: usize,
+) -> Result<Properties, AllocError>
+    requires board { i < length view.now.boards }
+    requires boards { boards.now ≡ names_of_boards view.now }
+    requires few_boards { length boards.now ≤ 101 }
+    ensures is { IfOk result (λ properties. properties ≡ exported_properties view.now (board_at view.now i).properties) }
+    ensures fits { IfOk result (λ properties. IsInteger properties.time_limit) }
+{
+    Ok(Properties {
+        max_shots: view.board_byte(i, BoardByte::MaxShots),
+        dark: view.board_flag(i, BoardFlag::Dark),
+        north: exit_number(boards, view.exit(i, Side::North)),
+        south: exit_number(boards, view.exit(i, Side::South)),
+        west: exit_number(boards, view.exit(i, Side::West)),
+        east: exit_number(boards, view.exit(i, Side::East)),
+        re_enter: view.board_flag(i, BoardFlag::ReEnter),
+        message: copy_of(alloc, view.board_text(i, BoardText::Message))?,
+        start_x: view.board_byte(i, BoardByte::StartX),
+        start_y: view.board_byte(i, BoardByte::StartY),
+        time_limit: view.time_limit(i),
+    })
+}
+
+/// The stats of a board, of which those that aren't removed have these names.
+fn stats_of(
+    alloc: Global,
+    view: &View,
+    boards: &[BoardId],
+    stats: &[StatId],
+    i: usize,
+) -> Result<Seq<StatData>, AllocError>
+    requires board { i < length view.now.boards }
+    requires boards { boards.now ≡ names_of_boards view.now }
+    requires few_boards { length boards.now ≤ 101 }
+    requires stats { stats.now ≡ names_of_stats (board_at view.now i) }
+    requires few_stats { length stats.now ≤ 151 }
+    ensures is { IfOk result (λ stats. stats ≡ exported_above view.now (board_at view.now i) [] (stats_there (board_at view.now i))) }
+    ensures fits { IfOk result (λ stats. AllByRecursion FitsStat stats) }
+{
+    let mut texts = Vec::new(alloc);
+    let mut out = Vec::new(alloc);
+    for j in 0..view.stats(i) {
+        if !view.stat(i, j).removed {
+            let text = view.text_of(i, j);
+            let code = program_of(alloc, view, &texts, text)?;
+            out.push(stat_of(view, boards, stats, i, j, code))?;
+            texts.push(text)?;
+        }
+    }
+    Ok(Seq::from_vec(out))
+}
+
+/// A board of a world whose boards have these names.
+pub(crate) fn board_of(
+    alloc: Global,
+    view: &View,
+    boards: &[BoardId],
+    i: usize,
+) -> Result<BoardData, AllocError>
+    requires board { i < length view.now.boards }
+    requires boards { boards.now ≡ names_of_boards view.now }
+    requires few_boards { length boards.now ≤ 101 }
+    requires few_stats { length (stats_there (board_at view.now i)) ≤ 151 }
+    ensures is { IfOk result (λ board. board ≡ exported_board view.now (board_at view.now i)) }
+    ensures fits { IfOk result (λ board. FitsBoard board) }
+{
+    let names = stat_names(alloc, view, i)?;
+    let stats = stats_of(alloc, view, boards, &names, i)?;
+    let properties = properties_of(alloc, view, boards, i)?;
+    Ok(BoardData {
+        name: copy_of(alloc, view.board_text(i, BoardText::Name))?,
+        tiles: view.tiles(i),
+        properties,
+        stats,
+    })
+}

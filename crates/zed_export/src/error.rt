@@ -1,0 +1,18 @@
+use thiserror::Error;
+
+/// Why a document can't be exported.
+#[derive(Clone, Copy, Debug, PartialEq, Eq, Error)]
+pub enum ExportError {
+    #[error("out of memory")]
+    Memory,
+    #[error("memory ran out before: repair the document first")]
+    Stale,
+    #[error("no world was made yet")]
+    NoWorld,
+    #[error("there are {0} boards beside the title")]
+    BoardsOver(usize),
+    #[error("board {board} has {stats} stats beside the player")]
+    StatsOver { board: usize, stats: usize },
+    #[error("board {board} has {bytes} bytes")]
+    BoardOver { board: usize, bytes: usize },
+}

@@ -1,0 +1,112 @@
+ghost use Rattle.std.specs.Prelude.{◌≡◌, ◌≤◌, None, Ok, IfOk, MatchResult, length};
+ghost use Rattle.std.specs.List.{AllByRecursion};
+ghost use Rattle.zed_world.specs.Reading.{world_at};
+ghost use Rattle.zed_world.specs.Writing.{world_text};
+ghost use Rattle.zed_world.specs.Normal.{IsNormal};
+ghost use Rattle.zed_edit.specs.Numbers.{live_boards as boards_there, live_stats as stats_there};
+ghost use Rattle.zed_edit.specs.Regular.{IsRegular};
+ghost use Rattle.zed_edit.specs.Replay.{replay};
+ghost use Rattle.zed_export.specs.World.{exported_boards, world_of};
+ghost use Rattle.zed_export.specs.Fields.{board_names as names_of_boards, FitsBoard};
+ghost use Rattle.zed_export.specs.Limits.{Answers, exported, refusal_of, saved, unless_stale};
+
+use crate::board::board_of;
+use crate::error::ExportError;
+use crate::header::header_of;
+use crate::limits::first_limit;
+use crate::numbers::board_names;
+use std::alloc::{AllocError, Global};
+use zed_document::{Document, View};
+use zed_edit::replay_is_regular;
+use zed_types::{BoardId, Seq};
+use zed_world::{BoardData, World, write_world};
+
+/// The boards of the world, which have these names.
+fn boards_of(alloc: Global, view: &View, names: &[BoardId]) -> Result<Seq<BoardData>, AllocError>
+    requires named { names.now ≡ names_of_boards view.now }
+    requires few { length names.now ≤ 101 }
+    requires few_stats { AllByRecursion (λ b. length (stats_there b) ≤ 151) (boards_there view.now) }
+    ensures is { IfOk result (λ boards. boards ≡ exported_boards view.now) }
+    ensures fits { IfOk result (λ boards. AllByRecursion FitsBoard boards) }
+{
+    let mut boards = Vec::new(alloc);
+    for i in 0..view.boards() {
+        if !view.board(i).removed {
+            boards.push(board_of(alloc, view, names, i)?)?;
+        }
+    }
+    Ok(Seq::from_vec(boards))
+}
+
+/// The world of a document that goes over no limit.
+fn world_within(alloc: Global, view: &View, limit: usize) -> Result<World, AllocError>
+    requires regular { IsRegular view.now }
+    requires limit { limit ≤ 32767 }
+    requires within { refusal_of limit view.now ≡ None }
+    ensures { IfOk result (λ world. world ≡ world_of view.now) }
+{
+    let names = board_names(alloc, view)?;
+    let boards = boards_of(alloc, view, &names)?;
+    let header = header_of(alloc, view, &names)?;
+    Ok(World::new(header, boards))
+}
+
+/// The file of a document that goes over no limit.
+#[tactic(auto, unfolding(zed_world::specs::Writing::written))]
+fn file_within(alloc: Global, view: &View, limit: usize) -> Result<Vec<u8>, ExportError>
+    requires regular { IsRegular view.now }
+    requires limit { limit ≤ 32767 }
+    requires within { refusal_of limit view.now ≡ None }
+    ensures is { MatchResult result (λ file. file.items ≡ world_text (world_of view.now)) (λ e. e ≡ ExportError.Memory) }
+    ensures back { IfOk result (λ file. world_at file.items ≡ Ok (world_of view.now)) }
+{
+    let Ok(world) = world_within(alloc, view, limit) else {
+        return Err(ExportError::Memory);
+    };
+    // No body is over the limit, so the writer can lack nothing but memory.
+    match write_world(alloc, &world, limit) {
+        Ok(file) => Ok(file),
+        Err(_) => Err(ExportError::Memory),
+    }
+}
+
+/// The world that a document shows. In this order: Stale; NoWorld where no title was made; BoardsOver where more than 100 boards stand
+/// beside the title; then board by board StatsOver where more than 150 stats stand beside the player, and BoardOver where the body is
+/// over the limit, in bytes; Memory. None but Memory takes memory. The limit is at most 32,767.
+pub fn export(alloc: Global, document: &Document, limit: usize) -> Result<World, ExportError>
+    requires { limit ≤ 32767 }
+    ensures exact { Answers (λ world. world) (unless_stale document.now (exported limit)) result }
+    ensures normal { IfOk result (λ world. IsNormal world) }
+{
+    let Ok(view) = document.view() else {
+        return Err(ExportError::Stale);
+    };
+    document.edits();
+    replay_is_regular();
+    if let Some(refusal) = first_limit(alloc, &view, limit) {
+        return Err(refusal);
+    }
+    match world_within(alloc, &view, limit) {
+        Ok(world) => Ok(world),
+        Err(_) => Err(ExportError::Memory),
+    }
+}
+
+/// The file of the world that a document shows, with the refusals of `export` in their order.
+pub fn save(alloc: Global, document: &Document, limit: usize) -> Result<Vec<u8>, ExportError>
+    requires { limit ≤ 32767 }
+    ensures exact { Answers (λ file. file.items) (unless_stale document.now (saved limit)) result }
+
+    // What is saved is read as the exported world.
+    ensures back { IfOk result (λ file. world_at file.items ≡ Ok (world_of (replay document.now.edits))) }
+{
+    let Ok(view) = document.view() else {
+        return Err(ExportError::Stale);
+    };
+    document.edits();
+    replay_is_regular();
+    if let Some(refusal) = first_limit(alloc, &view, limit) {
+        return Err(refusal);
+    }
+    file_within(alloc, &view, limit)
+}

@@ -1,0 +1,87 @@
+ghost use Rattle.std.specs.Prelude.{◌≡◌, ◌≤◌, IfOk, length};
+ghost use Rattle.zed_edit.specs.Regular.{IsRegular};
+ghost use Rattle.zed_export.specs.World.{exported_header};
+ghost use Rattle.zed_export.specs.Fields.{board_names, FitsHeader};
+
+use crate::numbers::board_number;
+use std::alloc::{AllocError, Global};
+use zed_document::View;
+use zed_types::{BoardId, Bytes, FlagSlot, HeaderNumber, KeyColour, Seq};
+use zed_world::Header;
+
+/// The ten places for flags, in their order.
+const SLOTS: [FlagSlot; 10] = [
+    FlagSlot::First,
+    FlagSlot::Second,
+    FlagSlot::Third,
+    FlagSlot::Fourth,
+    FlagSlot::Fifth,
+    FlagSlot::Sixth,
+    FlagSlot::Seventh,
+    FlagSlot::Eighth,
+    FlagSlot::Ninth,
+    FlagSlot::Tenth,
+];
+
+fn keys_of(view: &View) -> [bool; 7]
+    requires { IsRegular view.now }
+    ensures { result ≡ view.now.header.keys }
+{
+    [
+        view.key(KeyColour::Blue),
+        view.key(KeyColour::Green),
+        view.key(KeyColour::Cyan),
+        view.key(KeyColour::Red),
+        view.key(KeyColour::Purple),
+        view.key(KeyColour::Yellow),
+        view.key(KeyColour::White),
+    ]
+}
+
+/// An equal string.
+pub(crate) fn copy_of(alloc: Global, bytes: &[u8]) -> Result<Bytes, AllocError>
+    ensures { IfOk result (λ copy. copy ≡ bytes.now) }
+{
+    Ok(Bytes::new(bytes.to_vec(alloc)?))
+}
+
+fn flags_of(alloc: Global, view: &View) -> Result<Seq<Bytes>, AllocError>
+    requires { IsRegular view.now }
+    ensures { IfOk result (λ flags. flags ≡ view.now.header.flags) }
+{
+    let mut flags = Vec::new(alloc);
+    for slot in &SLOTS {
+        flags.push(copy_of(alloc, view.flag(*slot))?)?;
+    }
+    Ok(Seq::from_vec(flags))
+}
+
+/// The header of the world, whose boards have these names.
+pub(crate) fn header_of(
+    alloc: Global,
+    view: &View,
+    boards: &[BoardId],
+) -> Result<Header, AllocError>
+    requires regular { IsRegular view.now }
+    requires named { boards.now ≡ board_names view.now }
+    requires few { length boards.now ≤ 101 }
+    ensures is { IfOk result (λ header. header ≡ exported_header view.now) }
+    ensures fits { IfOk result (λ header. FitsHeader header) }
+{
+    Ok(Header {
+        ammo: view.header_number(HeaderNumber::Ammo),
+        gems: view.header_number(HeaderNumber::Gems),
+        keys: keys_of(view),
+        health: view.header_number(HeaderNumber::Health),
+        current_board: board_number(boards, view.current_board()),
+        torches: view.header_number(HeaderNumber::Torches),
+        torch_ticks: view.header_number(HeaderNumber::TorchTicks),
+        energizer_ticks: view.header_number(HeaderNumber::EnergizerTicks),
+        score: view.header_number(HeaderNumber::Score),
+        name: copy_of(alloc, view.world_name())?,
+        flags: flags_of(alloc, view)?,
+        time_passed: view.header_number(HeaderNumber::TimePassed),
+        hundredths: view.header_number(HeaderNumber::Hundredths),
+        saved: view.is_saved(),
+    })
+}

@@ -1,0 +1,23 @@
+//! The export of a document: the world that it shows, the file of that world, or the first limit that it goes over.
+#![tactic(auto)]
+
+mod board;
+mod error;
+mod exporting;
+mod header;
+mod laws;
+mod limits;
+mod numbers;
+mod program;
+mod size;
+mod warning;
+
+pub use error::ExportError;
+pub use exporting::{export, save};
+pub use laws::saved_is_read;
+pub use warning::{Warning, warnings};
+
+#[cfg(test)]
+mod tests;
+#[cfg(test)]
+mod tests_edits;

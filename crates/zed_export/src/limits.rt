@@ -1,0 +1,114 @@
+ghost use Rattle.std.specs.Prelude.{◌≡◌, ◌<◌, ◌≤◌, length, None};
+ghost use Rattle.zed_edit.specs.declared.thing.Thing.TheVariants as thing;
+ghost use Rattle.zed_edit.specs.Header.{title};
+ghost use Rattle.zed_edit.specs.Document.{has};
+ghost use Rattle.zed_edit.specs.Numbers.{live_boards as boards_there, live_stats as stats_there};
+ghost use Rattle.zed_edit.specs.Regular.{IsRegular};
+ghost use Rattle.zed_document.specs.View.{board_at};
+ghost use Rattle.zed_export.specs.World.{exported_board, exported_boards};
+ghost use Rattle.zed_export.specs.Limits.{title_refusal, count_refusal, stats_refusal, board_refusal, boards_refusal, refusal_of};
+
+use crate::error::ExportError;
+use crate::size::body_bytes;
+use std::alloc::Global;
+use zed_document::View;
+use zed_types::{BOARDS_LIMIT, BoardId, STATS_LIMIT};
+
+/// Whether a title was made.
+fn has_title(view: &View) -> bool
+    ensures { result ≡ has view.now (thing.Board title) }
+{
+    for i in 0..view.boards() {
+        if view.board(i).id == BoardId::TITLE {
+            return true;
+        }
+    }
+    false
+}
+
+/// How many boards aren't removed.
+pub(crate) fn live_boards(view: &View) -> usize
+    ensures { result ≡ length (boards_there view.now) }
+{
+    let mut count = 0;
+    for i in 0..view.boards() {
+        if !view.board(i).removed {
+            count += 1;
+        }
+    }
+    count
+}
+
+/// How many stats of a board aren't removed.
+pub(crate) fn live_stats(view: &View, i: usize) -> usize
+    requires { i < length view.now.boards }
+    ensures { result ≡ length (stats_there (board_at view.now i)) }
+{
+    let mut count = 0;
+    for j in 0..view.stats(i) {
+        if !view.stat(i, j).removed {
+            count += 1;
+        }
+    }
+    count
+}
+
+/// The first limit that a board goes over.
+fn over(alloc: Global, view: &View, limit: usize, i: usize, number: usize) -> Option<ExportError>
+    requires regular { IsRegular view.now }
+    requires board { i < length view.now.boards }
+    requires limit { limit ≤ 32767 }
+    ensures { result ≡ board_refusal limit number (exported_board view.now (board_at view.now i)) }
+{
+    let stats = live_stats(view, i).saturating_sub(1);
+    if STATS_LIMIT < stats {
+        return Some(ExportError::StatsOver {
+            board: number,
+            stats,
+        });
+    }
+    let bytes = body_bytes(alloc, view, i);
+    if limit < bytes {
+        Some(ExportError::BoardOver {
+            board: number,
+            bytes,
+        })
+    } else {
+        None
+    }
+}
+
+/// The first limit that the boards go over, board by board.
+fn first_over(alloc: Global, view: &View, limit: usize) -> Option<ExportError>
+    requires regular { IsRegular view.now }
+    requires limit { limit ≤ 32767 }
+    ensures { result ≡ boards_refusal limit 0 (exported_boards view.now) }
+{
+    let mut number = 0;
+    for i in 0..view.boards() {
+        if !view.board(i).removed {
+            let refusal = over(alloc, view, limit, i, number);
+            if refusal.is_some() {
+                return refusal;
+            }
+            number += 1;
+        }
+    }
+    None
+}
+
+/// The first limit that a document goes over. This takes no memory.
+pub(crate) fn first_limit(alloc: Global, view: &View, limit: usize) -> Option<ExportError>
+    requires regular { IsRegular view.now }
+    requires limit { limit ≤ 32767 }
+    ensures { result ≡ refusal_of limit view.now }
+{
+    if !has_title(view) {
+        return Some(ExportError::NoWorld);
+    }
+    let boards = live_boards(view).saturating_sub(1);
+    if BOARDS_LIMIT < boards {
+        return Some(ExportError::BoardsOver(boards));
+    }
+    first_over(alloc, view, limit)
+}

@@ -1,0 +1,91 @@
+ghost use Rattle.std.specs.Prelude.{◌≡◌, ◌+◌, ◌<◌, ◌≤◌, [], length};
+ghost use Rattle.std.specs.List.{flat_map};
+ghost use Rattle.zed_runs.specs.Runs.{greedy};
+ghost use Rattle.zed_world.specs.Writing.{code_text, stat_text, body_text};
+ghost use Rattle.zed_edit.specs.Numbers.{live_stats};
+ghost use Rattle.zed_document.specs.View.{board_at};
+ghost use Rattle.zed_export.specs.World.{exported_code, exported_above, exported_board};
+ghost use Rattle.zed_export.specs.Limits.{told, goes_on};
+
+use crate::program::user_of;
+use smallvec::SmallVec;
+use std::alloc::Global;
+use zed_document::View;
+use zed_types::{TILES, TextId, Tile};
+
+/// The bytes of a body beside its runs and its stats: the name, the properties, the number of stats.
+const FRAME: usize = 51 + 86 + 2;
+
+/// The bytes of a stat beside its program.
+const STAT: usize = 33;
+
+/// Tiles of a run at most.
+const LONGEST: usize = 255;
+
+/// Whether the next tile still belongs to a run of so many.
+fn goes_on(count: usize, tile: Tile, next: Tile) -> bool
+    ensures { result ≡ goes_on count tile next }
+{
+    next.element == tile.element && next.colour == tile.colour && count < LONGEST
+}
+
+/// How many bytes the runs of a board take.
+fn runs_bytes(tiles: &[Tile; TILES]) -> usize
+    ensures is { result ≡ length (greedy tiles.now) }
+    ensures within { result ≤ 4503 }
+{
+    let mut tile = tiles[0];
+    let mut count = 0;
+    let mut bytes = 3;
+    for next in tiles {
+        if goes_on(count, tile, *next) {
+            count += 1;
+        } else {
+            bytes += 3;
+            count = 1;
+            tile = *next;
+        }
+    }
+    bytes
+}
+
+/// How many bytes the program of a stat takes above stats with these texts.
+fn program_bytes(view: &View, lower: &[Option<TextId>], text: Option<TextId>) -> usize
+    ensures { result ≡ length (code_text (exported_code view.now lower.now text)) }
+{
+    match text {
+        Some(text) if user_of(lower, text).is_none() => view.length(text),
+        _ => 0,
+    }
+}
+
+/// How many bytes the stats of a board take.
+fn stats_bytes(alloc: Global, view: &View, i: usize) -> usize
+    requires board { i < length view.now.boards }
+    requires few { length (live_stats (board_at view.now i)) ≤ 151 }
+    ensures { result ≡ told (length (flat_map stat_text (exported_above view.now (board_at view.now i) [] (live_stats (board_at view.now i))))) }
+{
+    let mut texts: SmallVec<Option<TextId>, 151> = SmallVec::new(alloc);
+    let mut bytes: usize = 0;
+    for j in 0..view.stats(i) {
+        if !view.stat(i, j).removed {
+            let text = view.text_of(i, j);
+            let program = program_bytes(view, texts.as_slice(), text);
+            bytes = bytes.saturating_add(STAT).saturating_add(program);
+            texts.push_reserved(text);
+        }
+    }
+    bytes
+}
+
+/// How many bytes the body of a board takes.
+pub(crate) fn body_bytes(alloc: Global, view: &View, i: usize) -> usize
+    requires board { i < length view.now.boards }
+    requires few { length (live_stats (board_at view.now i)) ≤ 151 }
+    requires name { length (board_at view.now i).properties.name ≤ 50 }
+    requires message { length (board_at view.now i).properties.message ≤ 58 }
+    ensures { result ≡ told (length (body_text (exported_board view.now (board_at view.now i)))) }
+{
+    let frame = FRAME + runs_bytes(&view.tiles(i));
+    frame.saturating_add(stats_bytes(alloc, view, i))
+}

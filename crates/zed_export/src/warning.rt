@@ -1,0 +1,94 @@
+ghost use Rattle.std.specs.Prelude.{◌≡◌, ◌++◌, [], OnOk, MatchResult};
+ghost use Rattle.zed_export.specs.Warnings.{is_in_table, is_player_at, has_place, place_warnings, board_warnings, boards_warnings, warnings_of};
+
+use crate::error::ExportError;
+use std::alloc::{AllocError, Global};
+use zed_types::{TILES, Tile};
+use zed_world::{BoardData, StatData, World};
+
+/// The element of a player.
+const PLAYER: u8 = 4;
+
+/// What is odd about a world, though it can be saved.
+#[derive(Clone, Copy, Debug, PartialEq, Eq)]
+pub enum Warning {
+    /// No player tile stands at the place of this board's player.
+    PlayerTile(usize),
+    /// On this board this stat stands outside the table.
+    OffBoard(usize, usize),
+    /// On this board this stat has the place of a lower one.
+    SamePlace(usize, usize),
+}
+
+/// Whether a place is in the table.
+fn is_inside(x: u8, y: u8) -> bool
+    ensures { result ≡ is_in_table x y }
+{
+    1 <= x && x <= 60 && 1 <= y && y <= 25
+}
+
+/// Whether a player tile stands at a place. Outside the table nothing does.
+fn has_player(tiles: &[Tile; TILES], x: u8, y: u8) -> bool
+    ensures { result ≡ is_player_at tiles.now x y }
+{
+    if is_inside(x, y) {
+        tiles[60 * (usize::from(y) - 1) + (usize::from(x) - 1)].element == PLAYER
+    } else {
+        false
+    }
+}
+
+/// Whether one of these stats has a place.
+fn is_taken(stats: &[StatData], x: u8, y: u8) -> bool
+    ensures { result ≡ has_place x y stats.now }
+{
+    stats.iter().any(|stat| stat.x == x && stat.y == y)
+}
+
+/// Appends the warnings on the places of the stats of a board.
+fn add_places(out: &mut Vec<Warning>, number: usize, stats: &[StatData]) -> Result<(), AllocError>
+    ensures { OnOk result (out.new.items ≡ out.old.items ++ place_warnings number [] stats.now) }
+{
+    for (j, stat) in stats.iter().enumerate() {
+        if !is_inside(stat.x, stat.y) {
+            out.push(Warning::OffBoard(number, j))?;
+        } else if is_taken(&stats[..j], stat.x, stat.y) {
+            out.push(Warning::SamePlace(number, j))?;
+        }
+    }
+    Ok(())
+}
+
+/// Appends the warnings on a board.
+fn add_board(out: &mut Vec<Warning>, number: usize, board: &BoardData) -> Result<(), AllocError>
+    ensures { OnOk result (out.new.items ≡ out.old.items ++ board_warnings number board.now) }
+{
+    let stats = board.stats.as_slice();
+    if let Some(player) = stats.first() {
+        if !has_player(&board.tiles, player.x, player.y) {
+            out.push(Warning::PlayerTile(number))?;
+        }
+    }
+    add_places(out, number, stats)
+}
+
+fn add_boards(out: &mut Vec<Warning>, boards: &[BoardData]) -> Result<(), AllocError>
+    ensures { OnOk result (out.new.items ≡ out.old.items ++ boards_warnings 0 boards.now) }
+{
+    for (number, board) in boards.iter().enumerate() {
+        add_board(out, number, board)?;
+    }
+    Ok(())
+}
+
+/// What is odd about a world: board by board PlayerTile where its player stands on no player tile, and then stat by stat OffBoard where
+/// it is outside the table, else SamePlace where a lower stat has its place. Nothing but Memory is refused.
+pub fn warnings(alloc: Global, world: &World) -> Result<Vec<Warning>, ExportError>
+    ensures { MatchResult result (λ warnings. warnings.items ≡ warnings_of world.now) (λ e. e ≡ ExportError.Memory) }
+{
+    let mut out = Vec::new(alloc);
+    match add_boards(&mut out, world.boards()) {
+        Ok(()) => Ok(out),
+        Err(_) => Err(ExportError::Memory),
+    }
+}

@@ -1,0 +1,122 @@
+-- What files that spell lists of edits come to.
+use Rattle.std.proofs.Common.{◌≡◌, ◌∙◌, ◌==◌, ◌<◌, ◌^◌, ℕ, Bool, true, false, List, [], ◌∷◌, ◌++◌, Option, Some, None, Result, Ok, Err, refl, ap, ap₂, sym, subst, map, arith}
+use Rattle.std.specs.Prelude.{◌≢◌, not, Contains}
+use Rattle.std.proofs.lemmas.List.Elements.{Contains-append_left, Contains-append_right}
+use Rattle.std.proofs.lemmas.Bool.{ne_eqb}
+use mathlib.Core.Logic.{◌⊎◌, inl, inr}
+use Rattle.zed_types.specs.declared.stamp.Stamp.{Stamp}
+use Rattle.zed_edit.specs.declared.op.Edit.{Edit}
+use Rattle.zed_edit.specs.Set.{Agrees, set_of}
+use Rattle.zed_editfile.specs.declared.error.EditFileError.{EditFileError}
+use Rattle.zed_editfile.specs.declared.error.EditFileError.TheVariants as file
+use Rattle.zed_editfile.specs.Spelling.{file_text}
+use Rattle.zed_editfile.specs.Stream.{AreRecords, Progress, Reads, ending, is_other}
+use Rattle.zed_program.specs.declared.refusal.Refusal.{Refusal}
+use Rattle.zed_program.specs.declared.refusal.Refusal.TheVariants.{Memory}
+use Rattle.zed_program.specs.Collected.{IsCollected, IsFirstClash}
+use Rattle.zed_program.specs.Files.{IsFile, IsStream, Stream, edits_then, end_by, joined, stream_after, texts_of_lists}
+use Rattle.zed_program.specs.Outcome.{EndsRun, HasStatus, IsDone, file_of, made_of, with_world}
+use Rattle.zed_program.specs.Told.{Told, file_in}
+use Rattle.zed_program.specs.Wanted.{Save}
+
+-- the text of a list of edits reads as that list, to its end
+abbrev pub WrittenIsRead : Type 0
+WrittenIsRead =
+    (n : ℕ) (es found : List Edit) (p : Progress) → n < 2 ^ 64 → AreRecords es → is_other p.asked n ≡ false → Reads (file_text n es) found p → p.fault ≢ Some file.Memory
+    → (found ≡ es) × (ending p ≡ None) × (p.world ≡ Some n)
+
+file_is : WrittenIsRead → (asked : Option ℕ) (n : ℕ) (es found : List Edit) (end : Result ℕ EditFileError) → n < 2 ^ 64 → AreRecords es → is_other asked n ≡ false
+    → IsFile asked (file_text n es) found end → (found ≡ es) × (end ≡ Ok n)
+file_is law asked n es found end small good own file =
+    let read = law n es found file.progress small good (ap (λ a. is_other a n) file.asks ∙ own) file.reads file.sound in
+    (read.0, file.ends ∙ ap₂ end_by read.1 read.2)
+
+records_left : (es fs : List Edit) → AreRecords (es ++ fs) → AreRecords es
+records_left [] fs h = tt
+records_left (e ∷ es) fs h = (h.0, records_left es fs h.1)
+
+records_right : (es fs : List Edit) → AreRecords (es ++ fs) → AreRecords fs
+records_right [] fs h = h
+records_right (e ∷ es) fs h = records_right es fs h.1
+
+same_world : (n : ℕ) → is_other (Some n) n ≡ false
+same_world n = go (n == n) refl
+  where
+    go : (b : Bool) → (n == n) ≡ b → not b ≡ false
+    go true t = refl
+    go false t = let bad = ne_eqb n n in absurd (grind arith)
+
+-- one file, and then the others
+first_is : WrittenIsRead → (asked : Option ℕ) (n : ℕ) (es : List Edit) (lists : List (List Edit)) (s : Stream) → n < 2 ^ 64 → AreRecords es → is_other asked n ≡ false
+    → ((rest : Stream) → IsStream (Some n) (texts_of_lists n lists) rest → rest ≡ edits_then (joined lists) None)
+    → IsStream asked (texts_of_lists n (es ∷ lists)) s → s ≡ edits_then (joined (es ∷ lists)) None
+first_is law asked n es lists s small good own others reads =
+    elim reads [
+      | inl fault ↦ (let is = file_is law asked n es s.edits (Err fault.0) small good own fault.1 in let bad : Err fault.0 ≡ Ok n = is.1 in cc)
+      | inr more ↦ (
+          let is = file_is law asked n es more.0 (Ok more.1) small good own more.3 in
+          let world : more.1 ≡ n = (let same : Ok more.1 ≡ Ok n = is.1 in cc) in
+          let rest = others more.2 (subst (λ w. IsStream (Some w) (texts_of_lists n lists) more.2) world more.4) in
+          more.5 ∙ ap₂ stream_after is.0 rest)
+    ]
+
+others_are : WrittenIsRead → (n : ℕ) (lists : List (List Edit)) (s : Stream) → n < 2 ^ 64 → AreRecords (joined lists)
+    → IsStream (Some n) (texts_of_lists n lists) s → s ≡ edits_then (joined lists) None
+others_are law n [] s small good reads = reads
+others_are law n (es ∷ lists) s small good reads =
+    first_is law (Some n) n es lists s small (records_left es (joined lists) good) (same_world n)
+    (λ rest is. others_are law n lists rest small (records_right es (joined lists) good) is) reads
+
+-- the files of one list of edits or more come to all their edits
+pub texts_are : WrittenIsRead → (n : ℕ) (es : List Edit) (lists : List (List Edit)) (s : Stream) → n < 2 ^ 64 → AreRecords (joined (es ∷ lists))
+    → IsStream None (texts_of_lists n (es ∷ lists)) s → s ≡ edits_then (joined (es ∷ lists)) None
+texts_are law n es lists s small good reads =
+    first_is law None n es lists s small (records_left es (joined lists) good) refl
+    (λ rest is. others_are law n lists rest small (records_right es (joined lists) good) is) reads
+
+no_clash : (es : List Edit) (c : Stamp) → Agrees es → IsFirstClash es c → ⊥
+no_clash es c agrees clash =
+    let other = clash.clashes in
+    let left : Contains es other.0 = subst (λ l. Contains l other.0) (sym clash.whole) (Contains-append_left clash.before (clash.edit ∷ clash.after) other.0 other.1) in
+    let here : Contains (clash.edit ∷ clash.after) clash.edit = (0, omega arith, refl) in
+    let right : Contains es clash.edit = subst (λ l. Contains l clash.edit) (sym clash.whole) (Contains-append_right clash.before (clash.edit ∷ clash.after) clash.edit here) in
+    other.3 (agrees other.0 clash.edit left right other.2)
+
+-- and so to their set, where they agree
+pub set_is : (s : Stream) (all : List Edit) (set : Result (List Edit) Refusal) → s ≡ edits_then all None → Agrees all → IsCollected s set → set ≡ Ok (set_of all)
+set_is s all set is agrees collected =
+    elim (subst (λ x. IsCollected x set) is collected) [
+      | inl clash ↦ absurd (no_clash all clash.0 agrees clash.1)
+      | inr whole ↦ whole.1
+    ]
+
+-- so the world file of their set is what `save` writes, or its first limit is told
+pub saved_set : WrittenIsRead → (t : Told) (out name : List ℕ) (names : List (List ℕ)) (n : ℕ) (es : List Edit) (lists : List (List Edit)) (r : Result Told Refusal)
+    → map (file_in t) (name ∷ names) ≡ texts_of_lists n (es ∷ lists) → n < 2 ^ 64 → AreRecords (joined (es ∷ lists)) → Agrees (joined (es ∷ lists))
+    → IsDone (Save out (name ∷ names)) t r → r ≡ with_world out t (file_of (set_of (joined (es ∷ lists))))
+saved_set law t out name names n es lists r texts small good agrees done =
+    let made = done.1 in
+    let collects = made.1 in
+    let stream = texts_are law n es lists collects.0 small good (subst (λ files. IsStream None files collects.0) texts collects.1) in
+    let set : made.0 ≡ Ok (set_of (joined (es ∷ lists))) = set_is collects.0 (joined (es ∷ lists)) made.0 stream agrees collects.2 in
+    done.2 ∙ ap (with_world out t) (made.2 ∙ ap (made_of file_of) set)
+
+-- and `run` ends so
+pub run_of_texts : WrittenIsRead → (t : Told) (out name : List ℕ) (names : List (List ℕ)) (n : ℕ) (es : List Edit) (lists : List (List Edit)) (status : ℕ) (new : Option Told)
+    → map (file_in t) (name ∷ names) ≡ texts_of_lists n (es ∷ lists) → n < 2 ^ 64 → AreRecords (joined (es ∷ lists)) → Agrees (joined (es ∷ lists))
+    → EndsRun (Some (Save out (name ∷ names))) t status new
+    → HasStatus (with_world out t (file_of (set_of (joined (es ∷ lists))))) t status new ⊎ HasStatus (Err Memory) t status new
+run_of_texts law t out name names n es lists status new texts small good agrees ended =
+    elim ended [
+      | inl done ↦ inl (subst (λ r. HasStatus r t status new) (saved_set law t out name names n es lists done.0 texts small good agrees done.1) done.2)
+      | inr memory ↦ inr memory
+    ]
+
+-- by the laws of edit files: bytes are read in one way, and the text of edits as those edits
+pub written_is_read : ((bytes : List ℕ) (es fs : List Edit) (p q : Progress) → p.asked ≡ q.asked → p.fault ≢ Some file.Memory → q.fault ≢ Some file.Memory → Reads bytes es p → Reads bytes fs q → (es ≡ fs) × (p ≡ q))
+    → ((asked : Option ℕ) (n : ℕ) (es : List Edit) → n < 2 ^ 64 → is_other asked n ≡ false → AreRecords es → Reads (file_text n es) es (record { asked = asked; world = Some n; rest = []; fault = None }))
+    → WrittenIsRead
+written_is_read one whole n es found p small good own reads sound =
+    let there = whole p.asked n es small own good in
+    let same = one (file_text n es) found es p (record { asked = p.asked; world = Some n; rest = []; fault = None }) refl sound (λ bad. let no : None ≡ Some file.Memory = bad in cc) reads there in
+    (same.0, ap ending same.1, ap (λ (q : Progress). q.world) same.1)

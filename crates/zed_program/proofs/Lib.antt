@@ -1,0 +1,11 @@
+pub mod ClapLemmas
+pub mod Readings
+pub mod Parsing
+pub mod PlainWords
+pub mod SaveWords
+pub mod Entries
+pub mod Clashes
+pub mod Endings
+pub mod FileEnds
+pub mod FileTexts
+pub mod Streams

@@ -1,0 +1,17 @@
+use Rattle.std.proofs.Common.{ap, ap₂, true, codes, ◌≡◌, ◌∙◌}
+use Rattle.std.proofs.lemmas.Result.{IfOk-weaker}
+use Rattle.clap.specs.Simple.{app_of, app_of_fields, new_app, on_top, with_subcommand}
+use Rattle.clap.specs.declared.builder.command.Command.{Command}
+use Rattle.clap.specs.declared.builder.command.Command.TheOpen.{Command-F}
+use Rattle.zed_program.specs.Grammar.{top_app}
+use Rattle.zed_program.proofs.grammar.zzted_command.Goals as goal
+
+pub returns : goal.returns
+returns c =
+    let bare : app_of c.about.result ≡ new_app (codes "zzted") = ap app_of_fields c.about.ensures ∙ c.new.ensures.app in
+    let top_is : app_of c.subcommand_required.result ≡ top_app =
+    ap app_of_fields c.subcommand_required.ensures
+    ∙ ap (λ (f : Command-F Command). app_of_fields (record f { subcommand_required = true })) c.no_binary_name.ensures
+    ∙ ap (on_top (λ s. record s { no_binary_name = true; subcommand_required = true })) bare in
+    let one = c.in_ok-subcommand.ensures.shape c.in_ok-save_command.ensures.local ∙ ap₂ with_subcommand top_is c.in_ok-save_command.ensures.shape in
+    IfOk-weaker c.subcommand-2.result _ _ (λ r h. h.shape c.in_ok-check_command.ensures.local ∙ ap₂ with_subcommand one c.in_ok-check_command.ensures.shape) c.subcommand-2.ensures

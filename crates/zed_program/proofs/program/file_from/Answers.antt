@@ -1,0 +1,16 @@
+use Rattle.std.proofs.Common.{◌≡◌}
+use Rattle.std.proofs.lemmas.Result.{err_from_is_err_and}
+use Rattle.zed_program.specs.Outcome.{file_of, texts_of}
+use Rattle.zed_program.proofs.Endings.{made_result, not_made}
+use Rattle.zed_program.proofs.program.file_from.Goals as goal
+
+pub returns-in_err-document-clause-made : goal.returns-in_err-document-clause-made
+returns-in_err-document-clause-made g c = λ t at calm.
+    let p = err_from_is_err_and c.from_residual.result c.from_residual.ensures.1 in
+    let same : p.0 ≡ c.in_err-document.field-0.0 = p.2 in
+    rw (p.1, same) (not_made t (texts_of c.args.files.now) file_of c.in_err-document.field-0.0 (c.in_err-document.ensures.collected t at calm))
+
+pub returns-clause-made : goal.returns-clause-made
+returns-clause-made g c = λ t at calm.
+    made_result c.world_file.result t (texts_of c.args.files.now) file_of c.in_ok-document.document.edits
+    (c.in_ok-document.ensures.collected t at calm) c.world_file.ensures

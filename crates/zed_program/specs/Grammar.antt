@@ -1,0 +1,37 @@
+-- What `clap` is told of the words.
+use Rattle.std.specs.Prelude.{ℕ, List, [], ◌∷◌, Some, codes, true}
+use Rattle.clap.specs.Simple.{App, Shape, new_app, new_rule, new_shape, on_top, with_subcommand}
+use Rattle.clap.specs.Walk.{Rule}
+use Rattle.clap.specs.Lexer.{usize_max}
+
+-- one word, which must be there
+abbrev pub required_rule : List ℕ → Rule
+required_rule id = record (new_rule id) { required = true }
+
+-- one word or more
+abbrev pub several_rule : List ℕ → Rule
+several_rule id = record (required_rule id) {
+  range = Some (record { start_inclusive = 1; end_inclusive = usize_max });
+}
+
+-- the edit files
+abbrev pub files_rule : Rule
+files_rule = several_rule (codes "FILES")
+
+-- a subcommand by its name and arguments
+abbrev pub shape_with : List ℕ → List Rule → Shape
+shape_with name rules = record (new_shape name) { rules = rules }
+
+abbrev pub save_shape : Shape
+save_shape = shape_with (codes "save") (required_rule (codes "OUT") ∷ files_rule ∷ [])
+
+abbrev pub check_shape : Shape
+check_shape = shape_with (codes "check") (files_rule ∷ [])
+
+-- the program without its subcommands
+abbrev pub top_app : App
+top_app = on_top (λ s. record s { no_binary_name = true; subcommand_required = true }) (new_app (codes "zzted"))
+
+-- the whole command line
+abbrev pub zzted_app : App
+zzted_app = with_subcommand (with_subcommand top_app save_shape) check_shape

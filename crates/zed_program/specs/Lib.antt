@@ -1,0 +1,10 @@
+pub mod Collected
+pub mod Faults
+pub mod Files
+pub mod Grammar
+pub mod Lines
+pub mod Memory
+pub mod Outcome
+pub mod Refusals
+pub mod Told
+pub mod Wanted

@@ -1,0 +1,20 @@
+//! The work of the program `zzted`, over any host.
+#![tactic(auto)]
+
+mod collect;
+mod grammar;
+mod host;
+mod memory;
+mod program;
+mod refusal;
+mod report;
+mod words;
+
+pub use host::{Host, ReadError, WriteError};
+pub use memory::MemoryHost;
+pub use program::run;
+pub use refusal::Refusal;
+pub use words::{Action, ParseError, parse};
+
+#[cfg(test)]
+mod tests;

@@ -1,0 +1,121 @@
+//! What the words of the command line ask for.
+ghost use Rattle.std.specs.Prelude.{◌≡◌, ◌⊎◌, IfOk, MatchResult, Some, None, [], map, option_and_then, option_map, string_bytes};
+ghost use Rattle.clap.specs.Words.{FailsBy, fault_of, found_of, rows_of, subcommand_of, subcommand_rows_of};
+ghost use Rattle.zed_program.specs.declared.words.ParseError.TheVariants.{Memory};
+ghost use Rattle.zed_program.specs.Grammar.{zzted_app};
+ghost use Rattle.zed_program.specs.Wanted.{action_of, check_of, meaning_of, save_of, wanted_of};
+
+use crate::grammar::zzted_command;
+use clap::error::ErrorKind;
+use clap::{ArgMatches, Error};
+use std::alloc::{AllocError, Global};
+
+/// What is to be done.
+#[derive(Drop)]
+pub enum Action<'a> {
+    /// The world file of edit files is to be written.
+    Save { out: &'a str, files: Vec<&'a str> },
+    /// What looks wrong in the world of edit files is to be told.
+    Check { files: Vec<&'a str> },
+}
+
+/// Why the words ask for nothing.
+#[derive(Debug, Drop)]
+pub enum ParseError {
+    Memory,
+    /// The words are refused, with the text for the user.
+    Refused(String),
+}
+
+impl From<AllocError> for ParseError {
+    ghost from_gives = { λ _ e. e ≡ Memory };
+
+    fn from(_error: AllocError) -> ParseError {
+        ParseError::Memory
+    }
+}
+
+fn save_in<'a>(alloc: Global, matches: &ArgMatches<'a>) -> Result<Option<Action<'a>>, AllocError>
+    ensures { IfOk result (λ a. option_map meaning_of a ≡ save_of (rows_of (found_of matches.now))) }
+{
+    let out = matches.get_str("OUT");
+    let files = matches.get_strs("FILES");
+    if let (Some(out), Some(files)) = (out, files) {
+        let files = Vec::from_slice(alloc, files)?;
+        Ok(Some(Action::Save { out, files }))
+    } else {
+        Ok(None)
+    }
+}
+
+fn check_in<'a>(alloc: Global, matches: &ArgMatches<'a>) -> Result<Option<Action<'a>>, AllocError>
+    ensures { IfOk result (λ a. option_map meaning_of a ≡ check_of (rows_of (found_of matches.now))) }
+{
+    let Some(files) = matches.get_strs("FILES") else {
+        return Ok(None);
+    };
+    let files = Vec::from_slice(alloc, files)?;
+    Ok(Some(Action::Check { files }))
+}
+
+fn action_in<'a>(alloc: Global, matches: &ArgMatches<'a>) -> Result<Option<Action<'a>>, AllocError>
+    ensures { IfOk result (λ a. option_map meaning_of a
+        ≡ option_and_then action_of (subcommand_rows_of matches.now)) }
+{
+    let Some((name, inner)) = matches.subcommand() else {
+        return Ok(None);
+    };
+    if name == "save" {
+        save_in(alloc, inner)
+    } else if name == "check" {
+        check_in(alloc, inner)
+    } else {
+        Ok(None)
+    }
+}
+
+fn matches_in<'a>(alloc: Global, words: &'a [String]) -> Result<ArgMatches<'a>, Error>
+    ensures fails { FailsBy (fault_of zzted_app (map string_bytes words.entry.now)) result }
+    ensures rows { IfOk result (λ m. subcommand_rows_of m
+        ≡ subcommand_of zzted_app (map string_bytes words.entry.now)) }
+{
+    zzted_command(alloc)?.try_get_matches_from(words)
+}
+
+// What is done without any word.
+fn stored_action<'a>(alloc: Global) -> Result<Action<'a>, AllocError>
+    ensures { IfOk result (λ a. wanted_of [] ≡ Some (meaning_of a)) }
+{
+    let files = vec![in alloc; "stdin"]?;
+    Ok(Action::Save {
+        out: "stdout",
+        files,
+    })
+}
+
+/// Reads the words after the program's name.
+///
+/// # Errors
+/// `Refused` exactly where the words are not those of a command, with clap's text; a request for help counts as one.
+pub fn parse<'a>(alloc: Global, words: &'a [String]) -> Result<Action<'a>, ParseError>
+    ensures { MatchResult result
+        (λ a. wanted_of (map string_bytes words.entry.now) ≡ Some (meaning_of a))
+        (λ e. (e ≡ ParseError.Memory) ⊎ (wanted_of (map string_bytes words.entry.now) ≡ None)) }
+{
+    if words.is_empty() {
+        return Ok(stored_action(alloc)?);
+    }
+    match matches_in(alloc, words) {
+        Ok(matches) => match action_in(alloc, &matches)? {
+            Some(action) => Ok(action),
+            None => Err(ParseError::Refused(String::new(alloc))),
+        },
+        Err(error) => match error.kind() {
+            ErrorKind::OutOfMemory => Err(ParseError::Memory),
+            _ => {
+                let text = error.to_string(alloc)?;
+                Err(ParseError::Refused(text))
+            }
+        },
+    }
+}
