@@ -25,35 +25,6 @@ fn is_stale(document: &Document) -> bool {
 }
 
 #[test]
-fn each_growth_of_a_last_delivery_refused(rt: HostRuntime) -> Result<(), Fail> {
-    let alloc = rt.alloc();
-    for nth in 1..=MOST {
-        let mut document = document(alloc)?;
-        let board = new_board(alloc, 2, 1, "One")?;
-        refuse(alloc, nth);
-        let answer = document.deliver(board);
-        if !was_refused(alloc) {
-            assert_eq!(rt; answer?.state, State::Taken);
-            assert_eq!(rt; document.view()?.boards(), 2);
-            return Ok(());
-        }
-        assert_eq!(rt; answer, Err(DocumentError::Memory), "growth {nth}");
-        assert_eq!(rt; document.edits().len(), 1, "growth {nth}");
-        if is_stale(&document) {
-            let again = document.deliver(new_board(alloc, 2, 1, "One")?);
-            assert_eq!(rt; again, Err(DocumentError::Stale), "growth {nth}");
-            assert_eq!(rt; document.board(0), Err(DocumentError::Stale));
-            assert_eq!(rt; document.text(program()).err(), Some(DocumentError::Stale));
-        }
-        assert_eq!(rt; document.repair(), Ok(()), "growth {nth}");
-        let again = document.deliver(new_board(alloc, 2, 1, "One")?)?;
-        assert_eq!(rt; again.state, State::Taken, "growth {nth}");
-        assert_eq!(rt; document.view()?.boards(), 2, "growth {nth}");
-    }
-    Err(Fail::new("more growths than expected"))
-}
-
-#[test]
 fn each_growth_of_a_late_delivery_refused(rt: HostRuntime) -> Result<(), Fail> {
     let alloc = rt.alloc();
     for nth in 1..=MOST {
@@ -129,64 +100,4 @@ fn stale(alloc: Global) -> Result<Option<Document>, Fail> {
         }
     }
     Err(Fail::new("more growths than expected"))
-}
-
-#[test]
-fn each_growth_of_repair_refused(rt: HostRuntime) -> Result<(), Fail> {
-    let alloc = rt.alloc();
-    for nth in 1..=MOST {
-        let Some(mut document) = stale(alloc)? else {
-            return Ok(());
-        };
-        refuse(alloc, nth);
-        let answer = document.repair();
-        if !was_refused(alloc) {
-            assert_eq!(rt; answer, Ok(()));
-            assert_eq!(rt; document.view()?.boards(), 1);
-            return Ok(());
-        }
-        assert_eq!(rt; answer, Err(DocumentError::Memory), "growth {nth}");
-        assert!(rt; is_stale(&document));
-        assert_eq!(rt; document.edits().len(), 1, "growth {nth}");
-        assert_eq!(rt; document.held(), 0, "growth {nth}");
-    }
-    Err(Fail::new("more growths than expected"))
-}
-
-#[test]
-fn each_growth_of_text_refused(rt: HostRuntime) -> Result<(), Fail> {
-    let alloc = rt.alloc();
-    let document = document(alloc)?;
-    for nth in 1..=MOST {
-        refuse(alloc, nth);
-        let answer = document.text(program());
-        if !was_refused(alloc) {
-            assert_eq!(rt; answer?.as_slice(), b"AB".as_slice());
-            return Ok(());
-        }
-        assert_eq!(rt; answer.err(), Some(DocumentError::Memory), "growth {nth}");
-    }
-    Err(Fail::new("more growths than expected"))
-}
-
-#[test]
-fn what_takes_no_memory_refused(rt: HostRuntime) -> Result<(), Fail> {
-    let alloc = rt.alloc();
-    let mut one = document(alloc)?;
-    one.deliver(insertion(alloc, 2, 1, Stamp::GENESIS, "x")?)?;
-    let known = insertion(alloc, 2, 1, Stamp::GENESIS, "x")?;
-    let other = document(alloc)?;
-    refuse(alloc, 1);
-    let empty = Document::new(alloc, 7);
-    assert_eq!(rt; one.deliver(known)?.state, State::Known);
-    assert_eq!(rt; one.repair(), Ok(()));
-    assert_eq!(rt; one.board(0), Ok(Some(BoardId::TITLE)));
-    assert!(rt; one.stat(BoardId::TITLE, 1)?.is_some());
-    assert_eq!(rt; one.length(program()), Ok(3));
-    assert_eq!(rt; one.visits(program()), Ok(0));
-    assert_eq!(rt; one.same(&other), Ok(false));
-    assert_eq!(rt; one.view()?.boards(), 1);
-    assert_eq!(rt; empty.edits().len(), 0);
-    assert!(rt; !was_refused(alloc));
-    Ok(())
 }

@@ -44,65 +44,6 @@ fn one_title_and_a_new_board(rt: HostRuntime) -> Result<(), Fail> {
     Ok(())
 }
 
-#[test]
-fn a_board_before_its_world(rt: HostRuntime) -> Result<(), Fail> {
-    let mut document = Document::new(rt.alloc(), 7);
-    document.deliver(new_board(rt.alloc(), 2, 1)?)?;
-    assert_eq!(rt;
-        save(rt.alloc(), &document, BODY_LIMIT).err(),
-        Some(ExportError::NoWorld)
-    );
-    document.deliver(genesis(rt.alloc())?)?;
-    assert_eq!(rt; save(rt.alloc(), &document, BODY_LIMIT)?.len(), 1031);
-    Ok(())
-}
-
-#[test]
-fn exits_to_boards_of_two_replicas(rt: HostRuntime) -> Result<(), Fail> {
-    let mut one = begun(rt.alloc())?;
-    one.deliver(new_board(rt.alloc(), 2, 1)?)?;
-    one.deliver(new_exit(3, 1, Side::North, board(2, 1)))?;
-    assert_eq!(rt; save(rt.alloc(), &one, BODY_LIMIT)?[NORTH], 1);
-    let mut two = begun(rt.alloc())?;
-    two.deliver(new_exit(3, 2, Side::South, board(2, 2)))?;
-    two.deliver(new_board(rt.alloc(), 2, 2)?)?;
-    assert_eq!(rt; save(rt.alloc(), &two, BODY_LIMIT)?[SOUTH], 1);
-    one.deliver(new_exit(3, 2, Side::South, board(2, 2)))?;
-    one.deliver(new_board(rt.alloc(), 2, 2)?)?;
-    two.deliver(new_exit(3, 1, Side::North, board(2, 1)))?;
-    two.deliver(new_board(rt.alloc(), 2, 1)?)?;
-    let merged = save(rt.alloc(), &one, BODY_LIMIT)?;
-    assert_eq!(rt; merged.len(), 1352);
-    assert_eq!(rt; &merged[NORTH..SOUTH + 1], [1, 2].as_slice());
-    assert_eq!(rt;
-        merged.as_slice(),
-        save(rt.alloc(), &two, BODY_LIMIT)?.as_slice()
-    );
-    one.deliver(edit(4, 1, Op::BoardRemove(board(2, 1))))?;
-    let removed = save(rt.alloc(), &one, BODY_LIMIT)?;
-    assert_eq!(rt; removed.len(), 1031);
-    assert_eq!(rt; &removed[NORTH..SOUTH + 1], [0, 1].as_slice());
-    Ok(())
-}
-
-#[test]
-fn one_stat_too_many(rt: HostRuntime) -> Result<(), Fail> {
-    let mut document = begun(rt.alloc())?;
-    for time in 2..151 {
-        document.deliver(new_stat(time, 3, (1, 1), None))?;
-    }
-    document.deliver(new_stat(151, 1, (1, 1), None))?;
-    assert_eq!(rt; save(rt.alloc(), &document, BODY_LIMIT)?.len(), 5660);
-    document.deliver(new_stat(151, 2, (1, 1), None))?;
-    let over = Some(ExportError::StatsOver {
-        board: 0,
-        stats: 151,
-    });
-    assert_eq!(rt; save(rt.alloc(), &document, BODY_LIMIT).err(), over);
-    assert_eq!(rt; export(rt.alloc(), &document, BODY_LIMIT).err(), over);
-    Ok(())
-}
-
 /// A document with a stat whose program is so long.
 fn with_program(alloc: Global, len: usize) -> Result<Document, Fail> {
     let mut document = begun(alloc)?;
@@ -110,21 +51,6 @@ fn with_program(alloc: Global, len: usize) -> Result<Document, Fail> {
     document.deliver(edit(3, 1, Op::TextInsert(text(2, 1), None, letters(alloc, len)?)))?;
     document.deliver(new_stat(4, 1, (1, 1), Some(text(2, 1))))?;
     Ok(document)
-}
-
-#[test]
-fn one_byte_too_many(rt: HostRuntime) -> Result<(), Fail> {
-    let document = with_program(rt.alloc(), 19771)?;
-    assert_eq!(rt; save(rt.alloc(), &document, BODY_LIMIT)?.len(), 20514);
-    let document = with_program(rt.alloc(), 19772)?;
-    assert_eq!(rt;
-        save(rt.alloc(), &document, BODY_LIMIT).err(),
-        Some(ExportError::BoardOver {
-            board: 0,
-            bytes: 20001
-        })
-    );
-    Ok(())
 }
 
 #[test]
@@ -168,74 +94,11 @@ fn odd(alloc: Global) -> Result<Document, Fail> {
 }
 
 #[test]
-fn odd_places(rt: HostRuntime) -> Result<(), Fail> {
-    let document = odd(rt.alloc())?;
-    assert_eq!(rt; save(rt.alloc(), &document, BODY_LIMIT)?.len(), 770);
-    let world = export(rt.alloc(), &document, BODY_LIMIT)?;
-    assert_eq!(rt;
-        warnings(rt.alloc(), &world)?.as_slice(),
-        [
-            Warning::PlayerTile(0),
-            Warning::OffBoard(0, 1),
-            Warning::SamePlace(0, 2),
-        ]
-        .as_slice()
-    );
-    Ok(())
-}
-
-#[test]
-fn export_refused_growths(rt: HostRuntime) -> Result<(), Fail> {
-    let document = with_program(rt.alloc(), 5)?;
-    for nth in 1..1000 {
-        refuse(rt.alloc(), nth);
-        let answer = export(rt.alloc(), &document, BODY_LIMIT);
-        if !was_refused(rt.alloc()) {
-            assert!(rt; answer.is_ok());
-            return Ok(());
-        }
-        assert_eq!(rt; answer.err(), Some(ExportError::Memory));
-    }
-    Err(Fail::new("more growths than were tried"))
-}
-
-#[test]
 fn save_refused_growths(rt: HostRuntime) -> Result<(), Fail> {
     let document = with_program(rt.alloc(), 5)?;
     for nth in 1..1000 {
         refuse(rt.alloc(), nth);
         let answer = save(rt.alloc(), &document, BODY_LIMIT);
-        if !was_refused(rt.alloc()) {
-            assert!(rt; answer.is_ok());
-            return Ok(());
-        }
-        assert_eq!(rt; answer.err(), Some(ExportError::Memory));
-    }
-    Err(Fail::new("more growths than were tried"))
-}
-
-#[test]
-fn limits_take_no_memory_refused(rt: HostRuntime) -> Result<(), Fail> {
-    let document = with_program(rt.alloc(), 19772)?;
-    refuse(rt.alloc(), 1);
-    let answer = save(rt.alloc(), &document, BODY_LIMIT).err();
-    assert!(rt; !was_refused(rt.alloc()));
-    assert_eq!(rt;
-        answer,
-        Some(ExportError::BoardOver {
-            board: 0,
-            bytes: 20001
-        })
-    );
-    Ok(())
-}
-
-#[test]
-fn warnings_refused_growths(rt: HostRuntime) -> Result<(), Fail> {
-    let world = export(rt.alloc(), &odd(rt.alloc())?, BODY_LIMIT)?;
-    for nth in 1..100 {
-        refuse(rt.alloc(), nth);
-        let answer = warnings(rt.alloc(), &world);
         if !was_refused(rt.alloc()) {
             assert!(rt; answer.is_ok());
             return Ok(());

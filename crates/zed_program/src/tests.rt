@@ -46,18 +46,6 @@ fn refuses_words(rt: HostRuntime) -> Result<(), Fail> {
 }
 
 #[test]
-fn helps_with_each_command(rt: HostRuntime) -> Result<(), Fail> {
-    let alloc = rt.alloc();
-    let mut host = MemoryHost::new(alloc, u64::MAX);
-    let status = status_of(alloc, "save --help", &mut host)?;
-    assert_eq!(rt; status, 2);
-    let expected =
-        b"Write the world file of edit files\n\nUsage: save <OUT> <FILES>...\n\nArguments:\n  <OUT>       The world file to write; stdout is standard output\n  <FILES>...  Edit files, in the order in which they are read; stdin is standard input\n\nOptions:\n  -h, --help  Print help\n";
-    assert_eq!(rt; host.complained(), expected.as_slice());
-    Ok(())
-}
-
-#[test]
 fn tells_a_missing_file(rt: HostRuntime) -> Result<(), Fail> {
     let alloc = rt.alloc();
     for line in ["save o none", "check none"] {

@@ -110,26 +110,3 @@ fn saves_the_first_example(rt: HostRuntime) -> Result<(), Fail> {
 }
 
 // A cell moves the player tile away; two stats are added, one off the table and one where the player is.
-#[test]
-fn checks_a_world(rt: HostRuntime) -> Result<(), Fail> {
-    let alloc = rt.alloc();
-    let mut file = plain_file(alloc, 0)?;
-    file.extend_from_slice(
-        b"\x1b\0\0\0\x02\0\0\0\0\0\x01\0\x06\x01\0\0\0\0\0\0\0\0\0\0\0\x1e\x0c\x1e\x0c\0\0",
-    )?;
-    for stat in [b"\x03\0\0\0\0\0\x01\0", b"\x04\0\0\0\0\0\x01\0"] {
-        file.extend_from_slice(b"\x24\0\0\0")?;
-        file.extend_from_slice(stat)?;
-        file.extend_from_slice(b"\x07\x01\0\0\0\0\0\0\0\0\0\0\0")?;
-        let place = if stat[0] == 3 { b"\0\x05" } else { b"\x1e\x0c" };
-        file.extend_from_slice(place)?;
-        file.extend_from_slice(b"\0\0\0\0\x01\0\0\0\0\0\0\0\0")?;
-    }
-    let mut host = MemoryHost::new(alloc, u64::MAX);
-    host.write("a", file.as_slice())?;
-    assert_eq!(rt; status_of(alloc, "check a", &mut host)?, 0);
-    let report =
-        b"PlayerTile 0\nOffBoard 0 1\nSamePlace 0 2\n4 edits, 0 held, 1 boards, 770 bytes\n";
-    assert_eq!(rt; host.printed(), report.as_slice());
-    Ok(())
-}
