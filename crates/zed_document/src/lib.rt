@@ -18,10 +18,3 @@ pub use document::Document;
 pub use error::DocumentError;
 pub use laws::{edits_decide, merging_is_of_sets};
 pub use view::{MadeBoard, MadeStat, View};
-
-#[cfg(test)]
-mod tests;
-#[cfg(test)]
-mod tests_edits;
-#[cfg(test)]
-mod tests_memory;

@@ -47,5 +47,3 @@ pub use thing::Thing;
 
 #[cfg(test)]
 mod tests_check;
-#[cfg(test)]
-mod tests_replay;
