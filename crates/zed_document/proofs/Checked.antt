@@ -1,10 +1,10 @@
 -- What a delivery answers of an edit that is refused by its check.
 use Rattle.std.proofs.Common.{◌≡◌, ◌⊎◌, inl, inr, ap, sym, ◌∙◌, refl, List, Option, Some, None, Result, Ok, Err}
-use Rattle.zed_edit.specs.declared.cause.Cause.{Cause}
-use Rattle.zed_edit.specs.declared.cause.EditError.{EditError}
-use Rattle.zed_edit.specs.declared.cause.EditError.TheVariants as edit
-use Rattle.zed_edit.specs.declared.op.Edit.{Edit}
-use Rattle.zed_edit.specs.Verdict.{verdict}
+use Rattle.zed_op.specs.declared.cause.Cause.{Cause}
+use Rattle.zed_op.specs.declared.cause.EditError.{EditError}
+use Rattle.zed_op.specs.declared.cause.EditError.TheVariants as edit
+use Rattle.zed_op.specs.declared.op.Edit.{Edit}
+use Rattle.zed_op.specs.Verdict.{verdict}
 use Rattle.zed_document.specs.declared.delivered.Delivered.{Delivered}
 use Rattle.zed_document.specs.declared.error.DocumentError.{DocumentError}
 use Rattle.zed_document.specs.declared.error.DocumentError.TheVariants.{Memory}

@@ -4,11 +4,11 @@ use Rattle.std.specs.List.{AllByRecursion, Contains}
 use Rattle.std.specs.Prelude.{◌≢◌, slice_get, IfSome, IsSomeAnd}
 use Rattle.zed_types.specs.declared.stamp.Stamp.{Stamp}
 use Rattle.zed_types.specs.Stamp.{before, same_stamp}
-use Rattle.zed_edit.specs.declared.op.Edit.{Edit}
-use Rattle.zed_edit.specs.Set.{IsRising}
+use Rattle.zed_op.specs.declared.op.Edit.{Edit}
+use Rattle.zed_op.specs.Set.{IsRising}
 use Rattle.zed_document.specs.Delivery.{edit_with}
 use Rattle.zed_document.specs.Merge.{Agree, ClashesAt, IsLeastClash, AllFrom}
-use Rattle.zed_document.proofs.Order.{same_stamp-itself, same_stamp-true, before-irrefl, before-asym, before-differs}
+use Rattle.zed_types.proofs.StampOrder.{same_stamp-itself, same_stamp-true, before_irrefl, before_asym, before_differs}
 use Rattle.std.proofs.lemmas.List.{take-append-drop}
 use Rattle.std.proofs.lemmas.List.Elements.{Contains-append_right, Contains-append_cases}
 use Rattle.zed_document.specs.Kept.{AllBelow}
@@ -36,7 +36,7 @@ there_at : (es : List Edit) (k : ℕ) (e : Edit) → IsRising es → k < length 
 there_at [] k e r l q = absurd (omega arith)
 there_at (x ∷ xs) zero e r l q = edit_with-same e.stamp x xs (ap (λ y. y.stamp) q) ∙ ap Some q
 there_at (x ∷ xs) (suc k) e r l q =
-    let t = before-differs x.stamp e.stamp (later x xs k e r.0 (omega arith) q) in
+    let t = before_differs x.stamp e.stamp (later x xs k e r.0 (omega arith) q) in
     rw t (there_at xs k e r.1 (omega arith) q)
 
 pub edit_with-there : (es : List Edit) (e : Edit) → IsRising es → Contains es e → edit_with e.stamp es ≡ Some e
@@ -70,10 +70,10 @@ serve-all own (f ∷ fs) = (refl, serve-all own fs)
 -- an edit from a rising log on
 from-head : (f : Edit) (fs : List Edit) → AllByRecursion (λ g. before f.stamp g.stamp ≡ true) fs → AllFrom f.stamp fs
 from-head f [] a = tt
-from-head f (g ∷ fs) a = (before-asym f.stamp g.stamp a.0, from-head f fs a.1)
+from-head f (g ∷ fs) a = (before_asym f.stamp g.stamp a.0, from-head f fs a.1)
 
 pub from-itself : (f : Edit) (fs : List Edit) → IsRising (f ∷ fs) → AllFrom f.stamp (f ∷ fs)
-from-itself f fs r = (before-irrefl f.stamp, from-head f fs r.0)
+from-itself f fs r = (before_irrefl f.stamp, from-head f fs r.0)
 
 All-push : (es : List Edit) (fs : List Edit) (f : Edit) → AllByRecursion (IsFine es) fs → IsFine es f → AllByRecursion (IsFine es) (fs ++ f ∷ [])
 All-push es [] f a h = (h, tt)

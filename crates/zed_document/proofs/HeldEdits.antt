@@ -3,15 +3,15 @@ use Rattle.std.proofs.Common.{◌≡◌, Bool, true, false, List, [], ◌∷◌,
 use Rattle.std.specs.List.{AllByRecursion}
 use Rattle.zed_types.specs.declared.stamp.Stamp.{Stamp}
 use Rattle.zed_types.specs.Stamp.{before, same_stamp}
-use Rattle.zed_edit.specs.declared.op.Edit.{Edit}
+use Rattle.zed_op.specs.declared.op.Edit.{Edit}
 use Rattle.zed_edit.specs.declared.plain.Plain.{Plain}
 use Rattle.zed_edit.specs.Document.{empty_document}
-use Rattle.zed_edit.specs.Laws.{HeldArePassedOver}
+use Rattle.zed_laws.specs.Laws.{HeldArePassedOver}
 use Rattle.zed_edit.specs.Replay.{can, step, held, held_on}
-use Rattle.zed_edit.specs.Set.{IsRising}
+use Rattle.zed_op.specs.Set.{IsRising}
 use Rattle.zed_document.specs.Delivery.{edit_with}
 use Rattle.zed_document.specs.Held.{held_stamps}
-use Rattle.zed_document.proofs.Order.{same_stamp-itself, before-differs}
+use Rattle.zed_types.proofs.StampOrder.{same_stamp-itself, before_differs}
 
 -- what is true of all edits is true of those held
 held-all : (P : Edit → Type 0) (p : Plain) (es : List Edit) → AllByRecursion P es → AllByRecursion P (held_on p es)
@@ -28,7 +28,7 @@ Found es fs = AllByRecursion (λ f. edit_with f.stamp es ≡ Some f) fs
 found-behind : (x : Edit) (xs ys : List Edit) → AllByRecursion (λ f. before x.stamp f.stamp ≡ true) ys → Found xs ys → Found (x ∷ xs) ys
 found-behind x xs [] a h = tt
 found-behind x xs (y ∷ ys) a h =
-    let d = before-differs x.stamp y.stamp a.0 in
+    let d = before_differs x.stamp y.stamp a.0 in
     (rw d h.0, found-behind x xs ys a.1 h.1)
 
 found : (es : List Edit) → IsRising es → Found es es

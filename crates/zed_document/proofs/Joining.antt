@@ -5,11 +5,11 @@ use Rattle.std.specs.List.{AllByRecursion}
 use Rattle.std.specs.Prelude.{slice_get, IfSome, IsSomeAnd}
 use Rattle.zed_types.specs.declared.stamp.Stamp.{Stamp}
 use Rattle.zed_types.specs.Stamp.{before, same_stamp}
-use Rattle.zed_edit.specs.declared.op.Edit.{Edit}
-use Rattle.zed_edit.specs.Set.{IsRising, with_edit, union}
+use Rattle.zed_op.specs.declared.op.Edit.{Edit}
+use Rattle.zed_op.specs.Set.{IsRising, with_edit, union}
 use Rattle.zed_document.specs.Kept.{AllBelow}
 use Rattle.zed_document.specs.Merge.{AllFrom, below}
-use Rattle.zed_document.proofs.Order.{same_stamp-itself, before-irrefl}
+use Rattle.zed_types.proofs.StampOrder.{same_stamp-itself, before_irrefl}
 use Rattle.zed_document.proofs.Spots.{with_edit-there, with_edit-between, AllAbove}
 use Rattle.zed_document.proofs.Walks.{AllBelow-append, AllBelow-later, above-rising, rising-drop}
 
@@ -18,7 +18,7 @@ pub joins-there : (e : Edit) (out low high : List Edit) → AllBelow e.stamp out
 joins-there e out low [] a b h = absurd h
 joins-there e out low (f ∷ high) a b h =
     let t : same_stamp e.stamp f.stamp ≡ true = rw h (same_stamp-itself e.stamp) in
-    let n : before e.stamp f.stamp ≡ false = rw h (before-irrefl e.stamp) in
+    let n : before e.stamp f.stamp ≡ false = rw h (before_irrefl e.stamp) in
     sym (with_edit-there e f (out ++ low) high (AllBelow-append e.stamp out low a b) n t)
     ∙ ap (with_edit e) (append_assoc out low (f ∷ high))
 

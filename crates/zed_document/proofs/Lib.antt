@@ -4,7 +4,6 @@ pub mod HeldEdits
 pub mod Joining
 pub mod Keeping
 pub mod Merging
-pub mod Order
 pub mod Passed
 pub mod Spots
 pub mod Walks

@@ -3,9 +3,9 @@ use Rattle.std.proofs.Common.{◌≡◌, ℕ, List, [], ◌∷◌, ◌++◌, ref
 use Rattle.std.specs.List.{Contains}
 use Rattle.std.specs.Prelude.{false}
 use Rattle.std.proofs.lemmas.List.Elements.{Contains-append_left, Contains-append_right, Contains-append_cases}
-use Rattle.zed_edit.specs.declared.op.Edit.{Edit}
-use Rattle.zed_edit.specs.Set.{Agrees, IsRising, union, set_of}
-use Rattle.zed_edit.specs.SetLaws.{HaveTheSame, RisingAgrees, UnionHasBoth, UnionCommutes, UnionAssociates, UnionOfItsOwn, UnionOfSets, SetIsOfAnyOrder, SetGrowsByEdits}
+use Rattle.zed_op.specs.declared.op.Edit.{Edit}
+use Rattle.zed_op.specs.Set.{Agrees, IsRising, union, set_of}
+use Rattle.zed_op.specs.SetLaws.{HaveTheSame, RisingAgrees, UnionHasBoth, UnionCommutes, UnionAssociates, UnionOfItsOwn, UnionOfSets, SetIsOfAnyOrder, SetGrowsByEdits}
 use Rattle.zed_edit.specs.Replay.{replay, held}
 use Rattle.zed_document.specs.Merge.{Agree}
 use Rattle.zed_document.specs.Replica.{Replica}

@@ -6,13 +6,13 @@ use Rattle.zed_types.specs.Stamp.{before, same_stamp}
 use Rattle.zed_world.specs.Contents.{Contents}
 use Rattle.zed_world.specs.Reading.{world_at}
 use Rattle.zed_world.specs.declared.error.WorldError.{WorldError}
-use Rattle.zed_edit.specs.declared.op.Op.{Op}
-use Rattle.zed_edit.specs.declared.op.Op.TheVariants.{Genesis, SetHeader}
-use Rattle.zed_edit.specs.declared.op.Edit.{Edit}
+use Rattle.zed_op.specs.declared.op.Op.{Op}
+use Rattle.zed_op.specs.declared.op.Op.TheVariants.{Genesis, SetHeader}
+use Rattle.zed_op.specs.declared.op.Edit.{Edit}
 use Rattle.zed_edit.specs.declared.plain.Plain.{Plain}
 use Rattle.zed_edit.specs.Replay.{can, do_op, open_world, replay_on, step}
 use Rattle.zed_document.specs.Held.{is_among}
-use Rattle.zed_document.proofs.Order.{same_stamp-itself, before-differs}
+use Rattle.zed_types.proofs.StampOrder.{same_stamp-itself, before_differs}
 use Rattle.zed_document.specs.Kept.{AllBelow}
 
 open_world-passed : (s : Stamp) (w : Result Contents WorldError) (p : Plain) → (open_world s w p).passed_over ≡ p.passed_over
@@ -46,7 +46,7 @@ passed-below s p (e ∷ es) a b = passed-below s (step p e) es (step-below s p e
 
 pub below-not_among : (s : Stamp) (ts : List Stamp) → StampsBelow s ts → is_among ts s ≡ false
 below-not_among s [] a = refl
-below-not_among s (t ∷ ts) a = rw (before-differs t s a.0) (below-not_among s ts a.1)
+below-not_among s (t ∷ ts) a = rw (before_differs t s a.0) (below-not_among s ts a.1)
 
 or_true : (b : Bool) → (b || true) ≡ true
 or_true true = refl

@@ -6,11 +6,11 @@ use Rattle.std.specs.List.{AllByRecursion, find}
 use Rattle.std.specs.Prelude.{slice_get, slice_index_or, IfSome, if◌then◌else◌}
 use Rattle.zed_types.specs.declared.stamp.Stamp.{Stamp}
 use Rattle.zed_types.specs.Stamp.{before, same_stamp}
-use Rattle.zed_edit.specs.declared.op.Edit.{Edit}
-use Rattle.zed_edit.specs.Set.{IsRising, with_edit}
+use Rattle.zed_op.specs.declared.op.Edit.{Edit}
+use Rattle.zed_op.specs.Set.{IsRising, with_edit}
 use Rattle.zed_document.specs.Delivery.{edit_with}
 use Rattle.zed_document.specs.Kept.{AllBelow}
-use Rattle.zed_document.proofs.Order.{same_stamp-itself, before-irrefl, before-total, before-trans, before-asym, before-differs, before-differs_after}
+use Rattle.zed_types.proofs.StampOrder.{same_stamp-itself, before_irrefl, before_other_after, before_trans, before_asym, before_differs, before_differs_after}
 
 abbrev pub AllAbove : Stamp → List Edit → Type 0
 AllAbove s es = AllByRecursion (λ f. before s f.stamp ≡ true) es
@@ -20,23 +20,23 @@ pub with_edit-between : (e : Edit) (low high : List Edit) → AllBelow e.stamp l
 with_edit-between e [] [] b a = refl
 with_edit-between e [] (f ∷ high) b a = rw a.0
 with_edit-between e (f ∷ low) high b a =
-    let after = before-asym f.stamp e.stamp b.0 in
-    let other = before-differs_after f.stamp e.stamp b.0 in
+    let after = before_asym f.stamp e.stamp b.0 in
+    let other = before_differs_after f.stamp e.stamp b.0 in
     rw (after, other) (ap (λ rest. f ∷ rest) (with_edit-between e low high b.1 a))
 
 pub edit_with-none : (s : Stamp) (high : List Edit) → AllAbove s high → edit_with s high ≡ None
 edit_with-none s [] a = refl
-edit_with-none s (f ∷ high) a = rw (before-differs_after s f.stamp a.0) (edit_with-none s high a.1)
+edit_with-none s (f ∷ high) a = rw (before_differs_after s f.stamp a.0) (edit_with-none s high a.1)
 
 pub edit_with-past : (s : Stamp) (low rest : List Edit) → AllBelow s low → edit_with s (low ++ rest) ≡ edit_with s rest
 edit_with-past s [] rest b = refl
-edit_with-past s (f ∷ low) rest b = rw (before-differs f.stamp s b.0) (edit_with-past s low rest b.1)
+edit_with-past s (f ∷ low) rest b = rw (before_differs f.stamp s b.0) (edit_with-past s low rest b.1)
 
 pub with_edit-there : (e f : Edit) (low high : List Edit) → AllBelow e.stamp low → before e.stamp f.stamp ≡ false → same_stamp e.stamp f.stamp ≡ true → with_edit e (low ++ f ∷ high) ≡ low ++ f ∷ high
 with_edit-there e f [] high b n t = rw (n, t)
 with_edit-there e f (g ∷ low) high b n t =
-    let after = before-asym g.stamp e.stamp b.0 in
-    let other = before-differs_after g.stamp e.stamp b.0 in
+    let after = before_asym g.stamp e.stamp b.0 in
+    let other = before_differs_after g.stamp e.stamp b.0 in
     rw (after, other) (ap (λ rest. g ∷ rest) (with_edit-there e f low high b.1 n t))
 
 -- in a rising log all before an edit that is below a stamp are below it too
@@ -46,7 +46,7 @@ AllBelow-take s (x ∷ xs) zero r h l = (h, tt)
 AllBelow-take s (x ∷ []) (suc i) r h l = absurd (omega arith)
 AllBelow-take s (x ∷ y ∷ ys) (suc i) r h l =
     let more = AllBelow-take s (y ∷ ys) i r.1 h (omega arith) in
-    (before-trans x.stamp y.stamp s r.0.0 more.0, more)
+    (before_trans x.stamp y.stamp s r.0.0 more.0, more)
 
 -- whatever comes first in a rising log is below each later edit
 below_head : (x : Edit) (xs : List Edit) (i : ℕ) (s : Stamp) → AllByRecursion (λ f. before x.stamp f.stamp ≡ true) xs → IfSome (slice_get xs i) (λ f. f.stamp ≡ s) → i < length xs → before x.stamp s ≡ true
@@ -59,19 +59,19 @@ edit_with-at s [] i r h l = absurd (omega arith)
 edit_with-at s (x ∷ xs) zero r h l =
     let t : same_stamp x.stamp s ≡ true = rw h (same_stamp-itself s) in rw t
 edit_with-at s (x ∷ xs) (suc i) r h l =
-    let t = before-differs x.stamp s (below_head x xs i s r.0 h (omega arith)) in
+    let t = before_differs x.stamp s (below_head x xs i s r.0 h (omega arith)) in
     rw t (edit_with-at s xs i r.1 h (omega arith))
 
 pub with_edit-at : (e : Edit) (es : List Edit) (i : ℕ) → IsRising es → IfSome (slice_get es i) (λ f. f.stamp ≡ e.stamp) → i < length es → with_edit e es ≡ es
 with_edit-at e [] i r h l = absurd (omega arith)
 with_edit-at e (x ∷ xs) zero r h l =
     let t : same_stamp e.stamp x.stamp ≡ true = rw h (same_stamp-itself e.stamp) in
-    let n : before e.stamp x.stamp ≡ false = rw h (before-irrefl e.stamp) in
+    let n : before e.stamp x.stamp ≡ false = rw h (before_irrefl e.stamp) in
     rw (n, t)
 with_edit-at e (x ∷ xs) (suc i) r h l =
     let b = below_head x xs i e.stamp r.0 h (omega arith) in
-    let after = before-asym x.stamp e.stamp b in
-    let other = before-differs_after x.stamp e.stamp b in
+    let after = before_asym x.stamp e.stamp b in
+    let other = before_differs_after x.stamp e.stamp b in
     rw (after, other) (ap (λ rest. x ∷ rest) (with_edit-at e xs i r.1 h (omega arith)))
 
 -- what is not above a stamp and has another is below it

@@ -1,6 +1,6 @@
 -- Refusals of edits as those of a document.
-use Rattle.zed_edit.specs.declared.cause.EditError.{EditError}
-use Rattle.zed_edit.specs.declared.cause.EditError.TheVariants as edit
+use Rattle.zed_op.specs.declared.cause.EditError.{EditError}
+use Rattle.zed_op.specs.declared.cause.EditError.TheVariants as edit
 use Rattle.zed_document.specs.declared.error.DocumentError.{DocumentError}
 use Rattle.zed_document.specs.declared.error.DocumentError.TheVariants.{Memory, BadEdit}
 

@@ -1,8 +1,8 @@
 -- What holds of documents, whatever their edits.
 use Rattle.std.specs.Prelude.{◌≡◌, ℕ, false, List, [], ◌∷◌, ◌++◌}
-use Rattle.zed_edit.specs.declared.op.Edit.{Edit}
-use Rattle.zed_edit.specs.Set.{Agrees, IsRising, with_edit, union, set_of}
-use Rattle.zed_edit.specs.SetLaws.{HaveTheSame}
+use Rattle.zed_op.specs.declared.op.Edit.{Edit}
+use Rattle.zed_op.specs.Set.{Agrees, IsRising, with_edit, union, set_of}
+use Rattle.zed_op.specs.SetLaws.{HaveTheSame}
 use Rattle.zed_document.specs.Merge.{Agree}
 use Rattle.zed_document.specs.Replica.{Replica}
 use Rattle.zed_document.specs.Same.{AreSame}

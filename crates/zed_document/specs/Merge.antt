@@ -3,7 +3,7 @@ use Rattle.std.specs.Prelude.{◌≡◌, ◌≢◌, ◌==◌, ◌⊎◌, true, f
 use Rattle.std.specs.List.{AllByRecursion}
 use Rattle.zed_types.specs.declared.stamp.Stamp.{Stamp}
 use Rattle.zed_types.specs.Stamp.{before}
-use Rattle.zed_edit.specs.declared.op.Edit.{Edit}
+use Rattle.zed_op.specs.declared.op.Edit.{Edit}
 use Rattle.zed_document.specs.declared.error.DocumentError.{DocumentError}
 use Rattle.zed_document.specs.declared.error.DocumentError.TheVariants.{Memory, OtherWorld, Stale, Clash}
 use Rattle.zed_document.specs.Replica.{Replica}

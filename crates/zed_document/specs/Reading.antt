@@ -3,7 +3,7 @@ use Rattle.std.specs.Prelude.{◌≡◌, ◌↔◌, ◌⊎◌, ◌||◌, ℕ, Bo
 use Rattle.zed_types.specs.declared.names.StatId.{StatId}
 use Rattle.zed_types.specs.declared.names.TextId.{TextId}
 use Rattle.zed_edit.specs.declared.plain.Plain.{Plain}
-use Rattle.zed_edit.specs.declared.thing.Thing.TheVariants as thing
+use Rattle.zed_op.specs.declared.thing.Thing.TheVariants as thing
 use Rattle.zed_edit.specs.Document.{has, text, text_register}
 use Rattle.zed_edit.specs.Replay.{replay}
 use Rattle.zed_document.specs.declared.error.DocumentError.{DocumentError}

@@ -25,7 +25,7 @@ use Rattle.zed_edit.specs.declared.plain.Board.{Board}
 use Rattle.zed_edit.specs.declared.plain.Stat.{Stat}
 use Rattle.zed_edit.specs.declared.plain.Plain.{Plain}
 use Rattle.zed_edit.specs.Genesis.{stat_of}
-use Rattle.zed_edit.specs.Header.{title}
+use Rattle.zed_types.specs.Names.{title}
 use Rattle.zed_edit.specs.Stat.{new_stat, player_fields}
 use Rattle.zed_edit.specs.Board.{new_board, empty_tile}
 use Rattle.zed_document.specs.declared.view.MadeBoard.{MadeBoard}

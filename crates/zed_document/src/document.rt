@@ -8,9 +8,9 @@ use crate::place::spot_of;
 use crate::view::View;
 use std::alloc::Global;
 use std::marker::Model;
-use zed_edit::{
-    Edit, Plain, check, replay, replay_goes_edit_by_edit, sets_rise, sets_stay_fit, step,
-};
+use zed_edit::{Edit, Plain, check, replay, step};
+use zed_laws::replay_goes_edit_by_edit;
+use zed_op::{sets_rise, sets_stay_fit};
 use zed_types::Stamp;
 
 /// A replica of a world. Contracts see the number of its world, its edits in rising stamp order, and whether it is stale.
@@ -38,9 +38,9 @@ impl Document {
     ghost use Rattle.zed_document.specs.Delivery.{Answers, AnswersAt, TellsNew, edit_with};
     ghost use Rattle.zed_document.specs.Kept.{AllBelow};
     ghost use Rattle.zed_edit.specs.Replay.{replay};
-    ghost use Rattle.zed_edit.specs.Fit.{Fits};
-    ghost use Rattle.zed_edit.specs.Verdict.{HangsOnItsWorld};
-    ghost use Rattle.zed_edit.specs.Set.{AllFit, IsRising, union, with_edit};
+    ghost use Rattle.zed_op.specs.Fit.{Fits};
+    ghost use Rattle.zed_op.specs.Verdict.{HangsOnItsWorld};
+    ghost use Rattle.zed_op.specs.Set.{AllFit, IsRising, union, with_edit};
     ghost use Rattle.zed_document.specs.Merge.{AnswersMerge, below};
     ghost use Rattle.zed_types.specs.declared.stamp.Stamp.{Stamp as TheStamp};
 

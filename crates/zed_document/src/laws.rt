@@ -1,6 +1,6 @@
 ghost use Rattle.zed_document.specs.Laws.{MergeCommutes, MergeAssociates, MergeRepeats, MergeOfItself, EditsDecide, DeliveriesMakeIt, MergeIsDeliveries, OrderNeverCounts};
 
-use zed_edit::{rising_lists_are_sets, set_is_its_edits, sets_rise, union_is_of_sets};
+use zed_op::{rising_lists_are_sets, set_is_its_edits, sets_rise, union_is_of_sets};
 
 /// Merging is commutative, associative and idempotent, up to what documents show and hold.
 pub fn merging_is_of_sets()

@@ -4,7 +4,7 @@ ghost use Rattle.std.specs.Prelude.{◌≡◌, ◌≢◌, ◌<◌, ◌≤◌, �
 ghost use Rattle.std.specs.Bool.{OnTrue, OnFalse};
 ghost use Rattle.zed_types.specs.declared.stamp.Stamp.{Stamp as TheStamp};
 ghost use Rattle.zed_types.specs.Stamp.{before, same_stamp};
-ghost use Rattle.zed_edit.specs.Set.{IsRising, with_edit, union};
+ghost use Rattle.zed_op.specs.Set.{IsRising, with_edit, union};
 ghost use Rattle.zed_document.specs.Delivery.{edit_with};
 ghost use Rattle.zed_document.specs.Kept.{AllBelow};
 ghost use Rattle.zed_document.specs.Merge.{Agree, AllFrom, IsLeastClash};

@@ -2,8 +2,8 @@ ghost use Rattle.std.specs.Prelude.{◌≡◌, ◌≤◌, ◌<◌, ◌-◌, true
 ghost use Rattle.std.specs.Bool.{OnTrue, OnFalse};
 ghost use Rattle.std.specs.List.{AllByRecursion};
 ghost use Rattle.zed_types.specs.Stamp.{before, same_stamp};
-ghost use Rattle.zed_edit.specs.declared.op.Edit.{Edit as TheEdit};
-ghost use Rattle.zed_edit.specs.Set.{IsRising, with_edit};
+ghost use Rattle.zed_op.specs.declared.op.Edit.{Edit as TheEdit};
+ghost use Rattle.zed_op.specs.Set.{IsRising, with_edit};
 ghost use Rattle.zed_document.specs.Delivery.{edit_with};
 ghost use Rattle.zed_document.specs.Kept.{AllBelow};
 

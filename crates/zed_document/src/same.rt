@@ -1,7 +1,7 @@
 ghost use Rattle.std.specs.Prelude.{◌≡◌, ◌↔◌, IsTrue};
 ghost use Rattle.std.specs.List.{AllByRecursion};
 ghost use Rattle.zed_edit.specs.Replay.{held as held_of};
-ghost use Rattle.zed_edit.specs.Set.{IsRising};
+ghost use Rattle.zed_op.specs.Set.{IsRising};
 ghost use Rattle.zed_document.specs.Delivery.{edit_with};
 ghost use Rattle.zed_document.specs.Held.{held_stamps};
 ghost use Rattle.zed_document.specs.Reading.{AnswersSame};
@@ -9,7 +9,8 @@ ghost use Rattle.zed_document.specs.Reading.{AnswersSame};
 use crate::document::Document;
 use crate::error::DocumentError;
 use crate::place::spot_of;
-use zed_edit::{Edit, held_edits_are_remembered};
+use zed_edit::Edit;
+use zed_laws::held_edits_are_remembered;
 use zed_types::Stamp;
 
 fn are_same_stamps(own: &[Stamp], other: &[Stamp]) -> bool

@@ -1,7 +1,7 @@
 ghost use Rattle.std.specs.Prelude.{◌≡◌, ◌<◌, ◌≤◌, ◌++◌, [], count_by, length, take, slice_get, slice_index_or, false, OnOk, OnErr};
 ghost use Rattle.std.specs.Option.{option_copied};
 ghost use Rattle.zed_types.specs.Text.{alive_bytes};
-ghost use Rattle.zed_edit.specs.Header.{key_index, flag_index};
+ghost use Rattle.zed_types.specs.Header.{key_index, flag_index};
 ghost use Rattle.zed_edit.specs.Document.{text, find_text, elements};
 ghost use Rattle.zed_document.specs.View.{board_at, stat_at, tile_at, made_board, made_stat, header_number, board_byte, board_flag, exit, board_text, stat_byte, stat_number};
 

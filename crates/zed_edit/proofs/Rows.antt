@@ -8,7 +8,7 @@ use Rattle.zed_types.specs.declared.tile.Tile.{Tile}
 use Rattle.zed_types.specs.declared.tile.Rectangle.{Rectangle}
 use Rattle.zed_types.specs.Table.{is_inside, place_at, map_from}
 use Rattle.zed_edit.specs.Board.{set_cells}
-use Rattle.zed_edit.specs.Fit.{is_in_table}
+use Rattle.zed_op.specs.Fit.{is_in_table}
 
 module _ {X Y : Type 0} where
   -- two functions that agree on the members

@@ -10,8 +10,8 @@ use Rattle.zed_types.specs.Names.{same_board, same_stat, same_text, same_element
 use Rattle.zed_types.specs.Text.{alive_bytes}
 use Rattle.zed_edit.specs.Header.{empty_header}
 use Rattle.zed_edit.specs.Board.{change_stats}
-use Rattle.zed_edit.specs.declared.thing.Thing.{Thing}
-use Rattle.zed_edit.specs.declared.thing.Thing.TheVariants as thing
+use Rattle.zed_op.specs.declared.thing.Thing.{Thing}
+use Rattle.zed_op.specs.declared.thing.Thing.TheVariants as thing
 use Rattle.zed_edit.specs.declared.plain.Board.{Board}
 use Rattle.zed_edit.specs.declared.plain.Stat.{Stat}
 use Rattle.zed_edit.specs.declared.plain.Text.{Text}

@@ -1,19 +1,12 @@
 -- The header of a document, and what a setting does to it.
 use Rattle.std.specs.Prelude.{ℕ, ℤ, pos, false, [], slice_set, replicate}
-use Rattle.zed_types.specs.declared.names.BoardId.{BoardId}
 use Rattle.zed_types.specs.declared.header.HeaderNumber.{HeaderNumber}
 use Rattle.zed_types.specs.declared.header.HeaderNumber.TheVariants.{Ammo, Gems, Health, Torches, TorchTicks, EnergizerTicks, Score, TimePassed, Hundredths}
-use Rattle.zed_types.specs.declared.header.KeyColour.{KeyColour}
-use Rattle.zed_types.specs.declared.header.KeyColour.TheVariants.{Blue, Green, Cyan, Red, Purple, Yellow, White}
-use Rattle.zed_types.specs.declared.header.FlagSlot.{FlagSlot}
-use Rattle.zed_types.specs.declared.header.FlagSlot.TheVariants.{First, Second, Third, Fourth, Fifth, Sixth, Seventh, Eighth, Ninth, Tenth}
 use Rattle.zed_types.specs.declared.header.HeaderSetting.{HeaderSetting}
 use Rattle.zed_types.specs.declared.header.HeaderSetting.TheVariants.{Number, Key, Saved, CurrentBoard, WorldName, Flag}
+use Rattle.zed_types.specs.Header.{key_index, flag_index}
+use Rattle.zed_types.specs.Names.{title}
 use Rattle.zed_edit.specs.declared.plain.Header.{Header}
-
--- the name of the title
-abbrev pub title : BoardId
-title = record { stamp = record { time = 1; replica = 0 }; index = 0 }
 
 -- a header of 0 and empty values
 abbrev pub empty_header : Header
@@ -33,29 +26,6 @@ empty_header = record {
   world_name = [];
   flags = replicate 10 [];
 }
-
--- which of the seven keys has a colour
-abbrev pub key_index : KeyColour → ℕ
-key_index Blue = 0
-key_index Green = 1
-key_index Cyan = 2
-key_index Red = 3
-key_index Purple = 4
-key_index Yellow = 5
-key_index White = 6
-
--- which of the ten flags is in a slot
-abbrev pub flag_index : FlagSlot → ℕ
-flag_index First = 0
-flag_index Second = 1
-flag_index Third = 2
-flag_index Fourth = 3
-flag_index Fifth = 4
-flag_index Sixth = 5
-flag_index Seventh = 6
-flag_index Eighth = 7
-flag_index Ninth = 8
-flag_index Tenth = 9
 
 abbrev pub with_number : HeaderNumber → ℤ → Header → Header
 with_number Ammo n h = record h { ammo = n }

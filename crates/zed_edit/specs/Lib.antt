@@ -1,16 +1,8 @@
 pub mod Board
 pub mod Document
-pub mod Fit
 pub mod Genesis
 pub mod Header
-pub mod Laws
 pub mod Lent
-pub mod Names
 pub mod Numbers
-pub mod Registers
-pub mod Regular
 pub mod Replay
-pub mod Set
-pub mod SetLaws
 pub mod Stat
-pub mod Verdict

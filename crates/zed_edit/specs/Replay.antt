@@ -6,17 +6,17 @@ use Rattle.zed_types.specs.Text.{run_from, put_after, kill}
 use Rattle.zed_world.specs.Contents.{Contents}
 use Rattle.zed_world.specs.Reading.{world_at}
 use Rattle.zed_world.specs.declared.error.WorldError.{WorldError}
-use Rattle.zed_edit.specs.declared.op.Op.{Op}
-use Rattle.zed_edit.specs.declared.op.Op.TheVariants.{Genesis, SetHeader, BoardAdd, BoardRemove, SetBoard, SetCells, StatAdd, StatRemove, SetStat, TextAdd, TextInsert, TextDelete}
-use Rattle.zed_edit.specs.declared.op.Edit.{Edit}
-use Rattle.zed_edit.specs.declared.thing.Thing.{Thing}
+use Rattle.zed_op.specs.declared.op.Op.{Op}
+use Rattle.zed_op.specs.declared.op.Op.TheVariants.{Genesis, SetHeader, BoardAdd, BoardRemove, SetBoard, SetCells, StatAdd, StatRemove, SetStat, TextAdd, TextInsert, TextDelete}
+use Rattle.zed_op.specs.declared.op.Edit.{Edit}
+use Rattle.zed_op.specs.declared.thing.Thing.{Thing}
 use Rattle.zed_edit.specs.declared.plain.Plain.{Plain}
 use Rattle.zed_edit.specs.Header.{set_header}
 use Rattle.zed_edit.specs.Board.{new_board, set_board_property, set_board_cells, add_stat, remove_board}
 use Rattle.zed_edit.specs.Stat.{set_stat, new_stat, remove_stat}
 use Rattle.zed_edit.specs.Document.{empty_document, change_board, change_stat, change_text, has}
 use Rattle.zed_edit.specs.Genesis.{board_of, stat_of, text_of, header_of, opened_boards, opened_texts}
-use Rattle.zed_edit.specs.Names.{names_of}
+use Rattle.zed_op.specs.Names.{names_of}
 
 -- whether all of these things were made
 abbrev pub has_all : Plain → List Thing → Bool

@@ -1,25 +1,23 @@
 // One author, who makes each edit as it comes.
 
 ghost use Rattle.std.specs.Prelude.{◌≡◌, ◌<◌, ◌^◌, IsTrue, length, IfOk, IfErr, OnErr};
-ghost use Rattle.zed_edit.specs.declared.op.Op.TheVariants.{BoardAdd, StatAdd, TextAdd};
-ghost use Rattle.zed_edit.specs.Fit.{Fits, is_in_range, is_in_table};
-ghost use Rattle.zed_edit.specs.Set.{AllFit};
+ghost use Rattle.zed_op.specs.declared.op.Op.TheVariants.{BoardAdd, StatAdd, TextAdd};
+ghost use Rattle.zed_op.specs.Fit.{Fits, is_in_range, is_in_table};
+ghost use Rattle.zed_op.specs.Set.{AllFit};
 ghost use Rattle.zed_edit.specs.Document.{empty_document};
 ghost use Rattle.zed_edit.specs.Replay.{do_op, do_edit as done, pass_over, step as stepped, replay_on as replayed_on, replay as replayed};
 
 use crate::board::{
     add_to_boards, fill_boards, new_board, remove_boards, remove_stats_on, set_boards, set_stats_on,
 };
-use crate::cause::EditError;
 use crate::genesis::open_world;
-use crate::growth::of_growth;
 use crate::header::set_header;
 use crate::made::can;
-use crate::op::{Edit, Op};
 use crate::plain::{Plain, Text};
 use crate::stat::new_stat;
 use crate::text::{delete_bytes, insert_bytes};
 use std::alloc::Global;
+use zed_op::{Edit, EditError, Op};
 use zed_types::{BoardId, Bytes, Seq, Stamp, StatFields, StatId, TextId};
 
 fn add_board(alloc: Global, plain: &mut Plain, stamp: Stamp, name: &Bytes) -> Result<(), EditError>
@@ -30,7 +28,7 @@ fn add_board(alloc: Global, plain: &mut Plain, stamp: Stamp, name: &Bytes) -> Re
     let id = BoardId { stamp, index: 0 };
     let player = StatId { stamp, index: 0 };
     let board = new_board(alloc, id, player, name)?;
-    plain.boards.push(board).map_err(of_growth)
+    plain.boards.push(board).map_err(EditError::of_growth)
 }
 
 fn add_stat(
@@ -56,7 +54,7 @@ fn add_text(alloc: Global, plain: &mut Plain, stamp: Stamp) -> Result<(), EditEr
         id: TextId { stamp, index: 0 },
         elements: Seq::new(alloc),
     };
-    plain.texts.push(text).map_err(of_growth)
+    plain.texts.push(text).map_err(EditError::of_growth)
 }
 
 /// Does an edit.
@@ -92,7 +90,10 @@ fn remember(plain: &mut Plain, edit: &Edit) -> Result<(), EditError>
     ensures memory { IfErr result (λ e. e ≡ EditError.Memory) }
     ensures kept { OnErr result (plain.new.passed_over ≡ plain.old.passed_over) }
 {
-    plain.passed_over.push(edit.stamp).map_err(of_growth)
+    plain
+        .passed_over
+        .push(edit.stamp)
+        .map_err(EditError::of_growth)
 }
 
 /// Replays one edit more, which comes after those that the document has: does it where all that it names was made, and else remembers its stamp.

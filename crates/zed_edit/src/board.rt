@@ -2,18 +2,17 @@
 
 ghost use Rattle.std.specs.Prelude.{◌≡◌, ◌++◌, ◌∷◌, [], IsTrue, map, if◌then◌else◌, IfOk, IfErr};
 ghost use Rattle.zed_types.specs.Names.{same_board, same_stat};
-ghost use Rattle.zed_edit.specs.Fit.{is_in_table};
+ghost use Rattle.zed_op.specs.Fit.{is_in_table};
 ghost use Rattle.zed_edit.specs.Board.{set_board_property, set_board_cells, remove_board, change_stats, add_stat, new_properties as properties_of_new, new_board as board_of_new};
 ghost use Rattle.zed_edit.specs.Stat.{set_stat as stat_with, remove_stat};
 ghost use Rattle.zed_edit.specs.Document.{change_such};
 
-use crate::cause::EditError;
 use crate::cells::{new_table, set_cells};
-use crate::growth::of_growth;
 use crate::plain::{Board, Properties, Stat};
 use crate::property::set_property;
 use crate::stat::{new_stat, player_fields, remove_stats, set_stats};
 use std::alloc::Global;
+use zed_op::EditError;
 use zed_types::{BoardId, BoardSetting, Bytes, Rectangle, Seq, StatId, StatSetting, Tile};
 
 fn set_if(board: &mut Board, b: BoardId, setting: &BoardSetting) -> Result<(), EditError>
@@ -82,7 +81,7 @@ fn new_properties(alloc: Global, name: &Bytes) -> Result<Properties, EditError>
     ensures memory { IfErr result (λ e. e ≡ EditError.Memory) }
 {
     Ok(Properties {
-        name: name.copy().map_err(of_growth)?,
+        name: name.copy().map_err(EditError::of_growth)?,
         max_shots: 255,
         dark: false,
         north: None,
@@ -111,7 +110,7 @@ pub(crate) fn new_board(
     let mut stats = Seq::new(alloc);
     stats
         .push(new_stat(player, true, player_fields()))
-        .map_err(of_growth)?;
+        .map_err(EditError::of_growth)?;
     Ok(Board {
         id,
         tiles: new_table(),
@@ -126,7 +125,7 @@ fn add_if(board: &mut Board, b: BoardId, stat: Stat) -> Result<(), EditError>
     ensures memory { IfErr result (λ e. e ≡ EditError.Memory) }
 {
     if board.id == b {
-        board.stats.push(stat).map_err(of_growth)?;
+        board.stats.push(stat).map_err(EditError::of_growth)?;
     }
     Ok(())
 }

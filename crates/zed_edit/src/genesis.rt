@@ -7,12 +7,11 @@ ghost use Rattle.zed_world.specs.Reading.{world_at};
 ghost use Rattle.zed_edit.specs.Genesis.{own_program, opened_boards, opened_text, opened_texts};
 ghost use Rattle.zed_edit.specs.Replay.{open_world as world_opened};
 
-use crate::cause::EditError;
-use crate::growth::of_growth;
 use crate::opened::{header_of, opened_board, programs_before};
 use crate::plain::{Board, Plain, Text};
 use crate::text::run_of;
 use std::alloc::Global;
+use zed_op::EditError;
 use zed_types::{Seq, Stamp, TextId};
 use zed_world::{BoardData, Code, StatData, World, WorldError, read_world};
 
@@ -32,7 +31,7 @@ fn open_boards(
     let mut t = 0;
     for (n, board) in boards.iter().enumerate() {
         let next = opened_board(alloc, stamp, n, m, t, board)?;
-        opened.push(next).map_err(of_growth)?;
+        opened.push(next).map_err(EditError::of_growth)?;
         m += board.stats.as_slice().len();
         t += programs_before(board.stats.as_slice().len(), board.stats.as_slice());
     }
@@ -56,7 +55,7 @@ fn open_text(
     let Code::Own(program) = &stat.code else {
         return Ok(t);
     };
-    let run = run_of(alloc, stamp, program.as_slice()).map_err(of_growth)?;
+    let run = run_of(alloc, stamp, program.as_slice()).map_err(EditError::of_growth)?;
     let text = Text {
         id: TextId {
             stamp,
@@ -64,7 +63,7 @@ fn open_text(
         },
         elements: Seq::from_vec(run),
     };
-    texts.push(text).map_err(of_growth)?;
+    texts.push(text).map_err(EditError::of_growth)?;
     Ok(t + 1)
 }
 

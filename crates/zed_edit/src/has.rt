@@ -5,10 +5,10 @@ ghost use Rattle.std.specs.List.{list_any};
 ghost use Rattle.zed_types.specs.Names.{same_element, same_stat};
 ghost use Rattle.zed_edit.specs.Document.{has, find_text};
 ghost use Rattle.zed_edit.specs.Lent.{lent};
-ghost use Rattle.zed_edit.specs.declared.thing.Thing.TheVariants.{Board as board, Stat as stat, Text as text, Element as element};
+ghost use Rattle.zed_op.specs.declared.thing.Thing.TheVariants.{Board as board, Stat as stat, Text as text, Element as element};
 
 use crate::plain::{Board, Plain, Text};
-use crate::thing::Thing;
+use zed_op::Thing;
 use zed_types::{BoardId, ElemId, StatId, TextId};
 
 /// Whether a board was made, removed or not.

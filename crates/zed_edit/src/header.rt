@@ -1,12 +1,12 @@
 // What a setting does to the header.
 
 ghost use Rattle.std.specs.Prelude.{◌≡◌, ◌<◌, [], replicate, IfOk, IfErr};
-ghost use Rattle.zed_edit.specs.Header.{with_number, key_index as index_of_key, flag_index as index_of_flag, empty_header as header_of_empty, set_header as header_with};
+ghost use Rattle.zed_types.specs.Header.{key_index as index_of_key, flag_index as index_of_flag};
+ghost use Rattle.zed_edit.specs.Header.{with_number, empty_header as header_of_empty, set_header as header_with};
 
-use crate::cause::EditError;
-use crate::growth::of_growth;
 use crate::plain::Header;
 use std::alloc::Global;
+use zed_op::EditError;
 use zed_types::{BoardId, Bytes, FlagSlot, HeaderNumber, HeaderSetting, KeyColour};
 
 fn no_bytes(alloc: Global) -> Bytes
@@ -113,9 +113,11 @@ pub(crate) fn set_header(header: &mut Header, setting: &HeaderSetting) -> Result
         HeaderSetting::Key(key, held) => header.keys[key_index(*key)] = *held,
         HeaderSetting::Saved(saved) => header.saved = *saved,
         HeaderSetting::CurrentBoard(b) => header.current_board = *b,
-        HeaderSetting::WorldName(name) => header.world_name = name.copy().map_err(of_growth)?,
+        HeaderSetting::WorldName(name) => header.world_name = name
+            .copy()
+            .map_err(EditError::of_growth)?,
         HeaderSetting::Flag(slot, flag) => {
-            header.flags[flag_index(*slot)] = flag.copy().map_err(of_growth)?
+            header.flags[flag_index(*slot)] = flag.copy().map_err(EditError::of_growth)?
         }
     }
     Ok(())

@@ -2,13 +2,13 @@
 
 ghost use Rattle.std.specs.Prelude.{◌≡◌};
 ghost use Rattle.zed_edit.specs.Document.{has};
-ghost use Rattle.zed_edit.specs.declared.thing.Thing.TheVariants.{Element as element};
-ghost use Rattle.zed_edit.specs.Names.{board_named, text_named, target_named, header_names, board_names, stat_names, element_named};
+ghost use Rattle.zed_op.specs.declared.thing.Thing.TheVariants.{Element as element};
+ghost use Rattle.zed_op.specs.Names.{board_named, text_named, target_named, header_names, board_names, stat_names, element_named};
 ghost use Rattle.zed_edit.specs.Replay.{has_all, can as can_do};
 
 use crate::has::{has_board, has_element, has_stat, has_text};
-use crate::op::{Edit, Op};
 use crate::plain::Plain;
+use zed_op::{Edit, Op};
 use zed_types::{
     BoardId, BoardSetting, ByteRange, ElemId, HeaderSetting, StatSetting, TextId, ThirdParameter,
 };

@@ -5,10 +5,9 @@ ghost use Rattle.zed_types.specs.Table.{map_from};
 ghost use Rattle.zed_world.specs.Offsets.{is_passage_at};
 ghost use Rattle.zed_edit.specs.Genesis.{stat_of, text_of as name_of_text, exit_of as exit_to, header_of as header_in, properties_of as properties_in, own_program, programs_before as programs_below, text_number, parameter_of as parameter_in, opened_stat as stat_opened, opened_board as board_opened};
 
-use crate::cause::EditError;
-use crate::growth::of_growth;
 use crate::plain::{Board, Header, Properties, Stat};
 use std::alloc::Global;
+use zed_op::EditError;
 use zed_types::{
     BoardId, Bytes, Seq, Stamp, StatFields, StatId, TILES, TextId, ThirdParameter, Tile,
 };
@@ -33,7 +32,7 @@ fn copy_of(bytes: &Bytes) -> Result<Bytes, EditError>
     ensures is { IfOk result (λ copy. copy ≡ bytes.now) }
     ensures memory { IfErr result (λ e. e ≡ EditError.Memory) }
 {
-    bytes.copy().map_err(of_growth)
+    bytes.copy().map_err(EditError::of_growth)
 }
 
 fn flags_of(flags: &[Bytes]) -> Result<[Bytes; 10], EditError>
@@ -227,7 +226,7 @@ fn opened_stats(
     for (j, x) in board.stats.as_slice().iter().enumerate() {
         opened
             .push(opened_stat(stamp, m, t, board, j, x))
-            .map_err(of_growth)?;
+            .map_err(EditError::of_growth)?;
     }
     Ok(opened)
 }

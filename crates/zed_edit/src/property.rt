@@ -3,9 +3,8 @@
 ghost use Rattle.std.specs.Prelude.{◌≡◌, IfOk, IfErr};
 ghost use Rattle.zed_edit.specs.Board.{with_byte, with_flag, with_exit, with_text, set_property as property_with};
 
-use crate::cause::EditError;
-use crate::growth::of_growth;
 use crate::plain::Properties;
+use zed_op::EditError;
 use zed_types::{BoardByte, BoardFlag, BoardId, BoardSetting, BoardText, Bytes, Side};
 
 fn set_byte(properties: &mut Properties, field: BoardByte, n: u8)
@@ -61,7 +60,11 @@ pub(crate) fn set_property(
         BoardSetting::TimeLimit(n) => properties.time_limit = *n,
         BoardSetting::Exit(side, b) => set_exit(properties, *side, *b),
         BoardSetting::Text(field, text) => {
-            set_text(properties, *field, text.copy().map_err(of_growth)?)
+            set_text(
+                properties,
+                *field,
+                text.copy().map_err(EditError::of_growth)?,
+            )
         }
     }
     Ok(())

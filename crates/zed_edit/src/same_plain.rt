@@ -3,7 +3,6 @@
 ghost use Rattle.std.specs.Prelude.{◌≡◌, ◌↔◌, IsTrue};
 
 use crate::plain::{Board, Header, Plain, Properties, Stat, Text};
-use crate::same::are_same_fields;
 use zed_types::{Bytes, TextElement, Tile};
 
 fn are_same_strings(a: &[Bytes], b: &[Bytes]) -> bool
@@ -168,7 +167,7 @@ impl Stat {
     {
         self.id == other.id
             && self.is_player == other.is_player
-            && are_same_fields(&self.fields, &other.fields)
+            && self.fields.is_same(&other.fields)
             && self.position == other.position
             && self.follower == other.follower
             && self.leader == other.leader

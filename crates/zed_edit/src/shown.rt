@@ -7,11 +7,10 @@ ghost use Rattle.zed_types.specs.Text.{alive_bytes as bytes_alive};
 ghost use Rattle.zed_edit.specs.Lent.{lent};
 ghost use Rattle.zed_edit.specs.Document.{text_register, made_elements, text as text_shown};
 
-use crate::cause::EditError;
-use crate::growth::of_growth;
 use crate::has::text_named;
 use crate::plain::{Board, Plain, Stat};
 use std::alloc::{AllocError, Global};
+use zed_op::EditError;
 use zed_types::{StatId, TextElement, TextId};
 
 fn stat_on(board: &Board, s: StatId) -> Option<&Stat>
@@ -78,7 +77,7 @@ impl Plain {
         ensures memory { IfErr result (λ e. e ≡ EditError.Memory) }
     {
         match text_named(self, t) {
-            Some(x) => alive_bytes(alloc, x.elements.as_slice()).map_err(of_growth),
+            Some(x) => alive_bytes(alloc, x.elements.as_slice()).map_err(EditError::of_growth),
             None => Ok(Vec::new(alloc)),
         }
     }

@@ -6,10 +6,9 @@ ghost use Rattle.zed_types.specs.Names.{same_text, same_element};
 ghost use Rattle.zed_types.specs.Text.{run_from, put_after, kill, kill_within, is_within as is_in_range};
 ghost use Rattle.zed_edit.specs.Document.{change_such, change_elements};
 
-use crate::cause::EditError;
-use crate::growth::of_growth;
 use crate::plain::Text;
 use std::alloc::{AllocError, Global};
+use zed_op::EditError;
 use zed_types::{ByteRange, ElemId, Seq, Stamp, TextElement, TextId};
 
 /// The bytes of an insertion under their names.
@@ -74,8 +73,8 @@ fn insert_if(
     ensures memory { IfErr result (λ e. e ≡ EditError.Memory) }
 {
     if text.id == t {
-        let run = run_of(alloc, stamp, bytes).map_err(of_growth)?;
-        put_run(&mut text.elements, after, run).map_err(of_growth)?;
+        let run = run_of(alloc, stamp, bytes).map_err(EditError::of_growth)?;
+        put_run(&mut text.elements, after, run).map_err(EditError::of_growth)?;
     }
     Ok(())
 }

@@ -3,11 +3,11 @@ use Rattle.std.proofs.Common.{◌≡◌, ℕ, zero, suc, Bool, true, false, cond
 use Rattle.std.proofs.lemmas.Bool.{eqb-true}
 use Rattle.std.proofs.lemmas.List.{append-nil, nil_from_length}
 use Rattle.zed_types.specs.declared.stamp.Stamp.{Stamp}
-use Rattle.zed_edit.specs.declared.cause.Cause.{Cause}
-use Rattle.zed_edit.specs.declared.cause.Cause.TheVariants.{Long}
-use Rattle.zed_edit.specs.declared.op.Op.{Op}
-use Rattle.zed_edit.specs.declared.op.Edit.{Edit}
-use Rattle.zed_edit.specs.Fit.{fault, Fits}
+use Rattle.zed_op.specs.declared.cause.Cause.{Cause}
+use Rattle.zed_op.specs.declared.cause.Cause.TheVariants.{Long}
+use Rattle.zed_op.specs.declared.op.Op.{Op}
+use Rattle.zed_op.specs.declared.op.Edit.{Edit}
+use Rattle.zed_op.specs.Fit.{fault, Fits}
 use Rattle.zed_editfile.specs.declared.error.EditFileError.{EditFileError}
 use Rattle.zed_editfile.specs.declared.error.EditFileError.TheVariants.{BadEdit}
 use Rattle.zed_editfile.specs.Spelling.{stamp, op_text, spelling}

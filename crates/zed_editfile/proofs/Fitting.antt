@@ -1,9 +1,9 @@
 -- What is known of an edit without a fault.
 use Rattle.std.proofs.Common.{◌≡◌, Bool, true, false, not, cond, Option, Some, None, refl}
-use Rattle.zed_edit.specs.declared.cause.Cause.{Cause}
-use Rattle.zed_edit.specs.declared.cause.Cause.TheVariants as cause
-use Rattle.zed_edit.specs.declared.op.Edit.{Edit}
-use Rattle.zed_edit.specs.Fit.{fault, has_good_stamps, is_in_range, names_earlier, has_good_world}
+use Rattle.zed_op.specs.declared.cause.Cause.{Cause}
+use Rattle.zed_op.specs.declared.cause.Cause.TheVariants as cause
+use Rattle.zed_op.specs.declared.op.Edit.{Edit}
+use Rattle.zed_op.specs.Fit.{fault, has_good_stamps, is_in_range, names_earlier, has_good_world}
 
 unfaulted : (a : Bool) (c : Cause) (r : Option Cause) → cond (not a) (Some c) r ≡ None → (a ≡ true) × (r ≡ None)
 unfaulted true c r h = (refl, h)

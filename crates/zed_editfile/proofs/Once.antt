@@ -4,8 +4,8 @@ use Rattle.std.specs.List.{flat_map}
 use Rattle.std.proofs.lemmas.Bool.{le-ltb}
 use Rattle.std.proofs.lemmas.List.{append-nil, take_at, drop_at, append_cancel_left, length-append}
 use Rattle.byteorder.specs.Endian.{little_number}
-use Rattle.zed_edit.specs.declared.op.Edit.{Edit}
-use Rattle.zed_edit.specs.Fit.{Fits}
+use Rattle.zed_op.specs.declared.op.Edit.{Edit}
+use Rattle.zed_op.specs.Fit.{Fits}
 use Rattle.zed_editfile.specs.declared.error.EditFileError.{EditFileError}
 use Rattle.zed_editfile.specs.declared.error.EditFileError.TheVariants.{Memory}
 use Rattle.zed_editfile.specs.Spelling.{number, spelling, record_text, head_text, file_text}

@@ -27,8 +27,8 @@ use Rattle.zed_types.specs.declared.stat_field.StatNumber.TheVariants.{StepX, St
 use Rattle.zed_types.specs.declared.stat_field.StatSetting.{StatSetting}
 use Rattle.zed_types.specs.declared.stat_field.StatSetting.TheVariants as stat
 use Rattle.zed_types.specs.declared.stat_field.StatFields.{StatFields}
-use Rattle.zed_edit.specs.declared.cause.Cause.TheVariants.{Tag}
-use Rattle.zed_edit.specs.Header.{key_index, flag_index}
+use Rattle.zed_op.specs.declared.cause.Cause.TheVariants.{Tag}
+use Rattle.zed_types.specs.Header.{key_index, flag_index}
 use Rattle.zed_editfile.specs.declared.error.EditFileError.TheVariants.{BadEdit}
 use Rattle.zed_editfile.specs.Spelling.{integer, boolean, string, board_name, stat_name, text_name, optional, tile, third_parameter, header_number, header_setting, board_byte, board_flag, side, board_text, board_setting, stat_byte, stat_number, stat_setting, stat_fields}
 use Rattle.zed_editfile.specs.Reading.{◌>>=◌, Field, mapped, byte_at, integer_at, boolean_at, string_at, board_name_at, stat_name_at, text_name_at, optional_at, tile_at, third_parameter_at, header_number_of, key_of, flag_of, header_value_at, header_setting_at, side_of, board_value_at, board_setting_at, stat_number_of, stat_value_at, stat_setting_at, stat_fields_at}

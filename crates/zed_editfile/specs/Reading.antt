@@ -37,12 +37,12 @@ use Rattle.zed_types.specs.declared.stat_field.ThirdParameter.TheVariants as thi
 use Rattle.zed_types.specs.declared.stat_field.StatSetting.{StatSetting}
 use Rattle.zed_types.specs.declared.stat_field.StatSetting.TheVariants as stat
 use Rattle.zed_types.specs.declared.stat_field.StatFields.{StatFields}
-use Rattle.zed_edit.specs.declared.cause.Cause.{Cause}
-use Rattle.zed_edit.specs.declared.cause.Cause.TheVariants.{Short, Op as BadOp, Tag, Long}
-use Rattle.zed_edit.specs.declared.op.Op.{Op}
-use Rattle.zed_edit.specs.declared.op.Op.TheVariants.{Genesis, SetHeader, BoardAdd, BoardRemove, SetBoard, SetCells, StatAdd, StatRemove, SetStat, TextAdd, TextInsert, TextDelete}
-use Rattle.zed_edit.specs.declared.op.Edit.{Edit}
-use Rattle.zed_edit.specs.Fit.{fault}
+use Rattle.zed_op.specs.declared.cause.Cause.{Cause}
+use Rattle.zed_op.specs.declared.cause.Cause.TheVariants.{Short, Op as BadOp, Tag, Long}
+use Rattle.zed_op.specs.declared.op.Op.{Op}
+use Rattle.zed_op.specs.declared.op.Op.TheVariants.{Genesis, SetHeader, BoardAdd, BoardRemove, SetBoard, SetCells, StatAdd, StatRemove, SetStat, TextAdd, TextInsert, TextDelete}
+use Rattle.zed_op.specs.declared.op.Edit.{Edit}
+use Rattle.zed_op.specs.Fit.{fault}
 use Rattle.zed_editfile.specs.declared.error.EditFileError.{EditFileError}
 use Rattle.zed_editfile.specs.declared.error.EditFileError.TheVariants.{Memory, BadEdit}
 

@@ -34,10 +34,10 @@ use Rattle.zed_types.specs.declared.stat_field.ThirdParameter.TheVariants as thi
 use Rattle.zed_types.specs.declared.stat_field.StatSetting.{StatSetting}
 use Rattle.zed_types.specs.declared.stat_field.StatSetting.TheVariants as stat
 use Rattle.zed_types.specs.declared.stat_field.StatFields.{StatFields}
-use Rattle.zed_edit.specs.Header.{key_index, flag_index}
-use Rattle.zed_edit.specs.declared.op.Op.{Op}
-use Rattle.zed_edit.specs.declared.op.Op.TheVariants.{Genesis, SetHeader, BoardAdd, BoardRemove, SetBoard, SetCells, StatAdd, StatRemove, SetStat, TextAdd, TextInsert, TextDelete}
-use Rattle.zed_edit.specs.declared.op.Edit.{Edit}
+use Rattle.zed_types.specs.Header.{key_index, flag_index}
+use Rattle.zed_op.specs.declared.op.Op.{Op}
+use Rattle.zed_op.specs.declared.op.Op.TheVariants.{Genesis, SetHeader, BoardAdd, BoardRemove, SetBoard, SetCells, StatAdd, StatRemove, SetStat, TextAdd, TextInsert, TextDelete}
+use Rattle.zed_op.specs.declared.op.Edit.{Edit}
 
 -- ---- kinds of fields
 

@@ -3,7 +3,7 @@ ghost use Rattle.zed_editfile.specs.declared.error.EditFileError.TheVariants.{Me
 
 use std::alloc::{AllocError, AllocFailed};
 use thiserror::Error;
-use zed_edit::Cause;
+use zed_op::Cause;
 
 /// Why an edit file can't be read or written.
 #[derive(Clone, Copy, Debug, PartialEq, Eq, Error)]

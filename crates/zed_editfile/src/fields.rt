@@ -4,7 +4,7 @@ ghost use Rattle.zed_editfile.specs.Reading.{Gives, byte_at, number_at, integer_
 use crate::error::EditFileError;
 use byteorder::{ByteOrder, LittleEndian};
 use std::alloc::Global;
-use zed_edit::Cause;
+use zed_op::Cause;
 use zed_types::{
     BoardId, ByteRange, Bytes, ElemId, Rectangle, Stamp, StatId, TextId, ThirdParameter, Tile,
 };

@@ -1,6 +1,6 @@
 ghost use Rattle.std.specs.Prelude.{◌≡◌, ◌≢◌, ◌<◌, ◌^◌, ℕ, List, [], ◌++◌, Option, Some, None, Ok, false, slice_index};
-ghost use Rattle.zed_edit.specs.declared.op.Edit.{Edit};
-ghost use Rattle.zed_edit.specs.Fit.{Fits};
+ghost use Rattle.zed_op.specs.declared.op.Edit.{Edit};
+ghost use Rattle.zed_op.specs.Fit.{Fits};
 ghost use Rattle.zed_editfile.specs.declared.error.EditFileError.TheVariants.{Memory};
 ghost use Rattle.zed_editfile.specs.Reading.{edit_at};
 ghost use Rattle.zed_editfile.specs.Sizes.{HasRoom};

@@ -8,7 +8,7 @@ use crate::fields::{
 };
 use crate::settings::{board_setting_of, header_setting_of, stat_fields_of, stat_setting_of};
 use std::alloc::Global;
-use zed_edit::{Cause, Edit, Op};
+use zed_op::{Cause, Edit, Op};
 use zed_types::Bytes;
 
 #[tactic(auto, unfolding(crate::specs::Reading::set_board_at))]

@@ -1,6 +1,6 @@
 ghost use Rattle.std.specs.Prelude.{◌≡◌, ◌+◌, ◌++◌, OnOk, true};
-ghost use Rattle.zed_edit.specs.Fit.{is_header_in_range, is_property_in_range, is_in_range};
-ghost use Rattle.zed_edit.specs.Header.{key_index, flag_index};
+ghost use Rattle.zed_op.specs.Fit.{is_header_in_range, is_property_in_range, is_in_range};
+ghost use Rattle.zed_types.specs.Header.{key_index, flag_index};
 ghost use Rattle.zed_editfile.specs.Spelling.{header_number, header_setting, board_byte, board_flag, side, board_text, board_setting, stat_byte, stat_number, stat_setting, stat_fields, op_text};
 
 use crate::put::{
@@ -9,7 +9,7 @@ use crate::put::{
     put_third_parameter, put_tile, put_u32,
 };
 use std::alloc::AllocError;
-use zed_edit::Op;
+use zed_op::Op;
 use zed_types::{
     BoardByte, BoardFlag, BoardSetting, BoardText, FlagSlot, HeaderNumber, HeaderSetting,
     KeyColour, Side, StatByte, StatFields, StatNumber, StatSetting,

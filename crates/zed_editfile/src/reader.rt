@@ -1,5 +1,5 @@
 ghost use Rattle.std.specs.Prelude.{◌≡◌, ℕ, List, [], Option, Some, None, IfSome, IsOk, OnOk, IfErr, Err, ◌++◌};
-ghost use Rattle.zed_edit.specs.declared.op.Edit.{Edit};
+ghost use Rattle.zed_op.specs.declared.op.Edit.{Edit};
 ghost use Rattle.zed_editfile.specs.Spelling.{file_text};
 ghost use Rattle.zed_editfile.specs.Stream.{Reads, Feeds, AreRecords, ending, verdict_of};
 
@@ -7,7 +7,7 @@ use crate::error::EditFileError;
 use crate::stream::advance;
 use std::alloc::Global;
 use std::marker::Model;
-use zed_edit::Edit;
+use zed_op::Edit;
 
 /// A reader of an edit file, which takes the file in any pieces. It keeps no more than the bytes of the head or the
 /// record that isn't whole yet.

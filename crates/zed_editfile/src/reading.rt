@@ -1,6 +1,6 @@
 ghost use Rattle.std.specs.Prelude.{◌≡◌, ◌⊎◌, ◌++◌, ◌<◌, ◌≤◌, ℕ, List, length, drop, IfOk, IfErr, IfSome, IfNone, true, false};
 ghost use Rattle.byteorder.specs.Endian.{little_number};
-ghost use Rattle.zed_edit.specs.Fit.{fault};
+ghost use Rattle.zed_op.specs.Fit.{fault};
 ghost use Rattle.zed_editfile.specs.Reading.{Gives, edit_at, unless_faulty};
 ghost use Rattle.zed_editfile.specs.Stream.{Frames, Gains, waits, fails, is_length, record_stop};
 
@@ -8,7 +8,7 @@ use crate::error::EditFileError;
 use crate::ops::fields_of;
 use byteorder::{ByteOrder, LittleEndian};
 use std::alloc::Global;
-use zed_edit::{Edit, EditError, check};
+use zed_op::{Edit, EditError, check};
 
 /// Fewest bytes of a body: a stamp and an op.
 const LEAST_BODY: usize = 9;

@@ -7,7 +7,7 @@ use crate::fields::{
     optional_text_of, string_of, third_parameter_of, tile_of,
 };
 use std::alloc::Global;
-use zed_edit::Cause;
+use zed_op::Cause;
 use zed_types::{
     BoardByte, BoardFlag, BoardSetting, BoardText, FlagSlot, HeaderNumber, HeaderSetting,
     KeyColour, Side, StatByte, StatFields, StatNumber, StatSetting,

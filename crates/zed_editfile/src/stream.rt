@@ -7,7 +7,7 @@ use crate::error::EditFileError;
 use crate::reading::{length_of, read_record, read_records};
 use byteorder::{ByteOrder, LittleEndian};
 use std::alloc::{AllocError, Global};
-use zed_edit::Edit;
+use zed_op::Edit;
 
 /// Bytes of the head.
 const HEAD: usize = 12;

@@ -1,7 +1,7 @@
 use super::*;
 use std::alloc::Global;
 use std::test::*;
-use zed_edit::{Cause, Edit, Op, check};
+use zed_op::{Cause, Edit, Op, check};
 use zed_types::{BoardId, Rectangle, Stamp, Tile};
 
 /// The size that the allocator of the sweep over refused growths listens to.

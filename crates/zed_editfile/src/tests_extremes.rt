@@ -1,7 +1,7 @@
 use super::*;
 use std::alloc::Global;
 use std::test::*;
-use zed_edit::{Edit, Op, check};
+use zed_op::{Edit, Op, check};
 use zed_types::{
     BoardByte, BoardFlag, BoardId, BoardSetting, BoardText, ByteRange, Bytes, ElemId, FlagSlot,
     HeaderNumber, HeaderSetting, KeyColour, Rectangle, Side, Stamp, StatByte, StatFields, StatId,

@@ -1,12 +1,12 @@
 ghost use Rattle.std.specs.Prelude.{◌≡◌, ◌++◌, IfOk, IfErr, OnOk, OnErr};
-ghost use Rattle.zed_edit.specs.Fit.{Fits};
+ghost use Rattle.zed_op.specs.Fit.{Fits};
 ghost use Rattle.zed_editfile.specs.Spelling.{number, spelling, record_text, head_text};
 
 use crate::error::EditFileError;
 use crate::put::{put_length, put_stamp, put_u64};
 use crate::put_op::put_op;
 use std::alloc::{AllocError, Global};
-use zed_edit::Edit;
+use zed_op::Edit;
 
 /// The body of a record.
 #[tactic(auto, unfolding(crate::specs::Spelling::spelling))]

@@ -20,7 +20,7 @@ use Rattle.zed_edit.specs.declared.plain.Board.{Board}
 use Rattle.zed_edit.specs.declared.plain.Stat.{Stat}
 use Rattle.zed_edit.specs.declared.plain.Plain.{Plain}
 use Rattle.zed_edit.specs.Numbers.{live_boards, live_stats, stat_number}
-use Rattle.zed_edit.specs.Regular.{IsRegularBoard, IsRegular}
+use Rattle.zed_laws.specs.Regular.{IsRegularBoard, IsRegular}
 use Rattle.zed_export.specs.World.{number_or_0, exit_number, parameter, exported_stat, exported_above, exported_board, exported_boards, world_of}
 use Rattle.zed_export.specs.Fields.{FitsStat, FitsBoard, FitsHeader}
 use Rattle.zed_export.specs.Limits.{boards_refusal, board_refusal, refusal_of, or_else}

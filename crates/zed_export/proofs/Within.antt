@@ -9,14 +9,14 @@ use Rattle.zed_types.specs.Names.{same_board}
 use Rattle.zed_world.specs.declared.board.BoardData.{BoardData}
 use Rattle.zed_world.specs.declared.stat.StatData.{StatData}
 use Rattle.zed_world.specs.Writing.{code_text, stat_text, body_text, first_over}
-use Rattle.zed_edit.specs.declared.thing.Thing.TheVariants as thing
+use Rattle.zed_op.specs.declared.thing.Thing.TheVariants as thing
 use Rattle.zed_edit.specs.declared.plain.Board.{Board}
 use Rattle.zed_edit.specs.declared.plain.Stat.{Stat}
 use Rattle.zed_edit.specs.declared.plain.Plain.{Plain}
-use Rattle.zed_edit.specs.Header.{title}
+use Rattle.zed_types.specs.Names.{title}
 use Rattle.zed_edit.specs.Document.{has}
 use Rattle.zed_edit.specs.Numbers.{live_boards, live_stats}
-use Rattle.zed_edit.specs.Regular.{HasPlayer, IsRegularBoard, IsRegular}
+use Rattle.zed_laws.specs.Regular.{HasPlayer, IsRegularBoard, IsRegular}
 use Rattle.zed_export.specs.declared.error.ExportError.{ExportError}
 use Rattle.zed_export.specs.World.{exported_above, exported_board, exported_boards}
 use Rattle.zed_export.specs.Limits.{or_else, stats_refusal, body_refusal, board_refusal, boards_refusal, count_refusal, title_refusal, refusal_of}

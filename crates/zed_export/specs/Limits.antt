@@ -6,9 +6,9 @@ use Rattle.zed_world.specs.Contents.{Contents}
 use Rattle.zed_world.specs.Reading.{world_at}
 use Rattle.zed_world.specs.Normal.{IsNormal}
 use Rattle.zed_world.specs.Writing.{body_text, world_text}
-use Rattle.zed_edit.specs.declared.thing.Thing.TheVariants as thing
+use Rattle.zed_op.specs.declared.thing.Thing.TheVariants as thing
 use Rattle.zed_edit.specs.declared.plain.Plain.{Plain}
-use Rattle.zed_edit.specs.Header.{title}
+use Rattle.zed_types.specs.Names.{title}
 use Rattle.zed_edit.specs.Document.{has}
 use Rattle.zed_edit.specs.Numbers.{live_boards}
 use Rattle.zed_edit.specs.Replay.{replay}

@@ -4,7 +4,7 @@ ghost use Rattle.zed_world.specs.Reading.{world_at};
 ghost use Rattle.zed_world.specs.Writing.{world_text};
 ghost use Rattle.zed_world.specs.Normal.{IsNormal};
 ghost use Rattle.zed_edit.specs.Numbers.{live_boards as boards_there, live_stats as stats_there};
-ghost use Rattle.zed_edit.specs.Regular.{IsRegular};
+ghost use Rattle.zed_laws.specs.Regular.{IsRegular};
 ghost use Rattle.zed_edit.specs.Replay.{replay};
 ghost use Rattle.zed_export.specs.World.{exported_boards, world_of};
 ghost use Rattle.zed_export.specs.Fields.{board_names as names_of_boards, FitsBoard};
@@ -17,7 +17,7 @@ use crate::limits::first_limit;
 use crate::numbers::board_names;
 use std::alloc::{AllocError, Global};
 use zed_document::{Document, View};
-use zed_edit::replay_is_regular;
+use zed_laws::replay_is_regular;
 use zed_types::{BoardId, Seq};
 use zed_world::{BoardData, World, write_world};
 

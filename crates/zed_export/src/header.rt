@@ -1,5 +1,5 @@
 ghost use Rattle.std.specs.Prelude.{◌≡◌, ◌≤◌, IfOk, length};
-ghost use Rattle.zed_edit.specs.Regular.{IsRegular};
+ghost use Rattle.zed_laws.specs.Regular.{IsRegular};
 ghost use Rattle.zed_export.specs.World.{exported_header};
 ghost use Rattle.zed_export.specs.Fields.{board_names, FitsHeader};
 

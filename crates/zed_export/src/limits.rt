@@ -1,9 +1,9 @@
 ghost use Rattle.std.specs.Prelude.{◌≡◌, ◌<◌, ◌≤◌, length, None};
-ghost use Rattle.zed_edit.specs.declared.thing.Thing.TheVariants as thing;
-ghost use Rattle.zed_edit.specs.Header.{title};
+ghost use Rattle.zed_op.specs.declared.thing.Thing.TheVariants as thing;
+ghost use Rattle.zed_types.specs.Names.{title};
 ghost use Rattle.zed_edit.specs.Document.{has};
 ghost use Rattle.zed_edit.specs.Numbers.{live_boards as boards_there, live_stats as stats_there};
-ghost use Rattle.zed_edit.specs.Regular.{IsRegular};
+ghost use Rattle.zed_laws.specs.Regular.{IsRegular};
 ghost use Rattle.zed_document.specs.View.{board_at};
 ghost use Rattle.zed_export.specs.World.{exported_board, exported_boards};
 ghost use Rattle.zed_export.specs.Limits.{title_refusal, count_refusal, stats_refusal, board_refusal, boards_refusal, refusal_of};

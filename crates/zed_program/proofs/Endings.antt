@@ -2,7 +2,7 @@
 use Rattle.std.proofs.Common.{◌≡◌, ◌≤◌, ℕ, Bool, true, false, List, arith, Option, Some, Result, Ok, Err, OnOk, is_err, MatchResult, None, ap, ◌∙◌, refl, sym}
 use mathlib.Core.Logic.{◌⊎◌, inl, inr}
 use Rattle.std.specs.Global.{Vec}
-use Rattle.zed_edit.specs.declared.op.Edit.{Edit}
+use Rattle.zed_op.specs.declared.op.Edit.{Edit}
 use Rattle.zed_program.specs.declared.refusal.Refusal.TheVariants.{Memory}
 use Rattle.zed_program.specs.declared.refusal.Refusal.{Refusal}
 use Rattle.zed_program.specs.Outcome.{Collects, Ends, EndsRun, IsDone, IsMade, file_of, report_on, with_report, with_world}

@@ -2,7 +2,7 @@
 use Rattle.std.proofs.Common.{◌≡◌, ◌∙◌, ℕ, List, [], ◌++◌, Option, Some, None, Result, Ok, Err, MatchResult, refl, ap}
 use Rattle.std.specs.Prelude.{◌≢◌}
 use mathlib.Core.Logic.{◌⊎◌, inl, inr}
-use Rattle.zed_edit.specs.declared.op.Edit.{Edit}
+use Rattle.zed_op.specs.declared.op.Edit.{Edit}
 use Rattle.zed_editfile.specs.declared.error.EditFileError.{EditFileError}
 use Rattle.zed_editfile.specs.declared.error.EditFileError.TheVariants.{Memory, Magic, NewVersion, OtherWorld, RecordLength, BadEdit, CutShort}
 use Rattle.zed_editfile.specs.Stream.{Feeds, Progress, Reads, ending, verdict_of}

@@ -8,8 +8,8 @@ use Rattle.zed_types.specs.declared.stamp.Stamp.{Stamp}
 use Rattle.zed_program.specs.Collected.{IsFirstClash, set_unless}
 use Rattle.zed_program.specs.declared.refusal.Refusal.TheVariants.{Memory, Clash}
 use mathlib.Core.Logic.{◌⊎◌, inl, inr}
-use Rattle.zed_edit.specs.declared.op.Edit.{Edit}
-use Rattle.zed_edit.specs.Set.{Agrees, AllFit, set_of}
+use Rattle.zed_op.specs.declared.op.Edit.{Edit}
+use Rattle.zed_op.specs.Set.{Agrees, AllFit, set_of}
 use Rattle.zed_editfile.specs.declared.error.EditFileError.{EditFileError}
 use Rattle.zed_editfile.specs.Stream.{AreRecords}
 use Rattle.zed_program.specs.Files.{IsFile, IsStream, Stream, edits_then, end_of, stream_after}

@@ -2,7 +2,7 @@
 use Rattle.std.specs.Prelude.{◌≡◌, ◌≢◌, ◌⊎◌, ℕ, List, [], ◌∷◌, ◌++◌, Option, Some, None, Result, Ok, Err, map}
 use Rattle.std.specs.List.{flat_map}
 use Rattle.zed_editfile.specs.Spelling.{file_text}
-use Rattle.zed_edit.specs.declared.op.Edit.{Edit}
+use Rattle.zed_op.specs.declared.op.Edit.{Edit}
 use Rattle.zed_editfile.specs.declared.error.EditFileError.{EditFileError}
 use Rattle.zed_editfile.specs.declared.error.EditFileError.TheVariants as file
 use Rattle.zed_editfile.specs.Stream.{Progress, Reads, ending}

@@ -2,9 +2,9 @@
 use Rattle.std.specs.Prelude.{ℕ, List, [], ◌∷◌, ◌++◌, codes, length}
 use Rattle.std.specs.List.{flat_map}
 use Rattle.std.specs.Fmt.{decimal}
-use Rattle.zed_edit.specs.declared.cause.Cause.{Cause}
-use Rattle.zed_edit.specs.declared.cause.Cause.TheVariants as cause
-use Rattle.zed_edit.specs.declared.op.Edit.{Edit}
+use Rattle.zed_op.specs.declared.cause.Cause.{Cause}
+use Rattle.zed_op.specs.declared.cause.Cause.TheVariants as cause
+use Rattle.zed_op.specs.declared.op.Edit.{Edit}
 use Rattle.zed_world.specs.Contents.{Contents}
 use Rattle.zed_document.specs.Held.{held_stamps}
 use Rattle.zed_world.specs.Writing.{world_text}

@@ -2,7 +2,7 @@
 use Rattle.std.specs.Prelude.{◌≡◌, ◌⊎◌, ℕ, List, Option, Some, None, Result, Ok, Err, MatchResult, codes, length, map, if◌then◌else◌, ⊤}
 use Rattle.std.specs.Borrow.{Bor}
 use Rattle.std.specs.Str.{bytes_eq}
-use Rattle.zed_edit.specs.declared.op.Edit.{Edit}
+use Rattle.zed_op.specs.declared.op.Edit.{Edit}
 use Rattle.zed_export.specs.declared.error.ExportError.{ExportError}
 use Rattle.zed_world.specs.Writing.{world_text}
 use Rattle.zed_edit.specs.Replay.{replay}

@@ -1,9 +1,9 @@
 //! Edit files, read into a document.
 ghost use Rattle.std.specs.Prelude.{◌≡◌, ◌≢◌, ◌≤◌, ◌⊎◌, IfErr, IfOk, MatchResult, OnOk, Some, None, Ok, Err, [], ◌++◌, false, List, map};
 ghost use Rattle.zed_types.specs.declared.stamp.Stamp.{Stamp as TheStamp};
-ghost use Rattle.zed_edit.specs.declared.op.Edit.{Edit as TheEdit};
-ghost use Rattle.zed_edit.specs.Fit.{Fits};
-ghost use Rattle.zed_edit.specs.Set.{Agrees, AllFit, set_of, with_edit};
+ghost use Rattle.zed_op.specs.declared.op.Edit.{Edit as TheEdit};
+ghost use Rattle.zed_op.specs.Fit.{Fits};
+ghost use Rattle.zed_op.specs.Set.{Agrees, AllFit, set_of, with_edit};
 ghost use Rattle.zed_document.specs.Delivery.{edit_with};
 ghost use Rattle.zed_program.specs.Collected.{IsCollected, IsFirstClash};
 ghost use Rattle.zed_program.specs.Files.{IsFile, edits_then, end_of as no_world};
@@ -15,8 +15,9 @@ use crate::host::{Host, ReadError};
 use crate::refusal::{Refusal, of_document, of_file};
 use std::alloc::Global;
 use zed_document::Document;
-use zed_edit::{Edit, set_is_its_edits};
+use zed_edit::Edit;
 use zed_editfile::{EditFileError, EditReader};
+use zed_op::set_is_its_edits;
 use zed_types::one_order;
 
 /// Edits in the order in which files spell them, up to the first refusal of a file.

@@ -1,8 +1,8 @@
 //! The program, over any host.
 ghost use Rattle.std.specs.Prelude.{◌≡◌, ◌≤◌, ◌<◌, ◌^◌, ◌⊎◌, IfErr, IfOk, IsSome, MatchResult, false, List, OnOk, Ok, Err, None, Some, ◌∷◌, ℕ, codes, is_err, length, map, true, string_bytes, Result};
 ghost use Rattle.std.specs.List.{list_all};
-ghost use Rattle.zed_edit.specs.declared.op.Edit.{Edit as TheEdit};
-ghost use Rattle.zed_edit.specs.Set.{Agrees, set_of};
+ghost use Rattle.zed_op.specs.declared.op.Edit.{Edit as TheEdit};
+ghost use Rattle.zed_op.specs.Set.{Agrees, set_of};
 ghost use Rattle.zed_editfile.specs.Stream.{AreRecords};
 ghost use Rattle.zed_program.specs.Files.{joined, texts_of_lists};
 ghost use Rattle.zed_program.specs.Lines.{line_of};

@@ -1,4 +1,5 @@
 pub mod Elements
+pub mod Header
 pub mod Lending
 pub mod Names
 pub mod Register

@@ -1,4 +1,4 @@
--- When two names are of one thing.
+-- When two names are of one thing, and the name of the title.
 use Rattle.std.specs.Prelude.{Bool, ◌&&◌, ◌==◌}
 use Rattle.zed_types.specs.declared.names.BoardId.{BoardId}
 use Rattle.zed_types.specs.declared.names.StatId.{StatId}
@@ -17,3 +17,7 @@ same_text a b = same_stamp a.stamp b.stamp && a.index == b.index
 
 abbrev pub same_element : ElemId → ElemId → Bool
 same_element a b = same_stamp a.stamp b.stamp && a.index == b.index
+
+-- the name of the title: the first board of the world that a Genesis makes
+abbrev pub title : BoardId
+title = record { stamp = record { time = 1; replica = 0 }; index = 0 }

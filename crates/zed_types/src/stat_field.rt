@@ -1,3 +1,5 @@
+ghost use Rattle.std.specs.Prelude.{◌≡◌, ◌↔◌, IsTrue};
+
 use crate::names::{BoardId, StatId, TextId};
 use crate::tile::Tile;
 
@@ -52,4 +54,22 @@ pub struct StatFields {
     pub p3: ThirdParameter,
     pub under: Tile,
     pub text: Option<TextId>,
+}
+
+impl StatFields {
+    /// Whether two new stats are given the same.
+    pub fn is_same(&self, other: &StatFields) -> bool
+        ensures { IsTrue result ↔ self.now ≡ other.now }
+    {
+        self.x == other.x
+            && self.y == other.y
+            && self.step_x == other.step_x
+            && self.step_y == other.step_y
+            && self.cycle == other.cycle
+            && self.p1 == other.p1
+            && self.p2 == other.p2
+            && self.p3 == other.p3
+            && self.under == other.under
+            && self.text == other.text
+    }
 }

@@ -1,6 +1,6 @@
 use Rattle.std.proofs.Common.{◌≡◌, ◌++◌, drop}
 use Rattle.std.specs.List.{AllByRecursion}
-use Rattle.zed_edit.specs.Set.{IsRising, union}
+use Rattle.zed_op.specs.Set.{IsRising, union}
 use Rattle.zed_document.specs.Kept.{AllBelow}
 use Rattle.zed_document.proofs.merge.join.Given as goal
 

@@ -1,6 +1,6 @@
 use Rattle.std.proofs.Common.{◌≡◌, drop, take}
 use Rattle.std.specs.List.{AllByRecursion}
-use Rattle.zed_edit.specs.Set.{IsRising}
+use Rattle.zed_op.specs.Set.{IsRising}
 use Rattle.zed_document.specs.Delivery.{edit_with}
 use Rattle.zed_document.proofs.Clashing.{IsFine}
 use Rattle.zed_document.proofs.merge.least_clash.Given as goal

@@ -1,10 +1,10 @@
 use Rattle.std.proofs.Common.{◌≡◌, ◌⊎◌, inl, inr, Option, Some, None, Result, Ok, Err, refl, ap, ◌∙◌}
-use Rattle.zed_edit.specs.declared.cause.Cause.{Cause}
-use Rattle.zed_edit.specs.declared.cause.EditError.{EditError}
-use Rattle.zed_edit.specs.declared.cause.EditError.TheVariants as edit
-use Rattle.zed_edit.specs.declared.op.Edit.{Edit}
-use Rattle.zed_edit.specs.Fit.{fault}
-use Rattle.zed_edit.specs.Verdict.{verdict}
+use Rattle.zed_op.specs.declared.cause.Cause.{Cause}
+use Rattle.zed_op.specs.declared.cause.EditError.{EditError}
+use Rattle.zed_op.specs.declared.cause.EditError.TheVariants as edit
+use Rattle.zed_op.specs.declared.op.Edit.{Edit}
+use Rattle.zed_op.specs.Fit.{fault}
+use Rattle.zed_op.specs.Verdict.{verdict}
 use Rattle.zed_editfile.specs.declared.error.EditFileError.TheVariants.{BadEdit}
 use Rattle.zed_editfile.specs.Reading.{unless_faulty}
 use Rattle.zed_editfile.proofs.reading.fitting.Goals as goal

@@ -1,5 +1,5 @@
 use Rattle.std.proofs.Common.{◌≡◌, take, map, [], get_or}
-use Rattle.zed_edit.specs.Header.{flag_index}
+use Rattle.zed_types.specs.Header.{flag_index}
 use Rattle.zed_export.specs.declared.header.TheConstants.{SLOTS}
 use Rattle.zed_export.proofs.header.flags_of.Given as goal
 

@@ -1,7 +1,7 @@
 use Rattle.std.proofs.Common.{◌≡◌, drop}
 use Rattle.std.specs.List.{list_any}
 use Rattle.zed_types.specs.Names.{same_board}
-use Rattle.zed_edit.specs.Header.{title}
+use Rattle.zed_types.specs.Names.{title}
 use Rattle.zed_export.proofs.limits.has_title.Given as goal
 
 -- the title is sought among the rest

@@ -1,6 +1,6 @@
 use Rattle.std.proofs.Common.{rules, arith, ◌≡◌, ◌∙◌, [], ◌∷◌, ◌++◌, append_assoc, ap, sym, subst, length}
 use Rattle.std.proofs.lemmas.Result.{err_from_is_err_and}
-use Rattle.zed_edit.specs.Set.{Agrees, with_edit}
+use Rattle.zed_op.specs.Set.{Agrees, with_edit}
 use Rattle.zed_program.proofs.Clashes.{all_of, next_agrees, refused_edit}
 use Rattle.zed_program.proofs.collect.deliver_all.Goals as goal
 

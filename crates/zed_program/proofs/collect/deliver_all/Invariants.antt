@@ -1,5 +1,5 @@
 use Rattle.std.proofs.Common.{◌≡◌, ◌++◌, false}
-use Rattle.zed_edit.specs.Set.{Agrees, AllFit, set_of}
+use Rattle.zed_op.specs.Set.{Agrees, AllFit, set_of}
 use Rattle.zed_program.proofs.collect.deliver_all.Given as goal
 
 -- the document has the set of the edits that were delivered, which agree

@@ -1,5 +1,5 @@
 use Rattle.std.proofs.Common.{◌≡◌, Some, drop, map}
-use Rattle.zed_edit.specs.Set.{AllFit}
+use Rattle.zed_op.specs.Set.{AllFit}
 use Rattle.zed_program.specs.Files.{IsStream, Stream, stream_after}
 use Rattle.zed_program.specs.Outcome.{IsStreamIn, texts_of}
 use Rattle.zed_program.specs.Told.{Told, file_in}

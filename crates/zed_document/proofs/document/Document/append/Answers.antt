@@ -1,5 +1,5 @@
 use Rattle.std.proofs.Common.{rules, ◌≡◌, [], ◌∷◌, ◌++◌, false, length, ltb, refl, ap, ◌∙◌, inr}
-use Rattle.zed_edit.specs.Set.{with_edit}
+use Rattle.zed_op.specs.Set.{with_edit}
 use Rattle.zed_edit.specs.Replay.{step}
 use Rattle.zed_document.specs.Delivery.{state_of}
 use Rattle.zed_document.specs.Held.{held_stamps}

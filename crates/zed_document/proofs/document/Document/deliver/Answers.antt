@@ -1,6 +1,6 @@
 use Rattle.std.proofs.Common.{◌≡◌, ◌⊎◌, false, Err, ap, sym, ◌∙◌, subst}
 use Rattle.std.specs.Prelude.{MatchBool}
-use Rattle.zed_edit.specs.Fit.{fault}
+use Rattle.zed_op.specs.Fit.{fault}
 use Rattle.zed_document.specs.declared.delivered.Delivered.{Delivered}
 use Rattle.zed_document.specs.declared.error.DocumentError.{DocumentError}
 use Rattle.zed_document.specs.declared.error.DocumentError.TheVariants.{Memory}

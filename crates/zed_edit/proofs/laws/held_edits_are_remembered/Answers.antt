@@ -1,5 +1,0 @@
-use Rattle.zed_edit.proofs.ReplaySteps.{held_are_passed_over}
-use Rattle.zed_edit.proofs.laws.held_edits_are_remembered.Goals as goal
-
-pub returns : goal.returns
-returns c = held_are_passed_over

@@ -1,5 +1,0 @@
-use Rattle.zed_edit.proofs.SetLaws.{rising_agrees, rising_is_its_edits, rising_is_its_set}
-use Rattle.zed_edit.proofs.laws.rising_lists_are_sets.Goals as goal
-
-pub returns : goal.returns
-returns c = record { agree = rising_agrees; known = rising_is_its_edits; own = rising_is_its_set }

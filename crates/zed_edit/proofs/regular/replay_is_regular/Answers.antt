@@ -1,5 +1,0 @@
-use Rattle.zed_edit.proofs.RegularSteps.{ReadIsNormal, replay_regular}
-use Rattle.zed_edit.proofs.regular.replay_is_regular.Goals as goal
-
-pub returns : goal.returns
-returns c = replay_regular c.read_is_normal.ensures

@@ -1,0 +1,17 @@
+pub mod CellRegisters
+pub mod ChangedTexts
+pub mod DoneEdits
+pub mod HeaderNumbers
+pub mod LateDeletion
+pub mod LateEdits
+pub mod LateInsertion
+pub mod LatestWrites
+pub mod MadeThings
+pub mod RegularSteps
+pub mod Removed
+pub mod ReplaySteps
+pub mod SameThings
+pub mod SkipRule
+pub mod TakenAlone
+pub mod TextSteps
+pub mod WorkedEdits

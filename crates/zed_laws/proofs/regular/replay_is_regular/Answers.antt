@@ -1,0 +1,5 @@
+use Rattle.zed_laws.proofs.RegularSteps.{ReadIsNormal, replay_regular}
+use Rattle.zed_laws.proofs.regular.replay_is_regular.Goals as goal
+
+pub returns : goal.returns
+returns c = replay_regular c.read_is_normal.ensures

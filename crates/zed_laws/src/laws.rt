@@ -1,0 +1,64 @@
+ghost use Rattle.zed_laws.specs.Laws.{OneMoreIsOneStep, ReplayGoesOn, OneMoreIsTaken, OneMoreIsHeld, HeldArePassedOver, MadeStaysMade, MadeOutlastsEdits, TakenByWhatIsMade, HeldByWhatIsMade, MadeByWhatIsMade, RemovedBoardIsSet, RemovedBoardIsDrawn, RemovedStatIsSet, TakenMakeAll, LateEditHoldsNone, LateEditHoldsNoOther, LateInsertion, LateDeletion};
+ghost use Rattle.zed_laws.specs.Registers.{GreatestStampWins, LateWriteIsCompared, HeaderNumbersAreRegisters, CellsAreRegisters};
+
+/// What one more edit at the end makes of a replay, of the edits taken and of those held.
+pub fn replay_goes_edit_by_edit()
+    ensures step { OneMoreIsOneStep }
+    ensures on { ReplayGoesOn }
+    ensures taken { OneMoreIsTaken }
+    ensures held { OneMoreIsHeld }
+{}
+
+/// The stamps that a document keeps are those of the edits that are held.
+pub fn held_edits_are_remembered()
+    ensures { HeldArePassedOver }
+{}
+
+/// What is made stays made, removed or not, whatever edits come.
+pub fn made_things_stay()
+    ensures step { MadeStaysMade }
+    ensures edits { MadeOutlastsEdits }
+{}
+
+/// Whether an edit is taken depends on the made things alone.
+pub fn made_things_decide()
+    ensures taken { TakenByWhatIsMade }
+    ensures held { HeldByWhatIsMade }
+    ensures made { MadeByWhatIsMade }
+{}
+
+/// A removed thing may be changed: setting its registers and removing it may change places.
+pub fn removed_things_are_changed()
+    ensures board { RemovedBoardIsSet }
+    ensures cells { RemovedBoardIsDrawn }
+    ensures stat { RemovedStatIsSet }
+{}
+
+/// The edits taken make by themselves what the replay shows.
+pub fn taken_edits_make_all()
+    ensures { TakenMakeAll }
+{}
+
+/// What an edit does to a text when it comes behind later ones: an insertion passes the bytes of later edits, and a deletion is as it would be.
+pub fn late_edits_find_their_place()
+    ensures held { LateEditHoldsNone }
+    ensures others { LateEditHoldsNoOther }
+    ensures insertion { LateInsertion }
+    ensures deletion { LateDeletion }
+{}
+
+/// The greatest stamp wins a register, in whatever order its writes come. `V` is the type of its values.
+pub fn greatest_stamp_wins<V>()
+    ensures latest { GreatestStampWins V }
+    ensures late { LateWriteIsCompared V }
+{}
+
+/// Each number of the header is a register.
+pub fn header_numbers_are_registers()
+    ensures { HeaderNumbersAreRegisters }
+{}
+
+/// Each cell is a register from when its board is made.
+pub fn cells_are_registers()
+    ensures { CellsAreRegisters }
+{}

@@ -1,0 +1,12 @@
+//! What holds of the replay, whatever the edits: laws on its definitions, each the contract of a function with nothing to do.
+#![tactic(auto)]
+
+mod laws;
+mod regular;
+
+pub use laws::{
+    cells_are_registers, greatest_stamp_wins, header_numbers_are_registers,
+    held_edits_are_remembered, late_edits_find_their_place, made_things_decide, made_things_stay,
+    removed_things_are_changed, replay_goes_edit_by_edit, taken_edits_make_all,
+};
+pub use regular::replay_is_regular;

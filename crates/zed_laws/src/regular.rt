@@ -1,0 +1,11 @@
+ghost use Rattle.zed_laws.specs.Regular.{ReplayIsRegular};
+
+use zed_world::read_is_normal;
+
+/// Every document that edits that fit make has whole tables, a player on each board that is never removed, strings that a world file
+/// has room for, and a title that stays once it is made.
+pub fn replay_is_regular()
+    ensures { ReplayIsRegular }
+{
+    read_is_normal();
+}

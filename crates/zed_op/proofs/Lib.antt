@@ -1,0 +1,3 @@
+pub mod FitParts
+pub mod SetLaws
+pub mod Sets

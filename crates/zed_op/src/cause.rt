@@ -1,0 +1,43 @@
+ghost use Rattle.std.specs.Prelude.{◌≡◌};
+
+use std::alloc::AllocError;
+use thiserror::Error;
+
+/// Why an edit is refused. The first four are found while a record of an edit file is read, the others in the edit itself.
+#[derive(Clone, Copy, Debug, PartialEq, Eq)]
+pub enum Cause {
+    /// The record ends inside a field.
+    Short,
+    /// No edit has this number.
+    Op,
+    /// A tag, a boolean, or the number of a field is none of those that there are.
+    Tag,
+    /// Bytes follow the last field.
+    Long,
+    /// The edit's own stamp or one that it names breaks the rules of stamps.
+    Stamp,
+    /// A value is outside its range.
+    Range,
+    /// A thing that the edit names was not made before it.
+    Order,
+    /// The bytes of a Genesis are not a world file as this editor writes it.
+    Genesis,
+}
+
+/// Why an edit can't be checked, copied or replayed.
+#[derive(Clone, Copy, Debug, PartialEq, Eq, Error)]
+pub enum EditError {
+    #[error("out of memory")]
+    Memory,
+    #[error("the edit is no good: {0:?}")]
+    BadEdit(Cause),
+}
+
+impl EditError {
+    /// The refusal for a growth that was refused.
+    pub fn of_growth(_refused: AllocError) -> EditError
+        ensures { result ≡ EditError.Memory }
+    {
+        EditError::Memory
+    }
+}

@@ -1,0 +1,192 @@
+ghost use Rattle.std.specs.Prelude.{◌≡◌, ◌⊎◌, Err, IfOk, IfErr, true};
+ghost use Rattle.std.specs.List.{list_all};
+ghost use Rattle.zed_op.specs.declared.cause.EditError.TheVariants.{Memory};
+ghost use Rattle.zed_op.specs.Fit.{Fits, fault, is_author_stamp, is_stamp, is_own_stamp, has_good_stamps, is_in_table, is_header_in_range, most_of, is_property_in_range, is_in_range, names_earlier, is_text_of, is_rewritten, is_canonical, has_good_world};
+ghost use Rattle.zed_op.specs.Names.{names_of, stamp_of};
+ghost use Rattle.zed_op.specs.Verdict.{verdict, is_genesis, HangsOnItsWorld};
+ghost use Rattle.zed_world.specs.Writing.{written};
+
+use crate::cause::{Cause, EditError};
+use crate::naming::names;
+use crate::op::{Edit, Op};
+use std::alloc::Global;
+use zed_types::{
+    BoardId, BoardSetting, BoardText, Bytes, COLUMNS, HeaderSetting, READ_BODY_LIMIT, ROWS,
+    Rectangle, Stamp,
+};
+use zed_world::{World, WorldError, read_world, write_world};
+
+/// Most bytes that one edit puts into a text.
+const MOST_INSERTED: usize = 32_767;
+
+/// Most bytes of a world's name, and of a flag.
+const MOST_OF_WORD: usize = 20;
+
+/// Most bytes of a board's name.
+const MOST_OF_NAME: usize = 50;
+
+/// Most bytes of a board's message.
+const MOST_OF_MESSAGE: usize = 58;
+
+fn is_author_stamp(stamp: Stamp) -> bool
+    ensures { result ≡ is_author_stamp stamp }
+{
+    2 <= stamp.time && stamp.time <= Stamp::LAST_TIME && 1 <= stamp.replica
+}
+
+fn is_stamp(stamp: Stamp) -> bool
+    ensures { result ≡ is_stamp stamp }
+{
+    stamp == Stamp::GENESIS || is_author_stamp(stamp)
+}
+
+fn is_own_stamp(op: &Op, stamp: Stamp) -> bool
+    ensures { result ≡ is_own_stamp op.now stamp }
+{
+    match op {
+        Op::Genesis(_) => stamp == Stamp::GENESIS,
+        _ => is_author_stamp(stamp),
+    }
+}
+
+fn names_stamps(alloc: Global, edit: &Edit) -> bool
+    ensures { result ≡ list_all (λ x. is_stamp (stamp_of x)) (names_of edit.now.op) }
+{
+    let things = names(alloc, edit);
+    things
+        .as_slice()
+        .iter()
+        .all(|thing| is_stamp(thing.stamp()))
+}
+
+fn has_good_stamps(alloc: Global, edit: &Edit) -> bool
+    ensures { result ≡ has_good_stamps edit.now }
+{
+    is_own_stamp(&edit.op, edit.stamp) && names_stamps(alloc, edit)
+}
+
+fn is_in_table(cells: &Rectangle) -> bool
+    ensures { result ≡ is_in_table cells.now }
+{
+    1 <= cells.left
+        && cells.left <= cells.right
+        && usize::from(cells.right) <= COLUMNS
+        && 1 <= cells.top
+        && cells.top <= cells.bottom
+        && usize::from(cells.bottom) <= ROWS
+}
+
+fn is_header_in_range(setting: &HeaderSetting) -> bool
+    ensures { result ≡ is_header_in_range setting.now }
+{
+    match setting {
+        HeaderSetting::WorldName(word) | HeaderSetting::Flag(_, word) => {
+            word.as_slice().len() <= MOST_OF_WORD
+        }
+        _ => true,
+    }
+}
+
+fn most_of(text: BoardText) -> usize
+    ensures { result ≡ most_of text }
+{
+    match text {
+        BoardText::Name => MOST_OF_NAME,
+        BoardText::Message => MOST_OF_MESSAGE,
+    }
+}
+
+fn is_property_in_range(setting: &BoardSetting) -> bool
+    ensures { result ≡ is_property_in_range setting.now }
+{
+    match setting {
+        BoardSetting::Text(text, bytes) => bytes.as_slice().len() <= most_of(*text),
+        _ => true,
+    }
+}
+
+fn is_in_range(op: &Op) -> bool
+    ensures { result ≡ is_in_range op.now }
+{
+    match op {
+        Op::SetHeader(setting) => is_header_in_range(setting),
+        Op::BoardAdd(name) => name.as_slice().len() <= MOST_OF_NAME,
+        Op::BoardRemove(board) => *board != BoardId::TITLE,
+        Op::SetBoard(_, setting) => is_property_in_range(setting),
+        Op::SetCells(_, cells, _) => is_in_table(cells),
+        Op::TextInsert(_, _, bytes) => {
+            let count = bytes.as_slice().len();
+            1 <= count && count <= MOST_INSERTED
+        }
+        Op::TextDelete(_, range) => range.first <= range.last,
+        _ => true,
+    }
+}
+
+fn names_earlier(alloc: Global, edit: &Edit) -> bool
+    ensures { result ≡ names_earlier edit.now }
+{
+    let things = names(alloc, edit);
+    things
+        .as_slice()
+        .iter()
+        .all(|thing| thing.stamp().is_before(edit.stamp))
+}
+
+/// Whether a world is written as just these bytes.
+fn is_rewritten(alloc: Global, world: &World, bytes: &Bytes) -> Result<bool, EditError>
+    ensures ok { IfOk result (λ b. b ≡ is_text_of bytes.now (written 32767 world.now)) }
+    ensures err { IfErr result (λ e. e ≡ Memory) }
+{
+    match write_world(alloc, world, READ_BODY_LIMIT) {
+        Ok(text) => Ok(text.as_slice() == bytes.as_slice()),
+        Err(WorldError::Memory) => Err(EditError::Memory),
+        Err(_) => Ok(false),
+    }
+}
+
+/// Whether bytes are a world file that is written again just as it was read.
+#[tactic(auto, unfolding(crate::specs::Fit::is_canonical))]
+fn is_canonical(alloc: Global, bytes: &Bytes) -> Result<bool, EditError>
+    ensures ok { IfOk result (λ b. b ≡ is_canonical bytes.now) }
+    ensures err { IfErr result (λ e. e ≡ Memory) }
+{
+    match read_world(alloc, bytes.as_slice()) {
+        Ok(world) => is_rewritten(alloc, &world, bytes),
+        Err(WorldError::Memory) => Err(EditError::Memory),
+        Err(_) => Ok(false),
+    }
+}
+
+fn has_good_world(alloc: Global, op: &Op) -> Result<bool, EditError>
+    ensures ok { IfOk result (λ b. b ≡ has_good_world op.now) }
+    ensures err { IfErr result (λ e. e ≡ Memory) }
+    ensures genesis { IfErr result (λ e. is_genesis op.now ≡ true) }
+{
+    match op {
+        Op::Genesis(bytes) => is_canonical(alloc, bytes),
+        _ => Ok(true),
+    }
+}
+
+/// Whether an edit fits, or the first cause against it: its own stamp and those that it names, then the ranges of its values,
+/// then whether all that it names is earlier, then the bytes of a Genesis. Only a Genesis that has no other fault takes memory.
+pub fn check(alloc: Global, edit: &Edit) -> Result<(), EditError>
+    ensures exact { (result ≡ Err Memory) ⊎ (result ≡ verdict (fault edit.now)) }
+    ensures fits { IfOk result (λ _. Fits edit.now) }
+    ensures memory { result ≡ Err Memory → HangsOnItsWorld edit.now }
+{
+    if !has_good_stamps(alloc, edit) {
+        return Err(EditError::BadEdit(Cause::Stamp));
+    }
+    if !is_in_range(&edit.op) {
+        return Err(EditError::BadEdit(Cause::Range));
+    }
+    if !names_earlier(alloc, edit) {
+        return Err(EditError::BadEdit(Cause::Order));
+    }
+    if !has_good_world(alloc, &edit.op)? {
+        return Err(EditError::BadEdit(Cause::Genesis));
+    }
+    Ok(())
+}

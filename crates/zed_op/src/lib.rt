@@ -1,0 +1,24 @@
+//! Edits: every kind of them, when one fits, what it names, and the sets that they make.
+#![tactic(auto)]
+
+mod cause;
+mod checking;
+mod copy;
+mod laws;
+mod naming;
+mod op;
+mod same;
+mod thing;
+
+pub use cause::{Cause, EditError};
+pub use checking::check;
+pub use laws::{
+    edit_joins_a_set, fit_is_of_parts, rising_lists_are_sets, set_is_its_edits, sets_rise,
+    sets_stay_fit, union_is_of_sets,
+};
+pub use naming::names;
+pub use op::{Edit, Op};
+pub use thing::Thing;
+
+#[cfg(test)]
+mod tests_check;

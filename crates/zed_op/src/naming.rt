@@ -1,0 +1,125 @@
+ghost use Rattle.std.specs.Prelude.{◌≡◌, ◌++◌};
+ghost use Rattle.std.specs.Option.{option_to_list};
+ghost use Rattle.smallvec.specs.SmallVec.{HasRoomFor};
+ghost use Rattle.zed_op.specs.Names.{target_named, header_names, board_names, stat_names, names_of, stamp_of};
+
+use crate::op::{Edit, Op};
+use crate::thing::Thing;
+use smallvec::SmallVec;
+use std::alloc::Global;
+use zed_types::{
+    BoardSetting, ByteRange, ElemId, HeaderSetting, Stamp, StatSetting, ThirdParameter,
+};
+
+impl Thing {
+    /// The stamp of the edit that made the thing.
+    pub fn stamp(&self) -> Stamp
+        ensures { result ≡ stamp_of self.now }
+    {
+        match self {
+            Thing::Board(board) => board.stamp,
+            Thing::Stat(stat) => stat.stamp,
+            Thing::Text(text) => text.stamp,
+            Thing::Element(_, element) => element.stamp,
+        }
+    }
+}
+
+fn in_target(target: &ThirdParameter) -> Option<Thing>
+    ensures { option_to_list result ≡ target_named target.now }
+{
+    match target {
+        ThirdParameter::Byte(_) => None,
+        ThirdParameter::Board(board) => Some(Thing::Board(*board)),
+    }
+}
+
+fn in_header_setting(setting: &HeaderSetting) -> Option<Thing>
+    ensures { option_to_list result ≡ header_names setting.now }
+{
+    match setting {
+        HeaderSetting::CurrentBoard(board) => Some(Thing::Board(*board)),
+        _ => None,
+    }
+}
+
+fn in_board_setting(setting: &BoardSetting) -> Option<Thing>
+    ensures { option_to_list result ≡ board_names setting.now }
+{
+    match setting {
+        BoardSetting::Exit(_, Some(board)) => Some(Thing::Board(*board)),
+        _ => None,
+    }
+}
+
+fn in_stat_setting(setting: &StatSetting) -> Option<Thing>
+    ensures { option_to_list result ≡ stat_names setting.now }
+{
+    match setting {
+        StatSetting::P3(target) => in_target(target),
+        StatSetting::Follower(Some(stat)) | StatSetting::Leader(Some(stat)) => {
+            Some(Thing::Stat(*stat))
+        }
+        StatSetting::Text(Some(text)) => Some(Thing::Text(*text)),
+        _ => None,
+    }
+}
+
+fn byte_of(range: &ByteRange, index: u32) -> ElemId
+    ensures { result ≡ record { stamp = range.now.stamp; index = index } }
+{
+    ElemId {
+        stamp: range.stamp,
+        index,
+    }
+}
+
+fn add(things: &mut SmallVec<Thing, 3>, thing: Option<Thing>)
+    requires { HasRoomFor things.old 1 }
+    ensures items { things.new.items ≡ things.old.items ++ option_to_list thing }
+    ensures capacity { things.new.capacity ≡ things.old.capacity }
+{
+    if let Some(thing) = thing {
+        things.push_reserved(thing);
+    }
+}
+
+/// The things that an edit names, at most three, values of registers included; of a range of bytes its ends.
+/// They stand in the value itself, so that nothing can be refused.
+pub fn names(alloc: Global, edit: &Edit) -> SmallVec<Thing, 3>
+    ensures exact { result.items ≡ names_of edit.now.op }
+    ensures inline { result.capacity ≡ 3 }
+{
+    let mut things = SmallVec::new(alloc);
+    match &edit.op {
+        Op::Genesis(_) | Op::BoardAdd(_) | Op::TextAdd => {}
+        Op::SetHeader(setting) => add(&mut things, in_header_setting(setting)),
+        Op::BoardRemove(board) | Op::SetCells(board, _, _) => {
+            things.push_reserved(Thing::Board(*board));
+        }
+        Op::SetBoard(board, setting) => {
+            things.push_reserved(Thing::Board(*board));
+            add(&mut things, in_board_setting(setting));
+        }
+        Op::StatAdd(board, fields) => {
+            things.push_reserved(Thing::Board(*board));
+            add(&mut things, in_target(&fields.p3));
+            add(&mut things, fields.text.map(Thing::Text));
+        }
+        Op::StatRemove(stat) => things.push_reserved(Thing::Stat(*stat)),
+        Op::SetStat(stat, setting) => {
+            things.push_reserved(Thing::Stat(*stat));
+            add(&mut things, in_stat_setting(setting));
+        }
+        Op::TextInsert(text, after, _) => {
+            things.push_reserved(Thing::Text(*text));
+            add(&mut things, after.map(|byte| Thing::Element(*text, byte)));
+        }
+        Op::TextDelete(text, range) => {
+            things.push_reserved(Thing::Text(*text));
+            things.push_reserved(Thing::Element(*text, byte_of(range, range.first)));
+            things.push_reserved(Thing::Element(*text, byte_of(range, range.last)));
+        }
+    }
+    things
+}

@@ -1,0 +1,81 @@
+-- What the tests on stamps and names say.
+use Rattle.std.proofs.Common.{◌≡◌, ℕ, true, false, eqb, eq-eqb, refl, ap, ◌∙◌, arith}
+use Rattle.std.proofs.lemmas.Bool.{eqb-true, and_parts, and_from}
+use Rattle.zed_types.specs.declared.stamp.Stamp.{Stamp}
+use Rattle.zed_types.specs.declared.names.BoardId.{BoardId}
+use Rattle.zed_types.specs.declared.names.TextId.{TextId}
+use Rattle.zed_types.specs.Stamp.{before, same_stamp}
+use Rattle.zed_types.specs.Names.{same_board, same_text}
+
+abbrev stamp_at : ℕ → ℕ → Stamp
+stamp_at t r = record { time = t; replica = r }
+
+abbrev text_at : Stamp → ℕ → TextId
+text_at s i = record { stamp = s; index = i }
+
+pub same_stamp-true : (a b : Stamp) → same_stamp a b ≡ true → a ≡ b
+same_stamp-true a b h =
+    let e = and_parts (eqb a.time b.time) (eqb a.replica b.replica) h in
+    let t = eqb-true a.time b.time e.0 in
+    let r = eqb-true a.replica b.replica e.1 in
+    ap (λ n. stamp_at n a.replica) t ∙ ap (λ n. stamp_at b.time n) r
+
+pub same_stamp-itself : (a : Stamp) → same_stamp a a ≡ true
+same_stamp-itself a = and_from (eqb a.time a.time) (eqb a.replica a.replica) (eq-eqb a.time a.time refl) (eq-eqb a.replica a.replica refl)
+
+pub same_text-true : (a b : TextId) → same_text a b ≡ true → a ≡ b
+same_text-true a b h =
+    let e = and_parts (same_stamp a.stamp b.stamp) (eqb a.index b.index) h in
+    let s = same_stamp-true a.stamp b.stamp e.0 in
+    let i = eqb-true a.index b.index e.1 in
+    ap (λ n. text_at n a.index) s ∙ ap (λ n. text_at b.stamp n) i
+
+pub same_text-itself : (a : TextId) → same_text a a ≡ true
+same_text-itself a = and_from (same_stamp a.stamp a.stamp) (eqb a.index a.index) (same_stamp-itself a.stamp) (eq-eqb a.index a.index refl)
+
+-- the order of stamps
+pub before_irrefl : (a : Stamp) → before a a ≡ false
+before_irrefl a = grind (arith)
+
+pub before_trans : (a b c : Stamp) → before a b ≡ true → before b c ≡ true → before a c ≡ true
+before_trans a b c p q = grind (arith)
+
+pub before_asym : (a b : Stamp) → before a b ≡ true → before b a ≡ false
+before_asym a b p = grind (arith)
+
+pub before_total : (a b : Stamp) → before a b ≡ false → before b a ≡ false → same_stamp a b ≡ true
+before_total a b p q = grind (arith)
+
+-- of two different stamps, one is before the other
+pub before_other : (a b : Stamp) → before a b ≡ false → same_stamp a b ≡ false → before b a ≡ true
+before_other a b p q = grind (arith)
+
+pub before_differs : (a b : Stamp) → before a b ≡ true → same_stamp a b ≡ false
+before_differs a b p = grind (arith)
+
+-- the same, with the two in the other order
+pub before_differs_after : (a b : Stamp) → before a b ≡ true → same_stamp b a ≡ false
+before_differs_after a b p = grind (arith)
+
+pub before_other_after : (a b : Stamp) → before a b ≡ false → same_stamp b a ≡ false → before b a ≡ true
+before_other_after a b p q = grind (arith)
+
+-- whose name is another's is so of both or of neither
+pub same_text-alike : (a b c : TextId) → same_text a b ≡ true → same_text c a ≡ same_text c b
+same_text-alike a b c h = ap (λ n. same_text c n) (same_text-true a b h)
+
+pub same_text-apart : (a b c : TextId) → same_text a b ≡ false → same_text c b ≡ true → same_text c a ≡ false
+same_text-apart a b c h e = grind (arith)
+
+abbrev board_at : Stamp → ℕ → BoardId
+board_at s i = record { stamp = s; index = i }
+
+pub same_board-true : (a b : BoardId) → same_board a b ≡ true → a ≡ b
+same_board-true a b h =
+    let e = and_parts (same_stamp a.stamp b.stamp) (eqb a.index b.index) h in
+    let s = same_stamp-true a.stamp b.stamp e.0 in
+    let i = eqb-true a.index b.index e.1 in
+    ap (λ n. board_at n a.index) s ∙ ap (λ n. board_at b.stamp n) i
+
+pub same_board-apart : (a b c : BoardId) → same_board a b ≡ false → same_board c b ≡ true → same_board c a ≡ false
+same_board-apart a b c h e = grind (arith)
