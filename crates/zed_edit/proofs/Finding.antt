@@ -1,5 +1,5 @@
 -- Looking for a member of a list in parts, and counting those that are alive.
-use Rattle.std.proofs.Common.{◌≡◌, ℕ, ◌+◌, ◌<◌, Bool, true, false, cond, List, [], ◌∷◌, ◌++◌, length, map, filter, count_by, Option, Some, None, refl, drop, get_or, sym, ap, arith, suc, zero, not, ◌-◌, ◌∙◌, slice_get, add-one, drop-cons}
+use Rattle.std.proofs.Common.{◌≡◌, ℕ, ◌+◌, ◌<◌, Bool, true, false, List, ◌++◌, length, filter, count_by, Some, None, refl, drop, get_or, sym, arith, suc, zero, not, ◌-◌, ◌∙◌, slice_get, add-one, drop-cons}
 use Rattle.std.proofs.lemmas.List.{length-map}
 use Rattle.std.proofs.lemmas.List.Folds.{find-append}
 use Rattle.std.proofs.lemmas.List.Sums.{length-filter}

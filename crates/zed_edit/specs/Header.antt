@@ -1,5 +1,5 @@
 -- The header of a document, and what a setting does to it.
-use Rattle.std.specs.Prelude.{ℕ, ℤ, pos, false, [], slice_set, replicate}
+use Rattle.std.specs.Prelude.{ℤ, pos, false, [], slice_set, replicate}
 use Rattle.zed_types.specs.declared.header.HeaderNumber.{HeaderNumber}
 use Rattle.zed_types.specs.declared.header.HeaderNumber.TheVariants.{Ammo, Gems, Health, Torches, TorchTicks, EnergizerTicks, Score, TimePassed, Hundredths}
 use Rattle.zed_types.specs.declared.header.HeaderSetting.{HeaderSetting}

@@ -2,7 +2,6 @@
 
 ghost use Rattle.std.specs.Prelude.{◌≡◌, ◌+◌, ◌<◌, ◌≤◌, ◌^◌, length, is_some, option_map, IfOk, IfErr};
 ghost use Rattle.zed_types.specs.Table.{map_from};
-ghost use Rattle.zed_world.specs.Offsets.{is_passage_at};
 ghost use Rattle.zed_edit.specs.Genesis.{stat_of, text_of as name_of_text, exit_of as exit_to, header_of as header_in, properties_of as properties_in, own_program, programs_before as programs_below, text_number, parameter_of as parameter_in, opened_stat as stat_opened, opened_board as board_opened};
 
 use crate::plain::{Board, Header, Properties, Stat};
@@ -11,10 +10,7 @@ use zed_op::EditError;
 use zed_types::{
     BoardId, Bytes, Seq, Stamp, StatFields, StatId, TILES, TextId, ThirdParameter, Tile,
 };
-use zed_world::{BoardData, Code, StatData};
-
-/// The element of a passage.
-const PASSAGE: u8 = 11;
+use zed_world::{BoardData, Code, StatData, is_passage};
 
 fn exit_of(stamp: Stamp, n: u8) -> Option<BoardId>
     ensures { result ≡ exit_to stamp n }
@@ -138,17 +134,6 @@ fn text_of(stamp: Stamp, t: usize, stats: &[StatData], j: usize, code: &Code) ->
         stamp,
         index: (t + below) as u32,
     })
-}
-
-/// Whether a passage stands at a place. Outside the table nothing does.
-#[tactic(auto, unfolding(zed_world::specs::Offsets::is_passage_at))]
-fn is_passage(tiles: &[Tile; TILES], x: u8, y: u8) -> bool
-    ensures { result ≡ is_passage_at tiles.now x y }
-{
-    if x == 0 || 60 < x || y == 0 || 25 < y {
-        return false;
-    }
-    tiles[60 * (usize::from(y) - 1) + (usize::from(x) - 1)].element == PASSAGE
 }
 
 fn parameter_of(stamp: Stamp, board: &BoardData, stat: &StatData) -> ThirdParameter

@@ -1,17 +1,16 @@
 -- Ops: what is read is spelled so, and what is spelled is read again where nothing follows.
-use Rattle.std.proofs.Common.{◌≡◌, ℕ, Bool, true, false, cond, eqb, List, [], ◌∷◌, ◌++◌, Option, Some, None, Ok, Err, subst, arith, refl, sym, ap, ◌∙◌, append_assoc}
-use Rattle.std.specs.Prelude.{IfSome}
+use Rattle.std.proofs.Common.{◌≡◌, ℕ, cond, eqb, List, [], ◌∷◌, ◌++◌, Ok, Err, subst, arith, refl, sym, ap, ◌∙◌, append_assoc}
 use Rattle.std.proofs.lemmas.Bool.{eqb-true}
 use Rattle.std.proofs.lemmas.List.{append-nil}
 use Rattle.zed_op.specs.declared.cause.Cause.TheVariants.{Op as BadOp}
 use Rattle.zed_op.specs.declared.op.Op.{Op}
 use Rattle.zed_op.specs.declared.op.Op.TheVariants.{Genesis, SetHeader, BoardAdd, BoardRemove, SetBoard, SetCells, StatAdd, StatRemove, SetStat, TextAdd, TextInsert, TextDelete}
 use Rattle.zed_editfile.specs.declared.error.EditFileError.TheVariants.{BadEdit}
-use Rattle.zed_editfile.specs.Spelling.{string, stamp, number, board_name, stat_name, text_name, element_name, optional, tile, rectangle, header_setting, board_setting, stat_setting, stat_fields, op_text}
-use Rattle.zed_editfile.specs.Reading.{◌>>=◌, Field, mapped, byte_at, string_at, board_name_at, stat_name_at, text_name_at, element_name_at, optional_at, tile_at, rectangle_at, range_at, header_setting_at, board_setting_at, stat_setting_at, stat_fields_at, set_board_at, set_cells_at, stat_add_at, set_stat_at, text_insert_at, text_delete_at, op_at}
+use Rattle.zed_editfile.specs.Spelling.{stamp, number, board_name, stat_name, text_name, element_name, optional, tile, rectangle, board_setting, stat_setting, stat_fields, op_text}
+use Rattle.zed_editfile.specs.Reading.{◌>>=◌, Field, mapped, byte_at, string_at, board_name_at, stat_name_at, header_setting_at, set_board_at, set_cells_at, stat_add_at, set_stat_at, text_insert_at, text_delete_at, op_at}
 use Rattle.zed_editfile.specs.Sizes.{IsOp}
 use Rattle.zed_editfile.proofs.Numbers.{IsBytes}
-use Rattle.zed_editfile.proofs.Codec.{IsField, Completes, bind_ok, ok_is, takes_then, takes_end, takes_all, takes_mapped, takes_choice, takes_none, again_then, again_mapped, byte_field, string_field, tile_field, rectangle_field}
+use Rattle.zed_editfile.proofs.Codec.{IsField, Completes, ok_is, takes_then, takes_end, takes_mapped, takes_choice, takes_none, again_then, string_field, tile_field, rectangle_field}
 use Rattle.zed_editfile.proofs.Names.{board_name_field, stat_name_field, text_name_field, element_name_field, optional_field, range_field, range_text}
 use Rattle.zed_editfile.proofs.Registers.{header_setting_field, board_setting_field, stat_setting_field, stat_fields_field}
 

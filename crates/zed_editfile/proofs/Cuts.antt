@@ -1,6 +1,6 @@
 -- Where reading stops: at the front of a record, however many bytes follow, and what records are taken before it.
-use Rattle.std.proofs.Common.{◌≡◌, ℕ, zero, suc, ◌+◌, ◌^◌, ◌<◌, ◌≤◌, Bool, true, false, not, cond, ltb, leb, eqb, ◌&&◌, List, [], ◌∷◌, ◌++◌, length, take, drop, get_or, Option, Some, None, Result, Ok, Err, refl, sym, ap, subst, ◌∙◌, append_assoc, ◌-◌, arith, ◌⊎◌, inl, inr}
-use Rattle.std.specs.List.{flat_map, AllByRecursion}
+use Rattle.std.proofs.Common.{◌≡◌, ℕ, zero, suc, ◌+◌, ◌^◌, ◌<◌, ◌≤◌, Bool, true, false, ltb, leb, ◌&&◌, List, [], ◌∷◌, ◌++◌, length, take, drop, Option, Some, None, Result, Ok, Err, refl, sym, ap, subst, ◌∙◌, append_assoc, ◌-◌, arith, ◌⊎◌, inl, inr}
+use Rattle.std.specs.List.{flat_map}
 use Rattle.std.proofs.lemmas.Bool.{ltb-true, ltb-false, lt-ltb, le-ltb, leb-true}
 use Rattle.std.proofs.lemmas.List.{append-nil, take_at, drop_at, take-append-drop, take-append-le, length-append, length-take, length-drop}
 use Rattle.byteorder.specs.Endian.{little_number}
@@ -8,11 +8,10 @@ use Rattle.byteorder.specs.Numbers.{little_from-append}
 use Rattle.zed_op.specs.declared.op.Edit.{Edit}
 use Rattle.zed_editfile.specs.declared.error.EditFileError.{EditFileError}
 use Rattle.zed_editfile.specs.declared.error.EditFileError.TheVariants.{Memory, RecordLength}
-use Rattle.zed_editfile.specs.Spelling.{number, spelling, record_text}
+use Rattle.zed_editfile.specs.Spelling.{number, record_text}
 use Rattle.zed_editfile.specs.Reading.{edit_at}
-use Rattle.zed_editfile.specs.Stream.{Stop, waits, fails, is_length, fault_of, body_at, record_stop, IsRecord, AreRecords, Frames, Gains}
-use Rattle.zed_editfile.proofs.Numbers.{IsBytes, IsBytes-take, IsBytes-front, IsBytes-behind, length_number, number_is, number_back}
-use Rattle.zed_editfile.proofs.Codec.{chosen}
+use Rattle.zed_editfile.specs.Stream.{Stop, waits, fails, is_length, fault_of, body_at, record_stop, AreRecords, Frames, Gains}
+use Rattle.zed_editfile.proofs.Numbers.{IsBytes, IsBytes-front, IsBytes-behind, length_number, number_is, number_back}
 use Rattle.zed_editfile.proofs.Edits.{edit_takes}
 
 -- ---- the front of a record

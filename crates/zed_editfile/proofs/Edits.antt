@@ -1,5 +1,5 @@
 -- Edits: what is read is spelled so and fits, and what fits is read again from its spelling.
-use Rattle.std.proofs.Common.{◌≡◌, ℕ, zero, suc, Bool, true, false, cond, eqb, List, [], ◌∷◌, ◌++◌, length, Option, Some, None, Result, Ok, Err, refl, sym, ap, subst, ◌∙◌, append_assoc, arith}
+use Rattle.std.proofs.Common.{◌≡◌, ℕ, Bool, true, false, cond, eqb, List, [], ◌++◌, length, Option, Some, None, Result, Ok, Err, refl, ap, subst, ◌∙◌}
 use Rattle.std.proofs.lemmas.Bool.{eqb-true}
 use Rattle.std.proofs.lemmas.List.{append-nil, nil_from_length}
 use Rattle.zed_types.specs.declared.stamp.Stamp.{Stamp}
@@ -12,9 +12,9 @@ use Rattle.zed_editfile.specs.declared.error.EditFileError.{EditFileError}
 use Rattle.zed_editfile.specs.declared.error.EditFileError.TheVariants.{BadEdit}
 use Rattle.zed_editfile.specs.Spelling.{stamp, op_text, spelling}
 use Rattle.zed_editfile.specs.Reading.{◌>>=◌, Field, byte_at, stamp_at, op_at, fields_at, unless_faulty, edit_at}
-use Rattle.zed_editfile.specs.Sizes.{IsStamp, IsOp, HasRoom}
+use Rattle.zed_editfile.specs.Sizes.{HasRoom}
 use Rattle.zed_editfile.proofs.Numbers.{IsBytes}
-use Rattle.zed_editfile.proofs.Codec.{bind_ok, ok_is, again_then, byte_field, stamp_field}
+use Rattle.zed_editfile.proofs.Codec.{bind_ok, ok_is, byte_field, stamp_field}
 use Rattle.zed_editfile.proofs.Actions.{op_completes, op_again}
 
 choice_ok : {A : Type 0} (b : Bool) (r : Result A EditFileError) (d : EditFileError) (y : A) → cond b r (Err d) ≡ Ok y → (b ≡ true) × (r ≡ Ok y)

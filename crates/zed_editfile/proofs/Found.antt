@@ -1,15 +1,15 @@
 -- What a reader has found, from piece to piece.
-use Rattle.std.proofs.Common.{◌≡◌, ℕ, ◌^◌, ◌<◌, Bool, true, false, not, cond, ltb, eqb, List, [], ◌∷◌, ◌++◌, length, drop, get_or, Option, Some, None, Result, Ok, Err, refl, sym, ap, subst, ◌∙◌, append_assoc, arith, ◌⊎◌, inl, inr}
+use Rattle.std.proofs.Common.{◌≡◌, ℕ, Bool, true, false, not, cond, ltb, eqb, List, [], ◌++◌, length, drop, get_or, Option, Some, None, Result, Ok, Err, refl, sym, ap, subst, ◌∙◌, append_assoc, arith, ◌⊎◌, inl, inr}
 use Rattle.std.specs.List.{flat_map}
 use Rattle.std.proofs.lemmas.List.{append-nil}
 use Rattle.byteorder.specs.Endian.{little_number}
 use Rattle.zed_op.specs.declared.op.Edit.{Edit}
 use Rattle.zed_editfile.specs.declared.error.EditFileError.{EditFileError}
-use Rattle.zed_editfile.specs.declared.error.EditFileError.TheVariants.{Memory, Magic, NewVersion, OtherWorld, RecordLength}
+use Rattle.zed_editfile.specs.declared.error.EditFileError.TheVariants.{Magic, NewVersion, OtherWorld, RecordLength}
 use Rattle.zed_editfile.specs.Spelling.{record_text, head_text, file_text}
 use Rattle.zed_editfile.specs.Reading.{edit_at}
-use Rattle.zed_editfile.specs.Stream.{Stop, waits, fails, has_letters, is_other, is_length, fault_of, body_at, head_stop, record_stop, Gains, Progress, stop_of, Stops, InHead, InRecords, Reads, Feeds, AreRecords, EndsAt, Collects, Enters, Advances}
-use Rattle.zed_editfile.proofs.Cuts.{waits_not_fails, waits_is, fault_stays, flat_both, records_both, is_short}
+use Rattle.zed_editfile.specs.Stream.{Stop, waits, fails, has_letters, is_other, is_length, fault_of, body_at, head_stop, record_stop, Progress, stop_of, Reads, Feeds, AreRecords, EndsAt, Collects, Enters, Advances}
+use Rattle.zed_editfile.proofs.Cuts.{waits_is, fault_stays, flat_both, records_both, is_short}
 use Rattle.zed_editfile.proofs.Heads.{head_stays, head_waits}
 
 -- ---- the forms of a stop

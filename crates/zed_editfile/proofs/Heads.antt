@@ -1,14 +1,14 @@
 -- Where reading stops in a head, however many bytes follow.
-use Rattle.std.proofs.Common.{◌≡◌, ℕ, zero, suc, ◌+◌, ◌-◌, ◌^◌, ◌<◌, ◌≤◌, Bool, true, false, not, cond, ltb, leb, eqb, ◌&&◌, List, [], ◌∷◌, ◌++◌, length, take, drop, get_or, Option, Some, None, Result, Ok, Err, refl, sym, ap, subst, ◌∙◌, append_assoc, arith, ◌⊎◌, inl, inr}
-use Rattle.std.proofs.lemmas.Bool.{ltb-true, ltb-false, lt-ltb, le-ltb, leb-true, eqb-true}
-use Rattle.std.proofs.lemmas.List.{append-nil, take_at, drop_at, take_all, length-append}
+use Rattle.std.proofs.Common.{◌≡◌, ℕ, ◌^◌, ◌<◌, ◌≤◌, Bool, true, false, not, cond, ltb, eqb, ◌&&◌, List, [], ◌∷◌, ◌++◌, length, drop, Option, None, refl, sym, ap, ◌∙◌, arith, ◌⊎◌, inl, inr}
+use Rattle.std.proofs.lemmas.Bool.{ltb-true, ltb-false, lt-ltb, le-ltb, eqb-true}
+use Rattle.std.proofs.lemmas.List.{append-nil, take_all, length-append}
 use Rattle.byteorder.specs.Endian.{little_number}
 use Rattle.byteorder.specs.Numbers.{little_from-append}
 use Rattle.zed_editfile.specs.declared.error.EditFileError.{EditFileError}
 use Rattle.zed_editfile.specs.declared.error.EditFileError.TheVariants.{Memory, Magic, NewVersion, OtherWorld}
 use Rattle.zed_editfile.specs.Spelling.{number, head_text}
 use Rattle.zed_editfile.specs.Stream.{Stop, waits, fails, has_letters, is_other, head_stop}
-use Rattle.zed_editfile.proofs.Numbers.{IsBytes, IsBytes-rest, IsBytes-behind, length_number, number_is, number_below, number_back}
+use Rattle.zed_editfile.proofs.Numbers.{IsBytes, IsBytes-behind, length_number, number_is, number_below, number_back}
 use Rattle.zed_editfile.proofs.Codec.{chosen}
 use Rattle.zed_editfile.proofs.Cuts.{waits_not_fails, waits_same}
 

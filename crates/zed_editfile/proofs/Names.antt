@@ -1,18 +1,14 @@
 -- Names, optional names, ranges of bytes and third parameters: what is read is spelled so, and what is spelled is read again.
-use Rattle.std.proofs.Common.{◌≡◌, ℕ, ◌^◌, ◌<◌, Bool, true, false, cond, List, [], ◌∷◌, ◌++◌, Option, Some, None, Ok, refl, sym, ap, ◌∙◌, append_assoc}
+use Rattle.std.proofs.Common.{◌≡◌, ℕ, cond, List, ◌∷◌, ◌++◌, Option, Some, None, Ok, refl, sym, ap, ◌∙◌, append_assoc}
 use Rattle.std.specs.Prelude.{IfSome}
 use Rattle.zed_types.specs.declared.stamp.Stamp.{Stamp}
-use Rattle.zed_types.specs.declared.names.BoardId.{BoardId}
-use Rattle.zed_types.specs.declared.names.StatId.{StatId}
-use Rattle.zed_types.specs.declared.names.TextId.{TextId}
-use Rattle.zed_types.specs.declared.names.ElemId.{ElemId}
 use Rattle.zed_types.specs.declared.text.ByteRange.{ByteRange}
 use Rattle.zed_types.specs.declared.stat_field.ThirdParameter.{ThirdParameter}
 use Rattle.zed_types.specs.declared.stat_field.ThirdParameter.TheVariants as third
 use Rattle.zed_editfile.specs.Spelling.{number, boolean, stamp, name, board_name, stat_name, text_name, element_name, optional, third_parameter}
-use Rattle.zed_editfile.specs.Reading.{◌>>=◌, Field, mapped, byte_at, boolean_at, number_at, stamp_at, name_at, board_name_at, stat_name_at, text_name_at, element_name_at, optional_at, range_at, third_parameter_at}
-use Rattle.zed_editfile.specs.Sizes.{IsStamp, IsName, IsBoardName, IsStatName, IsTextName, IsElementName, IsRange, IsThirdParameter}
-use Rattle.zed_editfile.proofs.Codec.{IsField, Completes, takes_then, takes_end, takes_all, takes_mapped, takes_choice, again_then, again_mapped, AnyBool, byte_field, number_field, boolean_field, stamp_field}
+use Rattle.zed_editfile.specs.Reading.{Field, mapped, byte_at, boolean_at, name_at, board_name_at, stat_name_at, text_name_at, element_name_at, optional_at, range_at, third_parameter_at}
+use Rattle.zed_editfile.specs.Sizes.{IsName, IsBoardName, IsStatName, IsTextName, IsElementName, IsRange, IsThirdParameter}
+use Rattle.zed_editfile.proofs.Codec.{IsField, Completes, takes_then, takes_end, takes_all, takes_mapped, takes_choice, again_then, again_mapped, byte_field, number_field, boolean_field, stamp_field}
 
 abbrev spelled : Stamp × ℕ → List ℕ
 spelled n = name n.0 n.1

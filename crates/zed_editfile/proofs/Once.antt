@@ -1,21 +1,17 @@
 -- Each list of edits has one text, and bytes are read in one way.
-use Rattle.std.proofs.Common.{◌≡◌, ℕ, ◌^◌, ◌<◌, ◌≤◌, Bool, true, false, not, cond, ltb, List, [], ◌∷◌, ◌++◌, length, take, drop, Option, Some, None, Result, Ok, Err, refl, sym, ap, subst, ◌∙◌, append_assoc, arith, ◌⊎◌, inl, inr}
+use Rattle.std.proofs.Common.{◌≡◌, ℕ, ◌^◌, ◌<◌, false, List, [], ◌∷◌, ◌++◌, length, take, drop, Option, Some, None, refl, sym, ap, ◌∙◌, append_assoc, arith, inl, inr}
 use Rattle.std.specs.List.{flat_map}
-use Rattle.std.proofs.lemmas.Bool.{le-ltb}
-use Rattle.std.proofs.lemmas.List.{append-nil, take_at, drop_at, append_cancel_left, length-append}
+use Rattle.std.proofs.lemmas.List.{append-nil, take_at, drop_at, append_cancel_left}
 use Rattle.byteorder.specs.Endian.{little_number}
 use Rattle.zed_op.specs.declared.op.Edit.{Edit}
-use Rattle.zed_op.specs.Fit.{Fits}
-use Rattle.zed_editfile.specs.declared.error.EditFileError.{EditFileError}
 use Rattle.zed_editfile.specs.declared.error.EditFileError.TheVariants.{Memory}
 use Rattle.zed_editfile.specs.Spelling.{number, spelling, record_text, head_text, file_text}
 use Rattle.zed_editfile.specs.Reading.{edit_at}
-use Rattle.zed_editfile.specs.Sizes.{HasRoom}
-use Rattle.zed_editfile.specs.Stream.{Stop, is_other, fault_of, head_stop, record_stop, IsRecord, AreRecords, Frames, Progress, stop_of, Stops, InHead, InRecords, Reads}
+use Rattle.zed_editfile.specs.Stream.{Stop, is_other, fault_of, head_stop, record_stop, IsRecord, AreRecords, Frames, Progress, stop_of, Stops, InRecords, Reads}
 use Rattle.zed_editfile.proofs.Numbers.{length_number, number_back}
-use Rattle.zed_editfile.proofs.Codec.{done, ok_is}
+use Rattle.zed_editfile.proofs.Codec.{ok_is}
 use Rattle.zed_editfile.proofs.Edits.{edit_again}
-use Rattle.zed_editfile.proofs.Cuts.{frame_number, frame_behind, frame_stop, waits_is}
+use Rattle.zed_editfile.proofs.Cuts.{frame_number, frame_behind, frame_stop}
 use Rattle.zed_editfile.proofs.Found.{some_stop, no_record}
 use Rattle.zed_editfile.proofs.Heads.{head_front}
 

@@ -1,28 +1,18 @@
 -- Registers under their numbers: what is read is spelled so, and what is spelled is read again.
-use Rattle.std.proofs.Common.{◌≡◌, ℕ, zero, suc, ◌+◌, ◌-◌, ◌<◌, ◌≤◌, Bool, true, false, cond, ltb, eqb, List, [], ◌∷◌, ◌++◌, Option, Some, None, Ok, Err, SFits, w16, refl, sym, ap, ◌∙◌, append_assoc, arith}
-use Rattle.std.specs.Prelude.{IfSome}
+use Rattle.std.proofs.Common.{◌≡◌, ℕ, zero, suc, ◌+◌, ◌-◌, ◌<◌, ◌≤◌, false, cond, ltb, eqb, List, [], ◌∷◌, ◌++◌, Ok, Err, refl, sym, ap, ◌∙◌, append_assoc, arith}
 use Rattle.std.proofs.lemmas.Bool.{ltb-true, ltb-false, eqb-true, eqb-false}
-use Rattle.zed_types.specs.declared.header.HeaderNumber.{HeaderNumber}
 use Rattle.zed_types.specs.declared.header.HeaderNumber.TheVariants.{Ammo, Gems, Health, Torches, TorchTicks, EnergizerTicks, Score, TimePassed, Hundredths}
-use Rattle.zed_types.specs.declared.header.KeyColour.{KeyColour}
 use Rattle.zed_types.specs.declared.header.KeyColour.TheVariants.{Blue, Green, Cyan, Red, Purple, Yellow, White}
-use Rattle.zed_types.specs.declared.header.FlagSlot.{FlagSlot}
 use Rattle.zed_types.specs.declared.header.FlagSlot.TheVariants.{First, Second, Third, Fourth, Fifth, Sixth, Seventh, Eighth, Ninth, Tenth}
 use Rattle.zed_types.specs.declared.header.HeaderSetting.{HeaderSetting}
 use Rattle.zed_types.specs.declared.header.HeaderSetting.TheVariants as header
-use Rattle.zed_types.specs.declared.property.Side.{Side}
 use Rattle.zed_types.specs.declared.property.Side.TheVariants.{North, South, West, East}
-use Rattle.zed_types.specs.declared.property.BoardByte.{BoardByte}
 use Rattle.zed_types.specs.declared.property.BoardByte.TheVariants.{MaxShots, StartX, StartY}
-use Rattle.zed_types.specs.declared.property.BoardFlag.{BoardFlag}
 use Rattle.zed_types.specs.declared.property.BoardFlag.TheVariants.{Dark, ReEnter}
-use Rattle.zed_types.specs.declared.property.BoardText.{BoardText}
 use Rattle.zed_types.specs.declared.property.BoardText.TheVariants.{Name, Message}
 use Rattle.zed_types.specs.declared.property.BoardSetting.{BoardSetting}
 use Rattle.zed_types.specs.declared.property.BoardSetting.TheVariants as board
-use Rattle.zed_types.specs.declared.stat_field.StatByte.{StatByte}
 use Rattle.zed_types.specs.declared.stat_field.StatByte.TheVariants.{X, Y, P1, P2, UnderElement, UnderColour}
-use Rattle.zed_types.specs.declared.stat_field.StatNumber.{StatNumber}
 use Rattle.zed_types.specs.declared.stat_field.StatNumber.TheVariants.{StepX, StepY, Cycle, Position}
 use Rattle.zed_types.specs.declared.stat_field.StatSetting.{StatSetting}
 use Rattle.zed_types.specs.declared.stat_field.StatSetting.TheVariants as stat
@@ -30,8 +20,8 @@ use Rattle.zed_types.specs.declared.stat_field.StatFields.{StatFields}
 use Rattle.zed_op.specs.declared.cause.Cause.TheVariants.{Tag}
 use Rattle.zed_types.specs.Header.{key_index, flag_index}
 use Rattle.zed_editfile.specs.declared.error.EditFileError.TheVariants.{BadEdit}
-use Rattle.zed_editfile.specs.Spelling.{integer, boolean, string, board_name, stat_name, text_name, optional, tile, third_parameter, header_number, header_setting, board_byte, board_flag, side, board_text, board_setting, stat_byte, stat_number, stat_setting, stat_fields}
-use Rattle.zed_editfile.specs.Reading.{◌>>=◌, Field, mapped, byte_at, integer_at, boolean_at, string_at, board_name_at, stat_name_at, text_name_at, optional_at, tile_at, third_parameter_at, header_number_of, key_of, flag_of, header_value_at, header_setting_at, side_of, board_value_at, board_setting_at, stat_number_of, stat_value_at, stat_setting_at, stat_fields_at}
+use Rattle.zed_editfile.specs.Spelling.{integer, boolean, string, board_name, stat_name, text_name, optional, tile, third_parameter, header_number, header_setting, side, board_setting, stat_number, stat_setting, stat_fields}
+use Rattle.zed_editfile.specs.Reading.{Field, mapped, byte_at, integer_at, boolean_at, string_at, board_name_at, stat_name_at, text_name_at, optional_at, third_parameter_at, header_number_of, key_of, flag_of, header_value_at, header_setting_at, side_of, board_value_at, board_setting_at, stat_number_of, stat_value_at, stat_setting_at, stat_fields_at}
 use Rattle.zed_editfile.specs.Sizes.{IsHeaderSetting, IsBoardSetting, IsStatSetting, IsStatFields}
 use Rattle.zed_editfile.proofs.Codec.{IsField, Completes, takes_then, takes_end, takes_all, takes_mapped, takes_choice, takes_none, again_then, again_mapped, byte_field, integer_field, boolean_field, string_field, tile_field}
 use Rattle.zed_editfile.proofs.Names.{board_name_field, stat_name_field, text_name_field, optional_field, third_parameter_field}

@@ -20,15 +20,11 @@ use Rattle.zed_types.specs.declared.header.HeaderSetting.{HeaderSetting}
 use Rattle.zed_types.specs.declared.header.HeaderSetting.TheVariants as header
 use Rattle.zed_types.specs.declared.property.Side.{Side}
 use Rattle.zed_types.specs.declared.property.Side.TheVariants.{North, South, West, East}
-use Rattle.zed_types.specs.declared.property.BoardByte.{BoardByte}
 use Rattle.zed_types.specs.declared.property.BoardByte.TheVariants.{MaxShots, StartX, StartY}
-use Rattle.zed_types.specs.declared.property.BoardFlag.{BoardFlag}
 use Rattle.zed_types.specs.declared.property.BoardFlag.TheVariants.{Dark, ReEnter}
-use Rattle.zed_types.specs.declared.property.BoardText.{BoardText}
 use Rattle.zed_types.specs.declared.property.BoardText.TheVariants.{Name, Message}
 use Rattle.zed_types.specs.declared.property.BoardSetting.{BoardSetting}
 use Rattle.zed_types.specs.declared.property.BoardSetting.TheVariants as board
-use Rattle.zed_types.specs.declared.stat_field.StatByte.{StatByte}
 use Rattle.zed_types.specs.declared.stat_field.StatByte.TheVariants.{X, Y, P1, P2, UnderElement, UnderColour}
 use Rattle.zed_types.specs.declared.stat_field.StatNumber.{StatNumber}
 use Rattle.zed_types.specs.declared.stat_field.StatNumber.TheVariants.{StepX, StepY, Cycle, Position}

@@ -1,5 +1,5 @@
 -- Which edits the fields of a record have room for. Each number of a program's edit fits its field by its type, each time and each string by the rules for edits.
-use Rattle.std.specs.Prelude.{ℕ, ◌<◌, ◌^◌, List, length, Option, IfSome, FitsSigned}
+use Rattle.std.specs.Prelude.{ℕ, ◌<◌, ◌^◌, List, length, IfSome, FitsSigned}
 use Rattle.std.specs.Int.{w16}
 use Rattle.zed_types.specs.declared.stamp.Stamp.{Stamp}
 use Rattle.zed_types.specs.declared.names.BoardId.{BoardId}

@@ -10,7 +10,6 @@ use Rattle.zed_types.specs.declared.names.TextId.{TextId}
 use Rattle.zed_types.specs.declared.names.ElemId.{ElemId}
 use Rattle.zed_types.specs.declared.tile.Tile.{Tile}
 use Rattle.zed_types.specs.declared.tile.Rectangle.{Rectangle}
-use Rattle.zed_types.specs.declared.text.ByteRange.{ByteRange}
 use Rattle.zed_types.specs.declared.header.HeaderNumber.{HeaderNumber}
 use Rattle.zed_types.specs.declared.header.HeaderNumber.TheVariants.{Ammo, Gems, Health, Torches, TorchTicks, EnergizerTicks, Score, TimePassed, Hundredths}
 use Rattle.zed_types.specs.declared.header.HeaderSetting.{HeaderSetting}

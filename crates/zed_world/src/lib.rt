@@ -24,6 +24,7 @@ pub use header::Header;
 pub use laws::{files_are_read_by_place, read_is_normal, written_is_read};
 pub use reading::read_world;
 pub use stat::{Code, StatData};
+pub use stats::is_passage;
 pub use world::World;
 pub use writing::write_world;
 

@@ -14,7 +14,7 @@ const PASSAGE: u8 = 11;
 
 /// Whether a passage stands at a place. Outside the table nothing does.
 #[tactic(auto, unfolding(crate::specs::Offsets::is_passage_at))]
-fn is_passage(tiles: &[Tile; TILES], x: u8, y: u8) -> bool
+pub fn is_passage(tiles: &[Tile; TILES], x: u8, y: u8) -> bool
     ensures { result ≡ is_passage_at tiles.now x y }
 {
     if x == 0 || 60 < x || y == 0 || 25 < y {

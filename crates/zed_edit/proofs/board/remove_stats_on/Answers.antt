@@ -1,4 +1,4 @@
-use Rattle.std.proofs.Common.{arith, cond}
+use Rattle.std.proofs.Common.{arith}
 use Rattle.zed_types.specs.Names.{same_stat}
 use Rattle.zed_edit.specs.Board.{change_stats}
 use Rattle.zed_edit.specs.Document.{change_such}

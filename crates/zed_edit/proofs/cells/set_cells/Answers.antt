@@ -1,5 +1,4 @@
-use Rattle.std.proofs.Common.{◌≡◌, ◌≤◌, ◌-◌, ◌+◌, ◌*◌, ◌∙◌, arith}
-use Rattle.zed_edit.specs.Board.{set_cells}
+use Rattle.std.proofs.Common.{◌≡◌, ◌-◌, ◌+◌, ◌*◌, ◌∙◌, arith}
 use Rattle.zed_edit.proofs.Rows.{set_cells-none, set_cells-more, in_table}
 use Rattle.zed_edit.proofs.cells.set_cells.Goals as goal
 

@@ -1,4 +1,4 @@
-use Rattle.std.proofs.Common.{arith, cond}
+use Rattle.std.proofs.Common.{arith}
 use Rattle.zed_types.specs.Text.{kill_within}
 use Rattle.zed_edit.proofs.Tables.{map_over_at}
 use Rattle.zed_edit.proofs.text.kill_bytes.Goals as goal

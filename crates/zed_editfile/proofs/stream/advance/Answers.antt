@@ -1,5 +1,3 @@
-use Rattle.std.proofs.Common.{◌∙◌, ap}
-use Rattle.zed_editfile.specs.Stream.{record_stop, waits}
 use Rattle.zed_editfile.proofs.Found.{no_record}
 use Rattle.zed_editfile.proofs.stream.advance.Goals as goal
 

@@ -1,4 +1,3 @@
-use Rattle.std.proofs.Common.{arith}
 use Rattle.std.proofs.lemmas.Result.{err_from_is_err_and}
 use Rattle.zed_editfile.proofs.Heads.{head_fault, head_short, head_done}
 use Rattle.zed_editfile.proofs.stream.take_head.Goals as goal

@@ -1,4 +1,4 @@
-use Rattle.std.proofs.Common.{◌≡◌, ℕ, true, length, [], arith, Option, Some, None, subst}
+use Rattle.std.proofs.Common.{◌≡◌, ℕ, true, length, arith, Option, Some, None, subst}
 use Rattle.std.specs.Prelude.{is_some}
 use Rattle.std.proofs.lemmas.List.{nil_from_length}
 use Rattle.zed_editfile.specs.Spelling.{file_text}

@@ -1,4 +1,3 @@
-use Rattle.std.proofs.Common.{ap, ◌∙◌}
 use Rattle.zed_editfile.proofs.Found.{begins, reads_nothing}
 use Rattle.zed_editfile.proofs.reader.EditReader.new.Goals as goal
 
