@@ -1,5 +1,5 @@
 -- What a delivery answers of an edit that is refused by its check.
-use Rattle.std.proofs.Common.{◌≡◌, ◌⊎◌, inl, inr, ap, sym, ◌∙◌, refl, List, Option, Some, None, Result, Ok, Err}
+use Rattle.std.proofs.Common.{◌≡◌, ◌⊎◌, inl, inr, List, Option, Some, None, Result, Err}
 use Rattle.zed_op.specs.declared.cause.Cause.{Cause}
 use Rattle.zed_op.specs.declared.cause.EditError.{EditError}
 use Rattle.zed_op.specs.declared.cause.EditError.TheVariants as edit
@@ -11,7 +11,7 @@ use Rattle.zed_document.specs.declared.error.DocumentError.TheVariants.{Memory}
 use Rattle.zed_document.specs.Errors.{refusal_of}
 use Rattle.zed_document.specs.Delivery.{AnswersFit}
 
-abbrev Checked : Type 0
+abbrev pub Checked : Type 0
 Checked = Result (Unit {0}) EditError
 
 abbrev Told : Type 0

@@ -10,7 +10,7 @@ use Rattle.zed_op.specs.Set.{IsRising, with_edit, union}
 use Rattle.zed_document.specs.Kept.{AllBelow}
 use Rattle.zed_document.specs.Merge.{AllFrom, below}
 use Rattle.zed_types.proofs.StampOrder.{same_stamp-itself, before_irrefl}
-use Rattle.zed_document.proofs.Spots.{with_edit-there, with_edit-between, AllAbove}
+use Rattle.zed_document.proofs.Spots.{with_edit-there, with_edit-between}
 use Rattle.zed_document.proofs.Walks.{AllBelow-append, AllBelow-later, above-rising, rising-drop}
 
 -- the log has an edit of the stamp

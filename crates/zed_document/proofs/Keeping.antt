@@ -1,18 +1,18 @@
 -- A document that has one more edit keeps what it shows.
-use Rattle.std.proofs.Common.{◌≡◌, Bool, true, false, ltb, List, [], ◌∷◌, ◌++◌, length, refl, ap, sym, subst, ◌∙◌}
+use Rattle.std.proofs.Common.{◌≡◌, Bool, false, ltb, List, [], ◌∷◌, ◌++◌, length, ap, sym, subst, ◌∙◌}
 use Rattle.std.specs.Prelude.{count_by, not}
 use Rattle.zed_types.specs.declared.stamp.Stamp.{Stamp}
 use Rattle.zed_op.specs.declared.op.Edit.{Edit}
 use Rattle.zed_edit.specs.declared.plain.Plain.{Plain}
 use Rattle.zed_edit.specs.Document.{empty_document}
 use Rattle.zed_op.specs.Fit.{Fits}
-use Rattle.zed_op.specs.Set.{AllFit, IsRising, with_edit}
+use Rattle.zed_op.specs.Set.{with_edit}
 use Rattle.zed_edit.specs.Replay.{replay, step}
 use Rattle.zed_document.specs.declared.delivered.Delivered.{Delivered}
 use Rattle.zed_document.specs.Delivery.{TellsNew, state_of}
 use Rattle.zed_document.specs.Held.{held_stamps, is_among, woken}
 use Rattle.zed_document.specs.Kept.{IsKept, AllBelow}
-use Rattle.zed_document.proofs.Passed.{StampsBelow, passed-below, step-passed, is_among-one_more, count-one_more}
+use Rattle.zed_document.proofs.Passed.{passed-below, step-passed, is_among-one_more, count-one_more}
 use Rattle.zed_laws.specs.Laws.{OneMoreIsOneStep}
 use Rattle.zed_op.specs.SetLaws.{EditKeepsRising, EditKeepsFit}
 

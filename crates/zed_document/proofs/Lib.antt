@@ -1,9 +1,16 @@
+pub mod Authored
 pub mod Checked
 pub mod Clashing
+pub mod Deleted
+pub mod DeletedParts
+pub mod Following
 pub mod HeldEdits
 pub mod Joining
 pub mod Keeping
 pub mod Merging
 pub mod Passed
 pub mod Spots
+pub mod Stretched
+pub mod Times
+pub mod TypedTexts
 pub mod Walks

@@ -1,16 +1,15 @@
 -- The laws of merging.
-use Rattle.std.proofs.Common.{◌≡◌, ℕ, List, [], ◌∷◌, ◌++◌, refl, ap, sym, ◌∙◌, ◌⊎◌, inl, inr}
+use Rattle.std.proofs.Common.{List, ◌++◌, refl, ap, sym, inl, inr}
 use Rattle.std.specs.List.{Contains}
 use Rattle.std.specs.Prelude.{false}
-use Rattle.std.proofs.lemmas.List.Elements.{Contains-append_left, Contains-append_right, Contains-append_cases}
+use Rattle.std.proofs.lemmas.List.Elements.{Contains-append_right, Contains-append_cases}
 use Rattle.zed_op.specs.declared.op.Edit.{Edit}
-use Rattle.zed_op.specs.Set.{Agrees, IsRising, union, set_of}
-use Rattle.zed_op.specs.SetLaws.{HaveTheSame, RisingAgrees, UnionHasBoth, UnionCommutes, UnionAssociates, UnionOfItsOwn, UnionOfSets, SetIsOfAnyOrder, SetGrowsByEdits}
+use Rattle.zed_op.specs.Set.{Agrees, IsRising, union}
+use Rattle.zed_op.specs.SetLaws.{RisingAgrees, UnionHasBoth, UnionCommutes, UnionAssociates, UnionOfItsOwn, UnionOfSets, SetIsOfAnyOrder, SetGrowsByEdits}
 use Rattle.zed_edit.specs.Replay.{replay, held}
 use Rattle.zed_document.specs.Merge.{Agree}
 use Rattle.zed_document.specs.Replica.{Replica}
-use Rattle.zed_document.specs.Same.{AreSame}
-use Rattle.zed_document.specs.Laws.{merged, CanMerge, MergeCommutes, MergeAssociates, MergeRepeats, MergeOfItself, EditsDecide, document_of, DeliveriesMakeIt, MergeIsDeliveries, OrderNeverCounts}
+use Rattle.zed_document.specs.Laws.{merged, MergeCommutes, MergeAssociates, MergeRepeats, MergeOfItself, EditsDecide, document_of, DeliveriesMakeIt, MergeIsDeliveries, OrderNeverCounts}
 
 pub edits_decide : EditsDecide
 edits_decide d o w e = (w, (ap (λ es. (replay es).header) e, ap (λ es. (replay es).boards) e, ap (λ es. (replay es).texts) e), ap held e)

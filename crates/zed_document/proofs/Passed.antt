@@ -1,6 +1,6 @@
 -- The stamps that a replay passes over.
-use Rattle.std.proofs.Common.{◌≡◌, ℕ, Bool, true, false, ◌||◌, not, List, [], ◌∷◌, ◌++◌, Result, Ok, Err, refl, ap, sym, ◌∙◌, arith, ◌⊎◌, inl, inr, ltb, length, length-append, append-nil}
-use Rattle.std.specs.List.{AllByRecursion, list_any, count_by}
+use Rattle.std.proofs.Common.{◌≡◌, ℕ, Bool, true, false, ◌||◌, not, List, [], ◌∷◌, ◌++◌, Result, Ok, Err, refl, sym, ◌∙◌, arith, ◌⊎◌, inl, inr, ltb, length, length-append, append-nil}
+use Rattle.std.specs.List.{AllByRecursion, count_by}
 use Rattle.zed_types.specs.declared.stamp.Stamp.{Stamp}
 use Rattle.zed_types.specs.Stamp.{before, same_stamp}
 use Rattle.zed_world.specs.Contents.{Contents}

@@ -1,16 +1,16 @@
 -- Where an edit with a stamp stands in a log, or belongs.
-use Rattle.std.proofs.Common.{◌≡◌, ℕ, zero, suc, ◌<◌, ◌≤◌, ◌-◌, Bool, true, false, List, [], ◌∷◌, ◌++◌, Some, None, take, drop, length, refl, ap, sym, subst, ◌∙◌, arith}
+use Rattle.std.proofs.Common.{◌≡◌, ℕ, zero, suc, ◌<◌, ◌≤◌, ◌-◌, true, false, List, [], ◌∷◌, ◌++◌, Some, None, take, drop, length, refl, ap, sym, subst, ◌∙◌, arith}
 use Rattle.std.proofs.lemmas.List.{take-append-drop}
 use Rattle.std.specs.Prelude.{insert}
-use Rattle.std.specs.List.{AllByRecursion, find}
-use Rattle.std.specs.Prelude.{slice_get, slice_index_or, IfSome, if◌then◌else◌}
+use Rattle.std.specs.List.{AllByRecursion}
+use Rattle.std.specs.Prelude.{slice_get, slice_index_or, IfSome}
 use Rattle.zed_types.specs.declared.stamp.Stamp.{Stamp}
 use Rattle.zed_types.specs.Stamp.{before, same_stamp}
 use Rattle.zed_op.specs.declared.op.Edit.{Edit}
 use Rattle.zed_op.specs.Set.{IsRising, with_edit}
 use Rattle.zed_document.specs.Delivery.{edit_with}
 use Rattle.zed_document.specs.Kept.{AllBelow}
-use Rattle.zed_types.proofs.StampOrder.{same_stamp-itself, before_irrefl, before_other_after, before_trans, before_asym, before_differs, before_differs_after}
+use Rattle.zed_types.proofs.StampOrder.{same_stamp-itself, before_irrefl, before_trans, before_asym, before_differs, before_differs_after}
 
 abbrev pub AllAbove : Stamp → List Edit → Type 0
 AllAbove s es = AllByRecursion (λ f. before s f.stamp ≡ true) es

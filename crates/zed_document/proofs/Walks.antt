@@ -1,5 +1,5 @@
 -- A log cut at a stamp.
-use Rattle.std.proofs.Common.{◌≡◌, ℕ, zero, suc, ◌<◌, ◌≤◌, ◌-◌, true, false, List, [], ◌∷◌, ◌++◌, take, drop, length, refl, ap, sym, arith}
+use Rattle.std.proofs.Common.{◌≡◌, ℕ, zero, suc, ◌<◌, ◌≤◌, ◌-◌, true, false, List, [], ◌∷◌, ◌++◌, take, drop, length, ap, sym, arith}
 use Rattle.std.specs.List.{AllByRecursion}
 use Rattle.std.specs.Prelude.{slice_get, slice_index_or, IfSome}
 use Rattle.zed_types.specs.declared.stamp.Stamp.{Stamp}
@@ -8,7 +8,7 @@ use Rattle.zed_op.specs.declared.op.Edit.{Edit}
 use Rattle.zed_op.specs.Set.{IsRising}
 use Rattle.zed_document.specs.Kept.{AllBelow}
 use Rattle.zed_document.specs.Merge.{AllFrom}
-use Rattle.zed_types.proofs.StampOrder.{before_trans, before_asym, before_other_after}
+use Rattle.zed_types.proofs.StampOrder.{before_trans, before_other_after}
 use Rattle.zed_document.proofs.Spots.{AllBelow-take, AllAbove}
 
 from-trans : (a b c : Stamp) → before a b ≡ true → before a c ≡ false → before b c ≡ false

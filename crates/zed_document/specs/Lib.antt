@@ -1,3 +1,4 @@
+pub mod Authoring
 pub mod Delivery
 pub mod Errors
 pub mod Held
@@ -7,4 +8,5 @@ pub mod Merge
 pub mod Reading
 pub mod Replica
 pub mod Same
+pub mod Stretches
 pub mod View

@@ -1,5 +1,5 @@
 -- What a merge answers.
-use Rattle.std.specs.Prelude.{◌≡◌, ◌≢◌, ◌==◌, ◌⊎◌, true, false, Bool, List, filter, Contains, Result, Ok, Err, MatchBool}
+use Rattle.std.specs.Prelude.{◌≡◌, ◌≢◌, ◌==◌, ◌⊎◌, false, List, filter, Contains, Result, Ok, Err, MatchBool}
 use Rattle.std.specs.List.{AllByRecursion}
 use Rattle.zed_types.specs.declared.stamp.Stamp.{Stamp}
 use Rattle.zed_types.specs.Stamp.{before}

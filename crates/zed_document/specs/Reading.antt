@@ -1,13 +1,13 @@
 -- What readers of a document answer.
-use Rattle.std.specs.Prelude.{◌≡◌, ◌↔◌, ◌⊎◌, ◌||◌, ℕ, Bool, true, if◌then◌else◌, List, Option, Some, None, Result, Ok, Err, IsOk, IsOkAnd, IsTrue, MatchBool, length}
+use Rattle.std.specs.Prelude.{◌≡◌, ◌↔◌, ◌||◌, Bool, if◌then◌else◌, Option, Some, None, Result, Ok, Err, IsOkAnd, IsTrue, MatchBool}
 use Rattle.zed_types.specs.declared.names.StatId.{StatId}
 use Rattle.zed_types.specs.declared.names.TextId.{TextId}
 use Rattle.zed_edit.specs.declared.plain.Plain.{Plain}
 use Rattle.zed_op.specs.declared.thing.Thing.TheVariants as thing
-use Rattle.zed_edit.specs.Document.{has, text, text_register}
+use Rattle.zed_edit.specs.Document.{has, text_register}
 use Rattle.zed_edit.specs.Replay.{replay}
 use Rattle.zed_document.specs.declared.error.DocumentError.{DocumentError}
-use Rattle.zed_document.specs.declared.error.DocumentError.TheVariants.{Memory, NoSuch, Stale}
+use Rattle.zed_document.specs.declared.error.DocumentError.TheVariants.{NoSuch, Stale}
 use Rattle.zed_document.specs.Replica.{Replica}
 use Rattle.zed_document.specs.Same.{AreSame}
 

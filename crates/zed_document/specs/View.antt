@@ -1,7 +1,6 @@
 -- What a view shows, by the numbers of things in the order in which they were made.
 use Rattle.std.specs.Prelude.{ℕ, ℤ, Bool, true, List, [], slice_index_or, Option}
 use Rattle.zed_types.specs.declared.names.BoardId.{BoardId}
-use Rattle.zed_types.specs.declared.names.StatId.{StatId}
 use Rattle.zed_types.specs.declared.tile.Tile.{Tile}
 use Rattle.zed_types.specs.declared.tile.Place.{Place}
 use Rattle.zed_types.specs.declared.header.HeaderNumber.{HeaderNumber}

@@ -96,6 +96,13 @@ impl Document {
         }
     }
 
+    /// Whether want of memory has left the document stale.
+    pub(crate) fn is_stale(&self) -> bool
+        ensures { result ≡ self.now.is_stale }
+    {
+        self.is_stale
+    }
+
     /// The allocator that keeps the edits.
     pub(crate) fn alloc(&self) -> Global {
         *self.edits.allocator()
@@ -136,7 +143,7 @@ impl Document {
     }
 
     /// Takes an edit that fits.
-    fn receive(&mut self, edit: Edit) -> Result<Delivered, DocumentError>
+    pub(crate) fn receive(&mut self, edit: Edit) -> Result<Delivered, DocumentError>
         requires sound { self.old.is_stale ≡ false }
         requires fits { Fits edit }
         ensures answers { (result ≡ Err DocumentError.Memory) ⊎ AnswersAt (edit_with edit.stamp self.old.edits) self.old.edits edit result }

@@ -20,6 +20,10 @@ pub enum DocumentError {
     Stale,
     #[error("there is no such thing")]
     NoSuch,
+    #[error("the text has no such place")]
+    OutOfRange,
+    #[error("no later time is left")]
+    ClockSpent,
 }
 
 /// The refusal of a document for one of an edit.

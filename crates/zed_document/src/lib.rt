@@ -2,10 +2,14 @@
 //! who made them in stamp order.
 #![tactic(auto)]
 
+mod author;
+mod clock;
+mod deletion;
 mod delivered;
 mod document;
 mod error;
 mod held;
+mod insertion;
 mod laws;
 mod merge;
 mod place;

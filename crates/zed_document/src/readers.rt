@@ -46,7 +46,7 @@ impl Document {
     }
 
     /// The plain document, of a text that was made.
-    fn shown_with(&self, text: TextId) -> Result<&Plain, DocumentError>
+    pub(crate) fn shown_with(&self, text: TextId) -> Result<&Plain, DocumentError>
         ensures { TellsOfText self.now text (λ r. IsOkAnd r (λ p. p.now ≡ replay self.now.edits)) result }
     {
         match self.shown() {

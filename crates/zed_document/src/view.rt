@@ -306,7 +306,8 @@ impl<'a> View<'a> {
         self.made_stat(i, j).fields.text
     }
 
-    fn elements(&self, id: TextId) -> &[TextElement]
+    /// The bytes of a text, dead ones included.
+    pub(crate) fn elements(&self, id: TextId) -> &[TextElement]
         ensures { result.now ≡ elements self.now id }
     {
         match find_made(self.plain.texts.as_slice(), id) {

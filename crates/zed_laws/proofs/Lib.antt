@@ -6,7 +6,9 @@ pub mod LateDeletion
 pub mod LateEdits
 pub mod LateInsertion
 pub mod LatestWrites
+pub mod MadeElements
 pub mod MadeThings
+pub mod NamedElements
 pub mod RegularSteps
 pub mod Removed
 pub mod ReplaySteps

@@ -3,6 +3,7 @@
 
 mod laws;
 mod regular;
+mod texts;
 
 pub use laws::{
     cells_are_registers, greatest_stamp_wins, header_numbers_are_registers,
@@ -10,3 +11,4 @@ pub use laws::{
     removed_things_are_changed, replay_goes_edit_by_edit, taken_edits_make_all,
 };
 pub use regular::replay_is_regular;
+pub use texts::texts_keep_names;

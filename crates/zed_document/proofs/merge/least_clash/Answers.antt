@@ -1,7 +1,6 @@
-use Rattle.std.proofs.Common.{◌≡◌, [], ◌∷◌, ◌++◌, suc, drop, take, length, arith, add-one, sym, subst}
+use Rattle.std.proofs.Common.{◌≡◌, [], ◌∷◌, ◌++◌, suc, drop, take, length, arith, add-one}
 use Rattle.std.proofs.Math.Seq.{take-length}
 use Rattle.std.specs.List.{AllByRecursion}
-use Rattle.zed_document.specs.Delivery.{edit_with}
 use Rattle.zed_document.proofs.Walks.{drop-item, take-item}
 use Rattle.zed_document.proofs.Clashing.{IsFine, first-clash, serve-step, fine-step, all-fine}
 use Rattle.zed_document.proofs.merge.least_clash.Goals as goal

@@ -1,4 +1,4 @@
-use Rattle.std.proofs.Common.{◌≡◌, [], ◌∷◌, ◌++◌, ap, ◌∙◌, sym}
+use Rattle.std.proofs.Common.{◌≡◌, [], ◌∷◌, ◌++◌, ap, ◌∙◌}
 use Rattle.zed_document.proofs.Walks.{rising-drop}
 use Rattle.zed_document.proofs.Joining.{IsCut, next-there, next-new, below-there, below-new}
 use Rattle.zed_document.proofs.merge.push_next.Goals as goal

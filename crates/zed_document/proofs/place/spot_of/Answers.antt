@@ -1,4 +1,4 @@
-use Rattle.std.proofs.Common.{arith, ◌≡◌, ◌-◌, ◌<◌, length, sym, ◌∙◌}
+use Rattle.std.proofs.Common.{arith, ◌≡◌, ◌-◌, ◌<◌, length, ◌∙◌}
 use Rattle.std.specs.Prelude.{slice_get, IfSome}
 use Rattle.zed_document.proofs.Spots.{edit_with-at, with_edit-at, edit_with-free, with_edit-free, spot-below, get-at, IsSpot}
 use Rattle.zed_document.proofs.place.spot_of.Goals as goal

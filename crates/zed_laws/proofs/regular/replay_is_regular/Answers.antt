@@ -1,4 +1,4 @@
-use Rattle.zed_laws.proofs.RegularSteps.{ReadIsNormal, replay_regular}
+use Rattle.zed_laws.proofs.RegularSteps.{replay_regular}
 use Rattle.zed_laws.proofs.regular.replay_is_regular.Goals as goal
 
 pub returns : goal.returns

@@ -1,9 +1,7 @@
-use Rattle.std.proofs.Common.{rules, ◌≡◌, [], ◌∷◌, ◌++◌, false, length, ltb, refl, ap, ◌∙◌, inr}
+use Rattle.std.proofs.Common.{rules, ◌≡◌, [], ◌∷◌, ◌++◌, false, refl, ap, ◌∙◌, inr}
 use Rattle.zed_op.specs.Set.{with_edit}
 use Rattle.zed_edit.specs.Replay.{step}
-use Rattle.zed_document.specs.Delivery.{state_of}
 use Rattle.zed_document.specs.Held.{held_stamps}
-use Rattle.zed_document.specs.Kept.{IsKept}
 use Rattle.zed_document.specs.Replica.{Replica}
 use Rattle.zed_document.proofs.Keeping.{kept-append, tells-append}
 use Rattle.zed_document.proofs.document.Document.append.Goals as goal

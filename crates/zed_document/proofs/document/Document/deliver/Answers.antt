@@ -1,11 +1,5 @@
-use Rattle.std.proofs.Common.{◌≡◌, ◌⊎◌, false, Err, ap, sym, ◌∙◌, subst}
-use Rattle.std.specs.Prelude.{MatchBool}
+use Rattle.std.proofs.Common.{◌≡◌, false, Err, ap, sym, ◌∙◌}
 use Rattle.zed_op.specs.Fit.{fault}
-use Rattle.zed_document.specs.declared.delivered.Delivered.{Delivered}
-use Rattle.zed_document.specs.declared.error.DocumentError.{DocumentError}
-use Rattle.zed_document.specs.declared.error.DocumentError.TheVariants.{Memory}
-use Rattle.zed_document.specs.Delivery.{Answers, AnswersFit}
-use Rattle.zed_document.specs.Errors.{refusal_of}
 use Rattle.zed_document.specs.Replica.{Replica}
 use Rattle.zed_document.proofs.Checked.{refused-answers}
 use Rattle.zed_document.proofs.document.Document.deliver.Goals as goal

@@ -1,7 +1,5 @@
-use Rattle.std.proofs.Common.{◌≡◌, [], ap, ◌∙◌, sym}
-use Rattle.zed_types.specs.declared.stamp.Stamp.{Stamp}
+use Rattle.std.proofs.Common.{◌≡◌, ap, ◌∙◌, sym}
 use Rattle.zed_op.specs.Set.{union}
-use Rattle.zed_document.specs.Merge.{below}
 use Rattle.zed_document.specs.Replica.{Replica}
 use Rattle.zed_document.proofs.Joining.{first_stamp, below-first_stamp}
 use Rattle.zed_document.proofs.document.Document.merge.Goals as goal

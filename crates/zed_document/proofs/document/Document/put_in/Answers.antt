@@ -1,6 +1,6 @@
-use Rattle.std.proofs.Common.{rules, ◌≡◌, false, refl, ap, sym, ◌∙◌, inr}
+use Rattle.std.proofs.Common.{rules, ◌≡◌, ap, sym, ◌∙◌, inr}
 use Rattle.std.specs.Prelude.{insert}
-use Rattle.zed_op.specs.Set.{IsRising, with_edit}
+use Rattle.zed_op.specs.Set.{with_edit}
 use Rattle.zed_edit.specs.Replay.{replay}
 use Rattle.zed_document.specs.Held.{held_stamps, is_among}
 use Rattle.zed_document.specs.Delivery.{state_of}

@@ -1,0 +1,38 @@
+-- Edits that are made one after the other.
+use Rattle.std.proofs.Common.{◌≡◌, ◌⊎◌, inl, inr, ℕ, zero, suc, ◌+◌, ◌<◌, List, [], ◌∷◌, ◌++◌, length, drop, None, Result, Ok, Err, ap, sym, ◌∙◌, append-nil, add-one, arith, subst}
+use Rattle.std.specs.Prelude.{slice_index_or, IfErr}
+use Rattle.zed_op.specs.declared.op.Edit.{Edit}
+use Rattle.zed_op.specs.Fit.{fault}
+use Rattle.zed_op.specs.Set.{with_edit}
+use Rattle.zed_document.specs.declared.error.DocumentError.{DocumentError}
+use Rattle.zed_document.specs.declared.error.DocumentError.TheVariants.{Memory}
+use Rattle.zed_document.specs.Authoring.{AnswersToDo, AnswersFault}
+use Rattle.zed_document.specs.Delivery.{edit_with}
+use Rattle.zed_document.specs.Stretches.{IsNext, CanFollow}
+use Rattle.zed_document.proofs.Authored.{last-edit}
+use Rattle.zed_document.proofs.Spots.{edit_with-past}
+use Rattle.zed_document.proofs.TypedTexts.{to-fault}
+
+pub next-answers : (es : List Edit) (e : Edit) (r : Result Edit DocumentError) → IsNext es e → (r ≡ Err Memory) ⊎ AnswersToDo (fault e) es e r → (r ≡ Err Memory) ⊎ (r ≡ Ok e)
+next-answers es e r n (inl h) = inl h
+next-answers es e r n (inr h) =
+    let free : edit_with e.stamp es ≡ None = ap (edit_with e.stamp) (sym (append-nil es)) ∙ edit_with-past e.stamp es [] n.0 in
+    let a : AnswersFault (fault e) e r = to-fault (fault e) es e r n.2 free h in
+    inr (subst (λ f. AnswersFault f e r) n.1 a)
+
+pub next-last : (es : List Edit) (e : Edit) → IsNext es e → with_edit e es ≡ es ++ e ∷ []
+next-last es e n = last-edit e es n.0
+
+-- an edit at its place
+pub drop-edit : (es : List Edit) (i : ℕ) (e : Edit) → i < length es → e ≡ slice_index_or es i e → drop i es ≡ e ∷ drop (i + 1) es
+drop-edit [] i e l h = absurd (omega arith)
+drop-edit (f ∷ es) zero e l h = ap (λ x. x ∷ es) (sym h)
+drop-edit (f ∷ es) (suc i) e l h = rw add-one (rw add-one at (drop-edit es i e (omega arith) h))
+
+pub follow-next : (es fs : List Edit) (i : ℕ) (e : Edit) → i < length fs → e ≡ slice_index_or fs i e → CanFollow es (drop i fs) → IsNext es e × CanFollow (es ++ e ∷ []) (drop (i + 1) fs)
+follow-next es fs i e l h f = rw (drop-edit fs i e l h) at f
+
+pub next-only : (r : Result Edit DocumentError) (e : Edit) → (r ≡ Err Memory) ⊎ (r ≡ Ok e) → IfErr r (λ x. x ≡ Memory)
+next-only (Ok f) e h = tt
+next-only (Err x) e (inl h) = cc
+next-only (Err x) e (inr h) = absurd (cc)

@@ -1,0 +1,126 @@
+// What an author makes at a replica: edits later than all that it has.
+
+ghost use Rattle.std.specs.Prelude.{◌≡◌, ◌≢◌, ◌⊎◌, if◌then◌else◌, false, true, is_ok, take, Err, OnOk, MatchBool};
+ghost use Rattle.zed_op.specs.Fit.{Fits, fault};
+ghost use Rattle.zed_edit.specs.Replay.{replay, can};
+ghost use Rattle.zed_op.specs.Set.{AllFit, with_edit};
+ghost use Rattle.zed_document.specs.Authoring.{AnswersMade, AnswersToDo, IsLate, MayTakeMemory, AnswersAuthor, authored, is_spent_for};
+ghost use Rattle.zed_document.specs.Delivery.{edit_with};
+ghost use Rattle.zed_document.specs.Held.{held_stamps, is_among as is_one_of};
+
+use crate::clock::stamp_for;
+use crate::document::Document;
+use crate::error::{DocumentError, of_edit};
+use zed_edit::{Edit, Op, can, check};
+use zed_laws::replay_goes_edit_by_edit;
+use zed_op::{fit_is_of_parts, sets_stay_fit};
+
+/// A late edit that can be done is taken.
+fn are_late_edits_taken(edits: &[Edit], edit: &Edit)
+    requires fit { AllFit edits.now }
+    requires fits { Fits edit.now }
+    requires late { IsLate edits.now edit.now }
+    requires can { can (replay edits.now) edit.now ≡ true }
+    ensures { is_one_of (held_stamps (with_edit edit.now edits.now)) edit.now.stamp ≡ false }
+{
+    fit_is_of_parts();
+    replay_goes_edit_by_edit();
+    sets_stay_fit();
+}
+
+impl Document {
+    /// Makes an edit at a replica, later than all that the document has, held ones too, and takes it. In this order: Stale; ClockSpent
+    /// where no later time is left; BadEdit where the edit doesn't fit; NoSuch where a thing that it names isn't made; Clash where
+    /// another world was made; Memory. The world is made by replica 0 at time 1; the one that is there already is answered again. The
+    /// set of edits is as before on each refusal. After Memory the document may be stale.
+    pub fn author(&mut self, replica: u16, op: Op) -> Result<Edit, DocumentError>
+        ensures answers { (result ≡ Err DocumentError.Memory) ⊎ AnswersAuthor self.old replica op result }
+        ensures edits { self.new.edits ≡ (if is_ok result then with_edit (authored self.old.edits replica op) self.old.edits else self.old.edits) }
+        ensures taken { OnOk result (is_one_of (held_stamps self.new.edits) (authored self.old.edits replica op).stamp ≡ false) }
+        ensures world { self.new.world ≡ self.old.world }
+        ensures sound { OnOk result (self.new.is_stale ≡ false) }
+        ensures stale { (result ≢ Err DocumentError.Memory) → self.new.is_stale ≡ self.old.is_stale }
+        ensures lean { result ≡ Err DocumentError.Memory → (self.old.is_stale ≡ false) × (is_spent_for self.old.edits op ≡ false) × MayTakeMemory self.old.edits (authored self.old.edits replica op) }
+    {
+        if self.is_stale() {
+            return Err(DocumentError::Stale);
+        }
+        match stamp_for(self.edits(), replica, &op) {
+            Some(stamp) => self.make(Edit { stamp, op }),
+            None => Err(DocumentError::ClockSpent),
+        }
+    }
+
+    /// Whether all that an edit names was made.
+    fn has_all_of(&self, edit: &Edit) -> bool
+        requires { self.now.is_stale ≡ false }
+        ensures { result ≡ can (replay self.now.edits) edit.now }
+    {
+        match self.shown() {
+            Ok(plain) => can(plain, edit),
+            Err(_) => false,
+        }
+    }
+
+    /// Makes an edit: the world, or an edit later than all others.
+    pub(crate) fn make(&mut self, edit: Edit) -> Result<Edit, DocumentError>
+        requires sound { self.old.is_stale ≡ false }
+        requires late { IsLate self.old.edits edit }
+        ensures answers { (result ≡ Err DocumentError.Memory) ⊎ AnswersToDo (fault edit) self.old.edits edit result }
+        ensures edits { self.new.edits ≡ (if is_ok result then with_edit edit self.old.edits else self.old.edits) }
+        ensures taken { OnOk result (is_one_of (held_stamps self.new.edits) edit.stamp ≡ false) }
+        ensures world { self.new.world ≡ self.old.world }
+        ensures sound { OnOk result (self.new.is_stale ≡ false) }
+        ensures stale { (result ≢ Err DocumentError.Memory) → self.new.is_stale ≡ false }
+        ensures lean { result ≡ Err DocumentError.Memory → MayTakeMemory self.old.edits edit }
+    {
+        match check(self.alloc(), &edit) {
+            Ok(()) => self.make_checked(edit),
+            Err(error) => Err(of_edit(error)),
+        }
+    }
+
+    /// Makes an edit that fits, where it can be done.
+    fn make_checked(&mut self, edit: Edit) -> Result<Edit, DocumentError>
+        requires sound { self.old.is_stale ≡ false }
+        requires fits { Fits edit }
+        requires late { IsLate self.old.edits edit }
+        ensures answers { (result ≡ Err DocumentError.Memory) ⊎ MatchBool (can (replay self.old.edits) edit) (AnswersMade (edit_with edit.stamp self.old.edits) edit result) (result ≡ Err DocumentError.NoSuch) }
+        ensures edits { self.new.edits ≡ (if is_ok result then with_edit edit self.old.edits else self.old.edits) }
+        ensures taken { OnOk result (is_one_of (held_stamps self.new.edits) edit.stamp ≡ false) }
+        ensures world { self.new.world ≡ self.old.world }
+        ensures sound { OnOk result (self.new.is_stale ≡ false) }
+        ensures stale { (result ≢ Err DocumentError.Memory) → self.new.is_stale ≡ false }
+        ensures lean { result ≡ Err DocumentError.Memory → can (replay self.old.edits) edit ≡ true }
+    {
+        if self.has_all_of(&edit) {
+            self.take(edit)
+        } else {
+            Err(DocumentError::NoSuch)
+        }
+    }
+
+    /// Takes an edit that fits and can be done.
+    fn take(&mut self, edit: Edit) -> Result<Edit, DocumentError>
+        requires sound { self.old.is_stale ≡ false }
+        requires fits { Fits edit }
+        requires late { IsLate self.old.edits edit }
+        requires can { can (replay self.old.edits) edit ≡ true }
+        ensures answers { (result ≡ Err DocumentError.Memory) ⊎ AnswersMade (edit_with edit.stamp self.old.edits) edit result }
+        ensures edits { self.new.edits ≡ (if is_ok result then with_edit edit self.old.edits else self.old.edits) }
+        ensures taken { OnOk result (is_one_of (held_stamps self.new.edits) edit.stamp ≡ false) }
+        ensures world { self.new.world ≡ self.old.world }
+        ensures sound { OnOk result (self.new.is_stale ≡ false) }
+        ensures stale { (result ≢ Err DocumentError.Memory) → self.new.is_stale ≡ false }
+    {
+        let copy = match edit.copy() {
+            Ok(copy) => copy,
+            Err(error) => return Err(of_edit(error)),
+        };
+        are_late_edits_taken(self.edits(), &edit);
+        match self.receive(edit) {
+            Ok(_) => Ok(copy),
+            Err(error) => Err(error),
+        }
+    }
+}

@@ -1,0 +1,250 @@
+// Bytes that an author deletes from a text.
+
+ghost use Rattle.std.specs.Prelude.{◌≡◌, ◌≢◌, ◌≤◌, ◌⊎◌, ◌++◌, ◌∷◌, ◌-◌, ◌+◌, ◌==◌, ◌&&◌, [], ℕ, false, true, is_ok, length, take, Err, IfOk, IfErr, OnOk, OnErr, IsOkAnd, MatchBool, if◌then◌else◌};
+ghost use Rattle.zed_edit.specs.Document.{has, text as text_shown};
+ghost use Rattle.zed_op.specs.declared.thing.Thing.TheVariants.{Text as the_text};
+ghost use Rattle.zed_op.specs.Set.{AllFit, IsRising};
+ghost use Rattle.zed_edit.specs.Replay.{replay};
+ghost use Rattle.zed_document.specs.Authoring.{AnswersDeletion, is_spent, deletions, deletions_of, is_part, stretches_of, without, alive, part, stretches};
+ghost use Rattle.zed_document.specs.Stretches.{IsNext, CanFollow, ends_before as goes_behind, stretched, with_last, adds, names_from};
+ghost use Rattle.zed_document.specs.Reading.{has_text, TellsOfText};
+
+use crate::clock::{is_spent as are_spent, next_time};
+use crate::document::Document;
+use crate::error::{DocumentError, of_edit};
+use crate::view::View;
+use std::alloc::Global;
+use zed_edit::{Edit, Op};
+use zed_laws::{made_things_stay, replay_goes_edit_by_edit, texts_keep_names};
+use zed_op::fit_is_of_parts;
+use zed_types::{ByteRange, ElemId, Stamp, TextElement, TextId};
+
+/// Whether a byte stands directly behind a stretch, in the same insertion.
+fn ends_before(range: ByteRange, name: ElemId) -> bool
+    ensures { result ≡ goes_behind range name }
+{
+    range.stamp == name.stamp && u64::from(range.last) + 1 == u64::from(name.index)
+}
+
+/// A stretch that goes on to a byte.
+fn stretch(range: ByteRange, name: ElemId) -> ByteRange
+    ensures { result ≡ stretched range name }
+{
+    ByteRange {
+        stamp: name.stamp,
+        first: range.first,
+        last: name.index,
+    }
+}
+
+/// One more byte behind stretches: part of the last, or a stretch of its own.
+fn add_name(ranges: &mut Vec<ByteRange>, name: ElemId) -> Result<(), DocumentError>
+    ensures ok { OnOk result (ranges.new.items ≡ with_last ranges.old.items name) }
+    ensures err { IfErr result (λ e. e ≡ DocumentError.Memory) }
+{
+    let count = ranges.len();
+    if count > 0 {
+        let last = ranges[count - 1];
+        if ends_before(last, name) {
+            ranges[count - 1] = stretch(last, name);
+            return Ok(());
+        }
+    }
+    let alone = ByteRange {
+        stamp: name.stamp,
+        first: name.index,
+        last: name.index,
+    };
+    if ranges.push(alone).is_err() {
+        return Err(DocumentError::Memory);
+    }
+    Ok(())
+}
+
+/// The stretches of the bytes of a text that are alive, of so many from a position on.
+fn stretches_in(
+    alloc: Global,
+    elements: &[TextElement],
+    from: usize,
+    count: usize,
+) -> Result<Vec<ByteRange>, DocumentError>
+    ensures ok { IfOk result (λ ranges. ranges.items ≡ adds [] (names_from from count elements.now)) }
+    ensures err { IfErr result (λ e. e ≡ DocumentError.Memory) }
+{
+    let mut ranges = Vec::new(alloc);
+    let mut skip = from;
+    let mut left = count;
+    for element in elements {
+        if element.alive {
+            if skip > 0 {
+                skip -= 1;
+            } else if left > 0 {
+                add_name(&mut ranges, element.id)?;
+                left -= 1;
+            }
+        }
+    }
+    Ok(ranges)
+}
+
+/// Deletions of stretches, at times that rise by one.
+fn edits_of(
+    alloc: Global,
+    time: u64,
+    replica: u16,
+    text: TextId,
+    ranges: &[ByteRange],
+) -> Result<Vec<Edit>, DocumentError>
+    requires { time + length ranges.now ≤ 281474976710656 }
+    ensures ok { IfOk result (λ made. made.items ≡ deletions time replica text ranges.now) }
+    ensures err { IfErr result (λ e. e ≡ DocumentError.Memory) }
+{
+    let mut made = Vec::new(alloc);
+    let mut next = time;
+    for range in ranges {
+        let stamp = Stamp {
+            time: next,
+            replica,
+        };
+        let op = Op::TextDelete(text, *range);
+        if made.push(Edit { stamp, op }).is_err() {
+            return Err(DocumentError::Memory);
+        }
+        next += 1;
+    }
+    Ok(made)
+}
+
+/// The deletions of a part of a text can be done one after the other, and leave the text without the part.
+fn deletions_follow(edits: &[Edit], replica: u16, text: TextId, from: usize, to: usize)
+    requires fit { AllFit edits.now }
+    requires rising { IsRising edits.now }
+    requires made { has (replay edits.now) (the_text text) ≡ true }
+    requires part { is_part from to (length (text_shown (replay edits.now) text)) ≡ true }
+    requires left { is_spent edits.now (length (stretches_of edits.now text from to)) ≡ false }
+    requires replica { 1 ≤ replica }
+    ensures follow { CanFollow edits.now (deletions_of edits.now replica text from to) }
+    ensures shows { text_shown (replay (edits.now ++ deletions_of edits.now replica text from to)) text ≡ without from to (text_shown (replay edits.now) text) }
+{
+    texts_keep_names();
+    fit_is_of_parts();
+    replay_goes_edit_by_edit();
+    made_things_stay();
+}
+
+impl Document {
+    /// The stretches of the bytes of a text from one position to another.
+    fn ranges_of(
+        &self,
+        text: TextId,
+        from: usize,
+        to: usize,
+    ) -> Result<Vec<ByteRange>, DocumentError>
+        ensures { TellsOfText self.now text (λ r. MatchBool (is_part from to (length (text_shown (replay self.now.edits) text))) ((r ≡ Err DocumentError.Memory) ⊎ IsOkAnd r (λ v. v.items ≡ stretches_of self.now.edits text from to)) (r ≡ Err DocumentError.OutOfRange)) result }
+    {
+        match self.shown_with(text) {
+            Ok(plain) => {
+                let view = View::of(plain);
+                if from < to && to <= view.length(text) {
+                    stretches_in(self.alloc(), view.elements(text), from, to - from)
+                } else {
+                    Err(DocumentError::OutOfRange)
+                }
+            }
+            Err(error) => Err(error),
+        }
+    }
+
+    /// Makes edits one after the other, each of which can be done when its turn comes.
+    fn make_all(&mut self, edits: &[Edit]) -> Result<(), DocumentError>
+        requires sound { self.old.is_stale ≡ false }
+        requires follow { CanFollow self.old.edits edits.now }
+        ensures edits { OnOk result (self.new.edits ≡ self.old.edits ++ edits.now) }
+        ensures memory { OnErr result ((n : ℕ) × (self.new.edits ≡ self.old.edits ++ take n edits.now)) }
+        ensures only { IfErr result (λ e. e ≡ DocumentError.Memory) }
+        ensures world { self.new.world ≡ self.old.world }
+        ensures sound { OnOk result (self.new.is_stale ≡ false) }
+    {
+        for edit in edits {
+            let copy = match edit.copy() {
+                Ok(copy) => copy,
+                Err(error) => return Err(of_edit(error)),
+            };
+            let _ = self.make_next(copy)?;
+        }
+        Ok(())
+    }
+
+    /// Makes an edit that comes after all others and can be done.
+    fn make_next(&mut self, edit: Edit) -> Result<Edit, DocumentError>
+        requires sound { self.old.is_stale ≡ false }
+        requires next { IsNext self.old.edits edit }
+        ensures edits { self.new.edits ≡ (if is_ok result then self.old.edits ++ edit ∷ [] else self.old.edits) }
+        ensures only { IfErr result (λ e. e ≡ DocumentError.Memory) }
+        ensures world { self.new.world ≡ self.old.world }
+        ensures sound { OnOk result (self.new.is_stale ≡ false) }
+    {
+        self.make(edit)
+    }
+
+    /// Deletes the stretches of a part of a text.
+    fn delete_ranges(
+        &mut self,
+        replica: u16,
+        text: TextId,
+        from: usize,
+        to: usize,
+        ranges: &[ByteRange],
+    ) -> Result<Vec<Edit>, DocumentError>
+        requires sound { self.old.is_stale ≡ false }
+        requires made { has_text self.old text ≡ true }
+        requires part { is_part from to (length (text_shown (replay self.old.edits) text)) ≡ true }
+        requires ranges { ranges.now ≡ stretches_of self.old.edits text from to }
+        requires replica { 1 ≤ replica }
+        ensures answers { (result ≡ Err DocumentError.Memory) ⊎ MatchBool (is_spent self.old.edits (length (stretches_of self.old.edits text from to))) (result ≡ Err DocumentError.ClockSpent) (IsOkAnd result (λ v. v.items ≡ deletions_of self.old.edits replica text from to)) }
+        ensures edits { OnOk result (self.new.edits ≡ self.old.edits ++ deletions_of self.old.edits replica text from to) }
+        ensures shows { OnOk result (text_shown (replay self.new.edits) text ≡ without from to (text_shown (replay self.old.edits) text)) }
+        ensures memory { result ≡ Err DocumentError.Memory → (n : ℕ) × (self.new.edits ≡ self.old.edits ++ take n (deletions_of self.old.edits replica text from to)) }
+        ensures kept { is_ok result ≡ false → (result ≢ Err DocumentError.Memory) → self.new ≡ self.old }
+        ensures world { self.new.world ≡ self.old.world }
+        ensures sound { OnOk result (self.new.is_stale ≡ false) }
+    {
+        if are_spent(self.edits(), ranges.len()) {
+            return Err(DocumentError::ClockSpent);
+        }
+        deletions_follow(self.edits(), replica, text, from, to);
+        let time = next_time(self.edits());
+        let made = edits_of(self.alloc(), time, replica, text, ranges)?;
+        self.make_all(&made)?;
+        Ok(made)
+    }
+
+    /// Deletes the alive bytes of a text from one position to another, without the last: one edit for each longest stretch of one
+    /// insertion with indices that rise by one. In this order: Stale; NoSuch where the text wasn't made; OutOfRange where the range is
+    /// empty or ends over the length; ClockSpent where fewer times are left than edits are needed; Memory, after which the first of
+    /// these edits may be made and the document may be stale.
+    ///
+    /// The caller gives a replica of at least 1.
+    pub fn delete_text(
+        &mut self,
+        replica: u16,
+        text: TextId,
+        from: usize,
+        to: usize,
+    ) -> Result<Vec<Edit>, DocumentError>
+        requires { 1 ≤ replica }
+        ensures answers { (result ≡ Err DocumentError.Memory) ⊎ AnswersDeletion self.old text from to (λ r. IsOkAnd r (λ v. v.items ≡ deletions_of self.old.edits replica text from to)) result }
+        ensures edits { OnOk result (self.new.edits ≡ self.old.edits ++ deletions_of self.old.edits replica text from to) }
+        ensures shows { OnOk result (text_shown (replay self.new.edits) text ≡ without from to (text_shown (replay self.old.edits) text)) }
+        ensures memory { result ≡ Err DocumentError.Memory → (n : ℕ) × (self.new.edits ≡ self.old.edits ++ take n (deletions_of self.old.edits replica text from to)) }
+        ensures kept { is_ok result ≡ false → (result ≢ Err DocumentError.Memory) → self.new ≡ self.old }
+        ensures world { self.new.world ≡ self.old.world }
+        ensures sound { OnOk result (self.new.is_stale ≡ false) }
+        ensures lean { result ≡ Err DocumentError.Memory → (self.old.is_stale ≡ false) × (has_text self.old text ≡ true) × (is_part from to (length (text_shown (replay self.old.edits) text)) ≡ true) }
+    {
+        match self.ranges_of(text, from, to) {
+            Ok(ranges) => self.delete_ranges(replica, text, from, to, &ranges),
+            Err(error) => Err(error),
+        }
+    }
+}

@@ -1,0 +1,94 @@
+// Bytes that an author puts into a text.
+
+ghost use Rattle.std.specs.Prelude.{◌≡◌, ◌≢◌, ◌⊎◌, ◌++◌, ◌∷◌, ◌-◌, [], if◌then◌else◌, false, is_ok, length, nat_le, slice_get, option_map, Ok, Err, OnOk, MatchBool};
+ghost use Rattle.zed_types.specs.Text.{alive_bytes};
+ghost use Rattle.zed_edit.specs.Document.{text as text_shown, elements};
+ghost use Rattle.zed_edit.specs.Replay.{replay};
+ghost use Rattle.zed_document.specs.Authoring.{AnswersInsertion, MayTakeMemoryAt, authored, insertion_at, with_bytes, alive, byte_before};
+ghost use Rattle.zed_document.specs.Reading.{TellsOfText};
+
+use crate::clock::next_stamp;
+use crate::document::Document;
+use crate::error::DocumentError;
+use crate::view::View;
+use zed_edit::{Edit, Op};
+use zed_laws::{replay_goes_edit_by_edit, texts_keep_names};
+use zed_types::{Bytes, ElemId, TextElement, TextId};
+
+/// The name of the k-th of the bytes that are alive.
+fn live_name(elements: &[TextElement], k: usize) -> Option<ElemId>
+    ensures { result ≡ option_map (λ x. x.id) (slice_get (alive elements.now) k) }
+{
+    let mut left = k;
+    for element in elements {
+        if element.alive {
+            if left == 0 {
+                return Some(element.id);
+            }
+            left -= 1;
+        }
+    }
+    None
+}
+
+/// The name of the byte before a position, none at the head.
+fn name_before(elements: &[TextElement], position: usize) -> Result<Option<ElemId>, DocumentError>
+    ensures { MatchBool (nat_le position (length (alive_bytes elements.now))) (result ≡ Ok (byte_before elements.now position)) (result ≡ Err DocumentError.OutOfRange) }
+{
+    if position == 0 {
+        return Ok(None);
+    }
+    match live_name(elements, position - 1) {
+        Some(name) => Ok(Some(name)),
+        None => Err(DocumentError::OutOfRange),
+    }
+}
+
+impl Document {
+    /// The name of the byte before a position of a text.
+    fn place_at(&self, text: TextId, position: usize) -> Result<Option<ElemId>, DocumentError>
+        ensures { TellsOfText self.now text (λ r. MatchBool (nat_le position (length (text_shown (replay self.now.edits) text))) (r ≡ Ok (byte_before (elements (replay self.now.edits) text) position)) (r ≡ Err DocumentError.OutOfRange)) result }
+    {
+        match self.shown_with(text) {
+            Ok(plain) => {
+                let view = View::of(plain);
+                name_before(view.elements(text), position)
+            }
+            Err(error) => Err(error),
+        }
+    }
+
+    /// Puts bytes into a text at a position among its alive bytes: after the one before it, or at the head. In this order: Stale;
+    /// NoSuch where the text wasn't made; OutOfRange for a position over its length; ClockSpent; BadEdit where the edit doesn't fit;
+    /// Memory. The set of edits is as before on each refusal. After Memory the document may be stale.
+    pub fn insert_text(
+        &mut self,
+        replica: u16,
+        text: TextId,
+        position: usize,
+        bytes: Bytes,
+    ) -> Result<Edit, DocumentError>
+        ensures answers { (result ≡ Err DocumentError.Memory) ⊎ AnswersInsertion self.old replica text position bytes result }
+        ensures edits { self.new.edits ≡ (if is_ok result then self.old.edits ++ authored self.old.edits replica (insertion_at self.old.edits text position bytes) ∷ [] else self.old.edits) }
+        ensures shows { OnOk result (text_shown (replay self.new.edits) text ≡ with_bytes position bytes (text_shown (replay self.old.edits) text)) }
+        ensures world { self.new.world ≡ self.old.world }
+        ensures sound { OnOk result (self.new.is_stale ≡ false) }
+        ensures stale { (result ≢ Err DocumentError.Memory) → self.new.is_stale ≡ self.old.is_stale }
+        ensures lean { result ≡ Err DocumentError.Memory → MayTakeMemoryAt self.old replica text position bytes }
+    {
+        match self.place_at(text, position) {
+            Ok(after) => match next_stamp(self.edits(), replica) {
+                Some(stamp) => {
+                    texts_keep_names();
+                    replay_goes_edit_by_edit();
+                    self.make(Edit {
+                        stamp,
+                        op: Op::TextInsert(text, after, bytes),
+                    })
+                }
+                None => Err(DocumentError::ClockSpent),
+            },
+            Err(error) => Err(error),
+        }
+    }
+}
