@@ -1,5 +1,6 @@
 pub mod ClapLemmas
 pub mod Readings
+pub mod Opened
 pub mod Parsing
 pub mod PlainWords
 pub mod SaveWords
@@ -9,3 +10,4 @@ pub mod Endings
 pub mod FileEnds
 pub mod FileTexts
 pub mod Streams
+pub mod Worlds

@@ -1,8 +1,9 @@
 -- What `clap` is told of the words.
-use Rattle.std.specs.Prelude.{ℕ, List, [], ◌∷◌, Some, codes, true}
+use Rattle.std.specs.Prelude.{ℕ, List, [], ◌∷◌, Some, codes, pos, true}
 use Rattle.clap.specs.Simple.{App, Shape, new_app, new_rule, new_shape, on_top, with_subcommand}
 use Rattle.clap.specs.Walk.{Rule}
 use Rattle.clap.specs.Lexer.{usize_max}
+use Rattle.clap.specs.declared.builder.value_parser.ValueParser.TheVariants as value
 
 -- one word, which must be there
 abbrev pub required_rule : List ℕ → Rule
@@ -13,6 +14,22 @@ abbrev pub several_rule : List ℕ → Rule
 several_rule id = record (required_rule id) {
   range = Some (record { start_inclusive = 1; end_inclusive = usize_max });
 }
+
+-- a word behind a name with two hyphens
+abbrev pub option_rule : List ℕ → Rule
+option_rule id = record (new_rule id) { long = Some id; value_names = 1 }
+
+-- the number of a world
+abbrev pub world_rule : Rule
+world_rule = record (required_rule (codes "WORLD")) { parser = Some (value.Unsigned 0 18446744073709551615) }
+
+-- the number of a replica
+abbrev pub replica_rule : Rule
+replica_rule = record (required_rule (codes "REPLICA")) { parser = Some (value.Signed (pos 0) (pos 65535)) }
+
+-- the words of an action
+abbrev pub words_rule : Rule
+words_rule = several_rule (codes "WORDS")
 
 -- the edit files
 abbrev pub files_rule : Rule
@@ -28,10 +45,16 @@ save_shape = shape_with (codes "save") (required_rule (codes "OUT") ∷ files_ru
 abbrev pub check_shape : Shape
 check_shape = shape_with (codes "check") (files_rule ∷ [])
 
+abbrev pub create_shape : Shape
+create_shape = shape_with (codes "new") (required_rule (codes "OUT") ∷ world_rule ∷ option_rule (codes "from") ∷ option_rule (codes "name") ∷ [])
+
+abbrev pub edit_shape : Shape
+edit_shape = shape_with (codes "edit") (required_rule (codes "FILE") ∷ replica_rule ∷ words_rule ∷ [])
+
 -- the program without its subcommands
 abbrev pub top_app : App
 top_app = on_top (λ s. record s { no_binary_name = true; subcommand_required = true }) (new_app (codes "zzted"))
 
 -- the whole command line
 abbrev pub zzted_app : App
-zzted_app = with_subcommand (with_subcommand top_app save_shape) check_shape
+zzted_app = with_subcommand (with_subcommand (with_subcommand (with_subcommand top_app save_shape) check_shape) create_shape) edit_shape

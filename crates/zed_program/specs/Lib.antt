@@ -1,6 +1,8 @@
 pub mod Collected
+pub mod Edited
 pub mod Faults
 pub mod Files
+pub mod Fresh
 pub mod Grammar
 pub mod Lines
 pub mod Memory

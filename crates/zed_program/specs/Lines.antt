@@ -12,8 +12,8 @@ use Rattle.zed_export.specs.Warnings.{warnings_of}
 use Rattle.zed_export.specs.declared.warning.Warning.{Warning}
 use Rattle.zed_export.specs.declared.warning.Warning.TheVariants.{PlayerTile, OffBoard, SamePlace}
 use Rattle.zed_program.specs.declared.refusal.Refusal.{Refusal}
-use Rattle.zed_program.specs.declared.refusal.Refusal.TheVariants.{Memory, Magic, NewVersion, OtherWorld, RecordLength, BadEdit, CutShort}
-use Rattle.zed_program.specs.declared.refusal.Refusal.TheVariants.{Clash, Stale, NoSuch, NoWorld, BoardsOver, StatsOver, BoardOver, File}
+use Rattle.zed_program.specs.declared.refusal.Refusal.TheVariants.{Memory, NotZzt, TooManyBoards, Truncated, BadBoardSize, TooManyStats, BadShare, Magic, NewVersion, OtherWorld, RecordLength, BadEdit, CutShort}
+use Rattle.zed_program.specs.declared.refusal.Refusal.TheVariants.{Clash, Stale, ClockSpent, NoSuch, OutOfRange, BadAction, NoWorld, BoardsOver, StatsOver, BoardOver, File}
 
 -- a text with a line feed at its end
 abbrev pub ended : List ℕ → List ℕ
@@ -36,6 +36,12 @@ cause_name cause.Genesis = codes "Genesis"
 -- the name of a refusal, with its numbers or its cause
 abbrev pub told_as : Refusal → List ℕ
 told_as Memory = codes "Memory"
+told_as NotZzt = codes "NotZzt"
+told_as TooManyBoards = codes "TooManyBoards"
+told_as Truncated = codes "Truncated"
+told_as BadBoardSize = codes "BadBoardSize"
+told_as TooManyStats = codes "TooManyStats"
+told_as BadShare = codes "BadShare"
 told_as Magic = codes "Magic"
 told_as NewVersion = codes "NewVersion"
 told_as OtherWorld = codes "OtherWorld"
@@ -44,11 +50,14 @@ told_as (BadEdit c) = codes "BadEdit " ++ cause_name c
 told_as CutShort = codes "CutShort"
 told_as (Clash s) = codes "Clash " ++ pair_of s.time s.replica
 told_as Stale = codes "Stale"
+told_as ClockSpent = codes "ClockSpent"
 told_as NoSuch = codes "NoSuch"
+told_as OutOfRange = codes "OutOfRange"
 told_as NoWorld = codes "NoWorld"
 told_as (BoardsOver n) = codes "BoardsOver " ++ decimal n
 told_as (StatsOver b n) = codes "StatsOver " ++ pair_of b n
 told_as (BoardOver b n) = codes "BoardOver " ++ pair_of b n
+told_as BadAction = codes "BadAction"
 told_as File = codes "File"
 
 -- the line on the standard error
@@ -58,6 +67,10 @@ line_of refusal = ended (codes "zzted: " ++ told_as refusal)
 -- the line that tells how long a world file is
 abbrev pub bytes_line : ℕ → List ℕ
 bytes_line count = decimal count ++ ended (codes " bytes")
+
+-- the line that counts edits
+abbrev pub edits_line : ℕ → List ℕ
+edits_line count = decimal count ++ ended (codes " edits")
 
 -- what looks wrong, by the numbers of board and stat
 abbrev pub warning_line : Warning → List ℕ

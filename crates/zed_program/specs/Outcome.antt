@@ -1,5 +1,5 @@
 -- What the program leaves in a host that doesn't fail.
-use Rattle.std.specs.Prelude.{◌≡◌, ◌⊎◌, ℕ, List, Option, Some, None, Result, Ok, Err, MatchResult, codes, length, map, if◌then◌else◌, ⊤}
+use Rattle.std.specs.Prelude.{◌≡◌, ◌⊎◌, ℕ, List, [], ◌∷◌, Option, Some, None, Result, Ok, Err, MatchResult, codes, length, map, if◌then◌else◌, option_map, ⊤}
 use Rattle.std.specs.Borrow.{Bor}
 use Rattle.std.specs.Str.{bytes_eq}
 use Rattle.zed_op.specs.declared.op.Edit.{Edit}
@@ -8,17 +8,23 @@ use Rattle.zed_world.specs.Writing.{world_text}
 use Rattle.zed_edit.specs.Replay.{replay}
 use Rattle.zed_export.specs.Limits.{refusal_of}
 use Rattle.zed_export.specs.World.{world_of}
+use Rattle.zed_editfile.specs.Spelling.{file_text}
 use Rattle.zed_program.specs.declared.refusal.Refusal.{Refusal}
 use Rattle.zed_program.specs.declared.refusal.Refusal.TheVariants.{Memory}
 use Rattle.zed_program.specs.Collected.{IsCollected}
+use Rattle.zed_program.specs.Edited.{FileEdits, IsEdited}
 use Rattle.zed_program.specs.Files.{IsStream, Stream}
-use Rattle.zed_program.specs.Lines.{bytes_line, line_of, report_of}
+use Rattle.zed_program.specs.Fresh.{genesis_of, made_by, taken_from}
+use Rattle.zed_program.specs.Lines.{bytes_line, edits_line, line_of, report_of}
 use Rattle.zed_program.specs.Refusals.{export_refusal}
 use Rattle.zed_program.specs.Told.{Told, file_in, with_complaint, with_file, with_printed}
-use Rattle.zed_program.specs.Wanted.{Wanted, Save, Check}
+use Rattle.zed_program.specs.Wanted.{Wanted, Save, Check, New, Edit as EditFile}
 
 abbrev pub texts_of : List (Bor (List ℕ)) → List (List ℕ)
 texts_of = map (λ s. s.now)
+
+abbrev pub text_in : Option (Bor (List ℕ)) → Option (List ℕ)
+text_in = option_map (λ s. s.now)
 
 -- what the files of these names come to
 abbrev pub IsStreamIn : Told → List (List ℕ) → Stream → Type 0
@@ -68,10 +74,27 @@ made_of make (Err e) = Err e
 abbrev pub IsMade : Told → List (List ℕ) → (List Edit → Result (List ℕ) Refusal) → Result (List ℕ) Refusal → Type 0
 IsMade t names make m = (set : Result (List Edit) Refusal) × Collects t names set × (m ≡ made_of make set)
 
+-- the bytes of the world that a new edit file makes: of a file, or by its name alone
+abbrev pub first_world : Told → Option (List ℕ) → Option (List ℕ) → Result (List ℕ) Refusal
+first_world t None name = made_by name
+first_world t (Some file) name = taken_from (file_in t file)
+
+-- an edit file is written that makes a world, with the line that counts its edit
+abbrev pub with_genesis : List ℕ → ℕ → Told → Result (List ℕ) Refusal → Result Told Refusal
+with_genesis out world t (Ok bytes) = Ok (written_to out (file_text world (genesis_of bytes ∷ [])) (edits_line 1) t)
+with_genesis out world t (Err e) = Err e
+
+-- an edit file is written, with the line that counts its edits
+abbrev pub with_edits : List ℕ → Told → Result FileEdits Refusal → Result Told Refusal
+with_edits file t (Ok (world, es)) = Ok (written_to file (file_text world es) (edits_line (length es)) t)
+with_edits file t (Err e) = Err e
+
 -- what is asked for comes to this
 abbrev pub IsDone : Wanted → Told → Result Told Refusal → Type 0
 IsDone (Save out files) t r = (m : Result (List ℕ) Refusal) × IsMade t files file_of m × (r ≡ with_world out t m)
 IsDone (Check files) t r = (m : Result (List ℕ) Refusal) × IsMade t files report_on m × (r ≡ with_report t m)
+IsDone (New out world from name) t r = r ≡ with_genesis out world t (first_world t from name)
+IsDone (EditFile file replica words) t r = (m : Result FileEdits Refusal) × IsEdited t file replica words m × (r ≡ with_edits file t m)
 
 -- a command ends so, or memory runs out; a refusal leaves all as it was
 abbrev pub Ends : Wanted → Told → Result ⊤ Refusal → Option Told → Type 0

@@ -29,7 +29,7 @@ struct Stream {
     refusal: Option<Refusal>,
 }
 
-fn read_one<H: Host>(host: &mut H, name: &str) -> Result<Vec<u8>, Refusal>
+pub(crate) fn read_one<H: Host>(host: &mut H, name: &str) -> Result<Vec<u8>, Refusal>
     ensures bytes { (t : Told) → H.told host.old ≡ Some t
         → IfOk result (λ bytes. file_in t name.now ≡ Some bytes.items) }
     ensures kept { H.told host.new ≡ H.told host.old }
@@ -44,7 +44,7 @@ fn read_one<H: Host>(host: &mut H, name: &str) -> Result<Vec<u8>, Refusal>
 }
 
 // Appends the edits of a file, and tells the number of its world.
-fn read_file(
+pub(crate) fn read_file(
     alloc: Global,
     asked: Option<u64>,
     bytes: &[u8],
@@ -71,6 +71,7 @@ fn deliver_one(document: &mut Document, edit: Edit) -> Result<(), Refusal>
     requires fits { Fits edit }
     ensures sound { OnOk result (document.new.is_stale ≡ false) }
     ensures ok { OnOk result (document.new.edits ≡ with_edit edit document.old.edits) }
+    ensures world { document.new.world ≡ document.old.world }
     ensures agrees { OnOk result ((edit_with edit.stamp document.old.edits ≡ None)
         ⊎ ((f : TheEdit) × (edit_with edit.stamp document.old.edits ≡ Some f) × (f ≡ edit))) }
     ensures err { IfErr result (λ e. (e ≡ Refusal.Memory) ⊎ ((e ≡ Refusal.Clash edit.stamp)
@@ -81,13 +82,14 @@ fn deliver_one(document: &mut Document, edit: Edit) -> Result<(), Refusal>
 }
 
 // Delivers edits to a document that has none.
-fn deliver_all(document: &mut Document, edits: Vec<Edit>) -> Result<(), Refusal>
+pub(crate) fn deliver_all(document: &mut Document, edits: Vec<Edit>) -> Result<(), Refusal>
     requires sound { document.old.is_stale ≡ false }
     requires empty { document.old.edits ≡ [] }
     requires fit { AllFit edits.items }
     ensures sound { OnOk result (document.new.is_stale ≡ false) }
     ensures agree { OnOk result (Agrees edits.items) }
     ensures set { OnOk result (document.new.edits ≡ set_of edits.items) }
+    ensures world { document.new.world ≡ document.old.world }
     ensures err { IfErr result (λ e. (e ≡ Refusal.Memory)
         ⊎ ((s : TheStamp) × IsFirstClash edits.items s × (e ≡ Refusal.Clash s))) }
 {

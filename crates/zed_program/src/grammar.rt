@@ -1,8 +1,8 @@
 //! What the words of the command line may be.
-ghost use Rattle.std.specs.Prelude.{◌≡◌, false, IfOk};
+ghost use Rattle.std.specs.Prelude.{◌≡◌, codes, false, IfOk};
 ghost use Rattle.clap.specs.Words.{app_of, rule_of, shape_of};
 ghost use Rattle.clap.specs.declared.builder.command.Command.TheViews.{out-Command};
-ghost use Rattle.zed_program.specs.Grammar.{check_shape, files_rule, save_shape, zzted_app};
+ghost use Rattle.zed_program.specs.Grammar.{check_shape, create_shape, edit_shape, files_rule, option_rule, replica_rule, required_rule, save_shape, words_rule, world_rule, zzted_app};
 
 use clap::{Arg, Command};
 use std::alloc::{AllocError, Global};
@@ -41,14 +41,110 @@ fn check_command<'a>(alloc: Global) -> Result<Command<'a>, AllocError>
         .arg(files_argument(alloc))
 }
 
+fn out_argument<'a>(alloc: Global) -> Arg<'a>
+    ensures rule { rule_of result ≡ required_rule (codes "OUT") }
+    ensures local { result.global ≡ false }
+{
+    Arg::new(alloc, "OUT")
+        .required(true)
+        .help("The edit file to write; stdout is standard output")
+}
+
+fn world_argument<'a>(alloc: Global) -> Arg<'a>
+    ensures rule { rule_of result ≡ world_rule }
+    ensures local { result.global ≡ false }
+{
+    Arg::new(alloc, "WORLD")
+        .help(
+            "The number of the world, 0 to 18446744073709551615; edit files of one number can be joined",
+        )
+        .required(true)
+        .value_parser(clap::value_parser!(u64))
+}
+
+fn from_argument<'a>(alloc: Global) -> Arg<'a>
+    ensures rule { rule_of result ≡ option_rule (codes "from") }
+    ensures local { result.global ≡ false }
+{
+    Arg::new(alloc, "from").long("from").value_name("FILE").help(
+        "A world file to start from; without it there is an empty title board",
+    )
+}
+
+fn name_argument<'a>(alloc: Global) -> Arg<'a>
+    ensures rule { rule_of result ≡ option_rule (codes "name") }
+    ensures local { result.global ≡ false }
+{
+    Arg::new(alloc, "name").long("name").value_name("TEXT").help(
+        "The name of the new world, at most 20 bytes; not for a world file",
+    )
+}
+
+/// `new OUT WORLD [--from FILE] [--name TEXT]`
+fn new_command<'a>(alloc: Global) -> Result<Command<'a>, AllocError>
+    ensures shape { IfOk result (λ c. shape_of c ≡ create_shape) }
+    ensures local { IfOk result (λ c. (out-Command c).has_globals ≡ false) }
+{
+    Command::new(alloc, "new")
+        .about("Make an edit file that makes a world")
+        .arg(out_argument(alloc))?
+        .arg(world_argument(alloc))?
+        .arg(from_argument(alloc))?
+        .arg(name_argument(alloc))
+}
+
+fn file_argument<'a>(alloc: Global) -> Arg<'a>
+    ensures rule { rule_of result ≡ required_rule (codes "FILE") }
+    ensures local { result.global ≡ false }
+{
+    Arg::new(alloc, "FILE")
+        .required(true)
+        .help("The edit file, which is read and written again")
+}
+
+fn replica_argument<'a>(alloc: Global) -> Arg<'a>
+    ensures rule { rule_of result ≡ replica_rule }
+    ensures local { result.global ≡ false }
+{
+    Arg::new(alloc, "REPLICA")
+        .help("The author's own number, 1 to 65535; no other author of the world has it")
+        .required(true)
+        .value_parser(clap::value_parser!(u16))
+}
+
+fn words_argument<'a>(alloc: Global) -> Arg<'a>
+    ensures rule { rule_of result ≡ words_rule }
+    ensures local { result.global ≡ false }
+{
+    Arg::new(alloc, "WORDS").required(true).num_args(1..).help(
+        "The action: board-add NAME, board-remove B, board-name B NAME, exit B north|south|west|east TO (0 for none), cells B X0 Y0 X1 Y1 ELEMENT COLOUR, stat-add B X Y CYCLE, stat-remove B S, insert B S POS TEXT (| ends a line) or delete B S FROM TO; B is a board's number, 0 for the title, and S a stat's on it, 0 for the player",
+    )
+}
+
+/// `edit FILE REPLICA WORDS...`
+fn edit_command<'a>(alloc: Global) -> Result<Command<'a>, AllocError>
+    ensures shape { IfOk result (λ c. shape_of c ≡ edit_shape) }
+    ensures local { IfOk result (λ c. (out-Command c).has_globals ≡ false) }
+{
+    Command::new(alloc, "edit")
+        .about("Add an action of an author to an edit file")
+        .arg(file_argument(alloc))?
+        .arg(replica_argument(alloc))?
+        .arg(words_argument(alloc))
+}
+
 /// The words after the program's name.
 pub(crate) fn zzted_command<'a>(alloc: Global) -> Result<Command<'a>, AllocError>
     ensures { IfOk result (λ c. app_of c ≡ zzted_app) }
 {
     Command::new(alloc, "zzted")
-        .about("Joins edit files of a ZZT world; without words it does save stdout stdin")
+        .about(
+            "Makes, edits and joins edit files of a ZZT world; without words it does save stdout stdin",
+        )
         .no_binary_name(true)
         .subcommand_required(true)
         .subcommand(save_command(alloc)?)?
-        .subcommand(check_command(alloc)?)
+        .subcommand(check_command(alloc)?)?
+        .subcommand(new_command(alloc)?)?
+        .subcommand(edit_command(alloc)?)
 }

@@ -2,9 +2,12 @@
 #![tactic(auto)]
 
 mod collect;
+mod edit;
 mod grammar;
 mod host;
 mod memory;
+mod new;
+mod output;
 mod program;
 mod refusal;
 mod report;
@@ -15,6 +18,3 @@ pub use memory::MemoryHost;
 pub use program::run;
 pub use refusal::Refusal;
 pub use words::{Action, ParseError, parse};
-
-#[cfg(test)]
-mod tests;

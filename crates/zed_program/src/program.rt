@@ -11,28 +11,15 @@ ghost use Rattle.zed_program.specs.Told.{Counts, IsCalm, Told, file_in, with_com
 ghost use Rattle.zed_program.specs.Wanted.{Check, Save, is_plain, meaning_of, wanted_of};
 
 use crate::collect::load;
+use crate::edit::edit;
 use crate::host::Host;
+use crate::new::make_new;
+use crate::output::{print_out, write_out};
 use crate::refusal::{Refusal, bytes_told, line};
 use crate::report::{report, world_file};
 use crate::words::{Action, ParseError, parse};
 use std::alloc::Global;
 use zed_editfile::one_reading;
-
-// Writes a file, and a line on the standard output unless the file goes there.
-fn write_out<H: Host>(host: &mut H, out: &str, bytes: &[u8], line: &str) -> Result<(), Refusal>
-    ensures ok { (t : Told) → H.told host.old ≡ Some t
-        → OnOk result (H.told host.new ≡ Some (written_to out.now bytes.now line.now t)) }
-    ensures err { IfErr result (λ e. e ≡ Refusal.File) }
-    ensures count { Counts (is_err result) (H.failed host.old) (H.failed host.new) }
-{
-    if host.write(out, bytes).is_err() {
-        return Err(Refusal::File);
-    }
-    if out != "stdout" && host.print(line.as_bytes()).is_err() {
-        return Err(Refusal::File);
-    }
-    Ok(())
-}
 
 // The world file of edit files.
 fn file_from<H: Host>(alloc: Global, host: &mut H, files: &[&str]) -> Result<Vec<u8>, Refusal>
@@ -72,16 +59,6 @@ fn report_from<H: Host>(alloc: Global, host: &mut H, files: &[&str]) -> Result<V
     report(alloc, &document)
 }
 
-// Prints a text.
-fn print_out<H: Host>(host: &mut H, text: &[u8]) -> Result<(), Refusal>
-    ensures ok { (t : Told) → H.told host.old ≡ Some t
-        → OnOk result (H.told host.new ≡ Some (with_printed text.now t)) }
-    ensures err { IfErr result (λ e. e ≡ Refusal.File) }
-    ensures count { Counts (is_err result) (H.failed host.old) (H.failed host.new) }
-{
-    host.print(text).map_err(|_| Refusal::File)
-}
-
 // Prints the report on edit files.
 fn check<H: Host>(alloc: Global, host: &mut H, files: &[&str]) -> Result<(), Refusal>
     ensures ends { (t : Told) → H.told host.old ≡ Some t
@@ -118,6 +95,17 @@ fn act<H: Host>(alloc: Global, host: &mut H, action: &Action<'_>) -> Result<(), 
     match action {
         Action::Save { out, files } => save(alloc, host, out, files.as_slice()),
         Action::Check { files } => check(alloc, host, files.as_slice()),
+        Action::New {
+            out,
+            world,
+            from,
+            name,
+        } => make_new(alloc, host, out, *world, *from, *name),
+        Action::Edit {
+            file,
+            replica,
+            words,
+        } => edit(alloc, host, file, *replica, words.as_slice()),
     }
 }
 

@@ -3,7 +3,7 @@ ghost use Rattle.std.specs.Prelude.{◌≡◌, ◌⊎◌, IfOk, MatchResult, Som
 ghost use Rattle.clap.specs.Words.{FailsBy, fault_of, found_of, rows_of, subcommand_of, subcommand_rows_of};
 ghost use Rattle.zed_program.specs.declared.words.ParseError.TheVariants.{Memory};
 ghost use Rattle.zed_program.specs.Grammar.{zzted_app};
-ghost use Rattle.zed_program.specs.Wanted.{action_of, check_of, meaning_of, save_of, wanted_of};
+ghost use Rattle.zed_program.specs.Wanted.{action_of, check_of, edit_of, meaning_of, new_of, save_of, wanted_of};
 
 use crate::grammar::zzted_command;
 use clap::error::ErrorKind;
@@ -14,9 +14,27 @@ use std::alloc::{AllocError, Global};
 #[derive(Drop)]
 pub enum Action<'a> {
     /// The world file of edit files is to be written.
-    Save { out: &'a str, files: Vec<&'a str> },
+    Save {
+        out: &'a str,
+        files: Vec<&'a str>,
+    },
     /// What looks wrong in the world of edit files is to be told.
-    Check { files: Vec<&'a str> },
+    Check {
+        files: Vec<&'a str>,
+    },
+    /// An edit file that makes a world is to be written.
+    New {
+        out: &'a str,
+        world: u64,
+        from: Option<&'a str>,
+        name: Option<&'a str>,
+    },
+    /// An action of an author is to be added to an edit file.
+    Edit {
+        file: &'a str,
+        replica: u16,
+        words: Vec<&'a str>,
+    },
 }
 
 /// Why the words ask for nothing.
@@ -58,6 +76,43 @@ fn check_in<'a>(alloc: Global, matches: &ArgMatches<'a>) -> Result<Option<Action
     Ok(Some(Action::Check { files }))
 }
 
+fn new_in<'a>(matches: &ArgMatches<'a>) -> Option<Action<'a>>
+    ensures { option_map meaning_of result ≡ new_of (rows_of (found_of matches.now)) }
+{
+    let out = matches.get_str("OUT");
+    let world = matches.get_one::<u64>("WORLD");
+    let from = matches.get_str("from");
+    let name = matches.get_str("name");
+    if let (Some(out), Some(world)) = (out, world) {
+        Some(Action::New {
+            out,
+            world,
+            from,
+            name,
+        })
+    } else {
+        None
+    }
+}
+
+fn edit_in<'a>(alloc: Global, matches: &ArgMatches<'a>) -> Result<Option<Action<'a>>, AllocError>
+    ensures { IfOk result (λ a. option_map meaning_of a ≡ edit_of (rows_of (found_of matches.now))) }
+{
+    let file = matches.get_str("FILE");
+    let replica = matches.get_one::<u16>("REPLICA");
+    let words = matches.get_strs("WORDS");
+    if let (Some(file), Some(replica), Some(words)) = (file, replica, words) {
+        let words = Vec::from_slice(alloc, words)?;
+        Ok(Some(Action::Edit {
+            file,
+            replica,
+            words,
+        }))
+    } else {
+        Ok(None)
+    }
+}
+
 fn action_in<'a>(alloc: Global, matches: &ArgMatches<'a>) -> Result<Option<Action<'a>>, AllocError>
     ensures { IfOk result (λ a. option_map meaning_of a
         ≡ option_and_then action_of (subcommand_rows_of matches.now)) }
@@ -69,6 +124,10 @@ fn action_in<'a>(alloc: Global, matches: &ArgMatches<'a>) -> Result<Option<Actio
         save_in(alloc, inner)
     } else if name == "check" {
         check_in(alloc, inner)
+    } else if name == "new" {
+        Ok(new_in(inner))
+    } else if name == "edit" {
+        edit_in(alloc, inner)
     } else {
         Ok(None)
     }

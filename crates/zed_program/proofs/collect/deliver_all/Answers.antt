@@ -1,4 +1,4 @@
-use Rattle.std.proofs.Common.{rules, arith, ◌≡◌, ◌∙◌, [], ◌∷◌, ◌++◌, append_assoc, ap, sym, subst, length}
+use Rattle.std.proofs.Common.{rules, refl, arith, ◌≡◌, ◌∙◌, [], ◌∷◌, ◌++◌, append_assoc, ap, sym, subst, length}
 use Rattle.std.proofs.lemmas.Result.{err_from_is_err_and}
 use Rattle.zed_op.specs.Set.{Agrees, with_edit}
 use Rattle.zed_program.proofs.Clashes.{all_of, next_agrees, refused_edit}
@@ -11,6 +11,7 @@ loop-edit-init c = record {
   sound = search rules;
   agree = λ e f m n same. let none = m.1 in absurd (omega arith);
   set = search rules;
+  world = refl;
 }
 
 pub loop-edit-preserved : goal.loop-edit-preserved
@@ -24,6 +25,7 @@ loop-edit-preserved c =
       fit = search rules;
       sound = one.sound;
       agree = next_agrees c.one_order.ensures.same c.set_is_its_edits.ensures.members c.loop-edit.yielded c.in-Some.edit old.agree (rw old.set at one.agrees);
+      world = one.world ∙ old.world;
       set = one.ok ∙ ap (with_edit c.in-Some.edit) old.set ∙ sym (c.set_is_its_edits.ensures.more c.loop-edit.yielded c.in-Some.edit);
     }
 

@@ -10,4 +10,5 @@ invariant-loop-edit l = record {
   sound : l.document.is_stale ≡ false;
   agree : Agrees l.yielded;
   set : l.document.edits ≡ set_of l.yielded;
+  world : l.document.world ≡ l.fn.document.world;
 }

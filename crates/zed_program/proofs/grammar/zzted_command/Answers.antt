@@ -14,4 +14,6 @@ returns c =
     ∙ ap (λ (f : Command-F Command). app_of_fields (record f { subcommand_required = true })) c.no_binary_name.ensures
     ∙ ap (on_top (λ s. record s { no_binary_name = true; subcommand_required = true })) bare in
     let one = c.in_ok-subcommand.ensures.shape c.in_ok-save_command.ensures.local ∙ ap₂ with_subcommand top_is c.in_ok-save_command.ensures.shape in
-    IfOk-weaker c.subcommand-2.result _ _ (λ r h. h.shape c.in_ok-check_command.ensures.local ∙ ap₂ with_subcommand one c.in_ok-check_command.ensures.shape) c.subcommand-2.ensures
+    let two = c.in_ok-subcommand-2.ensures.shape c.in_ok-check_command.ensures.local ∙ ap₂ with_subcommand one c.in_ok-check_command.ensures.shape in
+    let three = c.in_ok-subcommand-3.ensures.shape c.in_ok-new_command.ensures.local ∙ ap₂ with_subcommand two c.in_ok-new_command.ensures.shape in
+    IfOk-weaker c.subcommand-4.result _ _ (λ r h. h.shape c.in_ok-edit_command.ensures.local ∙ ap₂ with_subcommand three c.in_ok-edit_command.ensures.shape) c.subcommand-4.ensures

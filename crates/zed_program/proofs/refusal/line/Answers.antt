@@ -4,8 +4,8 @@ use Rattle.std.proofs.lemmas.Result.{IfOk-weaker}
 use Rattle.zed_program.proofs.refusal.line.Goals as goal
 
 pub returns-in-Clash : goal.returns-in-Clash
-returns-in-Clash c = rw c.in-Clash.is (IfOk-weaker c.format-in-Clash.result _ _ (λ r h. h
-    ∙ ap (λ t. codes "zzted: Clash " ++ t) (sym (append_assoc (decimal c.in-Clash.stamp.time) (32 ∷ decimal c.in-Clash.stamp.replica) (10 ∷ [])))) c.format-in-Clash.ensures.ok)
+returns-in-Clash c = rw c.in-Clash.is (IfOk-weaker c.format.result _ _ (λ r h. h
+    ∙ ap (λ t. codes "zzted: Clash " ++ t) (sym (append_assoc (decimal c.in-Clash.stamp.time) (32 ∷ decimal c.in-Clash.stamp.replica) (10 ∷ [])))) c.format.ensures.ok)
 
 pub returns-in-StatsOver : goal.returns-in-StatsOver
 returns-in-StatsOver c = rw c.in-StatsOver.is (IfOk-weaker c.format-in-StatsOver.result _ _ (λ r h. h

@@ -1,0 +1,170 @@
+-- What the words of an action say.
+use Rattle.std.specs.Prelude.{◌≡◌, ◌⊎◌, MatchResult, Result, ℕ, ℤ, pos, nat_le, Bool, ◌&&◌, ◌==◌, if◌then◌else◌, List, [], ◌∷◌, length, map, codes, Option, Some, None, option_and_then, option_map}
+use Rattle.std.specs.Borrow.{Bor}
+use Rattle.std.specs.List.{list_all}
+use Rattle.std.specs.Str.{bytes_eq}
+use Rattle.std.specs.Str.Parse.{digits_value}
+use Rattle.std.specs.Char.{is_ascii_digit}
+use Rattle.zed_types.specs.declared.property.Side.{Side}
+use Rattle.zed_types.specs.declared.property.Side.TheVariants.{North, South, West, East}
+use Rattle.zed_types.specs.declared.tile.Rectangle.{Rectangle}
+use Rattle.zed_types.specs.declared.tile.Tile.{Tile}
+use Rattle.zed_action.specs.declared.error.ActionError.{ActionError}
+use Rattle.zed_action.specs.declared.error.ActionError.TheVariants.{Memory, BadAction}
+use Rattle.zed_action.specs.declared.action.Action.{Action}
+use Rattle.zed_action.specs.declared.action.Action.TheVariants.{BoardAdd, BoardRemove, BoardName, Exit, Cells, StatAdd, StatRemove, Insert, Delete}
+
+infixl 10 ◌>>=◌
+abbrev pub ◌>>=◌ : {A B : Type 0} → Option A → (A → Option B) → Option B
+o >>= f = option_and_then f o
+
+abbrev pub Word : Type 0
+Word = List ℕ
+
+abbrev pub words_of : List (Bor Word) → List Word
+words_of = map (λ s. s.now)
+
+-- ---- fields
+
+-- one digit or more, and nothing else
+abbrev pub is_number : Word → Bool
+is_number word = nat_le 1 (length word) && list_all is_ascii_digit word
+
+-- the number that digits spell, if it is at most `most`
+abbrev pub number_of : ℕ → Word → Option ℕ
+number_of most word = if is_number word && nat_le (digits_value 10 word) most then Some (digits_value 10 word) else None
+
+-- a number of one byte
+abbrev pub byte_of : Word → Option ℕ
+byte_of word = number_of 255 word
+
+-- the number of a board or a stat
+abbrev pub short_of : Word → Option ℕ
+short_of word = number_of 65535 word
+
+-- a position in a text
+abbrev pub long_of : Word → Option ℕ
+long_of word = number_of 4294967295 word
+
+abbrev pub cycle_of : Word → Option ℤ
+cycle_of word = option_map pos (number_of 32767 word)
+
+abbrev pub side_of : Word → Option Side
+side_of word =
+    if bytes_eq word (codes "north") then Some North else
+    if bytes_eq word (codes "south") then Some South else
+    if bytes_eq word (codes "west") then Some West else
+    if bytes_eq word (codes "east") then Some East else None
+
+abbrev pub rectangle_of : Word → Word → Word → Word → Option Rectangle
+rectangle_of x0 y0 x1 y1 = do
+  left ← byte_of x0
+  top ← byte_of y0
+  right ← byte_of x1
+  bottom ← byte_of y1
+  Some (record { left = left; top = top; right = right; bottom = bottom })
+
+abbrev pub tile_of : Word → Word → Option Tile
+tile_of element colour = do
+  e ← byte_of element
+  c ← byte_of colour
+  Some (record { element = e; colour = c })
+
+-- a board, a stat and a position in its program
+abbrev pub spot_of : Word → Word → Word → Option (ℕ × ℕ × ℕ)
+spot_of b s p = do
+  board ← short_of b
+  stat ← short_of s
+  position ← long_of p
+  Some (board, stat, position)
+
+-- `|` (124) stands for the end of a line (13)
+abbrev pub end_for : ℕ → ℕ
+end_for byte = if byte == 124 then 13 else byte
+
+-- the bytes of a word, with the ends of lines
+abbrev pub with_line_ends : Word → List ℕ
+with_line_ends word = map end_for word
+
+-- ---- actions, by the words behind the first
+
+abbrev pub board_add_of : List Word → Option Action
+board_add_of (name ∷ []) = Some (BoardAdd name)
+board_add_of _ = None
+
+abbrev pub board_remove_of : List Word → Option Action
+board_remove_of (b ∷ []) = option_map BoardRemove (short_of b)
+board_remove_of _ = None
+
+abbrev pub board_name_of : List Word → Option Action
+board_name_of (b ∷ name ∷ []) = option_map (λ board. BoardName board name) (short_of b)
+board_name_of _ = None
+
+abbrev pub exit_of : List Word → Option Action
+exit_of (b ∷ s ∷ t ∷ []) = do
+  board ← short_of b
+  side ← side_of s
+  to ← short_of t
+  Some (Exit board side to)
+exit_of _ = None
+
+abbrev pub cells_of : List Word → Option Action
+cells_of (b ∷ x0 ∷ y0 ∷ x1 ∷ y1 ∷ element ∷ colour ∷ []) = do
+  board ← short_of b
+  cells ← rectangle_of x0 y0 x1 y1
+  tile ← tile_of element colour
+  Some (Cells board cells tile)
+cells_of _ = None
+
+abbrev pub stat_add_of : List Word → Option Action
+stat_add_of (b ∷ x ∷ y ∷ c ∷ []) = do
+  board ← short_of b
+  column ← byte_of x
+  row ← byte_of y
+  cycle ← cycle_of c
+  Some (StatAdd board column row cycle)
+stat_add_of _ = None
+
+abbrev pub stat_remove_of : List Word → Option Action
+stat_remove_of (b ∷ s ∷ []) = do
+  board ← short_of b
+  stat ← short_of s
+  Some (StatRemove board stat)
+stat_remove_of _ = None
+
+abbrev pub insert_of : List Word → Option Action
+insert_of (b ∷ s ∷ p ∷ text ∷ []) = do
+  spot ← spot_of b s p
+  Some (Insert spot.0 spot.1 spot.2 (with_line_ends text))
+insert_of _ = None
+
+abbrev pub delete_of : List Word → Option Action
+delete_of (b ∷ s ∷ f ∷ t ∷ []) = do
+  spot ← spot_of b s f
+  to ← long_of t
+  Some (Delete spot.0 spot.1 spot.2 to)
+delete_of _ = None
+
+-- ---- all
+
+-- an action that is numbers and sides alone, by its first word and those behind it
+abbrev pub numbered_of : Word → List Word → Option Action
+numbered_of verb rest =
+    if bytes_eq verb (codes "board-remove") then board_remove_of rest else
+    if bytes_eq verb (codes "exit") then exit_of rest else
+    if bytes_eq verb (codes "cells") then cells_of rest else
+    if bytes_eq verb (codes "stat-add") then stat_add_of rest else
+    if bytes_eq verb (codes "stat-remove") then stat_remove_of rest else
+    if bytes_eq verb (codes "delete") then delete_of rest else None
+
+-- what the words say, or that they are no action
+unfoldable pub action_of : List Word → Option Action
+action_of [] = None
+action_of (verb ∷ rest) =
+    if bytes_eq verb (codes "board-add") then board_add_of rest else
+    if bytes_eq verb (codes "board-name") then board_name_of rest else
+    if bytes_eq verb (codes "insert") then insert_of rest else numbered_of verb rest
+
+-- an action that is what the words say, or BadAction where they are none; want of memory aside
+abbrev pub Says : Result Action ActionError → Option Action → Type 0
+Says result said = MatchResult result (λ a. said ≡ Some a) (λ e. (e ≡ Memory) ⊎ ((e ≡ BadAction) × (said ≡ None)))

@@ -1,0 +1,124 @@
+ghost use Rattle.std.specs.Prelude.{◌≡◌, ◌≤◌, false, IfOk, OnOk};
+ghost use Rattle.zed_document.specs.Authoring.{authored};
+ghost use Rattle.zed_action.specs.Deeds.{Acts, Authors, Deletes, Ends, Inserts, Performs, Starts, with_edits};
+ghost use Rattle.zed_action.specs.Words.{words_of};
+
+use crate::deed::{Deed, deed_of};
+use crate::error::{ActionError, of_document};
+use crate::parsing::parse;
+use std::alloc::Global;
+use zed_document::Document;
+use zed_edit::{Edit, Op};
+use zed_types::{Bytes, StatId, StatSetting, TextId};
+
+/// Makes an edit.
+fn author(document: &mut Document, replica: u16, op: Op) -> Result<Edit, ActionError>
+    requires { document.old.is_stale ≡ false }
+    ensures ends { Ends (Authors document.old replica op) result document.new.edits }
+    ensures made { IfOk result (λ e. e ≡ authored document.old.edits replica op) }
+    ensures after { OnOk result (document.new ≡ with_edits document.new.edits document.old) }
+    ensures world { document.new.world ≡ document.old.world }
+{
+    match document.author(replica, op) {
+        Ok(edit) => Ok(edit),
+        Err(error) => Err(of_document(error)),
+    }
+}
+
+/// Puts bytes into a text.
+fn insert(
+    document: &mut Document,
+    replica: u16,
+    text: TextId,
+    position: u32,
+    bytes: Bytes,
+) -> Result<(), ActionError>
+    requires { document.old.is_stale ≡ false }
+    ensures ends { Ends (Inserts document.old replica text position bytes) result document.new.edits }
+    ensures after { OnOk result (document.new ≡ with_edits document.new.edits document.old) }
+    ensures world { document.new.world ≡ document.old.world }
+{
+    match document.insert_text(replica, text, position as usize, bytes) {
+        Ok(_) => Ok(()),
+        Err(error) => Err(of_document(error)),
+    }
+}
+
+/// Deletes bytes of a text.
+fn delete(
+    document: &mut Document,
+    replica: u16,
+    text: TextId,
+    from: u32,
+    to: u32,
+) -> Result<(), ActionError>
+    requires sound { document.old.is_stale ≡ false }
+    requires replica { 1 ≤ replica }
+    ensures ends { Ends (Deletes document.old replica text from to) result document.new.edits }
+    ensures world { document.new.world ≡ document.old.world }
+{
+    match document.delete_text(replica, text, from as usize, to as usize) {
+        Ok(_) => {}
+        Err(error) => return Err(of_document(error)),
+    }
+    Ok(())
+}
+
+/// Gives a stat a text of its own, with these bytes.
+fn start(
+    document: &mut Document,
+    replica: u16,
+    stat: StatId,
+    bytes: Bytes,
+) -> Result<(), ActionError>
+    requires { document.old.is_stale ≡ false }
+    ensures ends { Ends (Starts document.old replica stat bytes) result document.new.edits }
+    ensures world { document.new.world ≡ document.old.world }
+{
+    let edit = author(document, replica, Op::TextAdd)?;
+    let text = TextId {
+        stamp: edit.stamp,
+        index: 0,
+    };
+    insert(document, replica, text, 0, bytes)?;
+    let setting = StatSetting::Text(Some(text));
+    author(document, replica, Op::SetStat(stat, setting))?;
+    Ok(())
+}
+
+fn perform(document: &mut Document, replica: u16, deed: Deed) -> Result<(), ActionError>
+    requires sound { document.old.is_stale ≡ false }
+    requires replica { 1 ≤ replica }
+    ensures ends { Ends (Performs document.old replica deed) result document.new.edits }
+    ensures world { document.new.world ≡ document.old.world }
+{
+    match deed {
+        Deed::Make(op) => {
+            author(document, replica, op)?;
+            Ok(())
+        }
+        Deed::Insert(text, position, bytes) => insert(document, replica, text, position, bytes),
+        Deed::Start(stat, bytes) => start(document, replica, stat, bytes),
+        Deed::Delete(text, from, to) => delete(document, replica, text, from, to),
+    }
+}
+
+/// Does the action that the words say, as a replica of at least 1, to a document that isn't stale. In this order: BadAction for
+/// words that are no action; NoSuch for a number without a board, stat or text, and OutOfRange for a position over 0 in the program
+/// of a stat without a text; then what the document's own calls answer. A program that a stat doesn't have yet takes three edits: a
+/// text, its bytes, and the stat's register. After a refusal some of them may have been made.
+pub fn act(
+    alloc: Global,
+    document: &mut Document,
+    replica: u16,
+    words: &[&str],
+) -> Result<(), ActionError>
+    requires sound { document.old.is_stale ≡ false }
+    requires replica { 1 ≤ replica }
+    ensures ends { Ends (Acts document.old replica (words_of words.now)) result document.new.edits }
+    ensures world { document.new.world ≡ document.old.world }
+{
+    let action = parse(alloc, words)?;
+    let deed = deed_of(document, action)?;
+    perform(document, replica, deed)
+}

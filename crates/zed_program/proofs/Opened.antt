@@ -1,0 +1,90 @@
+-- What an edit file comes to when it is opened for an action.
+use Rattle.std.proofs.Common.{◌≡◌, ◌∙◌, ◌≢◌, ℕ, zero, suc, Bool, false, List, Some, None, Result, Ok, Err, refl, ap}
+use Rattle.std.specs.Prelude.{MatchResult}
+use mathlib.Core.Logic.{◌⊎◌, inl, inr}
+use Rattle.zed_types.specs.declared.stamp.Stamp.{Stamp}
+use Rattle.zed_op.specs.declared.op.Edit.{Edit}
+use Rattle.zed_op.specs.Set.{Agrees, set_of}
+use Rattle.zed_editfile.specs.declared.error.EditFileError.{EditFileError}
+use Rattle.zed_document.specs.Laws.{document_of}
+use Rattle.zed_document.specs.Replica.{Replica}
+use Rattle.zed_action.specs.declared.error.ActionError.{ActionError}
+use Rattle.zed_action.specs.declared.error.ActionError.TheVariants as action
+use Rattle.zed_action.specs.Deeds.{Acts}
+use Rattle.zed_program.specs.declared.refusal.Refusal.{Refusal}
+use Rattle.zed_program.specs.declared.refusal.Refusal.TheVariants.{Memory, Clash}
+use Rattle.zed_program.specs.Collected.{IsFirstClash}
+use Rattle.zed_program.specs.Edited.{FileEdits, IsActed, IsEdited, IsOpened}
+use Rattle.zed_program.specs.Files.{IsFile}
+use Rattle.zed_program.specs.Outcome.{with_edits}
+use Rattle.zed_program.specs.Refusals.{action_refusal, file_refusal}
+use Rattle.zed_program.specs.Told.{Told, file_in}
+
+-- a document is its world, its edits, and that it isn't stale
+pub document_is : (d : Replica) (world : ℕ) (es : List Edit) → d.world ≡ world → d.edits ≡ set_of es → d.is_stale ≡ false → d ≡ document_of world es
+document_is d world es w e s =
+    let make : ℕ → List Edit → Bool → Replica = λ w e s. record { world = w; edits = e; is_stale = s } in
+    let path : make d.world d.edits d.is_stale ≡ make world (set_of es) false = rw (w, e, s) refl in
+    path
+
+-- what the edits of a file come to
+abbrev pub IsCollected : List Edit → ℕ → Result Replica Refusal → Type 0
+IsCollected es world result = MatchResult result
+    (λ d. Agrees es × (d ≡ document_of world es))
+    (λ e. (e ≡ Memory) ⊎ ((s : Stamp) × IsFirstClash es s × (e ≡ Clash s)))
+
+-- the file was read to its end
+pub opened_whole : (bytes : List ℕ) (es : List Edit) (world : ℕ) (result : Result Replica Refusal) → IsFile None bytes es (Ok world) → IsCollected es world result
+    → MatchResult result (λ d. IsOpened (Some bytes) (Ok d)) (λ e. (e ≡ Memory) ⊎ IsOpened (Some bytes) (Err e))
+opened_whole bytes es world (Ok d) file all = (es, Ok world, file, inr (all.0, ap (λ x. Ok x) all.1))
+opened_whole bytes es world (Err e) file why =
+    elim why [
+      | inl memory ↦ inl memory
+      | inr clash ↦ inr (es, Ok world, file, inl (clash.0, clash.1, ap (λ x. Err x) clash.2))
+    ]
+
+-- two edits of a file clash before its fault
+pub opened_clash : (bytes : List ℕ) (es : List Edit) (error : EditFileError) (e : Refusal) → IsFile None bytes es (Err error)
+    → (e ≡ Memory) ⊎ ((s : Stamp) × IsFirstClash es s × (e ≡ Clash s)) → (e ≡ Memory) ⊎ IsOpened (Some bytes) (Err e)
+opened_clash bytes es error e file why =
+    elim why [
+      | inl memory ↦ inl memory
+      | inr clash ↦ inr (es, Err error, file, inl (clash.0, clash.1, ap (λ x. Err x) clash.2))
+    ]
+
+-- the fault comes first
+pub opened_fault : (bytes : List ℕ) (es : List Edit) (error : EditFileError) (e : Refusal) → IsFile None bytes es (Err error) → Agrees es → e ≡ file_refusal error
+    → IsOpened (Some bytes) (Err e)
+opened_fault bytes es error e file agrees is = (es, Err error, file, inr (agrees, ap (λ x. Err x) is))
+
+-- a replica's number that isn't 0
+edited_by : (t : Told) (file : List ℕ) (replica : ℕ) (words : List (List ℕ)) (r : Result FileEdits Refusal) (opened : Result Replica Refusal)
+    → replica ≢ 0 → IsOpened (file_in t file) opened → IsActed replica words opened r → IsEdited t file replica words r
+edited_by t file zero words r opened some is acts = absurd (some refl)
+edited_by t file (suc n) words r opened some is acts = (opened, is, acts)
+
+-- the action was done
+pub edited_done : (t : Told) (file : List ℕ) (replica : ℕ) (words : List (List ℕ)) (d new : Replica) → replica ≢ 0 → IsOpened (file_in t file) (Ok d)
+    → new.world ≡ d.world → Acts d replica words (Ok new.edits) → IsEdited t file replica words (Ok (new.world, new.edits))
+edited_done t file replica words d new some is world acts =
+    edited_by t file replica words (Ok (new.world, new.edits)) (Ok d) some is (Ok new.edits, acts, ap (λ w. Ok (w, new.edits)) world)
+
+-- the action was refused
+pub edited_refused : (t : Told) (file : List ℕ) (replica : ℕ) (words : List (List ℕ)) (d : Replica) (e : ActionError) (told : Refusal) → replica ≢ 0 → IsOpened (file_in t file) (Ok d)
+    → told ≡ action_refusal e → (e ≡ action.Memory) ⊎ Acts d replica words (Err e) → (told ≡ Memory) ⊎ IsEdited t file replica words (Err told)
+edited_refused t file replica words d e told some is said why =
+    elim why [
+      | inl memory ↦ inl (said ∙ ap action_refusal memory)
+      | inr acts ↦ inr (edited_by t file replica words (Err told) (Ok d) some is (Err e, acts, ap (λ x. Err x) said))
+    ]
+
+-- the file was refused
+pub edited_not_opened : (t : Told) (file : List ℕ) (replica : ℕ) (words : List (List ℕ)) (e : Refusal) → replica ≢ 0
+    → (e ≡ Memory) ⊎ IsOpened (file_in t file) (Err e) → (e ≡ Memory) ⊎ IsEdited t file replica words (Err e)
+edited_not_opened t file replica words e some why =
+    elim why [ inl memory ↦ inl memory | inr is ↦ inr (edited_by t file replica words (Err e) (Err e) some is refl) ]
+
+-- where there are no edits, none are written
+pub not_edited : (t : Told) (file : List ℕ) (replica : ℕ) (words : List (List ℕ)) (e : Refusal) → (e ≡ Memory) ⊎ IsEdited t file replica words (Err e)
+    → (e ≡ Memory) ⊎ ((m : Result FileEdits Refusal) × IsEdited t file replica words m × (Err e ≡ with_edits file t m))
+not_edited t file replica words e why = elim why [ inl memory ↦ inl memory | inr is ↦ inr (Err e, is, refl) ]

@@ -1,0 +1,77 @@
+-- The edit that makes a world, and the world of a new edit file.
+use Rattle.std.proofs.Common.{◌≡◌, ◌∙◌, ◌+◌, ◌++◌, add-one, ℕ, zero, suc, arith, rules, true, List, [], ◌∷◌, length, refl, ap, sym, subst}
+use Rattle.std.specs.Prelude.{replicate}
+use Rattle.std.specs.Str.{bytes_eq}
+use Rattle.std.proofs.lemmas.Slice.Eq.{bytes_eq-Decides}
+use Rattle.std.proofs.lemmas.List.{length-take}
+use Rattle.zed_edit.specs.Board.{new_table}
+use Rattle.zed_op.specs.Fit.{Fits, is_canonical, is_rewritten, is_text_of}
+use Rattle.zed_world.specs.declared.header.Header.{Header}
+use Rattle.zed_world.specs.declared.board.BoardData.{BoardData}
+use Rattle.zed_world.specs.Contents.{Contents}
+use Rattle.zed_world.specs.Canonical.{IsCanonical}
+use Rattle.zed_world.specs.Normal.{IsNormal}
+use Rattle.zed_program.specs.Fresh.{fresh_header, fresh_world, genesis_of, title_of}
+
+bytes_same : (bytes : List ℕ) → bytes_eq bytes bytes ≡ true
+bytes_same bytes = (bytes_eq-Decides bytes bytes).1 refl
+
+-- the bytes of a canonical world file pass the test
+pub canonical_passes : (bytes : List ℕ) → IsCanonical bytes → is_canonical bytes ≡ true
+unfolding is_canonical
+canonical_passes bytes h = ap (is_rewritten bytes) h.read ∙ ap (is_text_of bytes) h.rewritten ∙ bytes_same bytes
+
+-- so the edit that makes their world fits
+pub genesis_fits : (bytes : List ℕ) → IsCanonical bytes → Fits (genesis_of bytes)
+genesis_fits bytes h = rw (canonical_passes bytes h) refl
+
+-- one more of the same at the end
+pub replicate_more : {X : Type 0} (n : ℕ) (x : X) → replicate n x ++ x ∷ [] ≡ replicate (n + 1) x
+replicate_more zero x = refl
+replicate_more {X = X} (suc n) x = let more = rw add-one at (replicate_more {X = X} n x) in rw add-one (ap (λ xs. x ∷ xs) more)
+
+table_is_long : length new_table ≡ 1500
+unfolding new_table
+table_is_long = refl
+
+-- a new world can stand in a file
+pub fresh_is_normal : (name : List ℕ) → IsNormal (fresh_world name)
+fresh_is_normal name = record {
+  some = search rules;
+  few = search rules;
+  header = record {
+    ammo = search rules;
+    gems = search rules;
+    keys = refl;
+    health = search rules;
+    current_board = search rules;
+    torches = search rules;
+    torch_ticks = search rules;
+    energizer_ticks = search rules;
+    score = search rules;
+    name = let e = length-take 20 name in omega arith;
+    flags = refl;
+    each_flag = search rules;
+    time_passed = search rules;
+    hundredths = search rules;
+  };
+  boards = (
+    record {
+      name = search rules;
+      tiles = table_is_long;
+      properties = search rules;
+      some = search rules;
+      few = search rules;
+      stats = search rules;
+    },
+    tt,
+  );
+}
+
+-- so can one that is made of its parts
+pub made_is_normal : (name : List ℕ) (h : Header) (bs : List BoardData) (b : BoardData) → h ≡ fresh_header name → bs ≡ [] ++ b ∷ [] → b ≡ title_of new_table
+    → IsNormal (record { header = h; boards = bs })
+made_is_normal name h bs b is boards title =
+    let make : Header → List BoardData → Contents = λ h bs. record { header = h; boards = bs } in
+    let path : make h bs ≡ make (fresh_header name) (title_of new_table ∷ []) = rw (is, boards, title) refl in
+    subst IsNormal (sym path) (fresh_is_normal name)

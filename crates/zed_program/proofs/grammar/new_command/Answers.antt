@@ -1,0 +1,29 @@
+use Rattle.std.proofs.Common.{rules, ap, ap₂, codes, ◌≡◌, ◌∙◌}
+use Rattle.std.proofs.lemmas.Result.{IfOk-weaker}
+use Rattle.clap.specs.Words.{App, app_of, new_app, with_rule}
+use Rattle.clap.specs.Simple.{app_of_fields}
+use Rattle.clap.specs.declared.builder.command.Command.{Command}
+use Rattle.clap.specs.declared.builder.command.Command.TheOpen.{Command-F}
+use Rattle.zed_program.proofs.grammar.new_command.Goals as goal
+
+pub returns-clause-shape : goal.returns-clause-shape
+returns-clause-shape c =
+    let bare : app_of c.about.result ≡ new_app (codes "new") = ap app_of_fields c.about.ensures ∙ c.new.ensures.app in
+    let one = c.in_ok-arg.ensures.shape c.out_argument.ensures.local ∙ ap₂ with_rule bare c.out_argument.ensures.rule in
+    let two = c.in_ok-arg-2.ensures.shape c.world_argument.ensures.local ∙ ap₂ with_rule one c.world_argument.ensures.rule in
+    let three = c.in_ok-arg-3.ensures.shape c.from_argument.ensures.local ∙ ap₂ with_rule two c.from_argument.ensures.rule in
+    IfOk-weaker c.arg-4.result _ _ (λ r h. ap (λ (a : App). a.top) (h.shape c.name_argument.ensures.local ∙ ap₂ with_rule three c.name_argument.ensures.rule)) c.arg-4.ensures
+
+pub returns-clause-local : goal.returns-clause-local
+returns-clause-local c = IfOk-weaker c.arg-4.result _ _ (λ r h.
+    let start = c.new.ensures.local in
+    let said = ap (λ (f : Command-F Command). f.has_globals) c.about.ensures in
+    let out = c.out_argument.ensures.local in
+    let world = c.world_argument.ensures.local in
+    let from = c.from_argument.ensures.local in
+    let name = c.name_argument.ensures.local in
+    let one = c.in_ok-arg.ensures.globals in
+    let two = c.in_ok-arg-2.ensures.globals in
+    let three = c.in_ok-arg-3.ensures.globals in
+    let four = h.globals in
+    search rules) c.arg-4.ensures

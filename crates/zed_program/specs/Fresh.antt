@@ -1,0 +1,106 @@
+-- The world of a new edit file.
+use Rattle.std.specs.Prelude.{ℕ, pos, false, List, [], ◌∷◌, codes, replicate, take, Option, Some, None, Result, Ok, Err}
+use Rattle.zed_types.specs.declared.tile.Tile.{Tile}
+use Rattle.zed_edit.specs.Board.{empty_tile, new_table}
+use Rattle.zed_op.specs.Fit.{genesis_stamp}
+use Rattle.zed_op.specs.declared.op.Op.TheVariants.{Genesis}
+use Rattle.zed_op.specs.declared.op.Edit.{Edit}
+use Rattle.zed_world.specs.declared.error.WorldError.{WorldError}
+use Rattle.zed_world.specs.declared.header.Header.{Header}
+use Rattle.zed_world.specs.declared.board.Properties.{Properties}
+use Rattle.zed_world.specs.declared.board.BoardData.{BoardData}
+use Rattle.zed_world.specs.declared.stat.Code.TheVariants as code
+use Rattle.zed_world.specs.declared.stat.StatData.{StatData}
+use Rattle.zed_world.specs.Contents.{Contents}
+use Rattle.zed_world.specs.Reading.{world_at}
+use Rattle.zed_world.specs.Writing.{written}
+use Rattle.zed_program.specs.declared.refusal.Refusal.{Refusal}
+use Rattle.zed_program.specs.declared.refusal.Refusal.TheVariants.{File}
+use Rattle.zed_program.specs.Refusals.{world_refusal}
+
+-- nothing but health and a name, which is cut to its field
+abbrev pub fresh_header : List ℕ → Header
+fresh_header name = record {
+  ammo = pos 0;
+  gems = pos 0;
+  keys = replicate 7 false;
+  health = pos 100;
+  current_board = 0;
+  torches = pos 0;
+  torch_ticks = pos 0;
+  energizer_ticks = pos 0;
+  score = pos 0;
+  name = take 20 name;
+  flags = replicate 10 [];
+  time_passed = pos 0;
+  hundredths = pos 0;
+  saved = false;
+}
+
+-- as of a board that is added
+abbrev pub fresh_properties : Properties
+fresh_properties = record {
+  max_shots = 255;
+  dark = false;
+  north = 0;
+  south = 0;
+  west = 0;
+  east = 0;
+  re_enter = false;
+  message = [];
+  start_x = 30;
+  start_y = 12;
+  time_limit = pos 0;
+}
+
+-- the player in the middle
+abbrev pub fresh_player : StatData
+fresh_player = record {
+  x = 30;
+  y = 12;
+  step_x = pos 0;
+  step_y = pos 0;
+  cycle = pos 1;
+  p1 = 0;
+  p2 = 0;
+  p3 = 0;
+  follower = None;
+  leader = None;
+  under = empty_tile;
+  position = pos 0;
+  code = code.None;
+}
+
+-- a title of these tiles
+abbrev pub title_of : List Tile → BoardData
+title_of tiles = record { name = codes "Title"; tiles = tiles; properties = fresh_properties; stats = fresh_player ∷ [] }
+
+-- a world of one title board, which has the tiles of a board that is added
+abbrev pub fresh_world : List ℕ → Contents
+fresh_world name = record { header = fresh_header name; boards = title_of new_table ∷ [] }
+
+-- what was read, written again
+abbrev pub rewritten : Result Contents WorldError → Result (List ℕ) WorldError
+rewritten (Ok w) = written 32767 w
+rewritten (Err e) = Err e
+
+abbrev pub refused_as : Result (List ℕ) WorldError → Result (List ℕ) Refusal
+refused_as (Ok bytes) = Ok bytes
+refused_as (Err e) = Err (world_refusal e)
+
+abbrev pub name_or_none : Option (List ℕ) → List ℕ
+name_or_none None = []
+name_or_none (Some name) = name
+
+-- the bytes of a world file as they are written again, or why there are none
+abbrev pub taken_from : Option (List ℕ) → Result (List ℕ) Refusal
+taken_from None = Err File
+taken_from (Some bytes) = refused_as (rewritten (world_at bytes))
+
+-- the bytes of a new world by its name
+abbrev pub made_by : Option (List ℕ) → Result (List ℕ) Refusal
+made_by name = refused_as (written 32767 (fresh_world (name_or_none name)))
+
+-- the edit that makes a world of these bytes
+abbrev pub genesis_of : List ℕ → Edit
+genesis_of bytes = record { stamp = genesis_stamp; op = Genesis bytes }

@@ -1,0 +1,133 @@
+//! An action of an author on an edit file.
+ghost use Rattle.std.specs.Prelude.{◌≡◌, ◌≤◌, ◌⊎◌, Err, IfErr, IfOk, MatchResult, Ok, Some, OnOk, ◌++◌, false};
+ghost use Rattle.std.specs.List.{flat_map};
+ghost use Rattle.zed_op.specs.Set.{Agrees, AllFit};
+ghost use Rattle.zed_types.specs.declared.stamp.Stamp.{Stamp as TheStamp};
+ghost use Rattle.zed_document.specs.Laws.{document_of};
+ghost use Rattle.zed_program.specs.Collected.{IsFirstClash};
+ghost use Rattle.zed_editfile.specs.Spelling.{file_text, record_text};
+ghost use Rattle.zed_program.specs.Edited.{IsEdited, IsOpened};
+ghost use Rattle.zed_program.specs.Outcome.{Ends, texts_of};
+ghost use Rattle.zed_program.specs.Told.{IsCalm, Told, file_in};
+ghost use Rattle.zed_program.specs.Wanted.{Edit as EditFile};
+
+use crate::collect::{deliver_all, read_file, read_one};
+use crate::host::Host;
+use crate::output::write_out;
+use crate::refusal::{Refusal, edits_told, of_action, of_file};
+use std::alloc::Global;
+use zed_action::act;
+use zed_document::Document;
+use zed_edit::{Cause, Edit};
+use zed_editfile::{EditFileError, write_edit, write_head};
+
+// The document of a world with these edits.
+fn collected(alloc: Global, world: u64, edits: Vec<Edit>) -> Result<Document, Refusal>
+    requires { AllFit edits.items }
+    ensures { MatchResult result
+        (λ d. Agrees edits.items × (d ≡ document_of world edits.items))
+        (λ e. (e ≡ Refusal.Memory) ⊎ ((s : TheStamp) × IsFirstClash edits.items s × (e ≡ Refusal.Clash s))) }
+{
+    let mut document = Document::new(alloc, world);
+    deliver_all(&mut document, edits)?;
+    Ok(document)
+}
+
+// The document of a file.
+fn opened(alloc: Global, bytes: &[u8]) -> Result<Document, Refusal>
+    ensures opened { MatchResult result
+        (λ d. IsOpened (Some bytes.now) (Ok d))
+        (λ e. (e ≡ Refusal.Memory) ⊎ IsOpened (Some bytes.now) (Err e)) }
+    ensures sound { IfOk result (λ d. d.is_stale ≡ false) }
+{
+    let mut edits = Vec::new(alloc);
+    match read_file(alloc, None, bytes, &mut edits) {
+        Ok(world) => collected(alloc, world, edits),
+        Err(EditFileError::Memory) => Err(Refusal::Memory),
+        Err(error) => {
+            collected(alloc, 0, edits)?;
+            Err(of_file(error))
+        }
+    }
+}
+
+// The document of the file of a name.
+fn open<H: Host>(alloc: Global, host: &mut H, file: &str) -> Result<Document, Refusal>
+    ensures opened { (t : Told) → H.told host.old ≡ Some t → IsCalm (H.failed host.old) (H.failed host.new)
+        → MatchResult result
+        (λ d. IsOpened (file_in t file.now) (Ok d))
+        (λ e. (e ≡ Refusal.Memory) ⊎ IsOpened (file_in t file.now) (Err e)) }
+    ensures sound { IfOk result (λ d. d.is_stale ≡ false) }
+    ensures kept { H.told host.new ≡ H.told host.old }
+    ensures rises { H.failed host.old ≤ H.failed host.new }
+{
+    let bytes = read_one(host, file)?;
+    opened(alloc, bytes.as_slice())
+}
+
+// The document of a file, after an action of a replica.
+fn edited<H: Host>(
+    alloc: Global,
+    host: &mut H,
+    file: &str,
+    replica: u16,
+    words: &[&str],
+) -> Result<Document, Refusal>
+    ensures edited { (t : Told) → H.told host.old ≡ Some t → IsCalm (H.failed host.old) (H.failed host.new)
+        → MatchResult result
+        (λ d. IsEdited t file.now replica (texts_of words.now) (Ok (d.world, d.edits)))
+        (λ e. (e ≡ Refusal.Memory) ⊎ IsEdited t file.now replica (texts_of words.now) (Err e)) }
+    ensures kept { H.told host.new ≡ H.told host.old }
+    ensures rises { H.failed host.old ≤ H.failed host.new }
+{
+    if replica == 0 {
+        return Err(Refusal::BadEdit(Cause::Stamp));
+    }
+    let mut document = open(alloc, host, file)?;
+    match act(alloc, &mut document, replica, words) {
+        Ok(()) => Ok(document),
+        Err(error) => Err(of_action(error)),
+    }
+}
+
+// Appends the records of edits.
+fn put_all(edits: &[Edit], out: &mut Vec<u8>) -> Result<(), Refusal>
+    requires { AllFit edits.now }
+    ensures ok { OnOk result (out.new.items ≡ out.old.items ++ flat_map record_text edits.now) }
+    ensures err { IfErr result (λ e. e ≡ Refusal.Memory) }
+{
+    for edit in edits {
+        write_edit(edit, out).map_err(of_file)?;
+    }
+    Ok(())
+}
+
+/// The edit file of a document.
+fn file_of(alloc: Global, document: &Document) -> Result<Vec<u8>, Refusal>
+    ensures ok { IfOk result (λ file. file.items ≡ file_text document.now.world document.now.edits) }
+    ensures err { IfErr result (λ e. e ≡ Refusal.Memory) }
+{
+    let mut file = Vec::new(alloc);
+    write_head(document.world(), &mut file).map_err(of_file)?;
+    put_all(document.edits(), &mut file)?;
+    Ok(file)
+}
+
+/// Does an action as a replica, and rewrites the file.
+pub(crate) fn edit<H: Host>(
+    alloc: Global,
+    host: &mut H,
+    file: &str,
+    replica: u16,
+    words: &[&str],
+) -> Result<(), Refusal>
+    ensures ends { (t : Told) → H.told host.old ≡ Some t
+        → IsCalm (H.failed host.old) (H.failed host.new)
+        → Ends (EditFile file.now replica (texts_of words.now)) t result (H.told host.new) }
+    ensures rises { H.failed host.old ≤ H.failed host.new }
+{
+    let document = edited(alloc, host, file, replica, words)?;
+    let text = file_of(alloc, &document)?;
+    let line = edits_told(alloc, document.edits().len())?;
+    write_out(host, file, text.as_slice(), line.as_str())
+}

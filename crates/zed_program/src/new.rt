@@ -1,0 +1,254 @@
+//! The edit file of a new world.
+ghost use Rattle.std.specs.Prelude.{◌≡◌, ◌≤◌, ◌∷◌, [], ◌⊎◌, Err, IfErr, IfOk, MatchResult, Ok, Option, List, ℕ, Some, false, option_map, replicate, take};
+ghost use Rattle.zed_edit.specs.Board.{new_table};
+ghost use Rattle.zed_editfile.specs.Spelling.{file_text};
+ghost use Rattle.zed_world.specs.Canonical.{IsCanonical};
+ghost use Rattle.zed_program.specs.Fresh.{fresh_header, fresh_player, fresh_properties, fresh_world, genesis_of, made_by, name_or_none, refused_as, rewritten, taken_from, title_of};
+ghost use Rattle.zed_world.specs.Writing.{written};
+ghost use Rattle.zed_world.specs.Reading.{world_at};
+ghost use Rattle.zed_program.specs.Outcome.{Ends, first_world, text_in};
+ghost use Rattle.zed_program.specs.Told.{IsCalm, Told, file_in};
+ghost use Rattle.zed_program.specs.Wanted.{New};
+
+use crate::collect::read_one;
+use crate::host::Host;
+use crate::output::write_out;
+use crate::refusal::{Refusal, edits_told, of_file, of_world};
+use std::alloc::{AllocError, Global};
+use zed_edit::{Edit, Op, replay};
+use zed_editfile::{write_edit, write_head};
+use zed_types::{Bytes, READ_BODY_LIMIT, Seq, Stamp, TILES, Tile};
+use zed_world::{BoardData, Code, Header, Properties, StatData, World, read_world, write_world};
+
+/// Most bytes of the name of a world.
+const MOST_OF_NAME: usize = 20;
+
+/// The health of a new player.
+const HEALTH: i16 = 100;
+
+fn empty(alloc: Global) -> Bytes
+    ensures { result ≡ [] }
+{
+    Bytes::new(Vec::new(alloc))
+}
+
+/// Ten empty flags.
+#[tactic(auto, using(crate::proofs::Worlds::replicate_more))]
+fn flags(alloc: Global) -> Result<Seq<Bytes>, AllocError>
+    ensures { IfOk result (λ flags. flags ≡ replicate 10 []) }
+{
+    let mut flags = Seq::new(alloc);
+    for _ in 0..10u8 {
+        flags.push(empty(alloc))?;
+    }
+    Ok(flags)
+}
+
+/// The front of a text, as much of it as a name takes.
+fn name_of(alloc: Global, text: &str) -> Result<Bytes, AllocError>
+    ensures { IfOk result (λ name. name ≡ take 20 text.now) }
+{
+    let bytes = text.as_bytes();
+    let end = bytes.len().min(MOST_OF_NAME);
+    let name = Vec::from_slice(alloc, &bytes[..end])?;
+    Ok(Bytes::new(name))
+}
+
+fn header(alloc: Global, name: &str) -> Result<Header, AllocError>
+    ensures { IfOk result (λ header. header ≡ fresh_header name.now) }
+{
+    Ok(Header {
+        ammo: 0,
+        gems: 0,
+        keys: [false; 7],
+        health: HEALTH,
+        current_board: 0,
+        torches: 0,
+        torch_ticks: 0,
+        energizer_ticks: 0,
+        score: 0,
+        name: name_of(alloc, name)?,
+        flags: flags(alloc)?,
+        time_passed: 0,
+        hundredths: 0,
+        saved: false,
+    })
+}
+
+/// The tiles of a board that is added.
+fn tiles(alloc: Global) -> Result<[Tile; TILES], Refusal>
+    ensures ok { IfOk result (λ tiles. tiles ≡ new_table) }
+    ensures err { IfErr result (λ e. e ≡ Refusal.Memory) }
+{
+    let stamp = Stamp {
+        time: 2,
+        replica: 1,
+    };
+    let op = Op::BoardAdd(empty(alloc));
+    let Ok(plain) = replay(alloc, &[Edit { stamp, op }]) else {
+        return Err(Refusal::Memory);
+    };
+    Ok(plain.boards.as_slice()[0].tiles)
+}
+
+fn properties(alloc: Global) -> Properties
+    ensures { result ≡ fresh_properties }
+{
+    Properties {
+        max_shots: 255,
+        dark: false,
+        north: 0,
+        south: 0,
+        west: 0,
+        east: 0,
+        re_enter: false,
+        message: empty(alloc),
+        start_x: 30,
+        start_y: 12,
+        time_limit: 0,
+    }
+}
+
+fn player() -> StatData
+    ensures { result ≡ fresh_player }
+{
+    StatData {
+        x: 30,
+        y: 12,
+        step_x: 0,
+        step_y: 0,
+        cycle: 1,
+        p1: 0,
+        p2: 0,
+        p3: 0,
+        follower: None,
+        leader: None,
+        under: Tile::EMPTY,
+        position: 0,
+        code: Code::None,
+    }
+}
+
+fn title(alloc: Global) -> Result<BoardData, Refusal>
+    ensures ok { IfOk result (λ board. board ≡ title_of new_table) }
+    ensures err { IfErr result (λ e. e ≡ Refusal.Memory) }
+{
+    let name = Vec::from_slice(alloc, b"Title")?;
+    let tiles = tiles(alloc)?;
+    let mut stats = Seq::new(alloc);
+    stats.push(player())?;
+    Ok(BoardData {
+        name: Bytes::new(name),
+        tiles,
+        properties: properties(alloc),
+        stats,
+    })
+}
+
+/// A world of one title board.
+fn world_named(alloc: Global, name: &str) -> Result<World, Refusal>
+    ensures ok { IfOk result (λ world. world ≡ fresh_world name.now) }
+    ensures err { IfErr result (λ e. e ≡ Refusal.Memory) }
+{
+    let header = header(alloc, name)?;
+    let title = title(alloc)?;
+    let mut boards = Seq::new(alloc);
+    boards.push(title)?;
+    Ok(World::new(header, boards))
+}
+
+/// The file of a world.
+fn text_of(alloc: Global, world: &World) -> Result<Vec<u8>, Refusal>
+    ensures is { MatchResult result
+        (λ bytes. refused_as (written 32767 world.now) ≡ Ok bytes.items)
+        (λ e. (e ≡ Refusal.Memory) ⊎ (refused_as (written 32767 world.now) ≡ Err e)) }
+    ensures canonical { IfOk result (λ bytes. IsCanonical bytes.items) }
+{
+    match write_world(alloc, world, READ_BODY_LIMIT) {
+        Ok(bytes) => Ok(bytes),
+        Err(error) => Err(of_world(error)),
+    }
+}
+
+/// A world file, read and written again.
+fn written_again(alloc: Global, bytes: &[u8]) -> Result<Vec<u8>, Refusal>
+    ensures is { MatchResult result
+        (λ text. refused_as (rewritten (world_at bytes.now)) ≡ Ok text.items)
+        (λ e. (e ≡ Refusal.Memory) ⊎ (refused_as (rewritten (world_at bytes.now)) ≡ Err e)) }
+    ensures canonical { IfOk result (λ text. IsCanonical text.items) }
+{
+    match read_world(alloc, bytes) {
+        Ok(world) => text_of(alloc, &world),
+        Err(error) => Err(of_world(error)),
+    }
+}
+
+fn made(alloc: Global, name: Option<&str>) -> Result<Vec<u8>, Refusal>
+    ensures is { MatchResult result
+        (λ bytes. made_by (text_in name.entry) ≡ Ok bytes.items)
+        (λ e. (e ≡ Refusal.Memory) ⊎ (made_by (text_in name.entry) ≡ Err e)) }
+    ensures canonical { IfOk result (λ bytes. IsCanonical bytes.items) }
+{
+    let world = world_named(alloc, name.unwrap_or(""))?;
+    text_of(alloc, &world)
+}
+
+/// The bytes of the first world of an edit file.
+fn first<H: Host>(
+    alloc: Global,
+    host: &mut H,
+    from: Option<&str>,
+    name: Option<&str>,
+) -> Result<Vec<u8>, Refusal>
+    ensures is { (t : Told) → H.told host.old ≡ Some t → IsCalm (H.failed host.old) (H.failed host.new)
+        → MatchResult result
+        (λ bytes. first_world t (text_in from.entry) (text_in name.entry) ≡ Ok bytes.items)
+        (λ e. (e ≡ Refusal.Memory) ⊎ (first_world t (text_in from.entry) (text_in name.entry) ≡ Err e)) }
+    ensures canonical { IfOk result (λ bytes. IsCanonical bytes.items) }
+    ensures kept { H.told host.new ≡ H.told host.old }
+    ensures rises { H.failed host.old ≤ H.failed host.new }
+{
+    match from {
+        Some(file) => {
+            let bytes = read_one(host, file)?;
+            written_again(alloc, bytes.as_slice())
+        }
+        None => made(alloc, name),
+    }
+}
+
+/// An edit file that makes a world of these bytes.
+fn file_of(alloc: Global, world: u64, bytes: Vec<u8>) -> Result<Vec<u8>, Refusal>
+    requires { IsCanonical bytes.items }
+    ensures ok { IfOk result (λ file. file.items ≡ file_text world (genesis_of bytes.items ∷ [])) }
+    ensures err { IfErr result (λ e. e ≡ Refusal.Memory) }
+{
+    let edit = Edit {
+        stamp: Stamp::GENESIS,
+        op: Op::Genesis(Bytes::new(bytes)),
+    };
+    let mut file = Vec::new(alloc);
+    write_head(world, &mut file).map_err(of_file)?;
+    write_edit(&edit, &mut file).map_err(of_file)?;
+    Ok(file)
+}
+
+/// Writes an edit file that makes a world: that of a world file, or of a title board.
+pub(crate) fn make_new<H: Host>(
+    alloc: Global,
+    host: &mut H,
+    out: &str,
+    world: u64,
+    from: Option<&str>,
+    name: Option<&str>,
+) -> Result<(), Refusal>
+    ensures ends { (t : Told) → H.told host.old ≡ Some t
+        → IsCalm (H.failed host.old) (H.failed host.new)
+        → Ends (New out.now world (text_in from.entry) (text_in name.entry)) t result (H.told host.new) }
+    ensures rises { H.failed host.old ≤ H.failed host.new }
+{
+    let bytes = first(alloc, host, from, name)?;
+    let file = file_of(alloc, world, bytes)?;
+    let line = edits_told(alloc, 1)?;
+    write_out(host, out, file.as_slice(), line.as_str())
+}
