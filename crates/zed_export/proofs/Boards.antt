@@ -1,5 +1,5 @@
 -- The limits of one board.
-use Rattle.std.proofs.Common.{◌≡◌, ℕ, suc, ◌+◌, ◌-◌, ◌<◌, ◌≤◌, Bool, true, false, ltb, List, [], ◌∷◌, ◌++◌, length, ap, ◌∙◌, refl, arith, Option, Some, None}
+use Rattle.std.proofs.Common.{◌≡◌, ℕ, suc, ◌-◌, ◌<◌, ◌≤◌, true, false, ltb, List, [], ◌∷◌, ◌++◌, length, ap, refl, arith, Option, Some, None}
 use Rattle.std.proofs.lemmas.Bool.{lt-ltb, le-ltb}
 use Rattle.zed_types.specs.declared.names.TextId.{TextId}
 use Rattle.zed_world.specs.declared.board.BoardData.{BoardData}
@@ -7,7 +7,6 @@ use Rattle.zed_world.specs.Writing.{body_text}
 use Rattle.zed_edit.specs.declared.plain.Board.{Board}
 use Rattle.zed_edit.specs.declared.plain.Stat.{Stat}
 use Rattle.zed_edit.specs.declared.plain.Plain.{Plain}
-use Rattle.zed_export.specs.declared.error.ExportError.{ExportError}
 use Rattle.zed_export.specs.declared.error.ExportError.TheVariants.{StatsOver, BoardOver}
 use Rattle.zed_export.specs.World.{exported_above}
 use Rattle.zed_export.specs.Limits.{told, board_refusal}

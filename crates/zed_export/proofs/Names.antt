@@ -1,5 +1,5 @@
 -- The numbers of things are the places of their names.
-use Rattle.std.proofs.Common.{◌≡◌, ℕ, suc, ◌+◌, Bool, cond, not, List, [], ◌∷◌, length, map, ap, ◌∙◌, refl, sym, Option, Some, None}
+use Rattle.std.proofs.Common.{◌≡◌, ℕ, ◌+◌, Bool, cond, not, List, [], ◌∷◌, map, ap, refl, Option, Some, None}
 use Rattle.std.specs.Prelude.{position, option_and_then}
 use Rattle.std.specs.List.{prefix_len}
 use Rattle.std.proofs.lemmas.List.{length-map}
@@ -11,7 +11,7 @@ use Rattle.zed_types.specs.Names.{same_board, same_stat}
 use Rattle.zed_edit.specs.declared.plain.Board.{Board}
 use Rattle.zed_edit.specs.declared.plain.Stat.{Stat}
 use Rattle.zed_edit.specs.declared.plain.Plain.{Plain}
-use Rattle.zed_edit.specs.Numbers.{live_boards, board_number, live_stats, stat_number}
+use Rattle.zed_edit.specs.Numbers.{live_boards, live_stats, stat_number}
 use Rattle.zed_export.specs.World.{number_or_0, exit_number, parameter}
 use Rattle.zed_export.specs.Fields.{board_names, stat_names, place_or_0, exit_place, place_parameter, stat_place}
 

@@ -1,6 +1,6 @@
 -- The world of a regular document that goes over no limit can stand in a file.
-use Rattle.std.proofs.Common.{◌≡◌, ℕ, suc, ◌+◌, ◌<◌, ◌≤◌, ◌^◌, Bool, true, false, not, cond, nat_lt, ltb, List, [], ◌∷◌, ◌++◌, length, map, refl, sym, ap, ◌∙◌, arith, Option, Some, None, IfSome}
-use Rattle.std.specs.Prelude.{filter, position, unwrap_or, option_and_then}
+use Rattle.std.proofs.Common.{◌≡◌, ℕ, ◌+◌, ◌<◌, ◌≤◌, Bool, true, false, not, cond, ltb, List, [], ◌∷◌, ◌++◌, length, map, refl, sym, ap, ◌∙◌, arith, Option, Some, None, IfSome}
+use Rattle.std.specs.Prelude.{filter, option_and_then}
 use Rattle.std.specs.List.{AllByRecursion, flat_map}
 use Rattle.std.proofs.lemmas.Bool.{ltb-true}
 use Rattle.std.proofs.lemmas.List.{length-map, length_push}
@@ -10,11 +10,9 @@ use Rattle.zed_types.specs.declared.names.TextId.{TextId}
 use Rattle.zed_types.specs.declared.stat_field.ThirdParameter.{ThirdParameter}
 use Rattle.zed_types.specs.declared.stat_field.ThirdParameter.TheVariants as third
 use Rattle.zed_types.specs.Names.{same_board, same_stat}
-use Rattle.zed_world.specs.declared.board.BoardData.{BoardData}
 use Rattle.zed_world.specs.declared.stat.StatData.{StatData}
-use Rattle.zed_world.specs.Fields.{board_number as number_of_world}
 use Rattle.zed_world.specs.Offsets.{is_passage_at}
-use Rattle.zed_world.specs.Writing.{code_text, stat_text, body_text}
+use Rattle.zed_world.specs.Writing.{code_text, stat_text}
 use Rattle.zed_world.specs.Normal.{AreNormalStats, IsNormalBoard, IsNormal}
 use Rattle.zed_edit.specs.declared.plain.Board.{Board}
 use Rattle.zed_edit.specs.declared.plain.Stat.{Stat}
@@ -23,7 +21,7 @@ use Rattle.zed_edit.specs.Numbers.{live_boards, live_stats, stat_number}
 use Rattle.zed_laws.specs.Regular.{IsRegularBoard, IsRegular}
 use Rattle.zed_export.specs.World.{number_or_0, exit_number, parameter, exported_stat, exported_above, exported_board, exported_boards, world_of}
 use Rattle.zed_export.specs.Fields.{FitsStat, FitsBoard, FitsHeader}
-use Rattle.zed_export.specs.Limits.{boards_refusal, board_refusal, refusal_of, or_else}
+use Rattle.zed_export.specs.Limits.{boards_refusal, board_refusal, refusal_of}
 use Rattle.zed_export.proofs.Searching.{found_within, found_or_0}
 use Rattle.zed_export.proofs.Sizes.{length_body}
 use Rattle.zed_export.proofs.Boards.{length_above}

@@ -1,8 +1,7 @@
 -- Programs that are shared.
-use Rattle.std.proofs.Common.{◌≡◌, inl, inr, ℕ, zero, suc, ◌+◌, ◌<◌, ◌≤◌, ◌^◌, Bool, true, false, List, [], ◌∷◌, ◌++◌, length, refl, sym, ap, ◌∙◌, arith, eqb-true, Option, Some, None}
+use Rattle.std.proofs.Common.{◌≡◌, inl, inr, ℕ, suc, ◌<◌, ◌^◌, true, List, [], ◌∷◌, ◌++◌, length, refl, sym, ap, ◌∙◌, arith, eqb-true, Option, Some, None}
 use Rattle.std.specs.Prelude.{◌==◌, position, slice_get, option_map}
 use Rattle.std.proofs.lemmas.Bool.{and_parts}
-use Rattle.zed_types.specs.declared.stamp.Stamp.{Stamp}
 use Rattle.zed_types.specs.declared.names.TextId.{TextId}
 use Rattle.zed_types.specs.Stamp.{same_stamp}
 use Rattle.zed_types.specs.Names.{same_text}

@@ -1,10 +1,9 @@
 -- What follows where a document goes over no limit.
-use Rattle.std.proofs.Common.{◌≡◌, ℕ, zero, suc, ◌+◌, ◌-◌, ◌<◌, ◌≤◌, Bool, true, false, not, cond, ltb, List, [], ◌∷◌, ◌++◌, length, map, refl, sym, ap, ◌∙◌, arith, Option, Some, None}
+use Rattle.std.proofs.Common.{◌≡◌, ℕ, ◌+◌, ◌-◌, ◌≤◌, Bool, true, false, not, cond, ltb, List, [], ◌∷◌, length, map, refl, sym, arith, Option, Some, None}
 use Rattle.std.specs.Prelude.{◌||◌, filter}
 use Rattle.std.specs.List.{AllByRecursion, flat_map, list_any}
-use Rattle.std.proofs.lemmas.Bool.{ltb-false, lt-ltb, le-ltb}
+use Rattle.std.proofs.lemmas.Bool.{ltb-false, le-ltb}
 use Rattle.std.proofs.lemmas.List.{length-append}
-use Rattle.zed_types.specs.declared.names.TextId.{TextId}
 use Rattle.zed_types.specs.Names.{same_board}
 use Rattle.zed_world.specs.declared.board.BoardData.{BoardData}
 use Rattle.zed_world.specs.declared.stat.StatData.{StatData}
@@ -16,12 +15,12 @@ use Rattle.zed_edit.specs.declared.plain.Plain.{Plain}
 use Rattle.zed_types.specs.Names.{title}
 use Rattle.zed_edit.specs.Document.{has}
 use Rattle.zed_edit.specs.Numbers.{live_boards, live_stats}
-use Rattle.zed_laws.specs.Regular.{HasPlayer, IsRegularBoard, IsRegular}
+use Rattle.zed_laws.specs.Regular.{HasPlayer, IsRegularBoard}
 use Rattle.zed_export.specs.declared.error.ExportError.{ExportError}
-use Rattle.zed_export.specs.World.{exported_above, exported_board, exported_boards}
+use Rattle.zed_export.specs.World.{exported_board, exported_boards}
 use Rattle.zed_export.specs.Limits.{or_else, stats_refusal, body_refusal, board_refusal, boards_refusal, count_refusal, title_refusal, refusal_of}
 use Rattle.zed_export.proofs.Boards.{length_above}
-use Rattle.zed_export.proofs.Sizes.{length_stat, length_body}
+use Rattle.zed_export.proofs.Sizes.{length_stat}
 
 pub neither : (a b : Option ExportError) → or_else a b ≡ None → (a ≡ None) × (b ≡ None)
 neither None b e = (refl, e)

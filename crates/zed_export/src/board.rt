@@ -1,6 +1,5 @@
 ghost use Rattle.std.specs.Prelude.{◌≡◌, ◌<◌, ◌≤◌, [], IfOk, IfSome, length};
 ghost use Rattle.std.specs.List.{AllByRecursion};
-ghost use Rattle.zed_world.specs.Offsets.{is_passage_at};
 ghost use Rattle.zed_world.specs.Normal.{IsInteger};
 ghost use Rattle.zed_edit.specs.Numbers.{live_stats as stats_there};
 ghost use Rattle.zed_laws.specs.Regular.{IsRegular};
@@ -17,21 +16,7 @@ use zed_types::{
     BoardByte, BoardFlag, BoardId, BoardText, Bytes, Seq, Side, StatByte, StatId, StatNumber,
     TILES, TextId, ThirdParameter, Tile,
 };
-use zed_world::{BoardData, Code, Properties, StatData};
-
-/// The element of a passage.
-const PASSAGE: u8 = 11;
-
-/// Whether a passage stands at a place. Outside the table nothing does.
-#[tactic(auto, unfolding(zed_world::specs::Offsets::is_passage_at))]
-fn is_passage(tiles: &[Tile; TILES], x: u8, y: u8) -> bool
-    ensures { result ≡ is_passage_at tiles.now x y }
-{
-    if x == 0 || 60 < x || y == 0 || 25 < y {
-        return false;
-    }
-    tiles[60 * (usize::from(y) - 1) + (usize::from(x) - 1)].element == PASSAGE
-}
+use zed_world::{BoardData, Code, Properties, StatData, is_passage};
 
 /// The third parameter of a stat that stands on a passage or not, in a world whose boards have these names.
 fn parameter_of(boards: &[BoardId], on_passage: bool, parameter: ThirdParameter) -> u8

@@ -16,8 +16,3 @@ pub use error::ExportError;
 pub use exporting::{export, save};
 pub use laws::saved_is_read;
 pub use warning::{Warning, warnings};
-
-#[cfg(test)]
-mod tests;
-#[cfg(test)]
-mod tests_edits;

@@ -19,6 +19,3 @@ pub use laws::{
 pub use naming::names;
 pub use op::{Edit, Op};
 pub use thing::Thing;
-
-#[cfg(test)]
-mod tests_check;

@@ -2,7 +2,6 @@ use Rattle.std.proofs.Common.{◌≡◌, ℕ, List, Bool, Option, rules, ap, ◌
 use Rattle.zed_types.specs.declared.names.BoardId.{BoardId}
 use Rattle.zed_types.specs.declared.names.StatId.{StatId}
 use Rattle.zed_types.specs.declared.tile.Tile.{Tile}
-use Rattle.zed_types.specs.declared.stat_field.ThirdParameter.{ThirdParameter}
 use Rattle.zed_world.specs.Offsets.{is_passage_at}
 use Rattle.zed_edit.specs.Numbers.{stat_number as number_of_stat}
 use Rattle.std.specs.Prelude.{option_and_then}

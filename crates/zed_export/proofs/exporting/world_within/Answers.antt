@@ -1,7 +1,5 @@
-use Rattle.std.proofs.Common.{◌≡◌, sym, List}
+use Rattle.std.proofs.Common.{◌≡◌, sym}
 use Rattle.std.specs.List.{AllByRecursion}
-use Rattle.zed_world.specs.declared.header.Header.{Header}
-use Rattle.zed_world.specs.declared.board.BoardData.{BoardData}
 use Rattle.zed_edit.specs.Numbers.{live_boards}
 use Rattle.zed_export.specs.World.{exported_header, exported_boards}
 use Rattle.zed_export.specs.Fields.{FitsHeader, FitsBoard}

@@ -1,4 +1,4 @@
-use Rattle.std.proofs.Common.{◌≡◌, ℕ, List, [], ◌∷◌, length, get_or, take, map, sym, ap, ◌∙◌, refl, arith}
+use Rattle.std.proofs.Common.{◌≡◌, ℕ, List, [], ◌∷◌, length, get_or, take, map, ap, ◌∙◌, refl, arith}
 use Rattle.zed_types.specs.declared.header.FlagSlot.{FlagSlot}
 use Rattle.zed_types.specs.Header.{flag_index}
 use Rattle.zed_export.specs.declared.header.TheConstants.{SLOTS}

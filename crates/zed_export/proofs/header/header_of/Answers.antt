@@ -1,7 +1,6 @@
-use Rattle.std.proofs.Common.{◌≡◌, ℕ, ℤ, List, Bool, rules, ap, ◌∙◌, refl}
+use Rattle.std.proofs.Common.{◌≡◌, List, rules, ap, ◌∙◌, refl}
 use Rattle.zed_types.specs.declared.names.BoardId.{BoardId}
-use Rattle.zed_world.specs.declared.header.Header.{Header}
-use Rattle.zed_export.specs.World.{exported_header, number_or_0}
+use Rattle.zed_export.specs.World.{number_or_0}
 use Rattle.zed_export.specs.Fields.{place_or_0, board_names}
 use Rattle.zed_export.proofs.Names.{board_place}
 use Rattle.zed_export.proofs.Numbers16.{kept}

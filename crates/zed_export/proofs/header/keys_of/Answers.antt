@@ -1,4 +1,4 @@
-use Rattle.std.proofs.Common.{◌≡◌, ℕ, Bool, false, List, [], ◌∷◌, length, get_or, sym, ◌∙◌, refl, arith}
+use Rattle.std.proofs.Common.{◌≡◌, Bool, false, List, [], ◌∷◌, length, get_or, refl, arith}
 use Rattle.zed_export.proofs.header.keys_of.Goals as goal
 
 -- a list of seven, written out

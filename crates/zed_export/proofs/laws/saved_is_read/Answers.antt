@@ -5,10 +5,9 @@ use Rattle.zed_world.specs.Contents.{Contents}
 use Rattle.zed_world.specs.Normal.{IsNormal}
 use Rattle.zed_world.specs.Reading.{world_at}
 use Rattle.zed_world.specs.Writing.{body_text, world_text}
-use Rattle.zed_edit.specs.declared.plain.Plain.{Plain}
 use Rattle.zed_export.specs.declared.error.ExportError.{ExportError}
 use Rattle.zed_export.specs.World.{exported_boards, world_of}
-use Rattle.zed_export.specs.Limits.{refusal_of, saved, unless_over, SavedIsRead}
+use Rattle.zed_export.specs.Limits.{refusal_of, unless_over, SavedIsRead}
 use Rattle.zed_export.proofs.Within.{boards_within, all_readable}
 use Rattle.zed_export.proofs.laws.saved_is_read.Goals as goal
 

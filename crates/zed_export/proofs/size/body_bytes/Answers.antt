@@ -1,8 +1,8 @@
-use Rattle.std.proofs.Common.{◌≡◌, ◌+◌, ℕ, List, length, ap, sym, ◌∙◌, arith, min}
+use Rattle.std.proofs.Common.{◌≡◌, List, length, ap, ◌∙◌, arith}
 use Rattle.std.specs.List.{flat_map}
 use Rattle.zed_types.specs.declared.tile.Tile.{Tile}
 use Rattle.zed_runs.specs.Runs.{greedy}
-use Rattle.zed_world.specs.Writing.{stat_text, body_text}
+use Rattle.zed_world.specs.Writing.{stat_text}
 use Rattle.zed_document.specs.View.{board_at}
 use Rattle.zed_export.specs.World.{exported_board}
 use Rattle.zed_export.specs.Limits.{told}

@@ -1,0 +1,110 @@
+//! Commands whose host fails, or whose growths are refused.
+use crate::growths::{MOST, refuse, was_refused};
+use crate::hosts::{Contents, File, Output, exits, has_written, put_files, words_of};
+use crate::rows::{Does, Row};
+use crate::worlds::{EMPTY, ONE_CELL};
+use std::alloc::Global;
+use std::test::Fail;
+use zed_program::{Host, MemoryHost, run};
+use zed_types::Tile;
+
+const TITLE: Row = (1, 0, Does::World(EMPTY));
+
+const CELL: Row = (2, 1, Does::Cell(5, 5, SOLID));
+
+const SOLID: Tile = Tile {
+    element: 21,
+    colour: 0x0e,
+};
+
+const FILES: &[File] = &[
+    ("a", Contents::Edits(&[TITLE])),
+    ("b", Contents::Edits(&[CELL])),
+];
+
+/// Whether `save` ends with status 1 where its host fails.
+fn tells(alloc: Global, host: &mut MemoryHost) -> bool {
+    put_files(alloc, host, FILES)
+        && exits(alloc, host, &["save", "o", "a", "b"], 1)
+        && host.failures() > 0
+}
+
+/// Whether it does where the host fails at the call after so many.
+fn fails_after(alloc: Global, calls: u64) -> bool {
+    let mut host = MemoryHost::new(alloc, calls);
+    tells(alloc, &mut host)
+}
+
+#[test]
+fn tells_a_failure(rt: HostRuntime) -> Result<(), Fail> {
+    // The first two calls put the files there.
+    for calls in 2..5 {
+        if !fails_after(rt.alloc(), calls) {
+            return Err(Fail::new(format_args!("a failure after {calls} calls")));
+        }
+    }
+    Ok(())
+}
+
+/// How a command came out.
+#[derive(Clone, Copy)]
+enum Turn {
+    Refused,
+    NoneRefused,
+    Wrong,
+}
+
+/// Whether a refused `save` says Memory and writes no file. The host's own growths count as failures of a device: only then is
+/// something else said, and may the file stand there already.
+fn is_told(alloc: Global, host: &mut MemoryHost) -> bool {
+    let is_memory = host.complained() == b"zzted: Memory\n".as_slice();
+    if host.failures() == 0 {
+        is_memory && has_written(alloc, host, Output::Nothing("o"))
+    } else {
+        !is_memory
+    }
+}
+
+/// Runs a `save` with the growth `nth` refused, and says how that came out.
+fn take_turn(alloc: Global, host: &mut MemoryHost, words: &[String], nth: usize) -> Turn {
+    refuse(alloc, nth);
+    let status = run(alloc, words, host);
+    if was_refused(alloc) {
+        if status == 1 && is_told(alloc, host) {
+            Turn::Refused
+        } else {
+            Turn::Wrong
+        }
+    } else if status == 0 && has_written(alloc, host, Output::World("o", ONE_CELL)) {
+        Turn::NoneRefused
+    } else {
+        Turn::Wrong
+    }
+}
+
+fn take_turn_anew(alloc: Global, nth: usize) -> Turn {
+    let mut host = MemoryHost::new(alloc, u64::MAX);
+    let words = words_of(alloc, &["save", "o", "b", "a"]);
+    match words {
+        Ok(words) => {
+            if put_files(alloc, &mut host, FILES) {
+                take_turn(alloc, &mut host, words.as_slice(), nth)
+            } else {
+                Turn::Wrong
+            }
+        }
+        Err(_) => Turn::Wrong,
+    }
+}
+
+#[test]
+fn each_growth_of_a_command_refused(rt: HostRuntime) -> Result<(), Fail> {
+    for nth in 1..=MOST {
+        match take_turn_anew(rt.alloc(), nth) {
+            Turn::Refused => {}
+            Turn::NoneRefused => return Ok(()),
+            Turn::Wrong => return Err(Fail::new(format_args!("growth {nth}"))),
+        }
+    }
+    Err(Fail::new("more growths than expected"))
+}

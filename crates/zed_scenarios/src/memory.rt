@@ -1,0 +1,148 @@
+//! The calls that grow, on documents in which each has something to do.
+use crate::calls::Call;
+use crate::desk::{Fact, Told};
+use crate::files::Saved;
+use crate::refusals::{Scene, each_growth_refused};
+use crate::rows::{Does, FIRST, Name, Row};
+use crate::steps::{Step, Who};
+use crate::worlds::{EMPTY, WITH_PROGRAM};
+use std::test::Fail;
+use zed_types::{Side, Tile};
+
+const WORLD: Row = (1, 0, Does::World(WITH_PROGRAM));
+
+const BOARD: Row = (2, 1, Does::AddBoard("One"));
+
+const X: Row = (2, 1, Does::Insert(FIRST, Some(FIRST), "x"));
+
+const Z: Row = (3, 3, Does::Insert(FIRST, Some((2, 1, 0)), "z"));
+
+/// A delivery that comes after all others.
+pub(crate) const LAST: Scene = Scene {
+    before: &[Step::Takes(Who::One, &[WORLD])],
+    call: Call::Deliver(BOARD),
+    kept: &[Step::Finds(Who::One, Fact::Edits(1, 0))],
+    after: &[
+        Step::Finds(Who::One, Fact::Edits(2, 0)),
+        Step::Finds(Who::One, Fact::Board(1, Some((2, 1, 0)))),
+        Step::Gives(Who::One, BOARD, Told::Known),
+    ],
+};
+
+#[test]
+fn each_growth_of_a_last_delivery_refused(rt: HostRuntime) -> Result<(), Fail> {
+    each_growth_refused(rt.alloc(), LAST)
+}
+
+const WAITING: Scene = Scene {
+    before: &[Step::Takes(Who::One, &[WORLD])],
+    call: Call::Deliver(Z),
+    kept: &[Step::Finds(Who::One, Fact::Edits(1, 0))],
+    after: &[Step::Finds(Who::One, Fact::Edits(2, 1))],
+};
+
+#[test]
+fn each_growth_of_an_early_delivery_refused(rt: HostRuntime) -> Result<(), Fail> {
+    each_growth_refused(rt.alloc(), WAITING)
+}
+
+const LATE: Scene = Scene {
+    before: &[
+        Step::Takes(Who::One, &[WORLD]),
+        Step::Gives(Who::One, Z, Told::Held),
+    ],
+    call: Call::Deliver(X),
+    kept: &[
+        Step::Finds(Who::One, Fact::Edits(2, 1)),
+        Step::Finds(Who::One, Fact::Waits((3, 3, 0), true)),
+    ],
+    after: &[
+        Step::Finds(Who::One, Fact::Edits(3, 0)),
+        Step::Finds(Who::One, Fact::Text(FIRST, "AxzB")),
+    ],
+};
+
+#[test]
+fn each_growth_of_a_late_delivery_refused(rt: HostRuntime) -> Result<(), Fail> {
+    each_growth_refused(rt.alloc(), LATE)
+}
+
+const TITLE: Row = (1, 0, Does::World(EMPTY));
+
+const NORTH: Row = (3, 1, Does::Exit(Side::North, (2, 1, 0)));
+
+const SECOND: Row = (2, 2, Does::AddBoard("Two"));
+
+const SOUTH: Row = (3, 2, Does::Exit(Side::South, (2, 2, 0)));
+
+const MERGE: Scene = Scene {
+    before: &[
+        Step::Takes(Who::One, &[TITLE, BOARD, NORTH]),
+        Step::Takes(Who::Other, &[TITLE, SECOND, SOUTH]),
+    ],
+    call: Call::Merge,
+    kept: &[Step::Finds(Who::Other, Fact::Edits(3, 0))],
+    after: &[
+        Step::Finds(Who::One, Fact::Edits(5, 0)),
+        Step::Saves(Who::One, Saved::World(3, 1352)),
+    ],
+};
+
+#[test]
+fn each_growth_of_merge_refused(rt: HostRuntime) -> Result<(), Fail> {
+    each_growth_refused(rt.alloc(), MERGE)
+}
+
+const T: Name = (2, 1, 0);
+
+/// A document with boards, texts and odd places, so that all that a reader makes has something in it.
+const RICH: &[Step] = &[Step::Takes(
+    Who::One,
+    &[
+        TITLE,
+        (2, 1, Does::AddText),
+        (3, 1, Does::Insert(T, None, "#END\r")),
+        (4, 1, Does::AddStat(1, 1, Some(T))),
+        (5, 1, Does::AddStat(0, 5, Some(T))),
+        (6, 1, Does::AddBoard("One")),
+        (7, 1, Does::Cell(30, 12, Tile::EMPTY)),
+        (8, 1, Does::AddStat(30, 12, None)),
+    ],
+)];
+
+const UNCHANGED: &[Step] = &[Step::Finds(Who::One, Fact::Text(T, "#END\r"))];
+
+/// A call that changes nothing, on that document.
+const fn reading(call: Call) -> Scene {
+    Scene {
+        before: RICH,
+        call,
+        kept: UNCHANGED,
+        after: UNCHANGED,
+    }
+}
+
+#[test]
+fn each_growth_of_text_refused(rt: HostRuntime) -> Result<(), Fail> {
+    each_growth_refused(rt.alloc(), reading(Call::Text(T)))
+}
+
+#[test]
+fn each_growth_of_replay_refused(rt: HostRuntime) -> Result<(), Fail> {
+    each_growth_refused(rt.alloc(), reading(Call::Replay))
+}
+
+#[test]
+fn each_growth_of_export_refused(rt: HostRuntime) -> Result<(), Fail> {
+    each_growth_refused(rt.alloc(), reading(Call::Export))
+}
+
+#[test]
+fn each_growth_of_save_refused(rt: HostRuntime) -> Result<(), Fail> {
+    each_growth_refused(rt.alloc(), reading(Call::Save))
+}
+
+#[test]
+fn each_growth_of_warnings_refused(rt: HostRuntime) -> Result<(), Fail> {
+    each_growth_refused(rt.alloc(), reading(Call::Warnings))
+}

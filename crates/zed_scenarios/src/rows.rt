@@ -1,0 +1,172 @@
+//! Edits as the rows of tables, so that a test is data and its proof is small.
+use crate::worlds::{Piece, spelled};
+use std::alloc::{AllocError, Global};
+use zed_edit::{Edit, Op};
+use zed_types::{
+    BoardId, BoardSetting, ByteRange, Bytes, ElemId, Rectangle, Side, Stamp, StatFields, StatId,
+    StatSetting, TextId, ThirdParameter, Tile,
+};
+
+/// The name of a thing: the time and the replica of the edit that made it, and which of its things it is.
+pub(crate) type Name = (u64, u16, u32);
+
+/// The first board, stat, text or byte of a world: the title, its player, and of a world with a program its text and the first
+/// byte of that.
+pub(crate) const FIRST: Name = (1, 0, 0);
+
+/// What an edit does.
+#[derive(Clone, Copy)]
+pub(crate) enum Does {
+    World(&'static [Piece]),
+    AddBoard(&'static str),
+    RemoveBoard(Name),
+    /// An exit of the title.
+    Exit(Side, Name),
+    /// One cell of the title.
+    Cell(u8, u8, Tile),
+    /// A stat on the title at a place, with a text or none.
+    AddStat(u8, u8, Option<Name>),
+    RemoveStat(Name),
+    SetText(Name, Option<Name>),
+    AddText,
+    /// Puts bytes into a text, directly after one of its bytes or at its head.
+    Insert(Name, Option<Name>, &'static str),
+    /// Puts so many letters at the head of a text.
+    Letters(Name, usize),
+    /// Deletes one byte.
+    Delete(Name, Name),
+}
+
+/// An edit: when it is made, by which replica, and what it does.
+pub(crate) type Row = (u64, u16, Does);
+
+pub(crate) fn board_id(name: Name) -> BoardId {
+    BoardId {
+        stamp: stamp_of(name),
+        index: name.2,
+    }
+}
+
+pub(crate) fn stat_id(name: Name) -> StatId {
+    StatId {
+        stamp: stamp_of(name),
+        index: name.2,
+    }
+}
+
+pub(crate) fn text_id(name: Name) -> TextId {
+    TextId {
+        stamp: stamp_of(name),
+        index: name.2,
+    }
+}
+
+fn byte_id(name: Name) -> ElemId {
+    ElemId {
+        stamp: stamp_of(name),
+        index: name.2,
+    }
+}
+
+/// The stamp of the edit that made a thing.
+pub(crate) fn stamp_of(name: Name) -> Stamp {
+    Stamp {
+        time: name.0,
+        replica: name.1,
+    }
+}
+
+fn string(alloc: Global, text: &str) -> Result<Bytes, AllocError> {
+    Ok(Bytes::new(text.as_bytes().to_vec(alloc)?))
+}
+
+/// A string of so many letters.
+fn letters(alloc: Global, count: usize) -> Result<Bytes, AllocError> {
+    let mut bytes = Vec::new(alloc);
+    for _ in 0..count {
+        bytes.push(b'a')?;
+    }
+    Ok(Bytes::new(bytes))
+}
+
+fn optional_text(name: Option<Name>) -> Option<TextId> {
+    match name {
+        Some(name) => Some(text_id(name)),
+        None => None,
+    }
+}
+
+fn optional_byte(name: Option<Name>) -> Option<ElemId> {
+    match name {
+        Some(name) => Some(byte_id(name)),
+        None => None,
+    }
+}
+
+fn fields(x: u8, y: u8, text: Option<TextId>) -> StatFields {
+    StatFields {
+        x,
+        y,
+        step_x: 0,
+        step_y: 0,
+        cycle: 1,
+        p1: 0,
+        p2: 0,
+        p3: ThirdParameter::Byte(0),
+        under: Tile::EMPTY,
+        text,
+    }
+}
+
+fn cell(x: u8, y: u8) -> Rectangle {
+    Rectangle {
+        left: x,
+        top: y,
+        right: x,
+        bottom: y,
+    }
+}
+
+fn exit(side: Side, to: Name) -> BoardSetting {
+    BoardSetting::Exit(side, Some(board_id(to)))
+}
+
+fn one_byte(name: Name) -> ByteRange {
+    ByteRange {
+        stamp: stamp_of(name),
+        first: name.2,
+        last: name.2,
+    }
+}
+
+fn op_of(alloc: Global, does: Does) -> Result<Op, AllocError> {
+    Ok(match does {
+        Does::World(pieces) => Op::Genesis(spelled(alloc, pieces)?),
+        Does::AddBoard(name) => Op::BoardAdd(string(alloc, name)?),
+        Does::RemoveBoard(name) => Op::BoardRemove(board_id(name)),
+        Does::Exit(side, to) => Op::SetBoard(BoardId::TITLE, exit(side, to)),
+        Does::Cell(x, y, tile) => Op::SetCells(BoardId::TITLE, cell(x, y), tile),
+        Does::AddStat(x, y, text) => {
+            Op::StatAdd(BoardId::TITLE, fields(x, y, optional_text(text)))
+        }
+        Does::RemoveStat(name) => Op::StatRemove(stat_id(name)),
+        Does::SetText(name, text) => {
+            Op::SetStat(stat_id(name), StatSetting::Text(optional_text(text)))
+        }
+        Does::AddText => Op::TextAdd,
+        Does::Insert(text, after, run) => {
+            Op::TextInsert(text_id(text), optional_byte(after), string(alloc, run)?)
+        }
+        Does::Letters(text, count) => Op::TextInsert(text_id(text), None, letters(alloc, count)?),
+        Does::Delete(text, byte) => Op::TextDelete(text_id(text), one_byte(byte)),
+    })
+}
+
+/// The edit of a row.
+pub(crate) fn edit_of(alloc: Global, row: Row) -> Result<Edit, AllocError> {
+    let op = op_of(alloc, row.2)?;
+    Ok(Edit {
+        stamp: stamp_of((row.0, row.1, 0)),
+        op,
+    })
+}

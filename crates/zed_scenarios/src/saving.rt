@@ -1,0 +1,158 @@
+//! The file of a document.
+use crate::files::Saved;
+use crate::rows::{Does, FIRST, Name, Row};
+use crate::steps::{Step, Who, plays};
+use crate::worlds::{EMPTY, TWO_BOARDS, WITH_PROGRAM};
+use std::test::Fail;
+use zed_export::{ExportError, Warning};
+use zed_types::Tile;
+
+const TITLE: Row = (1, 0, Does::World(EMPTY));
+
+const CAVE: Row = (2, 1, Does::AddBoard("Cave"));
+
+const NEW_BOARD: &[Step] = &[
+    Step::Takes(Who::One, &[TITLE]),
+    Step::Saves(Who::One, Saved::World(1, 710)),
+    Step::Takes(Who::One, &[CAVE]),
+    Step::Saves(Who::One, Saved::World(2, 1031)),
+    Step::Saves(Who::One, Saved::Bytes(710, b"\x3f\x01\x04Cave\0")),
+    Step::Saves(
+        Who::One,
+        Saved::Bytes(763, b"\x3d\x16\x0e\x3a\0\0\x02\x16\x0e"),
+    ),
+    Step::Saves(Who::One, Saved::Bytes(910, b"\xff\0\0\0\0\0\0")),
+    Step::Saves(Who::One, Saved::Bytes(976, b"\x1e\x0c")),
+    Step::Saves(Who::One, Saved::Bytes(996, b"\0\0\x1e\x0c\0\0\0\0\x01\0")),
+    Step::Saves(
+        Who::One,
+        Saved::Over(
+            318,
+            ExportError::BoardOver {
+                board: 1,
+                bytes: 319,
+            },
+        ),
+    ),
+];
+
+#[test]
+fn a_title_and_a_new_board(rt: HostRuntime) -> Result<(), Fail> {
+    plays(rt.alloc(), NEW_BOARD)
+}
+
+const WORLD_LAST: &[Step] = &[
+    Step::Takes(Who::One, &[CAVE]),
+    Step::Saves(Who::One, Saved::Refused(ExportError::NoWorld)),
+    Step::Takes(Who::One, &[TITLE]),
+    Step::Saves(Who::One, Saved::World(2, 1031)),
+    Step::Takes(Who::Other, &[TITLE, CAVE]),
+    Step::SavedAlike,
+];
+
+#[test]
+fn a_board_before_its_world(rt: HostRuntime) -> Result<(), Fail> {
+    plays(rt.alloc(), WORLD_LAST)
+}
+
+const CELL: Row = (
+    2,
+    1,
+    Does::Cell(
+        5,
+        5,
+        Tile {
+            element: 19,
+            colour: 0x9f,
+        },
+    ),
+);
+
+const ONE_CELL: &[Step] = &[
+    Step::Takes(Who::One, &[TITLE, CELL]),
+    Step::Saves(Who::One, Saved::World(1, 713)),
+    Step::Saves(
+        Who::One,
+        Saved::Bytes(
+            565,
+            b"\xf4\0\0\x01\x13\x9f\xff\0\0\xbd\0\0\x01\x04\x1f\xff\0\0",
+        ),
+    ),
+];
+
+#[test]
+fn one_cell_splits_a_run(rt: HostRuntime) -> Result<(), Fail> {
+    plays(rt.alloc(), ONE_CELL)
+}
+
+const AS_IT_WAS: &[Step] = &[
+    Step::Takes(Who::One, &[(1, 0, Does::World(WITH_PROGRAM))]),
+    Step::Saves(Who::One, Saved::World(1, 745)),
+    Step::Saves(Who::One, Saved::Bytes(733, b"\x02\0\0\0\0\0\0\0\0\0AB")),
+    Step::Takes(Who::Other, &[(1, 0, Does::World(TWO_BOARDS))]),
+    Step::Saves(Who::Other, Saved::World(2, 1013)),
+];
+
+#[test]
+fn a_world_is_saved_as_it_was(rt: HostRuntime) -> Result<(), Fail> {
+    plays(rt.alloc(), AS_IT_WAS)
+}
+
+const T: Name = (2, 1, 0);
+
+/// Where the length of the program of stat 1 stands in the file, and that of stat 2 behind a program of 5 bytes.
+const FIRST_LENGTH: usize = 733;
+
+const SECOND_LENGTH: usize = 771;
+
+const SHARED: &[Step] = &[
+    Step::Takes(
+        Who::One,
+        &[
+            TITLE,
+            (2, 1, Does::AddText),
+            (3, 1, Does::Insert(T, None, "#END\r")),
+            (4, 1, Does::AddStat(1, 1, Some(T))),
+            (5, 1, Does::AddStat(2, 1, Some(T))),
+        ],
+    ),
+    Step::Saves(Who::One, Saved::World(1, 781)),
+    Step::Saves(Who::One, Saved::Bytes(FIRST_LENGTH, &[5, 0])),
+    Step::Saves(Who::One, Saved::Bytes(SECOND_LENGTH, &[255, 255])),
+    Step::Takes(Who::One, &[(6, 1, Does::RemoveStat((4, 1, 0)))]),
+    Step::Saves(Who::One, Saved::World(1, 748)),
+    Step::Saves(Who::One, Saved::Bytes(FIRST_LENGTH, &[5, 0])),
+    Step::Takes(Who::One, &[(7, 1, Does::SetText(FIRST, Some(T)))]),
+    Step::Saves(Who::One, Saved::World(1, 753)),
+];
+
+#[test]
+fn a_shared_program(rt: HostRuntime) -> Result<(), Fail> {
+    plays(rt.alloc(), SHARED)
+}
+
+const ODD: &[Step] = &[
+    Step::Takes(
+        Who::One,
+        &[
+            TITLE,
+            (2, 1, Does::Cell(30, 12, Tile::EMPTY)),
+            (3, 1, Does::AddStat(0, 5, None)),
+            (4, 1, Does::AddStat(30, 12, None)),
+        ],
+    ),
+    Step::Saves(Who::One, Saved::World(1, 770)),
+    Step::Saves(
+        Who::One,
+        Saved::Warns(&[
+            Warning::PlayerTile(0),
+            Warning::OffBoard(0, 1),
+            Warning::SamePlace(0, 2),
+        ]),
+    ),
+];
+
+#[test]
+fn odd_places(rt: HostRuntime) -> Result<(), Fail> {
+    plays(rt.alloc(), ODD)
+}

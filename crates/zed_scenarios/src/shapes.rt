@@ -1,0 +1,146 @@
+//! Edits of every kind at the edges of what fits, as data.
+use crate::rows::{Name, board_id, stamp_of, stat_id, text_id};
+use crate::worlds::{Piece, spelled};
+use std::alloc::{AllocError, Global};
+use zed_edit::{Edit, Op};
+use zed_types::{
+    BoardId, BoardSetting, BoardText, ByteRange, Bytes, ElemId, FlagSlot, HeaderSetting, Rectangle,
+    Side, Stamp, StatFields, StatSetting, ThirdParameter, Tile,
+};
+
+/// Time and replica.
+pub(crate) type At = (u64, u16);
+
+/// What an edit does. A number in place of a string is its length.
+#[derive(Clone, Copy)]
+pub(crate) enum Shape {
+    World(&'static [Piece]),
+    WorldName(usize),
+    Flag(usize),
+    AddBoard(usize),
+    RemoveBoard(Name),
+    BoardName(usize),
+    Message(usize),
+    WestExit(Name),
+    /// A rectangle of the title: left, top, right and bottom.
+    Cells(u8, u8, u8, u8),
+    /// A passage on the title to a board, with a text.
+    Passage(Name, Name),
+    RemoveStat(Name),
+    Follower(Name, Name),
+    StatText(Name, Name),
+    AddText,
+    Insert(Name, usize),
+    InsertAfter(Name, Name, usize),
+    /// The bytes of one insertion from the first to the last.
+    Delete(Name, At, u32, u32),
+}
+
+fn stamp(at: At) -> Stamp {
+    stamp_of((at.0, at.1, 0))
+}
+
+fn letters(alloc: Global, count: usize) -> Result<Bytes, AllocError> {
+    let mut bytes = Vec::new(alloc);
+    for _ in 0..count {
+        bytes.push(b'a')?;
+    }
+    Ok(Bytes::new(bytes))
+}
+
+fn passage(to: Name, text: Name) -> StatFields {
+    StatFields {
+        x: 3,
+        y: 4,
+        step_x: -1,
+        step_y: 1,
+        cycle: 3,
+        p1: 7,
+        p2: 8,
+        p3: ThirdParameter::Board(board_id(to)),
+        under: Tile {
+            element: 22,
+            colour: 14,
+        },
+        text: Some(text_id(text)),
+    }
+}
+
+pub(crate) fn byte_id(name: Name) -> ElemId {
+    ElemId {
+        stamp: stamp_of(name),
+        index: name.2,
+    }
+}
+
+/// An op with strings.
+fn long_op(alloc: Global, shape: Shape) -> Result<Op, AllocError> {
+    Ok(match shape {
+        Shape::World(pieces) => Op::Genesis(spelled(alloc, pieces)?),
+        Shape::WorldName(len) => Op::SetHeader(HeaderSetting::WorldName(letters(alloc, len)?)),
+        Shape::Flag(len) => {
+            Op::SetHeader(HeaderSetting::Flag(FlagSlot::Tenth, letters(alloc, len)?))
+        }
+        Shape::AddBoard(len) => Op::BoardAdd(letters(alloc, len)?),
+        Shape::BoardName(len) => Op::SetBoard(
+            BoardId::TITLE,
+            BoardSetting::Text(BoardText::Name, letters(alloc, len)?),
+        ),
+        Shape::Message(len) => Op::SetBoard(
+            BoardId::TITLE,
+            BoardSetting::Text(BoardText::Message, letters(alloc, len)?),
+        ),
+        Shape::Insert(text, len) => Op::TextInsert(text_id(text), None, letters(alloc, len)?),
+        Shape::InsertAfter(text, after, len) => {
+            Op::TextInsert(text_id(text), Some(byte_id(after)), letters(alloc, len)?)
+        }
+        _ => short_op(shape),
+    })
+}
+
+/// An op with no string.
+fn short_op(shape: Shape) -> Op {
+    match shape {
+        Shape::RemoveBoard(name) => Op::BoardRemove(board_id(name)),
+        Shape::WestExit(name) => Op::SetBoard(
+            BoardId::TITLE,
+            BoardSetting::Exit(Side::West, Some(board_id(name))),
+        ),
+        Shape::Cells(left, top, right, bottom) => {
+            let cells = Rectangle {
+                left,
+                top,
+                right,
+                bottom,
+            };
+            Op::SetCells(BoardId::TITLE, cells, Tile::EMPTY)
+        }
+        Shape::Passage(to, text) => Op::StatAdd(BoardId::TITLE, passage(to, text)),
+        Shape::RemoveStat(name) => Op::StatRemove(stat_id(name)),
+        Shape::Follower(name, other) => Op::SetStat(
+            stat_id(name),
+            StatSetting::Follower(Some(stat_id(other))),
+        ),
+        Shape::StatText(name, text) => {
+            Op::SetStat(stat_id(name), StatSetting::Text(Some(text_id(text))))
+        }
+        Shape::Delete(text, made, first, last) => {
+            let range = ByteRange {
+                stamp: stamp(made),
+                first,
+                last,
+            };
+            Op::TextDelete(text_id(text), range)
+        }
+        _ => Op::TextAdd,
+    }
+}
+
+/// An edit of this shape, made at this time by this replica.
+pub(crate) fn shaped(alloc: Global, made: At, shape: Shape) -> Result<Edit, AllocError> {
+    let op = long_op(alloc, shape)?;
+    Ok(Edit {
+        stamp: stamp(made),
+        op,
+    })
+}
