@@ -1,7 +1,7 @@
 //! Calls that may grow, each with one of its growths refused.
 use crate::desk::Desk;
 use crate::growths::{refuse, was_refused};
-use crate::rows::{Name, Row, edit_of, text_id};
+use crate::rows::{Does, Name, Row, edit_of, op_of, string, text_id};
 use crate::steps::Table;
 use zed_document::DocumentError;
 use zed_edit::{EditError, replay};
@@ -12,6 +12,12 @@ use zed_types::BODY_LIMIT;
 #[derive(Clone, Copy)]
 pub(crate) enum Call {
     Deliver(Row),
+    /// An edit of replica 1.
+    Author(Does),
+    /// Bytes of replica 1 at a position of a text.
+    Type(Name, usize, &'static str),
+    /// What stands in a text from one position to another, by replica 1.
+    Delete(Name, usize, usize),
     Merge,
     Repair,
     Text(Name),
@@ -75,6 +81,34 @@ fn delivered(desk: &mut Desk, row: Row, nth: usize) -> Outcome {
     Outcome { end, was_refused }
 }
 
+fn authored(desk: &mut Desk, does: Does, nth: usize) -> Outcome {
+    let Ok(op) = op_of(desk.alloc, does) else {
+        return NOT_TRIED;
+    };
+    refuse(desk.alloc, nth);
+    let end = end_of(desk.document.author(1, op).err());
+    let was_refused = was_refused(desk.alloc);
+    Outcome { end, was_refused }
+}
+
+fn typed(desk: &mut Desk, name: Name, position: usize, text: &str, nth: usize) -> Outcome {
+    let Ok(bytes) = string(desk.alloc, text) else {
+        return NOT_TRIED;
+    };
+    refuse(desk.alloc, nth);
+    let made = desk.document.insert_text(1, text_id(name), position, bytes);
+    let end = end_of(made.err());
+    let was_refused = was_refused(desk.alloc);
+    Outcome { end, was_refused }
+}
+
+fn deleted(desk: &mut Desk, name: Name, from: usize, to: usize, nth: usize) -> Outcome {
+    refuse(desk.alloc, nth);
+    let end = end_of(desk.document.delete_text(1, text_id(name), from, to).err());
+    let was_refused = was_refused(desk.alloc);
+    Outcome { end, was_refused }
+}
+
 fn merged(desk: &mut Desk, other: &Desk, nth: usize) -> Outcome {
     refuse(desk.alloc, nth);
     let end = end_of(desk.document.merge(&other.document).err());
@@ -131,6 +165,9 @@ fn warned(desk: &Desk, nth: usize) -> Outcome {
 pub(crate) fn tried(table: &mut Table, call: Call, nth: usize) -> Outcome {
     match call {
         Call::Deliver(row) => delivered(&mut table.one, row, nth),
+        Call::Author(does) => authored(&mut table.one, does, nth),
+        Call::Type(name, position, text) => typed(&mut table.one, name, position, text, nth),
+        Call::Delete(name, from, to) => deleted(&mut table.one, name, from, to, nth),
         Call::Merge => merged(&mut table.one, &table.other, nth),
         Call::Repair => repaired(&mut table.one, nth),
         Call::Text(name) => text_taken(&table.one, name, nth),

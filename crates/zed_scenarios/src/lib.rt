@@ -2,6 +2,8 @@
 #![tactic(auto)]
 
 #[cfg(test)]
+mod authoring;
+#[cfg(test)]
 mod calls;
 #[cfg(test)]
 mod checking;
@@ -30,6 +32,8 @@ mod naming;
 #[cfg(test)]
 mod numbers;
 #[cfg(test)]
+mod records;
+#[cfg(test)]
 mod refusals;
 #[cfg(test)]
 mod repairing;
@@ -40,8 +44,12 @@ mod saving;
 #[cfg(test)]
 mod shapes;
 #[cfg(test)]
+mod speeds;
+#[cfg(test)]
 mod steps;
 #[cfg(test)]
 mod texts;
+#[cfg(test)]
+mod typing;
 #[cfg(test)]
 mod worlds;

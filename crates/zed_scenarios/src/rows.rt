@@ -76,7 +76,7 @@ pub(crate) fn stamp_of(name: Name) -> Stamp {
     }
 }
 
-fn string(alloc: Global, text: &str) -> Result<Bytes, AllocError> {
+pub(crate) fn string(alloc: Global, text: &str) -> Result<Bytes, AllocError> {
     Ok(Bytes::new(text.as_bytes().to_vec(alloc)?))
 }
 
@@ -139,7 +139,7 @@ fn one_byte(name: Name) -> ByteRange {
     }
 }
 
-fn op_of(alloc: Global, does: Does) -> Result<Op, AllocError> {
+pub(crate) fn op_of(alloc: Global, does: Does) -> Result<Op, AllocError> {
     Ok(match does {
         Does::World(pieces) => Op::Genesis(spelled(alloc, pieces)?),
         Does::AddBoard(name) => Op::BoardAdd(string(alloc, name)?),

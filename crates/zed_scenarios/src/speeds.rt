@@ -1,0 +1,161 @@
+//! How long reading and exporting take. The times are told and never fail a test.
+use crate::rows::stamp_of;
+use std::alloc::{AllocError, Global};
+use std::test::Fail;
+use std::time::Instant;
+use zed_document::Document;
+use zed_edit::{Edit, Op};
+use zed_editfile::EditReader;
+use zed_export::save;
+use zed_types::{BODY_LIMIT, Bytes};
+
+/// A record that sets one cell of the title.
+const RECORD: [u8; 31] = [
+    27, 0, 0, 0, 2, 0, 0, 0, 0, 0, 1, 0, 6, 1, 0, 0, 0, 0, 0, 0, 0, 0, 0, 0, 0, 5, 5, 5, 5, 21, 14,
+];
+
+/// An edit file of so many records.
+fn long_file(alloc: Global, records: usize) -> Result<Vec<u8>, AllocError> {
+    let mut file = [b'Z', b'E', b'D', 1, 7, 0, 0, 0, 0, 0, 0, 0].to_vec(alloc)?;
+    for _ in 0..records {
+        file.extend_from_slice(&RECORD)?;
+    }
+    Ok(file)
+}
+
+/// How many edits are read from a file in pieces of so many bytes.
+fn count_read(alloc: Global, file: &[u8], piece: usize) -> usize {
+    let mut out = Vec::new(alloc);
+    let mut reader = EditReader::new(alloc, None);
+    let mut rest = file;
+    for _ in 0..file.len() {
+        let (front, behind) = rest.split_at(rest.len().min(piece));
+        if reader.feed(front, &mut out).is_err() {
+            return 0;
+        }
+        rest = behind;
+    }
+    out.len()
+}
+
+/// How many edits are read so, and in how many microseconds.
+fn read_timed(rt: &HostRuntime, file: &[u8], piece: usize) -> Result<(usize, u128), Fail> {
+    let start = Instant::now(rt)?;
+    let edits = count_read(rt.alloc(), file, piece);
+    let took = start.elapsed(rt)?;
+    Ok((edits, took.as_micros()))
+}
+
+fn tell_reading(rt: &HostRuntime, file: &[u8], piece: usize) -> Result<(), Fail> {
+    let (edits, took) = read_timed(rt, file, piece)?;
+    let bytes = file.len();
+    eprintln!(rt; "{edits} edits, {bytes} bytes, in pieces of {piece}: {took} microseconds")?;
+    Ok(())
+}
+
+#[test]
+fn speed_of_reading(rt: HostRuntime) -> Result<(), Fail> {
+    let file = long_file(rt.alloc(), 20_000)?;
+    tell_reading(&rt, file.as_slice(), 1)?;
+    tell_reading(&rt, file.as_slice(), 4096)?;
+    tell_reading(&rt, file.as_slice(), 4_000_000)
+}
+
+/// Appends the same byte so many times.
+fn put(out: &mut Vec<u8>, byte: u8, times: usize) -> Result<(), AllocError> {
+    for _ in 0..times {
+        out.push(byte)?;
+    }
+    Ok(())
+}
+
+/// A stat of 33 bytes at (2,2), with the low and the high byte of its length.
+fn put_stat(out: &mut Vec<u8>, len: [u8; 2]) -> Result<(), AllocError> {
+    out.extend_from_slice(&[2, 2, 0, 0, 0, 0, 3, 0, 0, 0, 0, 255, 255, 255, 255])?;
+    put(out, 0, 8)?;
+    out.extend_from_slice(&len)?;
+    put(out, 0, 8)
+}
+
+/// An empty board of 5,240 bytes, whose 150 stats beside the player share a program of 100 bytes.
+fn put_board(out: &mut Vec<u8>) -> Result<(), AllocError> {
+    out.extend_from_slice(&[120, 20])?;
+    put(out, 0, 51)?;
+    for _ in 0..5u8 {
+        out.extend_from_slice(&[255, 0, 0])?;
+    }
+    out.extend_from_slice(&[225, 0, 0])?;
+    put(out, 0, 84)?;
+    out.extend_from_slice(&[0, 0, 150, 0])?;
+    put_stat(out, [0, 0])?;
+    put_stat(out, [100, 0])?;
+    put(out, b'\r', 100)?;
+    for _ in 0..149u8 {
+        put_stat(out, [255, 255])?;
+    }
+    Ok(())
+}
+
+/// The file of a world of so many boards.
+fn world_of(alloc: Global, boards: u8) -> Result<Vec<u8>, AllocError> {
+    let mut out = [255, 255, boards.saturating_sub(1), 0].to_vec(alloc)?;
+    put(&mut out, 0, 508)?;
+    for _ in 0..boards {
+        put_board(&mut out)?;
+    }
+    Ok(out)
+}
+
+/// Takes in the edit that makes a world of so many boards.
+fn takes_world(document: &mut Document, alloc: Global, boards: u8) -> bool {
+    match world_of(alloc, boards) {
+        Ok(file) => {
+            let edit = Edit {
+                stamp: stamp_of((1, 0, 0)),
+                op: Op::Genesis(Bytes::new(file)),
+            };
+            document.deliver(edit).is_ok()
+        }
+        Err(_) => false,
+    }
+}
+
+/// The bytes of the saved file, or 0.
+fn saved_bytes(document: &Document, alloc: Global) -> usize {
+    match save(alloc, document, BODY_LIMIT) {
+        Ok(file) => file.len(),
+        Err(_) => 0,
+    }
+}
+
+/// How many bytes are saved, and in how many microseconds.
+fn save_timed(rt: &HostRuntime, document: &Document) -> Result<(usize, u128), Fail> {
+    let start = Instant::now(rt)?;
+    let bytes = saved_bytes(document, rt.alloc());
+    let took = start.elapsed(rt)?;
+    Ok((bytes, took.as_micros()))
+}
+
+// A function that owns a document is dear to prove, so this one does little else.
+fn world_timed(rt: &HostRuntime, boards: u8) -> Result<(usize, u128), Fail> {
+    let mut document = Document::new(rt.alloc(), 7);
+    takes_world(&mut document, rt.alloc(), boards);
+    save_timed(rt, &document)
+}
+
+fn tell_saving(rt: &HostRuntime, boards: u8) -> Result<(), Fail> {
+    let (bytes, took) = world_timed(rt, boards)?;
+    eprintln!(rt; "{boards} boards of 150 stats: {bytes} bytes are saved in {took} microseconds")?;
+    if bytes == 512 + usize::from(boards) * 5242 {
+        Ok(())
+    } else {
+        Err(Fail::new("the world is not saved as it was made"))
+    }
+}
+
+#[test]
+fn speed_of_saving(rt: HostRuntime) -> Result<(), Fail> {
+    tell_saving(&rt, 1)?;
+    tell_saving(&rt, 10)?;
+    tell_saving(&rt, 100)
+}
