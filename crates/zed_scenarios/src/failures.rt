@@ -54,41 +54,73 @@ enum Turn {
     Wrong,
 }
 
-/// Whether a refused `save` says Memory and writes no file. The host's own growths count as failures of a device: only then is
+/// A command, what holds of a file after a refusal, and what after its work.
+#[derive(Clone, Copy)]
+struct Command {
+    words: &'static [&'static str],
+    kept: Output,
+    made: Output,
+}
+
+const SAVE: Command = Command {
+    words: &["save", "o", "b", "a"],
+    kept: Output::Nothing("o"),
+    made: Output::World("o", ONE_CELL),
+};
+
+const NEW: Command = Command {
+    words: &["new", "o", "7"],
+    kept: Output::Nothing("o"),
+    made: Output::Length("o", 858),
+};
+
+const EDIT: Command = Command {
+    words: &["edit", "a", "1", "board-add", "One"],
+    kept: Output::Length("a", 735),
+    made: Output::Length("a", 752),
+};
+
+/// Whether a refused command says Memory and writes no file. The host's own growths count as failures of a device: only then is
 /// something else said, and may the file stand there already.
-fn is_told(alloc: Global, host: &mut MemoryHost) -> bool {
+fn is_told(alloc: Global, host: &mut MemoryHost, kept: Output) -> bool {
     let is_memory = host.complained() == b"zzted: Memory\n".as_slice();
     if host.failures() == 0 {
-        is_memory && has_written(alloc, host, Output::Nothing("o"))
+        is_memory && has_written(alloc, host, kept)
     } else {
         !is_memory
     }
 }
 
-/// Runs a `save` with the growth `nth` refused, and says how that came out.
-fn take_turn(alloc: Global, host: &mut MemoryHost, words: &[String], nth: usize) -> Turn {
+/// Runs the words of a command with the growth `nth` refused, and says how that came out.
+fn take_turn(
+    alloc: Global,
+    host: &mut MemoryHost,
+    words: &[String],
+    command: Command,
+    nth: usize,
+) -> Turn {
     refuse(alloc, nth);
     let status = run(alloc, words, host);
     if was_refused(alloc) {
-        if status == 1 && is_told(alloc, host) {
+        if status == 1 && is_told(alloc, host, command.kept) {
             Turn::Refused
         } else {
             Turn::Wrong
         }
-    } else if status == 0 && has_written(alloc, host, Output::World("o", ONE_CELL)) {
+    } else if status == 0 && has_written(alloc, host, command.made) {
         Turn::NoneRefused
     } else {
         Turn::Wrong
     }
 }
 
-fn take_turn_anew(alloc: Global, nth: usize) -> Turn {
+fn take_turn_anew(alloc: Global, command: Command, nth: usize) -> Turn {
     let mut host = MemoryHost::new(alloc, u64::MAX);
-    let words = words_of(alloc, &["save", "o", "b", "a"]);
+    let words = words_of(alloc, command.words);
     match words {
         Ok(words) => {
             if put_files(alloc, &mut host, FILES) {
-                take_turn(alloc, &mut host, words.as_slice(), nth)
+                take_turn(alloc, &mut host, words.as_slice(), command, nth)
             } else {
                 Turn::Wrong
             }
@@ -97,14 +129,28 @@ fn take_turn_anew(alloc: Global, nth: usize) -> Turn {
     }
 }
 
-#[test]
-fn each_growth_of_a_command_refused(rt: HostRuntime) -> Result<(), Fail> {
+fn each_growth_refused(alloc: Global, command: Command) -> Result<(), Fail> {
     for nth in 1..=MOST {
-        match take_turn_anew(rt.alloc(), nth) {
+        match take_turn_anew(alloc, command, nth) {
             Turn::Refused => {}
             Turn::NoneRefused => return Ok(()),
             Turn::Wrong => return Err(Fail::new(format_args!("growth {nth}"))),
         }
     }
     Err(Fail::new("more growths than expected"))
+}
+
+#[test]
+fn each_growth_of_save_refused(rt: HostRuntime) -> Result<(), Fail> {
+    each_growth_refused(rt.alloc(), SAVE)
+}
+
+#[test]
+fn each_growth_of_new_refused(rt: HostRuntime) -> Result<(), Fail> {
+    each_growth_refused(rt.alloc(), NEW)
+}
+
+#[test]
+fn each_growth_of_edit_refused(rt: HostRuntime) -> Result<(), Fail> {
+    each_growth_refused(rt.alloc(), EDIT)
 }
