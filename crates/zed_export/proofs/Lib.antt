@@ -1,4 +1,7 @@
 pub mod Boards
+pub mod Each
+pub mod Histories
+pub mod IntegersFit
 pub mod Live
 pub mod Names
 pub mod Normality

@@ -1,6 +1,6 @@
 -- The world of a regular document that goes over no limit can stand in a file.
 use Rattle.std.proofs.Common.{◌≡◌, ℕ, ◌+◌, ◌<◌, ◌≤◌, Bool, true, false, not, cond, ltb, List, [], ◌∷◌, ◌++◌, length, map, refl, sym, ap, ◌∙◌, arith, Option, Some, None, IfSome}
-use Rattle.std.specs.Prelude.{filter, option_and_then}
+use Rattle.std.specs.Prelude.{option_and_then}
 use Rattle.std.specs.List.{AllByRecursion, flat_map}
 use Rattle.std.proofs.lemmas.Bool.{ltb-true}
 use Rattle.std.proofs.lemmas.List.{length-map, length_push}
@@ -22,6 +22,7 @@ use Rattle.zed_laws.specs.Regular.{IsRegularBoard, IsRegular}
 use Rattle.zed_export.specs.World.{number_or_0, exit_number, parameter, exported_stat, exported_above, exported_board, exported_boards, world_of}
 use Rattle.zed_export.specs.Fields.{FitsStat, FitsBoard, FitsHeader}
 use Rattle.zed_export.specs.Limits.{boards_refusal, board_refusal, refusal_of}
+use Rattle.zed_export.proofs.Each.{each_filtered}
 use Rattle.zed_export.proofs.Searching.{found_within, found_or_0}
 use Rattle.zed_export.proofs.Sizes.{length_body}
 use Rattle.zed_export.proofs.Boards.{length_above}
@@ -101,21 +102,13 @@ all_normal limit number p (b ∷ bs) low some r h fits =
     let both = neither (board_refusal limit number (exported_board p b)) (boards_refusal limit (number + 1) (map (exported_board p) bs)) h in
     (board_normal limit number p b low some r.0 both.0 fits.0, all_normal limit (number + 1) p bs low some r.1 both.1 fits.1)
 
-live_regular : (bs : List Board) → AllByRecursion IsRegularBoard bs → AllByRecursion IsRegularBoard (filter (λ (b : Board). not b.removed) bs)
-live_regular [] r = tt
-live_regular (b ∷ bs) r = go (live_regular bs r.1) (not b.removed)
-  where
-    go : AllByRecursion IsRegularBoard (filter (λ (x : Board). not x.removed) bs) → (t : Bool) → AllByRecursion IsRegularBoard (cond t (b ∷ filter (λ (x : Board). not x.removed) bs) (filter (λ (x : Board). not x.removed) bs))
-    go rest true = (r.0, rest)
-    go rest false = rest
-
 pub world_normal : (limit : ℕ) (p : Plain) → IsRegular p → limit ≤ 32767 → refusal_of limit p ≡ None → FitsHeader (world_of p).header → AllByRecursion FitsBoard (world_of p).boards → IsNormal (world_of p)
 world_normal limit p r low h fits_header fits_boards =
     let n = length (live_boards p) in
     let same : length (exported_boards p) ≡ n = length-map (live_boards p) (exported_board p) in
     let some : 1 ≤ n = some_board p.boards r.boards (title_within limit p h) in
     let few : n ≤ 101 = count_within limit p h in
-    let boards = all_normal limit 0 p (live_boards p) low some (live_regular p.boards r.boards) (boards_within limit p h) fits_boards in
+    let boards = all_normal limit 0 p (live_boards p) low some (each_filtered IsRegularBoard (λ b. not b.removed) p.boards r.boards) (boards_within limit p h) fits_boards in
     let current = number_below p p.header.current_board some in
     record {
       some = omega arith;

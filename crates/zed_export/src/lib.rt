@@ -14,5 +14,5 @@ mod warning;
 
 pub use error::ExportError;
 pub use exporting::{export, save};
-pub use laws::saved_is_read;
+pub use laws::{headline, saved_is_read};
 pub use warning::{Warning, warnings};

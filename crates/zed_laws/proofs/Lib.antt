@@ -1,7 +1,9 @@
+pub mod AllBoards
 pub mod CellRegisters
 pub mod ChangedTexts
 pub mod DoneEdits
 pub mod HeaderNumbers
+pub mod IntegerSteps
 pub mod LateDeletion
 pub mod LateEdits
 pub mod LateInsertion

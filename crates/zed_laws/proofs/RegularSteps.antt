@@ -1,5 +1,5 @@
 -- Every edit that fits keeps a document regular.
-use Rattle.std.proofs.Common.{◌≡◌, ◌≤◌, ◌+◌, ℕ, ℤ, zero, suc, Bool, true, false, not, cond, eqb, eqb-true, eq-eqb, List, [], ◌∷◌, ◌++◌, length, map, set, refl, sym, ap, ◌∙◌, arith, lit≤, Some, None, Result, Ok, Err}
+use Rattle.std.proofs.Common.{◌≡◌, ◌≤◌, ◌+◌, ℕ, ℤ, zero, suc, Bool, true, false, not, cond, eqb, eqb-true, eq-eqb, List, [], ◌∷◌, ◌++◌, length, set, refl, sym, ap, ◌∙◌, arith, lit≤, Some, None, Result, Ok, Err}
 use Rattle.std.specs.Prelude.{◌==◌}
 use Rattle.std.specs.List.{AllByRecursion}
 use Rattle.std.proofs.lemmas.List.{length-set}
@@ -52,23 +52,7 @@ use Rattle.zed_op.specs.Fit.{Fits, is_in_range, is_header_in_range, is_property_
 use Rattle.zed_op.specs.Set.{AllFit}
 use Rattle.zed_edit.specs.Replay.{can, step, do_op, do_edit, pass_over, open_world, replay_on}
 use Rattle.zed_laws.specs.Regular.{IsRegularHeader, HasPlayer, IsRegularBoard, IsRegular, ReplayIsRegular}
-
--- each of some boards changed where a test says so
-pub each_changed : (test : Board → Bool) (f : Board → Board) (bs : List Board) → ((b : Board) → test b ≡ true → IsRegularBoard b → IsRegularBoard (f b)) → AllByRecursion IsRegularBoard bs → AllByRecursion IsRegularBoard (change_such test f bs)
-each_changed test f [] keeps h = tt
-each_changed test f (b ∷ bs) keeps h = (one (test b) refl, each_changed test f bs keeps h.1)
-  where
-    one : (t : Bool) → test b ≡ t → IsRegularBoard (cond t (f b) b)
-    one true e = keeps b e h.0
-    one false e = h.0
-
-all_mapped : (f : Board → Board) (bs : List Board) → ((b : Board) → IsRegularBoard b → IsRegularBoard (f b)) → AllByRecursion IsRegularBoard bs → AllByRecursion IsRegularBoard (map f bs)
-all_mapped f [] keeps h = tt
-all_mapped f (b ∷ bs) keeps h = (keeps b h.0, all_mapped f bs keeps h.1)
-
-all_joined : (bs cs : List Board) → AllByRecursion IsRegularBoard bs → AllByRecursion IsRegularBoard cs → AllByRecursion IsRegularBoard (bs ++ cs)
-all_joined [] cs h k = k
-all_joined (b ∷ bs) cs h k = (h.0, all_joined bs cs h.1 k)
+use Rattle.zed_laws.proofs.AllBoards.{each_changed, all_mapped, all_joined}
 
 -- ---- the header
 
@@ -218,7 +202,7 @@ world_regular s (Ok w) p normal h =
     let n = normal w refl in
     record {
       header = record { keys = n.header.keys; world_name = n.header.name; flags = n.header.flags; each_flag = n.header.each_flag };
-      boards = all_joined p.boards (opened_boards s w.boards) h.boards (all_opened s 0 0 0 (length w.boards) w.boards n.boards);
+      boards = all_joined IsRegularBoard p.boards (opened_boards s w.boards) h.boards (all_opened s 0 0 0 (length w.boards) w.boards n.boards);
     }
 
 -- ---- every edit
@@ -231,13 +215,13 @@ in_range true true n g h = refl
 op_regular : ReadIsNormal → (s : Stamp) (op : Op) (p : Plain) → is_in_range op ≡ true → IsRegular p → IsRegular (do_op s op p)
 op_regular law s (Genesis bytes) p good r = world_regular s (world_at bytes) p (law bytes) r
 op_regular law s (SetHeader setting) p good r = record { header = header_regular setting p.header good r.header; boards = r.boards }
-op_regular law s (BoardAdd name) p good r = record { header = r.header; boards = all_joined p.boards (new_board (board_of s 0) (stat_of s 0) name ∷ []) r.boards (new_board_regular (board_of s 0) (stat_of s 0) name (leb-true (length name) 50 good), tt) }
-op_regular law s (BoardRemove b) p good r = record { header = r.header; boards = each_changed (λ x. same_board x.id b) remove_board p.boards (removed_regular b good) r.boards }
-op_regular law s (SetBoard b setting) p good r = record { header = r.header; boards = each_changed (λ x. same_board x.id b) (set_board_property setting) p.boards (λ x same h. property_regular setting x good h) r.boards }
-op_regular law s (SetCells b rectangle tile) p good r = record { header = r.header; boards = each_changed (λ x. same_board x.id b) (set_board_cells rectangle tile) p.boards (λ x same h. cells_regular rectangle tile x h) r.boards }
-op_regular law s (StatAdd b fields) p good r = record { header = r.header; boards = each_changed (λ x. same_board x.id b) (add_stat (new_stat (stat_of s 0) false fields)) p.boards (λ x same h. with_stats x (x.stats ++ new_stat (stat_of s 0) false fields ∷ []) (player_then x.stats (new_stat (stat_of s 0) false fields) h.player) h) r.boards }
-op_regular law s (StatRemove x) p good r = record { header = r.header; boards = all_mapped (change_stats (change_such (λ y. same_stat y.id x) remove_stat)) p.boards (stats_regular x remove_stat removed_stat) r.boards }
-op_regular law s (SetStat x setting) p good r = record { header = r.header; boards = all_mapped (change_stats (change_such (λ y. same_stat y.id x) (set_stat setting))) p.boards (stats_regular x (set_stat setting) (set_keeps setting)) r.boards }
+op_regular law s (BoardAdd name) p good r = record { header = r.header; boards = all_joined IsRegularBoard p.boards (new_board (board_of s 0) (stat_of s 0) name ∷ []) r.boards (new_board_regular (board_of s 0) (stat_of s 0) name (leb-true (length name) 50 good), tt) }
+op_regular law s (BoardRemove b) p good r = record { header = r.header; boards = each_changed IsRegularBoard (λ x. same_board x.id b) remove_board p.boards (removed_regular b good) r.boards }
+op_regular law s (SetBoard b setting) p good r = record { header = r.header; boards = each_changed IsRegularBoard (λ x. same_board x.id b) (set_board_property setting) p.boards (λ x same h. property_regular setting x good h) r.boards }
+op_regular law s (SetCells b rectangle tile) p good r = record { header = r.header; boards = each_changed IsRegularBoard (λ x. same_board x.id b) (set_board_cells rectangle tile) p.boards (λ x same h. cells_regular rectangle tile x h) r.boards }
+op_regular law s (StatAdd b fields) p good r = record { header = r.header; boards = each_changed IsRegularBoard (λ x. same_board x.id b) (add_stat (new_stat (stat_of s 0) false fields)) p.boards (λ x same h. with_stats x (x.stats ++ new_stat (stat_of s 0) false fields ∷ []) (player_then x.stats (new_stat (stat_of s 0) false fields) h.player) h) r.boards }
+op_regular law s (StatRemove x) p good r = record { header = r.header; boards = all_mapped IsRegularBoard (change_stats (change_such (λ y. same_stat y.id x) remove_stat)) p.boards (stats_regular x remove_stat removed_stat) r.boards }
+op_regular law s (SetStat x setting) p good r = record { header = r.header; boards = all_mapped IsRegularBoard (change_stats (change_such (λ y. same_stat y.id x) (set_stat setting))) p.boards (stats_regular x (set_stat setting) (set_keeps setting)) r.boards }
 op_regular law s TextAdd p good r = record { header = r.header; boards = r.boards }
 op_regular law s (TextInsert t after bytes) p good r = record { header = r.header; boards = r.boards }
 op_regular law s (TextDelete t range) p good r = record { header = r.header; boards = r.boards }

@@ -1,3 +1,4 @@
+pub mod Integers
 pub mod Laws
 pub mod Registers
 pub mod Regular

@@ -1,0 +1,59 @@
+-- The world of a document whose signed numbers are of sixteen bits: each fits in its field.
+use Rattle.std.proofs.Common.{◌≡◌, ◌≤◌, ℕ, Bool, true, false, not, cond, List, [], ◌∷◌, ◌++◌, map, Option, None}
+use Rattle.std.specs.Prelude.{filter}
+use Rattle.std.specs.List.{AllByRecursion}
+use Rattle.zed_types.specs.declared.names.TextId.{TextId}
+use Rattle.zed_types.specs.Stamp.{before, same_stamp}
+use Rattle.zed_world.specs.Normal.{IsNormal}
+use Rattle.zed_op.specs.declared.op.Edit.{Edit}
+use Rattle.zed_op.specs.Set.{with_edit, union, set_of}
+use Rattle.zed_edit.specs.declared.plain.Board.{Board}
+use Rattle.zed_edit.specs.declared.plain.Stat.{Stat}
+use Rattle.zed_edit.specs.declared.plain.Plain.{Plain}
+use Rattle.zed_edit.specs.Numbers.{live_boards}
+use Rattle.zed_laws.specs.Integers.{StatHasIntegers, BoardHasIntegers, HasIntegers}
+use Rattle.zed_laws.specs.Regular.{IsRegular}
+use Rattle.zed_export.specs.World.{exported_above, exported_board, world_of}
+use Rattle.zed_export.specs.Fields.{FitsStat, FitsBoard}
+use Rattle.zed_export.specs.Limits.{refusal_of}
+use Rattle.zed_export.proofs.Each.{each_filtered}
+use Rattle.zed_export.proofs.Normality.{world_normal}
+
+-- ---- what holds of each edit of a list holds of each edit of its set
+
+each_with : (P : Edit → Type 0) (e : Edit) (es : List Edit) → P e → AllByRecursion P es → AllByRecursion P (with_edit e es)
+each_with P e [] k h = (k, tt)
+each_with P e (f ∷ fs) k h = go (before e.stamp f.stamp) (same_stamp e.stamp f.stamp) (each_with P e fs k h.1)
+  where
+    go : (c d : Bool) → AllByRecursion P (with_edit e fs) → AllByRecursion P (cond c (e ∷ f ∷ fs) (cond d (f ∷ fs) (f ∷ with_edit e fs)))
+    go true d more = (k, h)
+    go false true more = h
+    go false false more = (h.0, more)
+
+each_union : (P : Edit → Type 0) (es fs : List Edit) → AllByRecursion P es → AllByRecursion P fs → AllByRecursion P (union es fs)
+each_union P es [] h k = h
+each_union P es (f ∷ fs) h k = each_union P (with_edit f es) fs (each_with P f es k.0 h) k.1
+
+pub each_of_set : (P : Edit → Type 0) (es : List Edit) → AllByRecursion P es → AllByRecursion P (set_of es)
+each_of_set P es h = each_union P [] es tt h
+
+-- ---- the exported world
+
+stats_fit : (p : Plain) (b : Board) (lower : List (Option TextId)) (ss : List Stat) → AllByRecursion StatHasIntegers ss → AllByRecursion FitsStat (exported_above p b lower ss)
+stats_fit p b lower [] h = tt
+stats_fit p b lower (s ∷ ss) h =
+    let f = h.0.fields in
+    (record { step_x = f.0; step_y = f.1; cycle = f.2; position = h.0.position }, stats_fit p b (lower ++ s.fields.text ∷ []) ss h.1)
+
+boards_fit : (p : Plain) (bs : List Board) → AllByRecursion BoardHasIntegers bs → AllByRecursion FitsBoard (map (exported_board p) bs)
+boards_fit p [] h = tt
+boards_fit p (b ∷ bs) h =
+    let live = each_filtered StatHasIntegers (λ s. not s.removed) b.stats h.0.stats in
+    (record { time_limit = h.0.time_limit; stats = stats_fit p b [] (filter (λ s. not s.removed) b.stats) live }, boards_fit p bs h.1)
+
+pub integers_normal : (limit : ℕ) (p : Plain) → IsRegular p → HasIntegers p → limit ≤ 32767 → refusal_of limit p ≡ None → IsNormal (world_of p)
+integers_normal limit p regular integers low within =
+    let h = integers.header in
+    world_normal limit p regular low within
+    (record { ammo = h.ammo; gems = h.gems; health = h.health; torches = h.torches; torch_ticks = h.torch_ticks; energizer_ticks = h.energizer_ticks; score = h.score; time_passed = h.time_passed; hundredths = h.hundredths })
+    (boards_fit p (live_boards p) (each_filtered BoardHasIntegers (λ b. not b.removed) p.boards integers.boards))
