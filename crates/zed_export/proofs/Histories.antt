@@ -1,25 +1,17 @@
 -- What the edits accepted in a history say of its replica.
-use Rattle.std.proofs.Common.{◌≡◌, ℕ, false, List, [], ◌∷◌, ◌++◌, refl, sym, ap, subst, ◌∙◌, append_assoc, Option, Some, None, Ok, inl, inr}
+use Rattle.std.proofs.Common.{◌≡◌, ℕ, false, List, [], ◌∷◌, ◌++◌, refl, sym, ap, subst, ◌∙◌, append_assoc, Ok, inl, inr}
 use Rattle.std.specs.List.{Contains}
 use Rattle.std.proofs.lemmas.List.Elements.{Contains-append_left, Contains-append_right, Contains-append_cases}
-use Rattle.zed_world.specs.Normal.{IsNormal}
 use Rattle.zed_world.specs.Reading.{world_at}
-use Rattle.zed_world.specs.Writing.{world_text}
 use Rattle.zed_op.specs.declared.op.Edit.{Edit}
 use Rattle.zed_op.specs.Set.{Agrees, set_of}
-use Rattle.zed_op.specs.SetLaws.{HaveTheSame, RisingIsItsEdits, SetIsRising, SetHasItsEdits, SetIsOfAnyOrder, SetGrowsByEdits, SetKeepsFit, UnionOfSets}
-use Rattle.zed_edit.specs.declared.plain.Plain.{Plain}
+use Rattle.zed_op.specs.SetLaws.{HaveTheSame, RisingIsItsEdits, SetIsRising, SetHasItsEdits, SetIsOfAnyOrder, SetGrowsByEdits, UnionOfSets}
 use Rattle.zed_edit.specs.Replay.{replay, held}
-use Rattle.zed_laws.specs.Integers.{HasOpIntegers, ReplayKeepsIntegers}
-use Rattle.zed_laws.specs.Regular.{ReplayIsRegular}
 use Rattle.zed_document.specs.Replica.{Replica}
 use Rattle.zed_document.specs.Laws.{document_of, merged, EditsDecide}
-use Rattle.zed_export.specs.declared.error.ExportError.{ExportError}
 use Rattle.zed_export.specs.World.{world_of}
-use Rattle.zed_export.specs.Limits.{refusal_of, saved, unless_over, SavedIsRead}
-use Rattle.zed_export.specs.Headline.{History, accepted, delivered, replica_of, file_of, HoldsOneAuthorsDocument, OrderAndRepeatsNeverCount, MergingCommutes, MergingAssociates, MergingRepeats, SaveTheSameFile, SavedFileReadsBack}
+use Rattle.zed_export.specs.Headline.{History, AuthoredIsRead, accepted, delivered, replica_of, file_of, HoldsOneAuthorsDocument, OrderAndRepeatsNeverCount, MergingCommutes, MergingAssociates, MergingRepeats, SaveTheSameFile, SavedFileReadsBack}
 use Rattle.zed_export.specs.Headline.History.{Begun, Delivered, Merged}
-use Rattle.zed_export.proofs.IntegersFit.{each_of_set, integers_normal}
 
 -- ---- lists that agree
 
@@ -102,19 +94,8 @@ module _ (more : SetGrowsByEdits) (sets : UnionOfSets) (order : SetIsOfAnyOrder)
   pub save_the_same : SaveTheSameFile
   save_the_same world limit h k authored same = ap (file_of limit) (same_replica world h k authored.agree same)
 
-  pub reads_back : SetKeepsFit → ReplayIsRegular → ReplayKeepsIntegers → SavedIsRead → SavedFileReadsBack
-  reads_back fit regular integers read world limit h file authored low e =
-      let es = set_of (accepted h) in
+  pub reads_back : AuthoredIsRead → SavedFileReadsBack
+  reads_back read world limit h file authored low e =
       let is = replica_is world h authored.agree in
-      let answer : saved limit (replay es) ≡ Ok file = sym (ap (file_of limit) is) ∙ e in
-      let whole = regular es (fit (accepted h) authored.fit) in
-      let numbers = integers es (each_of_set (λ x. HasOpIntegers x.op) (accepted h) authored.integers) in
-      let back = back_of (replay es) (λ within. integers_normal limit (replay es) whole numbers low within) answer in
+      let back = read limit (accepted h) file authored low (sym (ap (file_of limit) is) ∙ e) in
       subst (λ (d : Replica). world_at file ≡ Ok (world_of (replay d.edits))) (sym is) back
-    where
-      back_of : (p : Plain) → (refusal_of limit p ≡ None → IsNormal (world_of p)) → saved limit p ≡ Ok file → world_at file ≡ Ok (world_of p)
-      back_of p normal a = go (refusal_of limit p) refl a
-        where
-          go : (o : Option ExportError) → refusal_of limit p ≡ o → unless_over o (world_text (world_of p)) ≡ Ok file → world_at file ≡ Ok (world_of p)
-          go (Some refusal) h b = absurd (cc)
-          go None h b = read limit p file low (normal h) a

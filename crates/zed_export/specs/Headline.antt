@@ -2,7 +2,7 @@
 use Rattle.std.specs.Prelude.{◌≡◌, ℕ, ◌≤◌, List, [], ◌∷◌, ◌++◌, Result, Ok}
 use Rattle.zed_world.specs.Reading.{world_at}
 use Rattle.zed_op.specs.declared.op.Edit.{Edit}
-use Rattle.zed_op.specs.Set.{Agrees, AllFit, IsRising, with_edit}
+use Rattle.zed_op.specs.Set.{Agrees, AllFit, IsRising, with_edit, set_of}
 use Rattle.zed_op.specs.SetLaws.{HaveTheSame}
 use Rattle.zed_edit.specs.Replay.{replay, held}
 use Rattle.zed_laws.specs.Integers.{HaveIntegers}
@@ -40,6 +40,11 @@ pub record AreAuthored (es : List Edit) : Type 0 where
   pub fit : AllFit es
   pub integers : HaveIntegers es
   pub agree : Agrees es
+
+-- what is saved of the set of such edits is read as the exported world
+abbrev pub AuthoredIsRead : Type 0
+AuthoredIsRead = (limit : ℕ) (es : List Edit) (file : List ℕ)
+    → AreAuthored es → limit ≤ 32767 → saved limit (replay (set_of es)) ≡ Ok file → world_at file ≡ Ok (world_of (replay (set_of es)))
 
 -- a replica shows, and holds back, what one author has who makes these edits one after the other
 abbrev pub HoldsDocumentOf : List Edit → Replica → Type 0

@@ -1,4 +1,4 @@
-ghost use Rattle.zed_export.specs.Headline.{HoldsOneAuthorsDocument, OrderAndRepeatsNeverCount, MergingCommutes, MergingAssociates, MergingRepeats, SaveTheSameFile, SavedFileReadsBack};
+ghost use Rattle.zed_export.specs.Headline.{AuthoredIsRead, HoldsOneAuthorsDocument, OrderAndRepeatsNeverCount, MergingCommutes, MergingAssociates, MergingRepeats, SaveTheSameFile, SavedFileReadsBack};
 ghost use Rattle.zed_export.specs.Limits.{SavedIsRead};
 
 use zed_document::edits_decide;
@@ -6,10 +6,13 @@ use zed_laws::replay_is_regular;
 use zed_op::{rising_lists_are_sets, set_is_its_edits, sets_rise, sets_stay_fit, union_is_of_sets};
 use zed_world::written_is_read;
 
-/// What is saved is read as the exported world.
+/// What is saved is read as the exported world: where that world can stand in a file, as that of edits that authors made can.
 pub fn saved_is_read()
-    ensures { SavedIsRead }
+    ensures normal { SavedIsRead }
+    ensures authored { AuthoredIsRead }
 {
+    sets_stay_fit();
+    replay_is_regular();
     written_is_read();
 }
 
@@ -26,11 +29,9 @@ pub fn headline()
     ensures back { SavedFileReadsBack }
 {
     sets_rise();
-    sets_stay_fit();
     set_is_its_edits();
     rising_lists_are_sets();
     union_is_of_sets();
     edits_decide();
-    replay_is_regular();
     saved_is_read();
 }

@@ -1,23 +1,39 @@
 -- What files that spell lists of edits come to.
-use Rattle.std.proofs.Common.{◌≡◌, ◌∙◌, ◌==◌, ◌<◌, ◌^◌, ℕ, Bool, true, false, List, [], ◌∷◌, ◌++◌, Option, Some, None, Result, Ok, Err, refl, ap, ap₂, sym, subst, map, arith}
+use Rattle.std.proofs.Common.{◌≡◌, ◌∙◌, ◌==◌, ◌<◌, ◌^◌, ℕ, Bool, true, false, List, [], ◌∷◌, ◌++◌, length, lit≤, Option, Some, None, Result, Ok, Err, refl, ap, ap₂, sym, subst, map, arith}
 use Rattle.std.specs.Prelude.{◌≢◌, not, Contains}
 use Rattle.std.proofs.lemmas.List.Elements.{Contains-append_left, Contains-append_right}
 use Rattle.std.proofs.lemmas.Bool.{ne_eqb}
-use mathlib.Core.Logic.{◌⊎◌, inl, inr}
+use mathlib.Core.Logic.{inl, inr}
 use Rattle.zed_types.specs.declared.stamp.Stamp.{Stamp}
 use Rattle.zed_op.specs.declared.op.Edit.{Edit}
-use Rattle.zed_op.specs.Set.{Agrees, set_of}
+use Rattle.zed_op.specs.Set.{Agrees, AllFit, set_of}
 use Rattle.zed_editfile.specs.declared.error.EditFileError.{EditFileError}
 use Rattle.zed_editfile.specs.declared.error.EditFileError.TheVariants as file
 use Rattle.zed_editfile.specs.Spelling.{file_text}
 use Rattle.zed_editfile.specs.Stream.{AreRecords, Progress, Reads, ending, is_other}
 use Rattle.zed_program.specs.declared.refusal.Refusal.{Refusal}
-use Rattle.zed_program.specs.declared.refusal.Refusal.TheVariants.{Memory}
 use Rattle.zed_program.specs.Collected.{IsCollected, IsFirstClash}
 use Rattle.zed_program.specs.Files.{IsFile, IsStream, Stream, edits_then, end_by, joined, stream_after, texts_of_lists}
-use Rattle.zed_program.specs.Outcome.{EndsRun, HasStatus, IsDone, file_of, made_of, with_world}
+use Rattle.zed_program.specs.Outcome.{EndsRun, HasStatus, IsDone, file_of, made_of, unless_over, with_world, written_to}
 use Rattle.zed_program.specs.Told.{Told, file_in}
 use Rattle.zed_program.specs.Wanted.{Save}
+use Rattle.zed_program.specs.Lines.{bytes_line}
+use Rattle.zed_program.specs.Saving.{AsksToSave, SavedReadsBack, SavesSet}
+use Rattle.zed_types.specs.declared.header.HeaderSetting.TheVariants as header
+use Rattle.zed_types.specs.declared.property.BoardSetting.TheVariants as board
+use Rattle.zed_types.specs.declared.stat_field.StatSetting.TheVariants as stat
+use Rattle.zed_world.specs.Reading.{world_at}
+use Rattle.zed_world.specs.Writing.{world_text}
+use Rattle.zed_op.specs.declared.op.Op.{Op}
+use Rattle.zed_op.specs.declared.op.Op.TheVariants.{Genesis, SetHeader, BoardAdd, BoardRemove, SetBoard, SetCells, StatAdd, StatRemove, SetStat, TextAdd, TextInsert, TextDelete}
+use Rattle.zed_edit.specs.Replay.{replay}
+use Rattle.zed_laws.specs.Integers.{HasOpIntegers, HaveIntegers}
+use Rattle.zed_editfile.specs.Sizes.{IsOp}
+use Rattle.zed_export.specs.declared.error.ExportError.{ExportError}
+use Rattle.zed_export.specs.World.{world_of}
+use Rattle.zed_export.specs.Limits as limit
+use Rattle.zed_export.specs.Limits.{refusal_of, saved}
+use Rattle.zed_export.specs.Headline.{AreAuthored, AuthoredIsRead}
 
 -- the text of a list of edits reads as that list, to its end
 abbrev pub WrittenIsRead : Type 0
@@ -91,10 +107,11 @@ set_is s all set is agrees collected =
     ]
 
 -- so the world file of their set is what `save` writes, or its first limit is told
-pub saved_set : WrittenIsRead → (t : Told) (out name : List ℕ) (names : List (List ℕ)) (n : ℕ) (es : List Edit) (lists : List (List Edit)) (r : Result Told Refusal)
-    → map (file_in t) (name ∷ names) ≡ texts_of_lists n (es ∷ lists) → n < 2 ^ 64 → AreRecords (joined (es ∷ lists)) → Agrees (joined (es ∷ lists))
-    → IsDone (Save out (name ∷ names)) t r → r ≡ with_world out t (file_of (set_of (joined (es ∷ lists))))
-saved_set law t out name names n es lists r texts small good agrees done =
+saved_set : WrittenIsRead → (t : Told) (out name : List ℕ) (names : List (List ℕ)) (n : ℕ) (lists : List (List Edit)) (r : Result Told Refusal)
+    → map (file_in t) (name ∷ names) ≡ texts_of_lists n lists → n < 2 ^ 64 → AreRecords (joined lists) → Agrees (joined lists)
+    → IsDone (Save out (name ∷ names)) t r → r ≡ with_world out t (file_of (set_of (joined lists)))
+saved_set law t out name names n [] r texts small good agrees done = absurd (cc)
+saved_set law t out name names n (es ∷ lists) r texts small good agrees done =
     let made = done.1 in
     let collects = made.1 in
     let stream = texts_are law n es lists collects.0 small good (subst (λ files. IsStream None files collects.0) texts collects.1) in
@@ -102,15 +119,83 @@ saved_set law t out name names n es lists r texts small good agrees done =
     done.2 ∙ ap (with_world out t) (made.2 ∙ ap (made_of file_of) set)
 
 -- and `run` ends so
-pub run_of_texts : WrittenIsRead → (t : Told) (out name : List ℕ) (names : List (List ℕ)) (n : ℕ) (es : List Edit) (lists : List (List Edit)) (status : ℕ) (new : Option Told)
-    → map (file_in t) (name ∷ names) ≡ texts_of_lists n (es ∷ lists) → n < 2 ^ 64 → AreRecords (joined (es ∷ lists)) → Agrees (joined (es ∷ lists))
-    → EndsRun (Some (Save out (name ∷ names))) t status new
-    → HasStatus (with_world out t (file_of (set_of (joined (es ∷ lists))))) t status new ⊎ HasStatus (Err Memory) t status new
-run_of_texts law t out name names n es lists status new texts small good agrees ended =
+pub run_of_texts : WrittenIsRead → (words : List (List ℕ)) (t : Told) (out : List ℕ) (n : ℕ) (lists : List (List Edit)) (status : ℕ) (new : Option Told)
+    → (asks : AsksToSave words t out n lists) → EndsRun (Some (Save out (asks.file ∷ asks.files))) t status new → SavesSet out t (joined lists) status new
+run_of_texts law words t out n lists status new asks ended =
     elim ended [
-      | inl done ↦ inl (subst (λ r. HasStatus r t status new) (saved_set law t out name names n es lists done.0 texts small good agrees done.1) done.2)
+      | inl done ↦ (
+          let is = saved_set law t out asks.file asks.files n lists done.0 asks.spelled asks.is_number asks.records asks.agree done.1 in
+          inl (subst (λ r. HasStatus r t status new) is done.2))
       | inr memory ↦ inr memory
     ]
+
+-- ---- what is saved is read
+
+has_integers : (op : Op) → IsOp op → HasOpIntegers op
+has_integers (Genesis bytes) h = tt
+has_integers (SetHeader (header.Number f n)) h = h
+has_integers (SetHeader (header.Key k b)) h = tt
+has_integers (SetHeader (header.Saved b)) h = tt
+has_integers (SetHeader (header.CurrentBoard b)) h = tt
+has_integers (SetHeader (header.WorldName s)) h = tt
+has_integers (SetHeader (header.Flag k s)) h = tt
+has_integers (BoardAdd s) h = tt
+has_integers (BoardRemove b) h = tt
+has_integers (SetBoard b (board.Byte f n)) h = tt
+has_integers (SetBoard b (board.Flag f n)) h = tt
+has_integers (SetBoard b (board.TimeLimit n)) h = h.1
+has_integers (SetBoard b (board.Exit d o)) h = tt
+has_integers (SetBoard b (board.Text f s)) h = tt
+has_integers (SetCells b r tile) h = tt
+has_integers (StatAdd b f) h = (h.1.step_x, h.1.step_y, h.1.cycle)
+has_integers (StatRemove s) h = tt
+has_integers (SetStat s (stat.Byte f n)) h = tt
+has_integers (SetStat s (stat.Number f n)) h = h.1
+has_integers (SetStat s (stat.P3 target)) h = tt
+has_integers (SetStat s (stat.Follower o)) h = tt
+has_integers (SetStat s (stat.Leader o)) h = tt
+has_integers (SetStat s (stat.Text o)) h = tt
+has_integers TextAdd h = tt
+has_integers (TextInsert t after bytes) h = tt
+has_integers (TextDelete t r) h = tt
+
+records_fit : (es : List Edit) → AreRecords es → AllFit es
+records_fit [] h = tt
+records_fit (e ∷ es) h = (h.0.0, records_fit es h.1)
+
+records_have_integers : (es : List Edit) → AreRecords es → HaveIntegers es
+records_have_integers [] h = tt
+records_have_integers (e ∷ es) h = (has_integers e.op h.0.1.1, records_have_integers es h.1)
+
+saved_at : (es : List Edit) (bytes : List ℕ) → file_of es ≡ Ok bytes → saved 20000 (replay es) ≡ Ok bytes
+saved_at es bytes is = go (refusal_of 20000 (replay es)) is
+  where
+    text : List ℕ
+    text = world_text (world_of (replay es))
+
+    go : (o : Option ExportError) → unless_over o text ≡ Ok bytes → limit.unless_over o text ≡ Ok bytes
+    go None e = let same : text ≡ bytes = cc in ap (λ x. Ok x) same
+    go (Some refusal) e = absurd (cc)
+
+-- where `run` ends well, the file is read as the exported world
+pub reads_back : AuthoredIsRead → (words : List (List ℕ)) (t : Told) (out : List ℕ) (n : ℕ) (lists : List (List Edit)) (status : ℕ) (new : Option Told)
+    → AsksToSave words t out n lists → SavesSet out t (joined lists) status new → SavedReadsBack out t (joined lists) status new
+reads_back law words t out n lists status new asks saves well =
+    elim saves [
+      | inl done ↦ go (file_of (set_of es)) refl done
+      | inr memory ↦ absurd (let bad = memory.0 in omega (arith, bad, well))
+    ]
+  where
+    es : List Edit
+    es = joined lists
+
+    authored : AreAuthored es
+    authored = record { fit = records_fit es asks.records; integers = records_have_integers es asks.records; agree = asks.agree }
+
+    go : (f : Result (List ℕ) Refusal) → file_of (set_of es) ≡ f → HasStatus (with_world out t f) t status new
+        → (bytes : List ℕ) × (new ≡ Some (written_to out bytes (bytes_line (length bytes)) t)) × (world_at bytes ≡ Ok (world_of (replay (set_of es))))
+    go (Ok bytes) is done = (bytes, done.1, law 20000 es bytes authored (lit≤ tt) (saved_at (set_of es) bytes is))
+    go (Err e) is done = absurd (let bad = done.0 in omega (arith, bad, well))
 
 -- by the laws of edit files: bytes are read in one way, and the text of edits as those edits
 pub written_is_read : ((bytes : List ℕ) (es fs : List Edit) (p q : Progress) → p.asked ≡ q.asked → p.fault ≢ Some file.Memory → q.fault ≢ Some file.Memory → Reads bytes es p → Reads bytes fs q → (es ≡ fs) × (p ≡ q))

@@ -8,5 +8,6 @@ pub mod Lines
 pub mod Memory
 pub mod Outcome
 pub mod Refusals
+pub mod Saving
 pub mod Told
 pub mod Wanted

@@ -7,6 +7,7 @@ ghost use Rattle.zed_editfile.specs.Stream.{AreRecords};
 ghost use Rattle.zed_program.specs.Files.{joined, texts_of_lists};
 ghost use Rattle.zed_program.specs.Lines.{line_of};
 ghost use Rattle.zed_program.specs.Outcome.{Ends, EndsRun, HasStatus, IsMade, with_world, file_of, report_on, texts_of, written_to};
+ghost use Rattle.zed_program.specs.Saving.{AsksToSave, SavedReadsBack, SavesSet};
 ghost use Rattle.zed_program.specs.Told.{Counts, IsCalm, Told, file_in, with_complaint, with_printed};
 ghost use Rattle.zed_program.specs.Wanted.{Check, Save, is_plain, meaning_of, wanted_of};
 
@@ -20,6 +21,7 @@ use crate::report::{report, world_file};
 use crate::words::{Action, ParseError, parse};
 use std::alloc::Global;
 use zed_editfile::one_reading;
+use zed_export::saved_is_read;
 
 // The world file of edit files.
 fn file_from<H: Host>(alloc: Global, host: &mut H, files: &[&str]) -> Result<Vec<u8>, Refusal>
@@ -157,14 +159,16 @@ pub fn run<H: Host>(alloc: Global, words: &[String], host: &mut H) -> u8
         → EndsRun (Some (Save out (file ∷ files))) t result (H.told host.new) }
 
     // Where the files spell lists of edits of one world that agree, the set of all of them counts: neither their order nor repeats.
-    ensures saves_sets { (t : Told) (out file : List ℕ) (files : List (List ℕ)) (world : ℕ) (es : List TheEdit) (lists : List (List TheEdit))
-        → map string_bytes words.now ≡ codes "save" ∷ out ∷ file ∷ files
-        → list_all is_plain (out ∷ file ∷ files) ≡ true
-        → map (file_in t) (file ∷ files) ≡ texts_of_lists world (es ∷ lists) → world < 2 ^ 64
-        → AreRecords (joined (es ∷ lists)) → Agrees (joined (es ∷ lists))
+    ensures saves_sets { (t : Told) (out : List ℕ) (world : ℕ) (lists : List (List TheEdit))
+        → AsksToSave (map string_bytes words.now) t out world lists
         → H.told host.old ≡ Some t → IsCalm (H.failed host.old) (H.failed host.new)
-        → HasStatus (with_world out t (file_of (set_of (joined (es ∷ lists))))) t result (H.told host.new)
-        ⊎ HasStatus (Err Refusal.Memory) t result (H.told host.new) }
+        → SavesSet out t (joined lists) result (H.told host.new) }
+
+    // And what is saved is read as the exported world of that set.
+    ensures reads_back { (t : Told) (out : List ℕ) (world : ℕ) (lists : List (List TheEdit))
+        → AsksToSave (map string_bytes words.now) t out world lists
+        → H.told host.old ≡ Some t → IsCalm (H.failed host.old) (H.failed host.new)
+        → SavedReadsBack out t (joined lists) result (H.told host.new) }
 
     // The status, whatever the host does.
     ensures accepted { IsSome (wanted_of (map string_bytes words.now)) → (result ≡ 0) ⊎ (result ≡ 1) }
@@ -173,5 +177,6 @@ pub fn run<H: Host>(alloc: Global, words: &[String], host: &mut H) -> u8
     // For the proof, which learns here that the words can be counted.
     let _count = count_of(words);
     one_reading();
+    saved_is_read();
     run_words(alloc, words, host)
 }

@@ -7,7 +7,6 @@ returns c =
     let sets = c.union_is_of_sets.ensures.sets in
     let order = c.set_is_its_edits.ensures.order in
     let decide = c.edits_decide.ensures.same in
-    let replay = c.replay_is_regular.ensures in
     record {
       document = one_authors more sets order c.sets_rise.ensures.set c.set_is_its_edits.ensures.members c.rising_lists_are_sets.ensures.known;
       order = order_never_counts more sets order decide;
@@ -15,5 +14,5 @@ returns c =
       associative = merging_associates more sets order decide;
       idempotent = merging_repeats more sets order decide;
       file = save_the_same more sets order;
-      back = reads_back more sets order c.sets_stay_fit.ensures.set replay.regular replay.integers c.saved_is_read.ensures;
+      back = reads_back more sets order c.saved_is_read.ensures.authored;
     }

@@ -5,9 +5,17 @@ use Rattle.zed_world.specs.Contents.{Contents}
 use Rattle.zed_world.specs.Normal.{IsNormal}
 use Rattle.zed_world.specs.Reading.{world_at}
 use Rattle.zed_world.specs.Writing.{body_text, world_text}
+use Rattle.zed_op.specs.Set.{set_of}
+use Rattle.zed_op.specs.SetLaws.{SetKeepsFit}
+use Rattle.zed_edit.specs.declared.plain.Plain.{Plain}
+use Rattle.zed_edit.specs.Replay.{replay}
+use Rattle.zed_laws.specs.Integers.{HasOpIntegers, ReplayKeepsIntegers}
+use Rattle.zed_laws.specs.Regular.{ReplayIsRegular}
 use Rattle.zed_export.specs.declared.error.ExportError.{ExportError}
 use Rattle.zed_export.specs.World.{exported_boards, world_of}
 use Rattle.zed_export.specs.Limits.{refusal_of, unless_over, SavedIsRead}
+use Rattle.zed_export.specs.Headline.{AuthoredIsRead}
+use Rattle.zed_export.proofs.IntegersFit.{each_of_set, integers_normal}
 use Rattle.zed_export.proofs.Within.{boards_within, all_readable}
 use Rattle.zed_export.proofs.laws.saved_is_read.Goals as goal
 
@@ -24,6 +32,21 @@ read_again law limit p file low normal e = go (refusal_of limit p) refl e
         let text : world_text (world_of p) ≡ file = cc in
         ap world_at (sym text ∙ sym (append-nil (world_text (world_of p)))) ∙ law (world_of p) [] normal (all_readable limit 0 (exported_boards p) low (boards_within limit p h))
 
+authored_is_read : SavedIsRead → SetKeepsFit → ReplayIsRegular → ReplayKeepsIntegers → AuthoredIsRead
+authored_is_read read fit regular integers limit es file authored low answer = go (refusal_of limit p) refl answer
+  where
+    p : Plain
+    p = replay (set_of es)
+
+    normal : refusal_of limit p ≡ None → IsNormal (world_of p)
+    normal within = integers_normal limit p (regular (set_of es) (fit es authored.fit)) (integers (set_of es) (each_of_set (λ e. HasOpIntegers e.op) es authored.integers)) low within
+
+    go : (o : Option ExportError) → refusal_of limit p ≡ o → unless_over o (world_text (world_of p)) ≡ Ok file → world_at file ≡ Ok (world_of p)
+    go (Some refusal) h a = absurd (cc)
+    go None h a = read limit p file low (normal h) answer
+
 pub returns : goal.returns
 unfolding WrittenIsRead
-returns c = read_again c.written_is_read.ensures.back
+returns c =
+    let read = read_again c.written_is_read.ensures.back in
+    record { normal = read; authored = authored_is_read read c.sets_stay_fit.ensures.set c.replay_is_regular.ensures.regular c.replay_is_regular.ensures.integers }

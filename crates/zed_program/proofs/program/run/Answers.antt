@@ -3,7 +3,7 @@ use Rattle.std.proofs.lemmas.List.{length-map}
 use Rattle.clap.specs.Lexer.{usize_max}
 use Rattle.zed_program.specs.Wanted.{Save, wanted_of}
 use Rattle.zed_program.proofs.SaveWords.{save_words}
-use Rattle.zed_program.proofs.FileTexts.{run_of_texts, written_is_read}
+use Rattle.zed_program.proofs.FileTexts.{run_of_texts, reads_back, written_is_read}
 use Rattle.zed_program.proofs.program.run.Goals as goal
 
 pub returns-clause-saves : goal.returns-clause-saves
@@ -18,13 +18,11 @@ returns-clause-saves g c = λ t out file files spelled plain at calm.
     rw wanted at (c.run_words.ensures.ends t at calm)
 
 pub returns-clause-saves_sets : goal.returns-clause-saves_sets
-returns-clause-saves_sets g c = λ t out file files world es lists spelled plain texts small good agrees at calm.
-    let few : length (file ∷ files) ≤ usize_max =
-    let same = ap length spelled in
-    let all = rw length-map at same in
-    let counted = c.count_of-count.ensures in
-    let limit = c.count_of-count.type_inv in
-    omega arith in
-    let wanted : wanted_of (map string_bytes c.args.words.now) ≡ Some (Save out (file ∷ files)) = ap wanted_of spelled ∙ save_words out file files plain few in
-    run_of_texts (written_is_read c.one_reading.ensures.one c.one_reading.ensures.file) t out file files world es lists c.run_words.result _ texts small good agrees
-    (rw wanted at (c.run_words.ensures.ends t at calm))
+returns-clause-saves_sets g c = λ t out world lists asks at calm.
+    run_of_texts (written_is_read c.one_reading.ensures.one c.one_reading.ensures.file) (map string_bytes c.args.words.now) t out world lists c.run_words.result _ asks
+    (returns-clause-saves g c t out asks.file asks.files asks.words_are asks.plain at calm)
+
+pub returns-clause-reads_back : goal.returns-clause-reads_back
+returns-clause-reads_back g c = λ t out world lists asks at calm.
+    reads_back c.saved_is_read.ensures.authored (map string_bytes c.args.words.now) t out world lists c.run_words.result _ asks
+    (returns-clause-saves_sets g c t out world lists asks at calm)
