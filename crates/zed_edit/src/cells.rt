@@ -55,8 +55,8 @@ pub(crate) fn set_cells(tiles: &mut [Tile; TILES], r: Rectangle, tile: Tile)
     }
 }
 
-/// The table of a new board.
-pub(crate) fn new_table() -> [Tile; TILES]
+/// The tiles of a board that is added: yellow walls round an empty inside, and the player's tile in the middle.
+pub fn new_table() -> [Tile; TILES]
     ensures { result ≡ table_of_new }
 {
     let mut tiles = [WALL; TILES];

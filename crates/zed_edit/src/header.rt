@@ -1,13 +1,12 @@
 // What a setting does to the header.
 
 ghost use Rattle.std.specs.Prelude.{◌≡◌, ◌<◌, [], replicate, IfOk, IfErr};
-ghost use Rattle.zed_types.specs.Header.{key_index as index_of_key, flag_index as index_of_flag};
 ghost use Rattle.zed_edit.specs.Header.{with_number, empty_header as header_of_empty, set_header as header_with};
 
 use crate::plain::Header;
 use std::alloc::Global;
 use zed_op::EditError;
-use zed_types::{BoardId, Bytes, FlagSlot, HeaderNumber, HeaderSetting, KeyColour};
+use zed_types::{BoardId, Bytes, HeaderNumber, HeaderSetting};
 
 fn no_bytes(alloc: Global) -> Bytes
     ensures { result ≡ [] }
@@ -70,39 +69,6 @@ fn set_number(header: &mut Header, field: HeaderNumber, n: i16)
     }
 }
 
-fn key_index(key: KeyColour) -> usize
-    ensures is { result ≡ index_of_key key }
-    ensures within { result < 7 }
-{
-    match key {
-        KeyColour::Blue => 0,
-        KeyColour::Green => 1,
-        KeyColour::Cyan => 2,
-        KeyColour::Red => 3,
-        KeyColour::Purple => 4,
-        KeyColour::Yellow => 5,
-        KeyColour::White => 6,
-    }
-}
-
-fn flag_index(slot: FlagSlot) -> usize
-    ensures is { result ≡ index_of_flag slot }
-    ensures within { result < 10 }
-{
-    match slot {
-        FlagSlot::First => 0,
-        FlagSlot::Second => 1,
-        FlagSlot::Third => 2,
-        FlagSlot::Fourth => 3,
-        FlagSlot::Fifth => 4,
-        FlagSlot::Sixth => 5,
-        FlagSlot::Seventh => 6,
-        FlagSlot::Eighth => 7,
-        FlagSlot::Ninth => 8,
-        FlagSlot::Tenth => 9,
-    }
-}
-
 /// Overwrites the register of a setting.
 pub(crate) fn set_header(header: &mut Header, setting: &HeaderSetting) -> Result<(), EditError>
     ensures set { IfOk result (λ _. header.new ≡ header_with setting.now header.old) }
@@ -110,14 +76,14 @@ pub(crate) fn set_header(header: &mut Header, setting: &HeaderSetting) -> Result
 {
     match setting {
         HeaderSetting::Number(field, n) => set_number(header, *field, *n),
-        HeaderSetting::Key(key, held) => header.keys[key_index(*key)] = *held,
+        HeaderSetting::Key(key, held) => header.keys[usize::from(key.index())] = *held,
         HeaderSetting::Saved(saved) => header.saved = *saved,
         HeaderSetting::CurrentBoard(b) => header.current_board = *b,
         HeaderSetting::WorldName(name) => header.world_name = name
             .copy()
             .map_err(EditError::of_growth)?,
         HeaderSetting::Flag(slot, flag) => {
-            header.flags[flag_index(*slot)] = flag.copy().map_err(EditError::of_growth)?
+            header.flags[usize::from(slot.index())] = flag.copy().map_err(EditError::of_growth)?
         }
     }
     Ok(())

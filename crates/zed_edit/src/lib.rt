@@ -18,6 +18,7 @@ mod stat;
 mod text;
 
 pub use author::{replay, step};
+pub use cells::new_table;
 pub use has::{has_board, has_element, has_stat, has_text, has_thing};
 pub use made::can;
 pub use plain::{Board, Header, Plain, Properties, Stat, Text};

@@ -1,6 +1,6 @@
 //! The edit file of a new world.
 ghost use Rattle.std.specs.Prelude.{◌≡◌, ◌≤◌, ◌∷◌, [], ◌⊎◌, Err, IfErr, IfOk, MatchResult, Ok, Option, List, ℕ, Some, false, option_map, replicate, take};
-ghost use Rattle.zed_edit.specs.Board.{new_table};
+ghost use Rattle.zed_edit.specs.Board.{new_table as table};
 ghost use Rattle.zed_editfile.specs.Spelling.{file_text};
 ghost use Rattle.zed_world.specs.Canonical.{IsCanonical};
 ghost use Rattle.zed_program.specs.Fresh.{fresh_header, fresh_player, fresh_properties, fresh_world, genesis_of, made_by, name_or_none, refused_as, rewritten, taken_from, title_of};
@@ -15,9 +15,9 @@ use crate::host::Host;
 use crate::output::write_out;
 use crate::refusal::{Refusal, edits_told, of_file, of_world};
 use std::alloc::{AllocError, Global};
-use zed_edit::{Edit, Op, replay};
+use zed_edit::{Edit, Op, new_table};
 use zed_editfile::{write_edit, write_head};
-use zed_types::{Bytes, READ_BODY_LIMIT, Seq, Stamp, TILES, Tile};
+use zed_types::{Bytes, READ_BODY_LIMIT, Seq, Stamp, Tile};
 use zed_world::{BoardData, Code, Header, Properties, StatData, World, read_world, write_world};
 
 /// Most bytes of the name of a world.
@@ -75,22 +75,6 @@ fn header(alloc: Global, name: &str) -> Result<Header, AllocError>
     })
 }
 
-/// The tiles of a board that is added.
-fn tiles(alloc: Global) -> Result<[Tile; TILES], Refusal>
-    ensures ok { IfOk result (λ tiles. tiles ≡ new_table) }
-    ensures err { IfErr result (λ e. e ≡ Refusal.Memory) }
-{
-    let stamp = Stamp {
-        time: 2,
-        replica: 1,
-    };
-    let op = Op::BoardAdd(empty(alloc));
-    let Ok(plain) = replay(alloc, &[Edit { stamp, op }]) else {
-        return Err(Refusal::Memory);
-    };
-    Ok(plain.boards.as_slice()[0].tiles)
-}
-
 fn properties(alloc: Global) -> Properties
     ensures { result ≡ fresh_properties }
 {
@@ -129,26 +113,23 @@ fn player() -> StatData
     }
 }
 
-fn title(alloc: Global) -> Result<BoardData, Refusal>
-    ensures ok { IfOk result (λ board. board ≡ title_of new_table) }
-    ensures err { IfErr result (λ e. e ≡ Refusal.Memory) }
+fn title(alloc: Global) -> Result<BoardData, AllocError>
+    ensures { IfOk result (λ board. board ≡ title_of table) }
 {
     let name = Vec::from_slice(alloc, b"Title")?;
-    let tiles = tiles(alloc)?;
     let mut stats = Seq::new(alloc);
     stats.push(player())?;
     Ok(BoardData {
         name: Bytes::new(name),
-        tiles,
+        tiles: new_table(),
         properties: properties(alloc),
         stats,
     })
 }
 
 /// A world of one title board.
-fn world_named(alloc: Global, name: &str) -> Result<World, Refusal>
-    ensures ok { IfOk result (λ world. world ≡ fresh_world name.now) }
-    ensures err { IfErr result (λ e. e ≡ Refusal.Memory) }
+fn world_named(alloc: Global, name: &str) -> Result<World, AllocError>
+    ensures { IfOk result (λ world. world ≡ fresh_world name.now) }
 {
     let header = header(alloc, name)?;
     let title = title(alloc)?;

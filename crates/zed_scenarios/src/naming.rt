@@ -1,7 +1,7 @@
 //! What edits name, and their copies.
 use crate::growths::{MOST, refuse, was_refused};
-use crate::rows::{FIRST, Name, board_id, stat_id, text_id};
-use crate::shapes::{Shape, byte_id, shaped};
+use crate::rows::{FIRST, Name, board_id, byte_id, stat_id, text_id};
+use crate::shapes::{Shape, shaped};
 use crate::worlds::EMPTY;
 use std::alloc::Global;
 use std::test::Fail;

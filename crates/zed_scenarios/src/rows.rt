@@ -61,7 +61,7 @@ pub(crate) fn text_id(name: Name) -> TextId {
     }
 }
 
-fn byte_id(name: Name) -> ElemId {
+pub(crate) fn byte_id(name: Name) -> ElemId {
     ElemId {
         stamp: stamp_of(name),
         index: name.2,
@@ -81,7 +81,7 @@ pub(crate) fn string(alloc: Global, text: &str) -> Result<Bytes, AllocError> {
 }
 
 /// A string of so many letters.
-fn letters(alloc: Global, count: usize) -> Result<Bytes, AllocError> {
+pub(crate) fn letters(alloc: Global, count: usize) -> Result<Bytes, AllocError> {
     let mut bytes = Vec::new(alloc);
     for _ in 0..count {
         bytes.push(b'a')?;

@@ -1,5 +1,5 @@
 //! Edits of every kind at the edges of what fits, as data.
-use crate::rows::{Name, board_id, stamp_of, stat_id, text_id};
+use crate::rows::{Name, board_id, byte_id, letters, stamp_of, stat_id, text_id};
 use crate::worlds::{Piece, spelled};
 use std::alloc::{AllocError, Global};
 use zed_edit::{Edit, Op};
@@ -40,14 +40,6 @@ fn stamp(at: At) -> Stamp {
     stamp_of((at.0, at.1, 0))
 }
 
-fn letters(alloc: Global, count: usize) -> Result<Bytes, AllocError> {
-    let mut bytes = Vec::new(alloc);
-    for _ in 0..count {
-        bytes.push(b'a')?;
-    }
-    Ok(Bytes::new(bytes))
-}
-
 fn passage(to: Name, text: Name) -> StatFields {
     StatFields {
         x: 3,
@@ -63,13 +55,6 @@ fn passage(to: Name, text: Name) -> StatFields {
             colour: 14,
         },
         text: Some(text_id(text)),
-    }
-}
-
-pub(crate) fn byte_id(name: Name) -> ElemId {
-    ElemId {
-        stamp: stamp_of(name),
-        index: name.2,
     }
 }
 
