@@ -1,6 +1,5 @@
 -- The deletions of the stretches of a part of a text can be made one after the other.
-use Rattle.std.proofs.Common.{◌≡◌, ◌⊎◌, inl, inr, ℕ, zero, suc, ◌+◌, ◌<◌, ◌≤◌, Bool, true, false, ◌&&◌, ◌||◌, cond, eqb, leb, ltb, List, [], ◌∷◌, ◌++◌, length, take, Result, Ok, Err, refl, ap, sym, ◌∙◌, append-nil, append_assoc, arith, subst}
-use Rattle.std.specs.Prelude.{MatchBool, IfOk, IfErr, IsOkAnd}
+use Rattle.std.proofs.Common.{◌≡◌, ℕ, zero, suc, ◌+◌, ◌<◌, ◌≤◌, Bool, true, false, ◌&&◌, ◌||◌, cond, eqb, leb, ltb, List, [], ◌∷◌, ◌++◌, length, take, refl, ap, sym, ◌∙◌, append-nil, append_assoc, arith, subst}
 use Rattle.std.specs.List.{AllByRecursion, list_any}
 use Rattle.std.proofs.lemmas.List.{length-map}
 use Rattle.std.proofs.lemmas.Bool.{and_parts, and_from, eqb-true, leb-true, ltb-true}
@@ -25,8 +24,6 @@ use Rattle.zed_edit.specs.Replay.{replay, can, do_edit, pass_over}
 use Rattle.zed_op.specs.Set.{AllFit, IsRising}
 use Rattle.zed_op.specs.Verdict.{FitIsEachPart}
 use Rattle.zed_laws.specs.TextNames.{ElementsHaveOwnNames, ElementsAreOfEdits, TextsAreOfEdits, StampsPass}
-use Rattle.zed_document.specs.declared.error.DocumentError.{DocumentError}
-use Rattle.zed_document.specs.declared.error.DocumentError.TheVariants.{Memory, Stale, NoSuch}
 use Rattle.zed_document.specs.Authoring.{alive, goes_before, with_byte, stretches, stretches_of, deletions, deletions_of, part, is_part, without, greatest_time, next_time, is_spent}
 use Rattle.zed_document.specs.Kept.{AllBelow}
 use Rattle.zed_document.specs.Stretches.{CanFollow}
@@ -175,22 +172,6 @@ follow-part parts one stays names made texts es replica t from to fit rises h is
     let l = ltb-true from to k.0 in
     let all = follow-all parts one stays (stretches_of es t from to) es limit replica limit t g (omega arith) (omega arith) count own e.0 (ltb-true t.stamp.time limit e.1) h ranges in
     (all.0, ap alive_bytes all.1 ∙ left-text from to xs (omega arith) (names es t rises))
-
--- what is told of a text that was made
-abbrev pub ok_of : {X : Type 0} → X → Result X DocumentError
-ok_of x = Ok x
-
-pub told : {X : Type 0} (b h : Bool) (x : X) (P : Type 0) → MatchBool b (ok_of x ≡ Err Stale) (MatchBool h P (ok_of x ≡ Err NoSuch)) → (b ≡ false) × (h ≡ true) × P
-told true h x P m = absurd (cc)
-told false true x P m = (refl, refl, m)
-told false false x P m = absurd (cc)
-
-pub found-ranges : {X : Type 0} (f : X → List ByteRange) (r : Result X DocumentError) (a b : List ByteRange) → IfOk r (λ v. f v ≡ a) → IfErr r (λ e. e ≡ Memory) → a ≡ b → (r ≡ Err Memory) ⊎ IsOkAnd r (λ v. f v ≡ b)
-found-ranges f (Ok v) a b o e q = inr (o ∙ q)
-found-ranges f (Err x) a b o e q = inl (ap Err e)
-
-pub is_part-of : (from to len : ℕ) → from < to → to ≤ len → is_part from to len ≡ true
-is_part-of from to len l m = and_from _ _ (ltb-of from to l) (leb-of to len m)
 
 part-some : {X : Type 0} (xs : List X) (from to : ℕ) → from < to → to ≤ length xs → 0 < length (part from to xs)
 part-some [] from to l m = absurd (omega arith)

@@ -1,6 +1,7 @@
 pub mod Authored
 pub mod Checked
 pub mod Clashing
+pub mod Counted
 pub mod Deleted
 pub mod DeletedParts
 pub mod Following
@@ -14,3 +15,4 @@ pub mod Stretched
 pub mod Times
 pub mod TypedTexts
 pub mod Walks
+pub mod Yielded

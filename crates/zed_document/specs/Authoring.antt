@@ -168,3 +168,10 @@ AnswersDeletion d t from to P r =
     (MatchBool (is_spent d.edits (length (stretches_of d.edits t from to))) (r ≡ Err ClockSpent) (P r))
     (r ≡ Err OutOfRange))
     (r ≡ Err NoSuch))
+
+-- deleting a part of a text takes memory where nothing stands against it
+pub record MayTakeMemoryToDelete (d : Replica) (t : TextId) (from to : ℕ) : Type 0 where
+  pub sound : d.is_stale ≡ false
+  pub made : has_text d t ≡ true
+  pub part : is_part from to (length (text (replay d.edits) t)) ≡ true
+  pub left : is_spent d.edits (length (stretches_of d.edits t from to)) ≡ false

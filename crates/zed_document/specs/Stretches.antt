@@ -1,8 +1,7 @@
 -- The stretches of a text's bytes, as they are found from the left.
-use Rattle.std.specs.Prelude.{◌≡◌, true, ◌++◌, ℕ, zero, suc, ◌+◌, ◌==◌, Bool, ◌&&◌, if◌then◌else◌, List, [], ◌∷◌}
+use Rattle.std.specs.Prelude.{◌≡◌, true, ◌++◌, ℕ, ◌+◌, ◌==◌, Bool, ◌&&◌, if◌then◌else◌, List, [], ◌∷◌, Option, Some, None}
 use Rattle.zed_types.specs.declared.names.ElemId.{ElemId}
 use Rattle.zed_types.specs.declared.text.ByteRange.{ByteRange}
-use Rattle.zed_types.specs.declared.text.TextElement.{TextElement}
 use Rattle.zed_types.specs.Stamp.{same_stamp}
 use Rattle.zed_op.specs.declared.op.Edit.{Edit}
 use Rattle.zed_op.specs.Fit.{Fits}
@@ -24,17 +23,10 @@ with_last [] a = alone a ∷ []
 with_last (r ∷ []) a = if ends_before r a then stretched r a ∷ [] else r ∷ alone a ∷ []
 with_last (r ∷ s ∷ rs) a = r ∷ with_last (s ∷ rs) a
 
--- bytes behind stretches, one after the other
-abbrev pub adds : List ByteRange → List ElemId → List ByteRange
-adds rs [] = rs
-adds rs (a ∷ more) = adds (with_last rs a) more
-
--- the names of the bytes that are alive, of so many behind as many that are passed
-abbrev pub names_from : ℕ → ℕ → List TextElement → List ElemId
-names_from skip count [] = []
-names_from zero zero (x ∷ xs) = []
-names_from zero (suc n) (x ∷ xs) = if x.alive then x.id ∷ names_from zero n xs else names_from zero (suc n) xs
-names_from (suc k) count (x ∷ xs) = if x.alive then names_from k count xs else names_from (suc k) count xs
+-- how many stretches a byte begins behind the byte before it
+abbrev pub begun : Option ElemId → ElemId → ℕ
+begun None a = 1
+begun (Some b) a = if ends_before (alone b) a then 0 else 1
 
 -- an edit that comes after all others, fits and can be done
 abbrev pub IsNext : List Edit → Edit → Type 0

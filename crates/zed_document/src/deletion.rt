@@ -1,13 +1,13 @@
 // Bytes that an author deletes from a text.
 
 ghost use Rattle.std.specs.Prelude.{◌≡◌, ◌≢◌, ◌≤◌, ◌⊎◌, ◌++◌, ◌∷◌, ◌-◌, ◌+◌, ◌==◌, ◌&&◌, [], ℕ, false, true, is_ok, length, take, Err, IfOk, IfErr, OnOk, OnErr, IsOkAnd, MatchBool, if◌then◌else◌};
-ghost use Rattle.zed_edit.specs.Document.{has, text as text_shown};
+ghost use Rattle.zed_edit.specs.Document.{has, text as text_shown, elements as elements_of};
 ghost use Rattle.zed_op.specs.declared.thing.Thing.TheVariants.{Text as the_text};
 ghost use Rattle.zed_op.specs.Set.{AllFit, IsRising};
 ghost use Rattle.zed_edit.specs.Replay.{replay};
-ghost use Rattle.zed_document.specs.Authoring.{AnswersDeletion, is_spent, deletions, deletions_of, is_part, stretches_of, without, alive, part, stretches};
-ghost use Rattle.zed_document.specs.Stretches.{IsNext, CanFollow, ends_before as goes_behind, stretched, with_last, adds, names_from};
-ghost use Rattle.zed_document.specs.Reading.{has_text, TellsOfText};
+ghost use Rattle.zed_document.specs.Authoring.{AnswersDeletion, MayTakeMemoryToDelete, is_spent, deletions, deletions_of, is_part, part, alive, stretches, stretches_of, without, alone as one_byte};
+ghost use Rattle.zed_document.specs.Stretches.{IsNext, CanFollow, ends_before as goes_behind, stretched, with_last, begun as begun_by};
+ghost use Rattle.zed_document.specs.Reading.{has_text};
 
 use crate::clock::{is_spent as are_spent, next_time};
 use crate::document::Document;
@@ -37,6 +37,17 @@ fn stretch(range: ByteRange, name: ElemId) -> ByteRange
     }
 }
 
+/// A stretch of one byte.
+fn alone(name: ElemId) -> ByteRange
+    ensures { result ≡ one_byte name }
+{
+    ByteRange {
+        stamp: name.stamp,
+        first: name.index,
+        last: name.index,
+    }
+}
+
 /// One more byte behind stretches: part of the last, or a stretch of its own.
 fn add_name(ranges: &mut Vec<ByteRange>, name: ElemId) -> Result<(), DocumentError>
     ensures ok { OnOk result (ranges.new.items ≡ with_last ranges.old.items name) }
@@ -50,39 +61,49 @@ fn add_name(ranges: &mut Vec<ByteRange>, name: ElemId) -> Result<(), DocumentErr
             return Ok(());
         }
     }
-    let alone = ByteRange {
-        stamp: name.stamp,
-        first: name.index,
-        last: name.index,
-    };
-    if ranges.push(alone).is_err() {
+    if ranges.push(alone(name)).is_err() {
         return Err(DocumentError::Memory);
     }
     Ok(())
 }
 
-/// The stretches of the bytes of a text that are alive, of so many from a position on.
+/// How many stretches a byte adds behind the one before it: none where it is part of the last.
+fn begun(last: Option<ElemId>, name: ElemId) -> usize
+    ensures { result ≡ begun_by last name }
+{
+    match last {
+        Some(last) if ends_before(alone(last), name) => 0,
+        _ => 1,
+    }
+}
+
+/// How many stretches there are of the alive bytes of a text from one position to another. It takes no memory, so that a spent clock
+/// can be told before any is taken.
+fn count_stretches(elements: &[TextElement], from: usize, to: usize) -> usize
+    ensures { result ≡ length (stretches (part from to (alive elements.now))) }
+{
+    let mut stretches = 0;
+    let mut last = None;
+    for element in elements.iter().filter(|x| x.alive).take(to).skip(from) {
+        stretches += begun(last, element.id);
+        last = Some(element.id);
+    }
+    stretches
+}
+
+/// The stretches of the alive bytes of a text from one position to another.
 fn stretches_in(
     alloc: Global,
     elements: &[TextElement],
     from: usize,
-    count: usize,
+    to: usize,
 ) -> Result<Vec<ByteRange>, DocumentError>
-    ensures ok { IfOk result (λ ranges. ranges.items ≡ adds [] (names_from from count elements.now)) }
+    ensures ok { IfOk result (λ ranges. ranges.items ≡ stretches (part from to (alive elements.now))) }
     ensures err { IfErr result (λ e. e ≡ DocumentError.Memory) }
 {
     let mut ranges = Vec::new(alloc);
-    let mut skip = from;
-    let mut left = count;
-    for element in elements {
-        if element.alive {
-            if skip > 0 {
-                skip -= 1;
-            } else if left > 0 {
-                add_name(&mut ranges, element.id)?;
-                left -= 1;
-            }
-        }
+    for element in elements.iter().filter(|x| x.alive).take(to).skip(from) {
+        add_name(&mut ranges, element.id)?;
     }
     Ok(ranges)
 }
@@ -133,26 +154,49 @@ fn deletions_follow(edits: &[Edit], replica: u16, text: TextId, from: usize, to:
 }
 
 impl Document {
-    /// The stretches of the bytes of a text from one position to another.
-    fn ranges_of(
+    /// The deletions of a part of a text. Memory is the last of the refusals.
+    fn deletions(
         &self,
+        replica: u16,
         text: TextId,
         from: usize,
         to: usize,
-    ) -> Result<Vec<ByteRange>, DocumentError>
-        ensures { TellsOfText self.now text (λ r. MatchBool (is_part from to (length (text_shown (replay self.now.edits) text))) ((r ≡ Err DocumentError.Memory) ⊎ IsOkAnd r (λ v. v.items ≡ stretches_of self.now.edits text from to)) (r ≡ Err DocumentError.OutOfRange)) result }
+    ) -> Result<Vec<Edit>, DocumentError>
+        ensures answers { (result ≡ Err DocumentError.Memory) ⊎ AnswersDeletion self.now text from to (λ r. IsOkAnd r (λ v. v.items ≡ deletions_of self.now.edits replica text from to)) result }
+        ensures lean { result ≡ Err DocumentError.Memory → MayTakeMemoryToDelete self.now text from to }
     {
-        match self.shown_with(text) {
-            Ok(plain) => {
-                let view = View::of(plain);
-                if from < to && to <= view.length(text) {
-                    stretches_in(self.alloc(), view.elements(text), from, to - from)
-                } else {
-                    Err(DocumentError::OutOfRange)
-                }
-            }
-            Err(error) => Err(error),
+        let view = View::of(self.shown_with(text)?);
+        if to <= from || view.length(text) < to {
+            return Err(DocumentError::OutOfRange);
         }
+        self.deletions_in(replica, text, view.elements(text), from, to)
+    }
+
+    /// The deletions of a part of a text that is there, where times are left for all of them.
+    fn deletions_in(
+        &self,
+        replica: u16,
+        text: TextId,
+        elements: &[TextElement],
+        from: usize,
+        to: usize,
+    ) -> Result<Vec<Edit>, DocumentError>
+        requires elements { elements.now ≡ elements_of (replay self.now.edits) text }
+        requires part { is_part from to (length (text_shown (replay self.now.edits) text)) ≡ true }
+        ensures answers { (result ≡ Err DocumentError.Memory) ⊎ MatchBool (is_spent self.now.edits (length (stretches_of self.now.edits text from to))) (result ≡ Err DocumentError.ClockSpent) (IsOkAnd result (λ v. v.items ≡ deletions_of self.now.edits replica text from to)) }
+        ensures lean { result ≡ Err DocumentError.Memory → is_spent self.now.edits (length (stretches_of self.now.edits text from to)) ≡ false }
+    {
+        if are_spent(self.edits(), count_stretches(elements, from, to)) {
+            return Err(DocumentError::ClockSpent);
+        }
+        let ranges = stretches_in(self.alloc(), elements, from, to)?;
+        edits_of(
+            self.alloc(),
+            next_time(self.edits()),
+            replica,
+            text,
+            &ranges,
+        )
     }
 
     /// Makes edits one after the other, each of which can be done when its turn comes.
@@ -187,38 +231,6 @@ impl Document {
         self.make(edit)
     }
 
-    /// Deletes the stretches of a part of a text.
-    fn delete_ranges(
-        &mut self,
-        replica: u16,
-        text: TextId,
-        from: usize,
-        to: usize,
-        ranges: &[ByteRange],
-    ) -> Result<Vec<Edit>, DocumentError>
-        requires sound { self.old.is_stale ≡ false }
-        requires made { has_text self.old text ≡ true }
-        requires part { is_part from to (length (text_shown (replay self.old.edits) text)) ≡ true }
-        requires ranges { ranges.now ≡ stretches_of self.old.edits text from to }
-        requires replica { 1 ≤ replica }
-        ensures answers { (result ≡ Err DocumentError.Memory) ⊎ MatchBool (is_spent self.old.edits (length (stretches_of self.old.edits text from to))) (result ≡ Err DocumentError.ClockSpent) (IsOkAnd result (λ v. v.items ≡ deletions_of self.old.edits replica text from to)) }
-        ensures edits { OnOk result (self.new.edits ≡ self.old.edits ++ deletions_of self.old.edits replica text from to) }
-        ensures shows { OnOk result (text_shown (replay self.new.edits) text ≡ without from to (text_shown (replay self.old.edits) text)) }
-        ensures memory { result ≡ Err DocumentError.Memory → (n : ℕ) × (self.new.edits ≡ self.old.edits ++ take n (deletions_of self.old.edits replica text from to)) }
-        ensures kept { is_ok result ≡ false → (result ≢ Err DocumentError.Memory) → self.new ≡ self.old }
-        ensures world { self.new.world ≡ self.old.world }
-        ensures sound { OnOk result (self.new.is_stale ≡ false) }
-    {
-        if are_spent(self.edits(), ranges.len()) {
-            return Err(DocumentError::ClockSpent);
-        }
-        deletions_follow(self.edits(), replica, text, from, to);
-        let time = next_time(self.edits());
-        let made = edits_of(self.alloc(), time, replica, text, ranges)?;
-        self.make_all(&made)?;
-        Ok(made)
-    }
-
     /// Deletes the alive bytes of a text from one position to another, without the last: one edit for each longest stretch of one
     /// insertion with indices that rise by one. In this order: Stale; NoSuch where the text wasn't made; OutOfRange where the range is
     /// empty or ends over the length; ClockSpent where fewer times are left than edits are needed; Memory, after which the first of
@@ -240,11 +252,11 @@ impl Document {
         ensures kept { is_ok result ≡ false → (result ≢ Err DocumentError.Memory) → self.new ≡ self.old }
         ensures world { self.new.world ≡ self.old.world }
         ensures sound { OnOk result (self.new.is_stale ≡ false) }
-        ensures lean { result ≡ Err DocumentError.Memory → (self.old.is_stale ≡ false) × (has_text self.old text ≡ true) × (is_part from to (length (text_shown (replay self.old.edits) text)) ≡ true) }
+        ensures lean { result ≡ Err DocumentError.Memory → MayTakeMemoryToDelete self.old text from to }
     {
-        match self.ranges_of(text, from, to) {
-            Ok(ranges) => self.delete_ranges(replica, text, from, to, &ranges),
-            Err(error) => Err(error),
-        }
+        let made = self.deletions(replica, text, from, to)?;
+        deletions_follow(self.edits(), replica, text, from, to);
+        self.make_all(&made)?;
+        Ok(made)
     }
 }

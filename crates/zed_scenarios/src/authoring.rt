@@ -233,6 +233,29 @@ fn an_edit_is_later_than_all_others(rt: HostRuntime) -> Result<(), Fail> {
     plays(rt.alloc(), LATE)
 }
 
+/// An edit behind which two times are left.
+const ALMOST_LAST: Row = (281_474_976_710_653, 2, Does::AddText);
+
+const FEW_TIMES: &[(Act, Comes)] = &[
+    TEXT,
+    ABC,
+    (Act::Types(2, T, 1, "x"), Comes::Made(4, 2)),
+    (Act::Delivers(ALMOST_LAST), Comes::Told(Told::Taken(0))),
+    (Act::Deletes(1, T, 0, 3), SPENT),
+    (Act::Deletes(1, T, 0, 5), OUT_OF_RANGE),
+    (Act::Deletes(1, FIRST, 0, 3), NO_SUCH),
+    (Act::Finds(Fact::Edits(4, 0)), YES),
+    (Act::Deletes(1, T, 0, 2), Comes::Deleted(2)),
+    (Act::Finds(Fact::Text(T, "BC")), YES),
+    (Act::Deletes(1, T, 0, 2), SPENT),
+    (Act::Finds(Fact::Edits(6, 0)), YES),
+];
+
+#[test]
+fn a_deletion_takes_a_time_for_each_stretch(rt: HostRuntime) -> Result<(), Fail> {
+    plays(rt.alloc(), FEW_TIMES)
+}
+
 const ONE: Row = (2, 1, Does::AddBoard("One"));
 
 const NORTH: Row = (3, 1, Does::Exit(Side::North, (2, 1, 0)));

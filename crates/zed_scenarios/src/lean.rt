@@ -1,12 +1,13 @@
 //! Calls that take no memory, made while the first growth would be refused.
 use crate::desk::{Desk, Told};
 use crate::growths::{refuse, was_refused};
+use crate::halfway;
 use crate::rows::{Does, FIRST, Name, Row, board_id, edit_of, text_id};
 use crate::steps::{Step, Table, Who};
 use crate::worlds::{EMPTY, WITH_PROGRAM};
 use std::alloc::Global;
 use std::test::Fail;
-use zed_document::Document;
+use zed_document::{Document, DocumentError};
 use zed_export::{ExportError, save};
 use zed_types::BODY_LIMIT;
 
@@ -118,5 +119,40 @@ fn limits_take_no_memory_refused(rt: HostRuntime) -> Result<(), Fail> {
         Ok(())
     } else {
         Err(Fail::new("a limit takes memory, or is told otherwise"))
+    }
+}
+
+/// A deletion of three stretches, after an edit behind which two times are left.
+const FEW_TIMES: &[Step] = &[
+    Step::Takes(Who::One, halfway::TEXT),
+    Step::Takes(Who::One, &[(281_474_976_710_653, 2, Does::AddText)]),
+];
+
+/// Whether it takes no memory to say that times are left for a part of a deletion alone.
+fn is_spent_without_memory(table: &mut Table) -> bool {
+    if table.fails_at(FEW_TIMES).is_some() {
+        return false;
+    }
+    let desk = &mut table.one;
+    refuse(desk.alloc, 1);
+    let answer = desk
+        .document
+        .delete_text(1, text_id(halfway::T), 1, 5)
+        .err();
+    let was_refused = was_refused(desk.alloc);
+    !was_refused && answer == Some(DocumentError::ClockSpent)
+}
+
+fn is_spent_anew(alloc: Global) -> bool {
+    let mut table = Table::new(alloc);
+    is_spent_without_memory(&mut table)
+}
+
+#[test]
+fn a_spent_clock_takes_no_memory_refused(rt: HostRuntime) -> Result<(), Fail> {
+    if is_spent_anew(rt.alloc()) {
+        Ok(())
+    } else {
+        Err(Fail::new("a spent clock takes memory, or is told otherwise"))
     }
 }

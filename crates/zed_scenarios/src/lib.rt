@@ -18,6 +18,8 @@ mod files;
 #[cfg(test)]
 mod growths;
 #[cfg(test)]
+mod halfway;
+#[cfg(test)]
 mod hosts;
 #[cfg(test)]
 mod lean;

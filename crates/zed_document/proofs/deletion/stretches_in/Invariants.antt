@@ -1,8 +1,7 @@
-use Rattle.std.proofs.Common.{◌≡◌, [], drop}
-use Rattle.zed_document.specs.Stretches.{adds, names_from}
+use Rattle.std.proofs.Common.{◌≡◌, map}
+use Rattle.zed_document.specs.Authoring.{stretches}
 use Rattle.zed_document.proofs.deletion.stretches_in.Given as goal
 
--- the stretches so far, with the names of the rest, are all
+-- the stretches of the bytes so far
 abbrev pub invariant-loop-element : goal.invariant-loop-element
-invariant-loop-element l =
-    adds l.ranges.items (names_from l.skip l.left (drop l.element-index l.elements)) ≡ adds [] (names_from l.from l.count l.elements)
+invariant-loop-element l = l.ranges.items ≡ stretches (map (λ x. x.now) l.yielded)
