@@ -9,3 +9,5 @@ pub mod Names
 pub mod Numbers
 pub mod Once
 pub mod Registers
+pub mod Lengths
+pub mod Records

@@ -1,5 +1,6 @@
 -- Which edits the fields of a record have room for. Each number of a program's edit fits its field by its type, each time and each string by the rules for edits.
-use Rattle.std.specs.Prelude.{ℕ, ◌<◌, ◌^◌, List, length, IfSome, FitsSigned}
+use Rattle.std.specs.Prelude.{◌≡◌, ℕ, ◌<◌, ◌^◌, true, List, length, IfSome, FitsSigned}
+use Rattle.std.specs.List.{list_all}
 use Rattle.std.specs.Int.{w16}
 use Rattle.zed_types.specs.declared.stamp.Stamp.{Stamp}
 use Rattle.zed_types.specs.declared.names.BoardId.{BoardId}
@@ -21,6 +22,9 @@ use Rattle.zed_types.specs.declared.stat_field.StatFields.{StatFields}
 use Rattle.zed_op.specs.declared.op.Op.{Op}
 use Rattle.zed_op.specs.declared.op.Op.TheVariants.{Genesis, SetHeader, BoardAdd, BoardRemove, SetBoard, SetCells, StatAdd, StatRemove, SetStat, TextAdd, TextInsert, TextDelete}
 use Rattle.zed_op.specs.declared.op.Edit.{Edit}
+use Rattle.zed_op.specs.declared.thing.Thing.{Thing}
+use Rattle.zed_op.specs.Names.{stamp_of}
+use Rattle.zed_op.specs.Fit.{is_stamp}
 
 -- a string whose length is one byte
 abbrev pub IsString : List ℕ → Type 0
@@ -111,3 +115,7 @@ IsOp (TextDelete t r) = IsTextName t × IsRange r
 -- every value of the edit has room in its field
 abbrev pub HasRoom : Edit → Type 0
 HasRoom e = IsStamp e.stamp × IsOp e.op
+
+-- each of these things was made at a stamp that there is
+abbrev pub AreStamped : List Thing → Type 0
+AreStamped things = list_all (λ x. is_stamp (stamp_of x)) things ≡ true

@@ -9,12 +9,16 @@ mod put;
 mod put_op;
 mod reader;
 mod reading;
+mod room;
 mod settings;
 mod stream;
 mod writing;
 
 pub use error::EditFileError;
-pub use laws::{no_record_begins_another, one_file_text, one_reading, one_spelling};
+pub use laws::{
+    fitting_edits_are_records, fitting_edits_make_a_file, no_record_begins_another, one_file_text,
+    one_reading, one_spelling,
+};
 pub use reader::EditReader;
 pub use writing::{write_edit, write_head};
 

@@ -192,3 +192,60 @@ fn text_ops_come_back(rt: HostRuntime) -> Result<(), Fail> {
     assert!(rt; comes_back(alloc, Op::TextDelete(TEXT, range))?);
     Ok(())
 }
+
+/// Appends the same byte so many times.
+fn put(out: &mut Vec<u8>, byte: u8, times: usize) -> Result<(), Fail> {
+    for _ in 0..times {
+        out.push(byte)?;
+    }
+    Ok(())
+}
+
+/// Appends an empty board whose player has a program that leaves no byte of its body free.
+fn put_full_board(out: &mut Vec<u8>) -> Result<(), Fail> {
+    out.extend_from_slice(&[255, 127])?;
+    put(out, 0, 51)?;
+    for _ in 0..5u8 {
+        out.extend_from_slice(&[255, 0, 0])?;
+    }
+    out.extend_from_slice(&[225, 0, 0])?;
+    put(out, 0, 88)?;
+    out.extend_from_slice(&[2, 2, 0, 0, 0, 0, 1, 0, 0, 0, 0, 255, 255, 255, 255])?;
+    put(out, 0, 8)?;
+    out.extend_from_slice(&[65, 127])?;
+    put(out, 0, 8)?;
+    put(out, b'x', 32_577)
+}
+
+/// The edit that makes the greatest world that there is.
+fn greatest_edit(alloc: Global) -> Result<Edit, Fail> {
+    let mut world = [255, 255, 100, 0].to_vec(alloc)?;
+    put(&mut world, 0, 508)?;
+    for _ in 0..101u8 {
+        put_full_board(&mut world)?;
+    }
+    let op = Op::Genesis(Bytes::new(world));
+    let stamp = Stamp::GENESIS;
+    Ok(Edit { stamp, op })
+}
+
+#[test]
+fn the_greatest_edit_comes_back(rt: HostRuntime) -> Result<(), Fail> {
+    let alloc = rt.alloc();
+    let edit = greatest_edit(alloc)?;
+    let mut file = Vec::new(alloc);
+    write_head(7, &mut file)?;
+    match check(alloc, &edit) {
+        Ok(()) => write_edit(&edit, &mut file)?,
+        Err(_) => return Err(Fail::new("the world is refused")),
+    }
+    assert_eq!(rt; file.len(), 12 + 4 + 9 + 3_310_181);
+    let mut out = Vec::new(alloc);
+    let mut reader = EditReader::new(alloc, Some(7));
+    for piece in file.chunks(1000) {
+        reader.feed(piece, &mut out)?;
+    }
+    reader.finish()?;
+    assert!(rt; out.as_slice() == [edit].as_slice());
+    Ok(())
+}

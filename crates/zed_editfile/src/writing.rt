@@ -1,8 +1,10 @@
 ghost use Rattle.std.specs.Prelude.{◌≡◌, ◌++◌, IfOk, IfErr, OnOk, OnErr};
 ghost use Rattle.zed_op.specs.Fit.{Fits};
 ghost use Rattle.zed_editfile.specs.Spelling.{number, spelling, record_text, head_text};
+ghost use Rattle.zed_editfile.specs.Stream.{IsRecord};
 
 use crate::error::EditFileError;
+use crate::laws::fitting_edits_are_records;
 use crate::put::{put_length, put_stamp, put_u64};
 use crate::put_op::put_op;
 use std::alloc::{AllocError, Global};
@@ -66,7 +68,11 @@ pub fn write_edit(edit: &Edit, out: &mut Vec<u8>) -> Result<(), EditFileError>
     ensures ok { OnOk result (out.new.items ≡ out.old.items ++ record_text edit.now) }
     ensures memory { IfErr result (λ e. e ≡ EditFileError.Memory) }
     ensures unchanged { OnErr result (out.new.items ≡ out.old.items) }
+
+    // What the laws on records ask.
+    ensures record { IsRecord edit.now }
 {
+    fitting_edits_are_records(edit);
     let record = record_of(*out.allocator(), edit)?;
     out.extend_from_slice(&record)?;
     Ok(())

@@ -15,3 +15,4 @@ pub mod CodesByPlace
 pub mod StatsByPlace
 pub mod FilesByPlace
 pub mod Rewritten
+pub mod Lengths

@@ -1,4 +1,4 @@
-ghost use Rattle.std.specs.Prelude.{◌≡◌, ℕ, ◌≤◌, List, ◌++◌, length, Ok};
+ghost use Rattle.std.specs.Prelude.{◌≡◌, ℕ, ◌≤◌, ◌+◌, ◌*◌, List, ◌++◌, length, Ok};
 ghost use Rattle.std.specs.List.{AllByRecursion};
 ghost use Rattle.zed_world.specs.Contents.{Contents};
 ghost use Rattle.zed_world.specs.Reading.{world_at};
@@ -30,3 +30,8 @@ pub fn written_is_read()
 {
     greedy_is_read();
 }
+
+/// A canonical file has 512 bytes for the header, and for each of at most 101 boards two bytes and at most 32,767 of a body.
+pub fn canonical_files_are_short()
+    ensures { (bytes : List ℕ) → IsCanonical bytes → length bytes ≤ 512 + 101 * (2 + 32767) }
+{}

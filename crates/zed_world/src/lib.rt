@@ -21,7 +21,9 @@ pub use board::{BoardData, Properties};
 pub use canonical::is_canonical;
 pub use error::WorldError;
 pub use header::Header;
-pub use laws::{files_are_read_by_place, read_is_normal, written_is_read};
+pub use laws::{
+    canonical_files_are_short, files_are_read_by_place, read_is_normal, written_is_read,
+};
 pub use reading::read_world;
 pub use stat::{Code, StatData};
 pub use stats::is_passage;

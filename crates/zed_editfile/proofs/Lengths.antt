@@ -1,0 +1,141 @@
+-- How long the body of a fitting edit is.
+use Rattle.std.proofs.Common.{◌≡◌, ℕ, leb, ℤ, ◌+◌, ◌*◌, ◌≤◌, true, Option, Some, None, List, ◌∷◌, ◌++◌, length, Result, Ok, Err, refl, ap, sym, ◌∙◌, length-append, arith}
+use Rattle.std.proofs.lemmas.Bool.{leb-true, le-leb, and_parts}
+use Rattle.std.proofs.lemmas.Slice.Eq.{bytes_eq-Decides}
+use Rattle.zed_types.specs.declared.stamp.Stamp.{Stamp}
+use Rattle.zed_types.specs.declared.names.BoardId.{BoardId}
+use Rattle.zed_types.specs.declared.names.StatId.{StatId}
+use Rattle.zed_types.specs.declared.names.TextId.{TextId}
+use Rattle.zed_types.specs.declared.names.ElemId.{ElemId}
+use Rattle.zed_types.specs.declared.header.HeaderSetting.{HeaderSetting}
+use Rattle.zed_types.specs.declared.header.HeaderSetting.TheVariants as header
+use Rattle.zed_types.specs.declared.property.BoardText.TheVariants.{Name, Message}
+use Rattle.zed_types.specs.declared.property.BoardSetting.{BoardSetting}
+use Rattle.zed_types.specs.declared.property.BoardSetting.TheVariants as board
+use Rattle.zed_types.specs.declared.stat_field.ThirdParameter.{ThirdParameter}
+use Rattle.zed_types.specs.declared.stat_field.ThirdParameter.TheVariants as third
+use Rattle.zed_types.specs.declared.stat_field.StatSetting.{StatSetting}
+use Rattle.zed_types.specs.declared.stat_field.StatSetting.TheVariants as stat
+use Rattle.zed_types.specs.declared.stat_field.StatFields.{StatFields}
+use Rattle.zed_world.specs.Contents.{Contents}
+use Rattle.zed_world.specs.Reading.{world_at}
+use Rattle.zed_world.specs.Writing.{written}
+use Rattle.zed_world.specs.Canonical.{IsCanonical}
+use Rattle.zed_world.specs.declared.error.WorldError.{WorldError}
+use Rattle.zed_op.specs.declared.op.Op.{Op}
+use Rattle.zed_op.specs.declared.op.Op.TheVariants.{Genesis, SetHeader, BoardAdd, BoardRemove, SetBoard, SetCells, StatAdd, StatRemove, SetStat, TextAdd, TextInsert, TextDelete}
+use Rattle.zed_op.specs.declared.op.Edit.{Edit}
+use Rattle.zed_op.specs.Fit.{is_header_in_range, is_property_in_range, is_in_range, is_text_of, is_rewritten, is_canonical, has_good_world}
+use Rattle.zed_editfile.specs.Stream.{is_length}
+use Rattle.zed_editfile.specs.Spelling.{integer, stamp, name, optional, board_name, stat_name, text_name, element_name, third_parameter, header_setting, board_setting, stat_setting, stat_fields, op_text, spelling}
+use Rattle.zed_editfile.proofs.Numbers.{length_number}
+
+-- ---- the world of a Genesis
+
+-- what the law on canonical files promises
+abbrev pub AreShort : Type 0
+AreShort = (bytes : List ℕ) → IsCanonical bytes → length bytes ≤ 512 + 101 * (2 + 32767)
+
+rewritten : (bytes : List ℕ) (w : Contents) (r : Result (List ℕ) WorldError) → world_at bytes ≡ Ok w → written 32767 w ≡ r → is_text_of bytes r ≡ true → IsCanonical bytes
+rewritten bytes w (Ok text) p q h =
+    let same : bytes ≡ text = (bytes_eq-Decides bytes text).0 h in
+    record { world = w; read = p; rewritten = q ∙ ap Ok (sym same) }
+rewritten bytes w (Err e) p q h = absurd cc
+
+canonical : (bytes : List ℕ) → is_canonical bytes ≡ true → IsCanonical bytes
+unfolding is_canonical
+canonical bytes h = either (world_at bytes) refl h
+  where
+    either : (r : Result Contents WorldError) → world_at bytes ≡ r → is_rewritten bytes r ≡ true → IsCanonical bytes
+    either (Ok w) p k = rewritten bytes w (written 32767 w) p refl k
+    either (Err e) p k = absurd cc
+
+-- ---- fields
+
+length_name : (s : Stamp) (i : ℕ) → length (name s i) ≡ 12
+unfolding name
+length_name s i = simp (length-append, length_number) refl
+
+length_optional : {A : Type 0} (spell : A → List ℕ) (n : ℕ) → ((a : A) → length (spell a) ≡ n) → (o : Option A) → length (optional spell o) ≤ 1 + n
+length_optional spell n h None = omega arith
+length_optional spell n h (Some a) = omega (arith, h a)
+
+length_board : (b : BoardId) → length (board_name b) ≡ 12
+length_board b = length_name b.stamp b.index
+
+length_stat : (s : StatId) → length (stat_name s) ≡ 12
+length_stat s = length_name s.stamp s.index
+
+length_text : (t : TextId) → length (text_name t) ≡ 12
+length_text t = length_name t.stamp t.index
+
+length_element : (a : ElemId) → length (element_name a) ≡ 12
+length_element a = length_name a.stamp a.index
+
+length_target : (p : ThirdParameter) → length (third_parameter p) ≤ 13
+length_target (third.Byte n) = omega arith
+length_target (third.Board b) = omega (arith, length_board b)
+
+length_integer : (z : ℤ) → length (integer z) ≡ 2
+length_integer z = length_number 2 _
+
+-- a register and its value
+length_header : (s : HeaderSetting) → is_header_in_range s ≡ true → length (header_setting s) ≤ 22
+length_header (header.Number f n) h = omega (arith, length_integer n)
+length_header (header.Key k b) h = omega arith
+length_header (header.Saved b) h = omega arith
+length_header (header.CurrentBoard b) h = omega (arith, length_board b)
+length_header (header.WorldName s) h = omega (arith, leb-true _ _ h)
+length_header (header.Flag k s) h = omega (arith, leb-true _ _ h)
+
+length_property : (s : BoardSetting) → is_property_in_range s ≡ true → length (board_setting s) ≤ 60
+length_property (board.Byte f n) h = omega arith
+length_property (board.Flag f b) h = omega arith
+length_property (board.TimeLimit n) h = omega (arith, length_integer n)
+length_property (board.Exit d b) h = omega (arith, length_optional board_name 12 length_board b)
+length_property (board.Text Name s) h = omega (arith, leb-true _ _ h)
+length_property (board.Text Message s) h = omega (arith, leb-true _ _ h)
+
+length_register : (s : StatSetting) → length (stat_setting s) ≤ 14
+length_register (stat.Byte f n) = omega arith
+length_register (stat.Number f n) = omega (arith, length_integer n)
+length_register (stat.P3 target) = omega (arith, length_target target)
+length_register (stat.Follower s) = omega (arith, length_optional stat_name 12 length_stat s)
+length_register (stat.Leader s) = omega (arith, length_optional stat_name 12 length_stat s)
+length_register (stat.Text t) = omega (arith, length_optional text_name 12 length_text t)
+
+length_fields : (f : StatFields) → length (stat_fields f) ≤ 38
+length_fields f = simp (length-append, length_number) (omega (arith, length_target f.p3, length_optional text_name 12 length_text f.text))
+
+-- ---- edits
+
+length_stamp : (s : Stamp) → length (stamp s) ≡ 8
+length_stamp s = simp (length-append, length_number) refl
+
+-- one byte for the number of the op, and what follows it
+length_op : AreShort → (op : Op) → is_in_range op ≡ true → has_good_world op ≡ true → (1 ≤ length (op_text op)) × (length (op_text op) ≤ 3310182)
+length_op law (Genesis bytes) h k = let short = law bytes (canonical bytes k) in (omega arith, omega arith)
+length_op law (SetHeader setting) h k = let most = length_header setting h in (omega arith, omega arith)
+length_op law (BoardAdd s) h k = let most = leb-true (length s) 50 h in (omega arith, omega arith)
+length_op law (BoardRemove b) h k = let name = length_board b in (omega arith, omega arith)
+length_op law (SetBoard b setting) h k = (omega arith, simp length-append (omega (arith, length_board b, length_property setting h)))
+length_op law (SetCells b r t) h k = (omega arith, simp length-append (omega (arith, length_board b)))
+length_op law (StatAdd b f) h k = (omega arith, omega (arith, length-append (7 ∷ board_name b) (stat_fields f), length_board b, length_fields f))
+length_op law (StatRemove s) h k = let name = length_stat s in (omega arith, omega arith)
+length_op law (SetStat s setting) h k = (omega arith, simp length-append (omega (arith, length_stat s, length_register setting)))
+length_op law TextAdd h k = (omega arith, omega arith)
+length_op law (TextInsert t after bytes) h k =
+    let most : length bytes ≤ 32767 = leb-true (length bytes) 32767 (and_parts (leb 1 (length bytes)) (leb (length bytes) 32767) h).1 in
+    (omega arith, simp length-append (omega (arith, length_text t, length_optional element_name 12 length_element after)))
+length_op law (TextDelete t r) h k = (omega arith, simp (length-append, length_number) (omega (arith, length_text t)))
+
+pub body_is_short : AreShort → (e : Edit) → is_in_range e.op ≡ true → has_good_world e.op ≡ true → is_length (length (spelling e)) ≡ true
+unfolding spelling
+body_is_short law e h k =
+    let op = length_op law e.op h k in
+    let whole = length-append (stamp e.stamp) (op_text e.op) in
+    let low : 9 ≤ length (stamp e.stamp ++ op_text e.op) = omega (arith, whole, length_stamp e.stamp, op.0) in
+    let high : length (stamp e.stamp ++ op_text e.op) ≤ 4194304 = omega (arith, whole, length_stamp e.stamp, op.1) in
+    let a = le-leb _ _ low in
+    let b = le-leb _ _ high in
+    rw (a, b) refl

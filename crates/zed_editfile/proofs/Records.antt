@@ -1,0 +1,78 @@
+-- An edit that fits is a record.
+use Rattle.std.proofs.Common.{◌≡◌, ℕ, ◌+◌, ◌^◌, ◌<◌, ◌≤◌, Bool, true, false, ◌||◌, Some, None, List, [], ◌∷◌, ◌++◌, length, take, get_or, refl, ap, sym, subst, ◌∙◌}
+use Rattle.std.specs.List.{AllByRecursion}
+use Rattle.std.proofs.lemmas.Bool.{and_parts}
+use Rattle.std.proofs.lemmas.List.{take_more, take_all}
+use Rattle.zed_types.specs.declared.stamp.Stamp.{Stamp}
+use Rattle.zed_op.specs.declared.op.Op.{Op}
+use Rattle.zed_op.specs.declared.op.Op.TheVariants.{Genesis, SetHeader, BoardAdd, BoardRemove, SetBoard, SetCells, StatAdd, StatRemove, SetStat, TextAdd, TextInsert, TextDelete}
+use Rattle.zed_op.specs.declared.op.Edit.{Edit}
+use Rattle.zed_op.specs.Names.{names_of}
+use Rattle.zed_op.specs.Fit.{is_author_stamp, is_stamp, is_own_stamp, is_in_range, Fits}
+use Rattle.zed_editfile.specs.Sizes.{AreStamped, IsStamp, IsOp}
+use Rattle.zed_op.specs.Set.{AllFit}
+use Rattle.zed_editfile.specs.declared.error.EditFileError.TheVariants.{Memory}
+use Rattle.zed_editfile.specs.Spelling.{file_text}
+use Rattle.zed_editfile.specs.Stream.{is_other, IsRecord, AreRecords, Progress, Reads}
+use Rattle.zed_editfile.proofs.Fitting.{passes}
+use Rattle.zed_editfile.proofs.Once.{one_reading, file_reads}
+use Rattle.zed_editfile.proofs.Lengths.{AreShort, body_is_short}
+
+either_of : (a b : Bool) → b ≡ true → (a || b) ≡ true
+either_of true b h = refl
+either_of false b h = h
+
+of_author : (s : Stamp) → is_author_stamp s ≡ true → is_stamp s ≡ true
+of_author s h = either_of _ _ h
+
+own_stamp : (op : Op) (s : Stamp) → is_own_stamp op s ≡ true → is_stamp s ≡ true
+own_stamp (Genesis bytes) s h = rw h refl
+own_stamp (SetHeader setting) s h = of_author s h
+own_stamp (BoardAdd name) s h = of_author s h
+own_stamp (BoardRemove b) s h = of_author s h
+own_stamp (SetBoard b setting) s h = of_author s h
+own_stamp (SetCells b r t) s h = of_author s h
+own_stamp (StatAdd b f) s h = of_author s h
+own_stamp (StatRemove t) s h = of_author s h
+own_stamp (SetStat t setting) s h = of_author s h
+own_stamp TextAdd s h = of_author s h
+own_stamp (TextInsert t after bytes) s h = of_author s h
+own_stamp (TextDelete t r) s h = of_author s h
+
+-- by the facts on real edits: canonical files are short, and the stamp and the op have room
+pub is_record : AreShort → (e : Edit) → (is_stamp e.stamp ≡ true → IsStamp e.stamp) → (AreStamped (names_of e.op) → is_in_range e.op ≡ true → IsOp e.op) → Fits e → IsRecord e
+is_record law e stamp op fits =
+    let p = passes e fits in
+    let stamps = and_parts _ _ p.stamps in
+    (fits, (stamp (own_stamp e.op e.stamp stamps.0), op stamps.1 p.range), body_is_short law e p.range p.world)
+
+-- ---- lists
+
+abbrev MayStand : Edit → Type 0
+MayStand e = Fits e → IsRecord e
+
+records_push : (es : List Edit) (e : Edit) → AllByRecursion MayStand es → MayStand e → AllByRecursion MayStand (es ++ e ∷ [])
+records_push [] e h one = (one, tt)
+records_push (f ∷ es) e h one = (h.0, records_push es e h.1 one)
+
+pub records_more : (es : List Edit) (i : ℕ) (e : Edit) → i < length es → e ≡ get_or es i e → MayStand e → AllByRecursion MayStand (take i es) → AllByRecursion MayStand (take (i + 1) es)
+records_more es i e lt is one h =
+    let next : take i es ++ e ∷ [] ≡ take (i + 1) es = ap (λ (x : Edit). take i es ++ x ∷ []) is ∙ sym (take_more es i e lt) in
+    subst (AllByRecursion MayStand) next (records_push (take i es) e h one)
+
+records_all : (es : List Edit) → AllByRecursion MayStand es → AllFit es → AreRecords es
+records_all [] h fit = tt
+records_all (e ∷ es) h fit = (h.0 fit.0, records_all es h.1 fit.1)
+
+pub are_records : (es : List Edit) (i : ℕ) → length es ≤ i → AllByRecursion MayStand (take i es) → AllFit es → AreRecords es
+are_records es i le h fit = records_all es (subst (AllByRecursion MayStand) (take_all i es le) h) fit
+
+-- ---- the file
+
+none_is_not_memory : None ≡ Some Memory → ⊥
+none_is_not_memory h = cc
+
+-- whoever reads the whole text of edits has these edits
+pub file_has : (n : ℕ) (es fs : List Edit) (p : Progress) → n < 2 ^ 64 → AreRecords es → is_other p.asked n ≡ false → (p.fault ≡ Some Memory → ⊥) → Reads (file_text n es) fs p → (fs ≡ es) × (p ≡ record { asked = p.asked; world = Some n; rest = []; fault = None })
+file_has n es fs p lt good other whole reads =
+    one_reading (file_text n es) fs es p (record { asked = p.asked; world = Some n; rest = []; fault = None }) refl whole none_is_not_memory reads (file_reads p.asked n es lt other good)
