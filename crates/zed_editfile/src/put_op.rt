@@ -1,6 +1,5 @@
 ghost use Rattle.std.specs.Prelude.{◌≡◌, ◌+◌, ◌++◌, OnOk, true};
 ghost use Rattle.zed_op.specs.Fit.{is_header_in_range, is_property_in_range, is_in_range};
-ghost use Rattle.zed_types.specs.Header.{key_index, flag_index};
 ghost use Rattle.zed_editfile.specs.Spelling.{header_number, header_setting, board_byte, board_flag, side, board_text, board_setting, stat_byte, stat_number, stat_setting, stat_fields, op_text};
 
 use crate::put::{
@@ -11,8 +10,8 @@ use crate::put::{
 use std::alloc::AllocError;
 use zed_op::Op;
 use zed_types::{
-    BoardByte, BoardFlag, BoardSetting, BoardText, FlagSlot, HeaderNumber, HeaderSetting,
-    KeyColour, Side, StatByte, StatFields, StatNumber, StatSetting,
+    BoardByte, BoardFlag, BoardSetting, BoardText, HeaderNumber, HeaderSetting, Side, StatByte,
+    StatFields, StatNumber, StatSetting,
 };
 
 fn header_number(number: HeaderNumber) -> u8
@@ -31,38 +30,10 @@ fn header_number(number: HeaderNumber) -> u8
     }
 }
 
-/// The header field of a key.
-fn key_field(key: KeyColour) -> u8
-    ensures { result ≡ 9 + key_index key }
-{
-    match key {
-        KeyColour::Blue => 9,
-        KeyColour::Green => 10,
-        KeyColour::Cyan => 11,
-        KeyColour::Red => 12,
-        KeyColour::Purple => 13,
-        KeyColour::Yellow => 14,
-        KeyColour::White => 15,
-    }
-}
+/// The header fields of the first key and of the first flag.
+const FIRST_KEY: u8 = 9;
 
-/// The header field of a flag.
-fn flag_field(flag: FlagSlot) -> u8
-    ensures { result ≡ 19 + flag_index flag }
-{
-    match flag {
-        FlagSlot::First => 19,
-        FlagSlot::Second => 20,
-        FlagSlot::Third => 21,
-        FlagSlot::Fourth => 22,
-        FlagSlot::Fifth => 23,
-        FlagSlot::Sixth => 24,
-        FlagSlot::Seventh => 25,
-        FlagSlot::Eighth => 26,
-        FlagSlot::Ninth => 27,
-        FlagSlot::Tenth => 28,
-    }
-}
+const FIRST_FLAG: u8 = 19;
 
 fn put_header_setting(out: &mut Vec<u8>, setting: &HeaderSetting) -> Result<(), AllocError>
     requires { is_header_in_range setting.now ≡ true }
@@ -74,7 +45,7 @@ fn put_header_setting(out: &mut Vec<u8>, setting: &HeaderSetting) -> Result<(), 
             put_integer(out, *value)
         }
         HeaderSetting::Key(key, has) => {
-            out.push(key_field(*key))?;
+            out.push(FIRST_KEY + key.index())?;
             put_boolean(out, *has)
         }
         HeaderSetting::Saved(saved) => {
@@ -90,7 +61,7 @@ fn put_header_setting(out: &mut Vec<u8>, setting: &HeaderSetting) -> Result<(), 
             put_string(out, name)
         }
         HeaderSetting::Flag(slot, flag) => {
-            out.push(flag_field(*slot))?;
+            out.push(FIRST_FLAG + slot.index())?;
             put_string(out, flag)
         }
     }
