@@ -9,6 +9,7 @@ pub mod HeldEdits
 pub mod Joining
 pub mod Keeping
 pub mod Merging
+pub mod NameSearch
 pub mod Passed
 pub mod Spots
 pub mod Stretched

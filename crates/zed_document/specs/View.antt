@@ -22,8 +22,9 @@ use Rattle.zed_edit.specs.declared.plain.Header.{Header}
 use Rattle.zed_edit.specs.declared.plain.Properties.{Properties}
 use Rattle.zed_edit.specs.declared.plain.Board.{Board}
 use Rattle.zed_edit.specs.declared.plain.Stat.{Stat}
+use Rattle.zed_edit.specs.declared.plain.Text.{Text}
 use Rattle.zed_edit.specs.declared.plain.Plain.{Plain}
-use Rattle.zed_edit.specs.Genesis.{stat_of}
+use Rattle.zed_edit.specs.Genesis.{stat_of, text_of}
 use Rattle.zed_types.specs.Names.{title}
 use Rattle.zed_edit.specs.Stat.{new_stat, player_fields}
 use Rattle.zed_edit.specs.Board.{new_board, empty_tile}
@@ -44,6 +45,14 @@ board_at p i = slice_index_or p.boards i no_board
 -- stat j of those that were made on a board, removed ones too
 abbrev pub stat_at : Board → ℕ → Stat
 stat_at b j = slice_index_or b.stats j no_stat
+
+-- a text to speak of where a number is past the end
+abbrev pub no_text : Text
+no_text = record { id = text_of title.stamp 0; elements = [] }
+
+-- text k of those that were made
+abbrev pub text_at : Plain → ℕ → Text
+text_at p k = slice_index_or p.texts k no_text
 
 -- the tile at a place of a table
 abbrev pub tile_at : List Tile → Place → Tile

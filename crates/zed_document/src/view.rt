@@ -1,9 +1,10 @@
-ghost use Rattle.std.specs.Prelude.{◌≡◌, ◌<◌, ◌≤◌, ◌++◌, [], count_by, length, take, slice_get, slice_index_or, false, OnOk, OnErr};
+ghost use Rattle.std.specs.Prelude.{◌≡◌, ◌<◌, ◌≤◌, ◌++◌, [], length, take, slice_get, slice_index_or, false, Some, None, IfSome, MatchOption, OnOk, OnErr};
 ghost use Rattle.std.specs.Option.{option_copied};
 ghost use Rattle.zed_types.specs.Text.{alive_bytes};
 ghost use Rattle.zed_types.specs.Header.{key_index, flag_index};
 ghost use Rattle.zed_edit.specs.Document.{text, find_text, elements};
-ghost use Rattle.zed_document.specs.View.{board_at, stat_at, tile_at, made_board, made_stat, header_number, board_byte, board_flag, exit, board_text, stat_byte, stat_number};
+ghost use Rattle.zed_laws.specs.NameOrder.{NamesRise, IsOrdered};
+ghost use Rattle.zed_document.specs.View.{board_at, stat_at, no_text, text_at, tile_at, made_board, made_stat, header_number, board_byte, board_flag, exit, board_text, stat_byte, stat_number};
 
 use std::alloc::AllocError;
 use std::marker::Model;
@@ -209,6 +210,14 @@ impl<'a> View<'a> {
         self.made(i).tiles
     }
 
+    /// All tiles of a board, row after row, lent.
+    pub fn table(&self, i: usize) -> &[Tile; TILES]
+        requires { i < length self.now.boards }
+        ensures { result.now ≡ (board_at self.now i).tiles }
+    {
+        &self.made(i).tiles
+    }
+
     /// How many stats were made on a board, removed ones too. The first is its player.
     pub fn stats(&self, i: usize) -> usize
         requires { i < length self.now.boards }
@@ -335,14 +344,40 @@ impl<'a> View<'a> {
         ensures ok { OnOk result (out.new.items ≡ out.old.items ++ text self.now id) }
         ensures err { OnErr result (out.new.items ≡ out.old.items) }
     {
-        let before = out.len();
-        match push_live(self.elements(id), out) {
-            Ok(()) => Ok(()),
-            Err(error) => {
-                out.truncate(before);
-                Err(error)
-            }
-        }
+        append_live(self.elements(id), out)
+    }
+
+    /// The number of a text in the order in which texts were made, if it was. It is sought by halves, since that is the order of their names.
+    pub fn text_number(&self, id: TextId) -> Option<usize>
+        requires { IsOrdered self.now }
+        ensures is { MatchOption result (find_text id self.now.texts ≡ None) (λ k. find_text id self.now.texts ≡ Some (text_at self.now k)) }
+        ensures within { IfSome result (λ k. k < length self.now.texts) }
+    {
+        number_among(self.plain.texts.as_slice(), id)
+    }
+
+    fn elements_at(&self, k: usize) -> &[TextElement]
+        requires { k < length self.now.texts }
+        ensures { result.now ≡ (text_at self.now k).elements }
+    {
+        self.plain.texts.as_slice()[k].elements.as_slice()
+    }
+
+    /// How many live bytes the text of a number has.
+    pub fn length_at(&self, k: usize) -> usize
+        requires { k < length self.now.texts }
+        ensures { result ≡ length (alive_bytes (text_at self.now k).elements) }
+    {
+        count_live(self.elements_at(k))
+    }
+
+    /// Appends the live bytes of the text of a number, or nothing.
+    pub fn append_text_at(&self, k: usize, out: &mut Vec<u8>) -> Result<(), AllocError>
+        requires { k < length self.now.texts }
+        ensures ok { OnOk result (out.new.items ≡ out.old.items ++ alive_bytes (text_at self.now k).elements) }
+        ensures err { OnErr result (out.new.items ≡ out.old.items) }
+    {
+        append_live(self.elements_at(k), out)
     }
 }
 
@@ -387,9 +422,18 @@ fn find_made(texts: &[Text], id: TextId) -> Option<&Text>
     texts.iter().find(|text| text.id == id)
 }
 
-/// How many elements are alive.
+/// The place of a text among texts in the order of their names.
+fn number_among(texts: &[Text], id: TextId) -> Option<usize>
+    requires { NamesRise (λ t. t.id.stamp) (λ t. t.id.index) texts.now }
+    ensures is { MatchOption result (find_text id texts.now ≡ None) (λ k. find_text id texts.now ≡ Some (slice_index_or texts.now k no_text)) }
+    ensures within { IfSome result (λ k. k < length texts.now) }
+{
+    texts.binary_search_by(|text| text.id.cmp(&id)).ok()
+}
+
+/// How many bytes are alive.
 fn count_live(elements: &[TextElement]) -> usize
-    ensures { result ≡ count_by (λ element. element.alive) elements.now }
+    ensures { result ≡ length (alive_bytes elements.now) }
 {
     elements.iter().filter(|element| element.alive).count()
 }
@@ -421,4 +465,19 @@ fn push_live(elements: &[TextElement], out: &mut Vec<u8>) -> Result<(), AllocErr
         }
     }
     Ok(())
+}
+
+/// Appends the bytes of those alive, or nothing.
+fn append_live(elements: &[TextElement], out: &mut Vec<u8>) -> Result<(), AllocError>
+    ensures ok { OnOk result (out.new.items ≡ out.old.items ++ alive_bytes elements.now) }
+    ensures err { OnErr result (out.new.items ≡ out.old.items) }
+{
+    let before = out.len();
+    match push_live(elements, out) {
+        Ok(()) => Ok(()),
+        Err(error) => {
+            out.truncate(before);
+            Err(error)
+        }
+    }
 }

@@ -6,6 +6,7 @@ pub mod Live
 pub mod Names
 pub mod Normality
 pub mod Numbers16
+pub mod Ordered
 pub mod Searching
 pub mod Shares
 pub mod Sizes

@@ -20,13 +20,13 @@ use Rattle.zed_edit.specs.declared.plain.Plain.{Plain}
 use Rattle.zed_edit.specs.Numbers.{live_boards, live_stats, stat_number}
 use Rattle.zed_laws.specs.Regular.{IsRegularBoard, IsRegular}
 use Rattle.zed_export.specs.World.{number_or_0, exit_number, parameter, exported_stat, exported_above, exported_board, exported_boards, world_of}
-use Rattle.zed_export.specs.Fields.{FitsStat, FitsBoard, FitsHeader}
+use Rattle.zed_export.specs.Fields.{FitsStat, FitsBoard, FitsHeader, IsOwned}
 use Rattle.zed_export.specs.Limits.{boards_refusal, board_refusal, refusal_of}
 use Rattle.zed_export.proofs.Each.{each_filtered}
 use Rattle.zed_export.proofs.Searching.{found_within, found_or_0}
 use Rattle.zed_export.proofs.Sizes.{length_body}
 use Rattle.zed_export.proofs.Boards.{length_above}
-use Rattle.zed_export.proofs.Shares.{Owned, owned_first, owned_more, code_normal}
+use Rattle.zed_export.proofs.Shares.{owned_first, owned_more, code_normal}
 use Rattle.zed_export.proofs.Within.{neither, board_within, boards_within, count_within, title_within, some_board, some_stat, programs_below}
 
 number_below : (p : Plain) (b : BoardId) → 1 ≤ length (live_boards p) → number_or_0 p b < length (live_boards p)
@@ -50,7 +50,7 @@ stat_below b None n e = tt
 stat_below b (Some s) n e = rw e (found_within (λ (x : Stat). same_stat x.id s) (live_stats b))
 
 stats_normal : (p : Plain) (b : Board) (n : ℕ) → n ≡ length (live_stats b) → 1 ≤ length (live_boards p) → (lower : List (Option TextId)) (done : List StatData) (ss : List Stat)
-    → length done ≡ length lower → Owned p lower done
+    → length done ≡ length lower → IsOwned p lower done
     → AllByRecursion FitsStat (exported_above p b lower ss) → AllByRecursion (λ (s : StatData). length (code_text s.code) ≤ 32767) (exported_above p b lower ss)
     → AreNormalStats (length (live_boards p)) n b.tiles done (exported_above p b lower ss)
 stats_normal p b n e some lower done [] long owned fits short = tt

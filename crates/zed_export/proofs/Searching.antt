@@ -1,5 +1,5 @@
 -- Where something is found in a list.
-use Rattle.std.proofs.Common.{◌≡◌, ◌⊎◌, inl, inr, ℕ, zero, suc, ◌+◌, ◌<◌, ◌≤◌, Bool, true, false, not, cond, eqb, ltb, List, [], ◌∷◌, ◌++◌, length, refl, sym, ap, ◌∙◌, arith, eq-eqb, Some, None, IfSome}
+use Rattle.std.proofs.Common.{◌≡◌, ◌⊎◌, inl, inr, ℕ, suc, ◌+◌, ◌<◌, ◌≤◌, Bool, true, false, not, cond, eqb, ltb, List, [], ◌∷◌, ◌++◌, length, refl, sym, ap, ◌∙◌, arith, eq-eqb, Some, None, IfSome}
 use Rattle.std.specs.Prelude.{position, unwrap_or, slice_get}
 use Rattle.std.specs.List.{position_or_len, prefix_len}
 use Rattle.std.proofs.lemmas.Bool.{ltb-true, lt-ltb, le-ltb, ne_eqb, cases_lt}
@@ -74,12 +74,6 @@ found_in_more test xs y n e = elim (cases_lt k m) [ inl lt ↦ inl (before lt) |
         let found : cond (ltb (m + cond t 0 1) more) (Some (m + cond t 0 1)) None ≡ Some n = sym (ap (λ (i : ℕ). cond (ltb i more) (Some i) None) place) ∙ e in
         let it = new_member t (m + 1) more m n (sym longer) refl found in
         (ap (λ (b : Bool). cond b (Some k) None) here, h ∙ it.0, it.1)
-
--- a member stays where it is
-pub get_before : {X : Type 0} (xs ys : List X) (n : ℕ) (x : X) → slice_get xs n ≡ Some x → slice_get (xs ++ ys) n ≡ Some x
-get_before [] ys n x e = absurd (cc)
-get_before (y ∷ xs) ys zero x e = e
-get_before (y ∷ xs) ys (suc n) x e = get_before xs ys n x e
 
 pub get_last : {X : Type 0} (xs : List X) (x : X) → slice_get (xs ++ x ∷ []) (length xs) ≡ Some x
 get_last [] x = refl

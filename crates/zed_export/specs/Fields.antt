@@ -1,8 +1,9 @@
 -- The numbers of a world that stand in fields of sixteen bits, and how things are numbered by lists of names.
-use Rattle.std.specs.Prelude.{ℕ, Bool, if◌then◌else◌, List, length, map, position, unwrap_or, Option, Some, None}
+use Rattle.std.specs.Prelude.{ℕ, Bool, if◌then◌else◌, List, length, map, position, unwrap_or, Option, Some, None, ◌≡◌, slice_get, IsSomeAnd}
 use Rattle.std.specs.List.{AllByRecursion}
 use Rattle.zed_types.specs.declared.names.BoardId.{BoardId}
 use Rattle.zed_types.specs.declared.names.StatId.{StatId}
+use Rattle.zed_types.specs.declared.names.TextId.{TextId}
 use Rattle.zed_types.specs.declared.stat_field.ThirdParameter.{ThirdParameter}
 use Rattle.zed_types.specs.declared.stat_field.ThirdParameter.TheVariants as third
 use Rattle.zed_types.specs.Names.{same_board, same_stat}
@@ -14,7 +15,9 @@ use Rattle.zed_world.specs.declared.board.BoardData.{BoardData}
 use Rattle.zed_world.specs.declared.stat.StatData.{StatData}
 use Rattle.zed_edit.specs.declared.plain.Board.{Board}
 use Rattle.zed_edit.specs.declared.plain.Plain.{Plain}
+use Rattle.zed_edit.specs.Document.{text}
 use Rattle.zed_edit.specs.Numbers.{live_boards, live_stats}
+use Rattle.zed_export.specs.World.{user_of, code_with}
 
 -- each number of a header fits in its field
 pub record FitsHeader (h : Header) : Type 0 where
@@ -69,3 +72,7 @@ place_parameter names on_passage (third.Byte n) = if on_passage then board_numbe
 abbrev pub stat_place : List StatId → Option StatId → Option ℕ
 stat_place names None = None
 stat_place names (Some s) = position (λ x. same_stat x s) names
+
+-- of stats with these texts, the lowest past the player that uses a text has its bytes for a program
+abbrev pub IsOwned : Plain → List (Option TextId) → List StatData → Type 0
+IsOwned p lower done = (t : TextId) (n : ℕ) → user_of t lower ≡ Some n → IsSomeAnd (slice_get done n) (λ s. s.code ≡ code_with None (text p t))

@@ -1,25 +1,24 @@
-ghost use Rattle.std.specs.Prelude.{◌≡◌, ◌<◌, ◌≤◌, [], IfOk, IfSome, length};
+ghost use Rattle.std.specs.Prelude.{◌≡◌, ◌<◌, ◌≤◌, not, [], IfOk, length};
 ghost use Rattle.std.specs.List.{AllByRecursion};
 ghost use Rattle.zed_world.specs.Normal.{IsInteger};
 ghost use Rattle.zed_edit.specs.Numbers.{live_stats as stats_there};
-ghost use Rattle.zed_laws.specs.Regular.{IsRegular};
+ghost use Rattle.zed_laws.specs.NameOrder.{IsOrdered};
 ghost use Rattle.zed_document.specs.View.{board_at, stat_at};
-ghost use Rattle.zed_export.specs.World.{code_with, exported_code, stat_with, exported_above, exported_properties, exported_board};
+ghost use Rattle.zed_export.specs.World.{stat_with, exported_above, exported_properties, exported_board};
 ghost use Rattle.zed_export.specs.Fields.{board_names as names_of_boards, stat_names as names_of_stats, place_parameter, FitsStat, FitsBoard};
 
 use crate::header::copy_of;
-use crate::numbers::{board_number, exit_number, stat_names, stat_number};
-use crate::program::user_of;
+use crate::numbers::{BoardNames, StatNames, board_number, exit_number, stat_names, stat_number};
+use crate::program::program_of;
 use std::alloc::{AllocError, Global};
 use zed_document::View;
 use zed_types::{
-    BoardByte, BoardFlag, BoardId, BoardText, Bytes, Seq, Side, StatByte, StatId, StatNumber,
-    TILES, TextId, ThirdParameter, Tile,
+    BoardByte, BoardFlag, BoardText, Seq, Side, StatByte, StatNumber, ThirdParameter, Tile,
 };
 use zed_world::{BoardData, Code, Properties, StatData, is_passage};
 
 /// The third parameter of a stat that stands on a passage or not, in a world whose boards have these names.
-fn parameter_of(boards: &[BoardId], on_passage: bool, parameter: ThirdParameter) -> u8
+fn parameter_of(boards: &BoardNames, on_passage: bool, parameter: ThirdParameter) -> u8
     requires { length boards.now ≤ 101 }
     ensures { result ≡ place_parameter boards.now on_passage parameter }
 {
@@ -35,43 +34,11 @@ fn parameter_of(boards: &[BoardId], on_passage: bool, parameter: ThirdParameter)
     }
 }
 
-/// The program of these bytes, which a lower stat may own.
-fn code_of(user: Option<usize>, bytes: Vec<u8>) -> Code
-    requires { IfSome user (λ n. n ≤ 151) }
-    ensures { result ≡ code_with user bytes.items }
-{
-    if bytes.is_empty() {
-        return Code::None;
-    }
-    match user {
-        Some(user) => Code::Same(user as u8),
-        None => Code::Own(Bytes::new(bytes)),
-    }
-}
-
-/// The program of a stat above stats with these texts.
-fn program_of(
-    alloc: Global,
-    view: &View,
-    lower: &[Option<TextId>],
-    text: Option<TextId>,
-) -> Result<Code, AllocError>
-    requires { length lower.now ≤ 151 }
-    ensures { IfOk result (λ code. code ≡ exported_code view.now lower.now text) }
-{
-    let Some(text) = text else {
-        return Ok(Code::None);
-    };
-    let mut bytes = Vec::new(alloc);
-    view.append_text(text, &mut bytes)?;
-    Ok(code_of(user_of(lower, text), bytes))
-}
-
-/// Stat `j` of board `i`, above stats with these texts.
+/// Stat `j` of board `i`, with this program.
 fn stat_of(
     view: &View,
-    boards: &[BoardId],
-    stats: &[StatId],
+    boards: &BoardNames,
+    stats: &StatNames,
     i: usize,
     j: usize,
     code: Code,
@@ -87,7 +54,7 @@ fn stat_of(
 {
     let x = view.stat_byte(i, j, StatByte::X);
     let y = view.stat_byte(i, j, StatByte::Y);
-    let on_passage = is_passage(&view.tiles(i), x, y);
+    let on_passage = is_passage(view.table(i), x, y);
     StatData {
         x,
         y,
@@ -111,7 +78,7 @@ fn stat_of(
 fn properties_of(
     alloc: Global,
     view: &View,
-    boards: &[BoardId],
+    boards: &BoardNames,
     i: usize,
 ) -> Result<Properties, AllocError>
     requires board { i < length view.now.boards }
@@ -135,12 +102,21 @@ fn properties_of(
     })
 }
 
+/// Whether stat `j` of board `i` isn't removed.
+fn is_there(view: &View, i: usize, j: usize) -> bool
+    requires board { i < length view.now.boards }
+    requires stat { j < length (board_at view.now i).stats }
+    ensures { result ≡ not (stat_at (board_at view.now i) j).removed }
+{
+    !view.stat(i, j).removed
+}
+
 /// The stats of a board, of which those that aren't removed have these names.
 fn stats_of(
     alloc: Global,
     view: &View,
-    boards: &[BoardId],
-    stats: &[StatId],
+    boards: &BoardNames,
+    stats: &StatNames,
     i: usize,
 ) -> Result<Seq<StatData>, AllocError>
     requires board { i < length view.now.boards }
@@ -148,15 +124,16 @@ fn stats_of(
     requires few_boards { length boards.now ≤ 101 }
     requires stats { stats.now ≡ names_of_stats (board_at view.now i) }
     requires few_stats { length stats.now ≤ 151 }
+    requires ordered { IsOrdered view.now }
     ensures is { IfOk result (λ stats. stats ≡ exported_above view.now (board_at view.now i) [] (stats_there (board_at view.now i))) }
     ensures fits { IfOk result (λ stats. AllByRecursion FitsStat stats) }
 {
     let mut texts = Vec::new(alloc);
     let mut out = Vec::new(alloc);
     for j in 0..view.stats(i) {
-        if !view.stat(i, j).removed {
+        if is_there(view, i, j) {
             let text = view.text_of(i, j);
-            let code = program_of(alloc, view, &texts, text)?;
+            let code = program_of(alloc, view, &texts, &out, text)?;
             out.push(stat_of(view, boards, stats, i, j, code))?;
             texts.push(text)?;
         }
@@ -168,13 +145,14 @@ fn stats_of(
 pub(crate) fn board_of(
     alloc: Global,
     view: &View,
-    boards: &[BoardId],
+    boards: &BoardNames,
     i: usize,
 ) -> Result<BoardData, AllocError>
     requires board { i < length view.now.boards }
     requires boards { boards.now ≡ names_of_boards view.now }
     requires few_boards { length boards.now ≤ 101 }
     requires few_stats { length (stats_there (board_at view.now i)) ≤ 151 }
+    requires ordered { IsOrdered view.now }
     ensures is { IfOk result (λ board. board ≡ exported_board view.now (board_at view.now i)) }
     ensures fits { IfOk result (λ board. FitsBoard board) }
 {

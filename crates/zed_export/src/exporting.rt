@@ -5,6 +5,7 @@ ghost use Rattle.zed_world.specs.Writing.{world_text};
 ghost use Rattle.zed_world.specs.Normal.{IsNormal};
 ghost use Rattle.zed_edit.specs.Numbers.{live_boards as boards_there, live_stats as stats_there};
 ghost use Rattle.zed_laws.specs.Regular.{IsRegular};
+ghost use Rattle.zed_laws.specs.NameOrder.{IsOrdered};
 ghost use Rattle.zed_edit.specs.Replay.{replay};
 ghost use Rattle.zed_export.specs.World.{exported_boards, world_of};
 ghost use Rattle.zed_export.specs.Fields.{board_names as names_of_boards, FitsBoard};
@@ -14,15 +15,16 @@ use crate::board::board_of;
 use crate::error::ExportError;
 use crate::header::header_of;
 use crate::limits::first_limit;
-use crate::numbers::board_names;
+use crate::numbers::{BoardNames, board_names};
 use std::alloc::{AllocError, Global};
 use zed_document::{Document, View};
-use zed_laws::replay_is_regular;
-use zed_types::{BoardId, Seq};
+use zed_laws::{replay_is_ordered, replay_is_regular};
+use zed_types::Seq;
 use zed_world::{BoardData, World, write_world};
 
 /// The boards of the world, which have these names.
-fn boards_of(alloc: Global, view: &View, names: &[BoardId]) -> Result<Seq<BoardData>, AllocError>
+fn boards_of(alloc: Global, view: &View, names: &BoardNames) -> Result<Seq<BoardData>, AllocError>
+    requires ordered { IsOrdered view.now }
     requires named { names.now ≡ names_of_boards view.now }
     requires few { length names.now ≤ 101 }
     requires few_stats { AllByRecursion (λ b. length (stats_there b) ≤ 151) (boards_there view.now) }
@@ -41,6 +43,7 @@ fn boards_of(alloc: Global, view: &View, names: &[BoardId]) -> Result<Seq<BoardD
 /// The world of a document that goes over no limit.
 fn world_within(alloc: Global, view: &View, limit: usize) -> Result<World, AllocError>
     requires regular { IsRegular view.now }
+    requires ordered { IsOrdered view.now }
     requires limit { limit ≤ 32767 }
     requires within { refusal_of limit view.now ≡ None }
     ensures { IfOk result (λ world. world ≡ world_of view.now) }
@@ -55,6 +58,7 @@ fn world_within(alloc: Global, view: &View, limit: usize) -> Result<World, Alloc
 #[tactic(auto, unfolding(zed_world::specs::Writing::written))]
 fn file_within(alloc: Global, view: &View, limit: usize) -> Result<Vec<u8>, ExportError>
     requires regular { IsRegular view.now }
+    requires ordered { IsOrdered view.now }
     requires limit { limit ≤ 32767 }
     requires within { refusal_of limit view.now ≡ None }
     ensures is { MatchResult result (λ file. file.items ≡ world_text (world_of view.now)) (λ e. e ≡ ExportError.Memory) }
@@ -83,6 +87,7 @@ pub fn export(alloc: Global, document: &Document, limit: usize) -> Result<World,
     };
     document.edits();
     replay_is_regular();
+    replay_is_ordered();
     if let Some(refusal) = first_limit(alloc, &view, limit) {
         return Err(refusal);
     }
@@ -105,6 +110,7 @@ pub fn save(alloc: Global, document: &Document, limit: usize) -> Result<Vec<u8>,
     };
     document.edits();
     replay_is_regular();
+    replay_is_ordered();
     if let Some(refusal) = first_limit(alloc, &view, limit) {
         return Err(refusal);
     }

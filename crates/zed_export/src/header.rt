@@ -3,10 +3,10 @@ ghost use Rattle.zed_laws.specs.Regular.{IsRegular};
 ghost use Rattle.zed_export.specs.World.{exported_header};
 ghost use Rattle.zed_export.specs.Fields.{board_names, FitsHeader};
 
-use crate::numbers::board_number;
+use crate::numbers::{BoardNames, board_number};
 use std::alloc::{AllocError, Global};
 use zed_document::View;
-use zed_types::{BoardId, Bytes, FlagSlot, HeaderNumber, KeyColour, Seq};
+use zed_types::{Bytes, FlagSlot, HeaderNumber, KeyColour, Seq};
 use zed_world::Header;
 
 /// The ten places for flags, in their order.
@@ -60,7 +60,7 @@ fn flags_of(alloc: Global, view: &View) -> Result<Seq<Bytes>, AllocError>
 pub(crate) fn header_of(
     alloc: Global,
     view: &View,
-    boards: &[BoardId],
+    boards: &BoardNames,
 ) -> Result<Header, AllocError>
     requires regular { IsRegular view.now }
     requires named { boards.now ≡ board_names view.now }

@@ -4,6 +4,7 @@ ghost use Rattle.zed_types.specs.Names.{title};
 ghost use Rattle.zed_edit.specs.Document.{has};
 ghost use Rattle.zed_edit.specs.Numbers.{live_boards as boards_there, live_stats as stats_there};
 ghost use Rattle.zed_laws.specs.Regular.{IsRegular};
+ghost use Rattle.zed_laws.specs.NameOrder.{IsOrdered};
 ghost use Rattle.zed_document.specs.View.{board_at};
 ghost use Rattle.zed_export.specs.World.{exported_board, exported_boards};
 ghost use Rattle.zed_export.specs.Limits.{title_refusal, count_refusal, stats_refusal, board_refusal, boards_refusal, refusal_of};
@@ -56,6 +57,7 @@ pub(crate) fn live_stats(view: &View, i: usize) -> usize
 /// The first limit that a board goes over.
 fn over(alloc: Global, view: &View, limit: usize, i: usize, number: usize) -> Option<ExportError>
     requires regular { IsRegular view.now }
+    requires ordered { IsOrdered view.now }
     requires board { i < length view.now.boards }
     requires limit { limit ≤ 32767 }
     ensures { result ≡ board_refusal limit number (exported_board view.now (board_at view.now i)) }
@@ -81,6 +83,7 @@ fn over(alloc: Global, view: &View, limit: usize, i: usize, number: usize) -> Op
 /// The first limit that the boards go over, board by board.
 fn first_over(alloc: Global, view: &View, limit: usize) -> Option<ExportError>
     requires regular { IsRegular view.now }
+    requires ordered { IsOrdered view.now }
     requires limit { limit ≤ 32767 }
     ensures { result ≡ boards_refusal limit 0 (exported_boards view.now) }
 {
@@ -100,6 +103,7 @@ fn first_over(alloc: Global, view: &View, limit: usize) -> Option<ExportError>
 /// The first limit that a document goes over. This takes no memory.
 pub(crate) fn first_limit(alloc: Global, view: &View, limit: usize) -> Option<ExportError>
     requires regular { IsRegular view.now }
+    requires ordered { IsOrdered view.now }
     requires limit { limit ≤ 32767 }
     ensures { result ≡ refusal_of limit view.now }
 {

@@ -3,11 +3,12 @@ ghost use Rattle.std.specs.List.{flat_map};
 ghost use Rattle.zed_runs.specs.Runs.{greedy};
 ghost use Rattle.zed_world.specs.Writing.{code_text, stat_text, body_text};
 ghost use Rattle.zed_edit.specs.Numbers.{live_stats};
+ghost use Rattle.zed_laws.specs.NameOrder.{IsOrdered};
 ghost use Rattle.zed_document.specs.View.{board_at};
 ghost use Rattle.zed_export.specs.World.{exported_code, exported_above, exported_board};
 ghost use Rattle.zed_export.specs.Limits.{told, goes_on};
 
-use crate::program::user_of;
+use crate::program::{text_length, user_of};
 use smallvec::SmallVec;
 use std::alloc::Global;
 use zed_document::View;
@@ -51,10 +52,11 @@ fn runs_bytes(tiles: &[Tile; TILES]) -> usize
 
 /// How many bytes the program of a stat takes above stats with these texts.
 fn program_bytes(view: &View, lower: &[Option<TextId>], text: Option<TextId>) -> usize
+    requires { IsOrdered view.now }
     ensures { result ≡ length (code_text (exported_code view.now lower.now text)) }
 {
     match text {
-        Some(text) if user_of(lower, text).is_none() => view.length(text),
+        Some(text) if user_of(lower, text).is_none() => text_length(view, text),
         _ => 0,
     }
 }
@@ -63,6 +65,7 @@ fn program_bytes(view: &View, lower: &[Option<TextId>], text: Option<TextId>) ->
 fn stats_bytes(alloc: Global, view: &View, i: usize) -> usize
     requires board { i < length view.now.boards }
     requires few { length (live_stats (board_at view.now i)) ≤ 151 }
+    requires ordered { IsOrdered view.now }
     ensures { result ≡ told (length (flat_map stat_text (exported_above view.now (board_at view.now i) [] (live_stats (board_at view.now i))))) }
 {
     let mut texts: SmallVec<Option<TextId>, 151> = SmallVec::new(alloc);
@@ -82,10 +85,11 @@ fn stats_bytes(alloc: Global, view: &View, i: usize) -> usize
 pub(crate) fn body_bytes(alloc: Global, view: &View, i: usize) -> usize
     requires board { i < length view.now.boards }
     requires few { length (live_stats (board_at view.now i)) ≤ 151 }
+    requires ordered { IsOrdered view.now }
     requires name { length (board_at view.now i).properties.name ≤ 50 }
     requires message { length (board_at view.now i).properties.message ≤ 58 }
     ensures { result ≡ told (length (body_text (exported_board view.now (board_at view.now i)))) }
 {
-    let frame = FRAME + runs_bytes(&view.tiles(i));
+    let frame = FRAME + runs_bytes(view.table(i));
     frame.saturating_add(stats_bytes(alloc, view, i))
 }

@@ -11,6 +11,7 @@ pub mod LatestWrites
 pub mod MadeElements
 pub mod MadeThings
 pub mod NamedElements
+pub mod NamesInOrder
 pub mod RegularSteps
 pub mod Removed
 pub mod ReplaySteps

@@ -3,3 +3,4 @@ pub mod Laws
 pub mod Registers
 pub mod Regular
 pub mod TextNames
+pub mod NameOrder

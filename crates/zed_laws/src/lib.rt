@@ -2,6 +2,7 @@
 #![tactic(auto)]
 
 mod laws;
+mod order;
 mod regular;
 mod texts;
 
@@ -10,5 +11,6 @@ pub use laws::{
     held_edits_are_remembered, late_edits_find_their_place, made_things_decide, made_things_stay,
     removed_things_are_changed, replay_goes_edit_by_edit, taken_edits_make_all,
 };
+pub use order::replay_is_ordered;
 pub use regular::replay_is_regular;
 pub use texts::texts_keep_names;

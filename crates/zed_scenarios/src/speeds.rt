@@ -77,9 +77,41 @@ fn put_stat(out: &mut Vec<u8>, len: [u8; 2]) -> Result<(), AllocError> {
     put(out, 0, 8)
 }
 
-/// An empty board of 5,240 bytes, whose 150 stats beside the player share a program of 100 bytes.
-fn put_board(out: &mut Vec<u8>) -> Result<(), AllocError> {
-    out.extend_from_slice(&[120, 20])?;
+/// Whose the programs of a board's stats are.
+#[derive(Clone, Copy)]
+enum Programs {
+    /// The 150 stats beside the player share a program of 100 bytes: a body has 5,240.
+    Shared,
+    /// Each has one of two bytes: a body has 5,440.
+    Own,
+}
+
+/// The 150 stats beside the player.
+fn put_stats(out: &mut Vec<u8>, programs: Programs) -> Result<(), AllocError> {
+    match programs {
+        Programs::Shared => {
+            put_stat(out, [100, 0])?;
+            put(out, b'\r', 100)?;
+            for _ in 0..149u8 {
+                put_stat(out, [255, 255])?;
+            }
+        }
+        Programs::Own => {
+            for _ in 0..150u8 {
+                put_stat(out, [2, 0])?;
+                put(out, b'\r', 2)?;
+            }
+        }
+    }
+    Ok(())
+}
+
+/// An empty board.
+fn put_board(out: &mut Vec<u8>, programs: Programs) -> Result<(), AllocError> {
+    match programs {
+        Programs::Shared => out.extend_from_slice(&[120, 20])?,
+        Programs::Own => out.extend_from_slice(&[64, 21])?,
+    }
     put(out, 0, 51)?;
     for _ in 0..5u8 {
         out.extend_from_slice(&[255, 0, 0])?;
@@ -88,27 +120,22 @@ fn put_board(out: &mut Vec<u8>) -> Result<(), AllocError> {
     put(out, 0, 84)?;
     out.extend_from_slice(&[0, 0, 150, 0])?;
     put_stat(out, [0, 0])?;
-    put_stat(out, [100, 0])?;
-    put(out, b'\r', 100)?;
-    for _ in 0..149u8 {
-        put_stat(out, [255, 255])?;
-    }
-    Ok(())
+    put_stats(out, programs)
 }
 
 /// The file of a world of so many boards.
-fn world_of(alloc: Global, boards: u8) -> Result<Vec<u8>, AllocError> {
+fn world_of(alloc: Global, boards: u8, programs: Programs) -> Result<Vec<u8>, AllocError> {
     let mut out = [255, 255, boards.saturating_sub(1), 0].to_vec(alloc)?;
     put(&mut out, 0, 508)?;
     for _ in 0..boards {
-        put_board(&mut out)?;
+        put_board(&mut out, programs)?;
     }
     Ok(out)
 }
 
 /// Takes in the edit that makes a world of so many boards.
-fn takes_world(document: &mut Document, alloc: Global, boards: u8) -> bool {
-    match world_of(alloc, boards) {
+fn takes_world(document: &mut Document, alloc: Global, boards: u8, programs: Programs) -> bool {
+    match world_of(alloc, boards, programs) {
         Ok(file) => {
             let edit = Edit {
                 stamp: stamp_of((1, 0, 0)),
@@ -137,16 +164,24 @@ fn save_timed(rt: &HostRuntime, document: &Document) -> Result<(usize, u128), Fa
 }
 
 // A function that owns a document is dear to prove, so this one does little else.
-fn world_timed(rt: &HostRuntime, boards: u8) -> Result<(usize, u128), Fail> {
+fn world_timed(rt: &HostRuntime, boards: u8, programs: Programs) -> Result<(usize, u128), Fail> {
     let mut document = Document::new(rt.alloc(), 7);
-    takes_world(&mut document, rt.alloc(), boards);
+    takes_world(&mut document, rt.alloc(), boards, programs);
     save_timed(rt, &document)
 }
 
-fn tell_saving(rt: &HostRuntime, boards: u8) -> Result<(), Fail> {
-    let (bytes, took) = world_timed(rt, boards)?;
+/// How many bytes the file of a world of so many boards has.
+fn file_bytes(boards: u8, programs: Programs) -> usize {
+    match programs {
+        Programs::Shared => 512 + usize::from(boards) * 5242,
+        Programs::Own => 512 + usize::from(boards) * 5442,
+    }
+}
+
+fn tell_saving(rt: &HostRuntime, boards: u8, programs: Programs) -> Result<(), Fail> {
+    let (bytes, took) = world_timed(rt, boards, programs)?;
     eprintln!(rt; "{boards} boards of 150 stats: {bytes} bytes are saved in {took} microseconds")?;
-    if bytes == 512 + usize::from(boards) * 5242 {
+    if bytes == file_bytes(boards, programs) {
         Ok(())
     } else {
         Err(Fail::new("the world is not saved as it was made"))
@@ -155,7 +190,14 @@ fn tell_saving(rt: &HostRuntime, boards: u8) -> Result<(), Fail> {
 
 #[test]
 fn speed_of_saving(rt: HostRuntime) -> Result<(), Fail> {
-    tell_saving(&rt, 1)?;
-    tell_saving(&rt, 10)?;
-    tell_saving(&rt, 100)
+    tell_saving(&rt, 1, Programs::Shared)?;
+    tell_saving(&rt, 10, Programs::Shared)?;
+    tell_saving(&rt, 100, Programs::Shared)
+}
+
+#[test]
+fn speed_of_saving_own_programs(rt: HostRuntime) -> Result<(), Fail> {
+    tell_saving(&rt, 1, Programs::Own)?;
+    tell_saving(&rt, 10, Programs::Own)?;
+    tell_saving(&rt, 100, Programs::Own)
 }

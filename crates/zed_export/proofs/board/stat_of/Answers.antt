@@ -22,7 +22,7 @@ returns-clause-is c =
     let follower = c.stat_number-4.ensures ∙ number s.follower c.follower.result s.follower c.follower.ensures in
     let leader = c.stat_number-5.ensures ∙ number s.leader c.leader.result s.leader c.leader.ensures in
     let passage : c.is_passage-on_passage.result ≡ is_passage_at b.tiles s.fields.x s.fields.y
-    = c.is_passage-on_passage.ensures ∙ ap (λ (ts : List Tile). is_passage_at ts c.stat_byte-x.result c.stat_byte-y.result) c.tiles.ensures ∙ ap (λ (x : ℕ). is_passage_at b.tiles x c.stat_byte-y.result) c.stat_byte-x.ensures ∙ ap (is_passage_at b.tiles s.fields.x) c.stat_byte-y.ensures in
+    = c.is_passage-on_passage.ensures ∙ ap (λ (ts : List Tile). is_passage_at ts c.stat_byte-x.result c.stat_byte-y.result) c.table.ensures ∙ ap (λ (x : ℕ). is_passage_at b.tiles x c.stat_byte-y.result) c.stat_byte-x.ensures ∙ ap (is_passage_at b.tiles s.fields.x) c.stat_byte-y.ensures in
     let p3 : c.parameter_of.result ≡ parameter p (is_passage_at b.tiles s.fields.x s.fields.y) s.fields.p3
     = c.parameter_of.ensures ∙ ap (λ (names : List BoardId). place_parameter names c.is_passage-on_passage.result c.third_parameter.result) c.requires.boards
     ∙ ap (λ (t : Bool). place_parameter (board_names p) t c.third_parameter.result) passage

@@ -4,7 +4,7 @@ use Rattle.std.specs.List.{AllByRecursion}
 use Rattle.zed_edit.specs.Numbers.{live_stats}
 use Rattle.zed_document.specs.View.{board_at}
 use Rattle.zed_export.specs.World.{exported_above}
-use Rattle.zed_export.specs.Fields.{FitsStat}
+use Rattle.zed_export.specs.Fields.{FitsStat, IsOwned}
 use Rattle.zed_export.proofs.board.stats_of.Given as goal
 
 -- the stats so far, with those of the rest above them, are all
@@ -15,5 +15,7 @@ invariant-loop-j l =
     record {
       completes : l.out.items ++ exported_above l.view b l.texts.items left ≡ exported_above l.view b [] (live_stats b);
       room : length l.texts.items + length left ≤ 151;
+      each : length l.out.items ≡ length l.texts.items;
+      owned : IsOwned l.view l.texts.items l.out.items;
       fits : AllByRecursion FitsStat l.out.items;
     }

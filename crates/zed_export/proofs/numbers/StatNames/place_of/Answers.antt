@@ -1,0 +1,13 @@
+use Rattle.std.proofs.Common.{◌∙◌, sym, ap}
+use Rattle.std.specs.Prelude.{position}
+use Rattle.zed_types.specs.declared.names.StatId.{StatId}
+use Rattle.zed_types.specs.Names.{same_stat}
+use Rattle.zed_document.proofs.NameSearch.{sought}
+use Rattle.zed_export.proofs.numbers.StatNames.place_of.Goals as goal
+
+pub returns-clause-is : goal.returns-clause-is
+returns-clause-is c =
+    let facts = c.binary_search.ensures in
+    c.ok.ensures.value
+    ∙ sym (sought (λ (x : StatId). x.stamp) (λ (x : StatId). x.index) (c.args.stat.stamp, c.args.stat.index) c.deref.result.now c.binary_search.result (rw c.deref.ensures.value c.self.invariant) facts.bound facts.position)
+    ∙ ap (position (λ (x : StatId). same_stat x c.args.stat)) (c.deref.ensures.value ∙ c.self.view_is)

@@ -1,0 +1,6 @@
+ghost use Rattle.zed_laws.specs.NameOrder.{ReplayIsOrdered};
+
+/// Texts, boards, and the stats of each board stand in the order of their names: by stamp, and then by index.
+pub fn replay_is_ordered()
+    ensures { ReplayIsOrdered }
+{}
