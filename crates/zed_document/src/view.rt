@@ -73,7 +73,7 @@ impl<'a> View<'a> {
     pub fn key(&self, colour: KeyColour) -> bool
         ensures { result ≡ slice_index_or self.now.header.keys (key_index colour) false }
     {
-        self.plain.header.keys[key_place(colour)]
+        self.plain.header.keys[usize::from(colour.index())]
     }
 
     /// Whether the world is a saved game.
@@ -102,7 +102,7 @@ impl<'a> View<'a> {
         ensures { result.now ≡ slice_index_or self.now.header.flags (flag_index slot) [] }
     {
         let flags: &[Bytes] = &self.plain.header.flags;
-        flags[flag_place(slot)].as_slice()
+        flags[usize::from(slot.index())].as_slice()
     }
 
     /// How many boards were made, removed ones too.
@@ -378,41 +378,6 @@ impl<'a> View<'a> {
         ensures err { OnErr result (out.new.items ≡ out.old.items) }
     {
         append_live(self.elements_at(k), out)
-    }
-}
-
-/// Which of the seven keys has a colour.
-fn key_place(colour: KeyColour) -> usize
-    ensures is { result ≡ key_index colour }
-    ensures within { result < 7 }
-{
-    match colour {
-        KeyColour::Blue => 0,
-        KeyColour::Green => 1,
-        KeyColour::Cyan => 2,
-        KeyColour::Red => 3,
-        KeyColour::Purple => 4,
-        KeyColour::Yellow => 5,
-        KeyColour::White => 6,
-    }
-}
-
-/// Which of the ten flags is in a slot.
-fn flag_place(slot: FlagSlot) -> usize
-    ensures is { result ≡ flag_index slot }
-    ensures within { result < 10 }
-{
-    match slot {
-        FlagSlot::First => 0,
-        FlagSlot::Second => 1,
-        FlagSlot::Third => 2,
-        FlagSlot::Fourth => 3,
-        FlagSlot::Fifth => 4,
-        FlagSlot::Sixth => 5,
-        FlagSlot::Seventh => 6,
-        FlagSlot::Eighth => 7,
-        FlagSlot::Ninth => 8,
-        FlagSlot::Tenth => 9,
     }
 }
 
