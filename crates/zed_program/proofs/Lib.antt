@@ -9,5 +9,6 @@ pub mod Clashes
 pub mod Endings
 pub mod FileEnds
 pub mod FileTexts
+pub mod Stamped
 pub mod Streams
 pub mod Worlds

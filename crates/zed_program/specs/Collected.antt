@@ -1,11 +1,15 @@
 -- The set of edits that files come to, or the first refusal.
-use Rattle.std.specs.Prelude.{◌≡◌, ◌≢◌, ◌⊎◌, List, ◌∷◌, ◌++◌, Option, Some, None, Result, Ok, Err, Contains}
+use Rattle.std.specs.Prelude.{◌≡◌, ◌≢◌, ◌⊎◌, List, ◌∷◌, ◌++◌, Option, Some, None, Result, Ok, Err, Contains, map}
 use Rattle.zed_types.specs.declared.stamp.Stamp.{Stamp}
 use Rattle.zed_op.specs.declared.op.Edit.{Edit}
 use Rattle.zed_op.specs.Set.{Agrees, set_of}
 use Rattle.zed_program.specs.declared.refusal.Refusal.{Refusal}
 use Rattle.zed_program.specs.declared.refusal.Refusal.TheVariants.{Clash}
 use Rattle.zed_program.specs.Files.{Stream}
+
+-- edits, each under its stamp
+abbrev pub stamped : List Edit → List (Stamp × Edit)
+stamped es = map (λ e. (e.stamp, e)) es
 
 -- another edit of the list has the stamp of this one
 abbrev pub ClashesWith : List Edit → Edit → Type 0

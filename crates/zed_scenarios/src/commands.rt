@@ -158,19 +158,29 @@ const OTHER_CELL: Row = (
     ),
 );
 
+const LATE_CELL: Row = (3, 1, Does::Cell(6, 5, SOLID));
+
+/// The cell of that stamp, but elsewhere.
+const OTHER_LATE_CELL: Row = (3, 1, Does::Cell(7, 5, SOLID));
+
 const CLASHING: &[File] = &[
     ("a", Contents::Edits(&[CELL])),
     ("b", Contents::Edits(&[OTHER_CELL])),
+    ("both", Contents::Edits(&[CELL, LATE_CELL])),
+    ("turned", Contents::Edits(&[OTHER_LATE_CELL, OTHER_CELL])),
     ("cut", Contents::Bytes(b"ZED\x01\x07")),
     ("other", Contents::Bytes(b"ZED\x01\x08\0\0\0\0\0\0\0")),
 ];
 
 /// The files of a `save`, and what it is refused with: two edits of one stamp are told before what is wrong with a later file, and
-/// after what is wrong with an earlier one.
-const FIRST_TOLD: [(&[&str], &str); 6] = [
+/// after what is wrong with an earlier one. Of two clashes the one that comes first is told, whether its stamp is the later one or not.
+const FIRST_TOLD: [(&[&str], &str); 9] = [
     (&["save", "o", "a", "b"], "zzted: Clash 2 1\n"),
     (&["save", "o", "a", "b", "cut"], "zzted: Clash 2 1\n"),
     (&["save", "o", "a", "b", "none"], "zzted: Clash 2 1\n"),
+    (&["save", "o", "both", "turned"], "zzted: Clash 3 1\n"),
+    (&["save", "o", "turned", "both"], "zzted: Clash 2 1\n"),
+    (&["save", "o", "a", "both", "turned"], "zzted: Clash 3 1\n"),
     (&["save", "o", "a", "cut", "b"], "zzted: CutShort\n"),
     (&["save", "o", "none", "a", "b"], "zzted: File\n"),
     (&["save", "o", "a", "other", "b"], "zzted: OtherWorld\n"),

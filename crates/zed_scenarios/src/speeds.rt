@@ -1,5 +1,7 @@
 //! How long reading and exporting take. The times are told and never fail a test.
-use crate::rows::stamp_of;
+use crate::hosts::{Output, edit_file, exits, has_written};
+use crate::rows::{Does, Row, stamp_of};
+use crate::worlds::EMPTY;
 use std::alloc::{AllocError, Global};
 use std::test::Fail;
 use std::time::Instant;
@@ -7,6 +9,7 @@ use zed_document::Document;
 use zed_edit::{Edit, Op};
 use zed_editfile::EditReader;
 use zed_export::save;
+use zed_program::{Host, MemoryHost};
 use zed_types::{BODY_LIMIT, Bytes};
 
 /// A record that sets one cell of the title.
@@ -200,4 +203,69 @@ fn speed_of_saving_own_programs(rt: HostRuntime) -> Result<(), Fail> {
     tell_saving(&rt, 1, Programs::Own)?;
     tell_saving(&rt, 10, Programs::Own)?;
     tell_saving(&rt, 100, Programs::Own)
+}
+
+const TITLE: Row = (1, 0, Does::World(EMPTY));
+
+/// Appends the record that sets the cell, with another stamp.
+fn put_record(out: &mut Vec<u8>, time: u16, replica: u8) -> Result<(), AllocError> {
+    let [low, high] = time.to_le_bytes();
+    out.extend_from_slice(&RECORD[..4])?;
+    out.extend_from_slice(&[low, high, 0, 0, 0, 0, replica, 0])?;
+    out.extend_from_slice(&RECORD[12..])
+}
+
+/// Appends so many records of an author, at every second time from this one on.
+fn put_records(out: &mut Vec<u8>, first: u16, replica: u8, records: u16) -> Result<(), AllocError> {
+    for n in 0..records {
+        put_record(out, n.saturating_mul(2).saturating_add(first), replica)?;
+    }
+    Ok(())
+}
+
+/// Writes the file of an author with so many edits of a world.
+fn writes_author(
+    host: &mut MemoryHost,
+    alloc: Global,
+    name: &str,
+    replica: u8,
+    edits: u16,
+) -> bool {
+    let first = u16::from(replica).saturating_add(1);
+    match edit_file(alloc, &[TITLE]) {
+        Some(mut file) => {
+            put_records(&mut file, first, replica, edits).is_ok()
+                && host.write(name, file.as_slice()).is_ok()
+        }
+        None => false,
+    }
+}
+
+/// Whether the files of two authors are saved as the world with the cell, and in how many microseconds.
+fn two_files_timed(rt: &HostRuntime, host: &mut MemoryHost) -> Result<(bool, u128), Fail> {
+    let start = Instant::now(rt)?;
+    let is_saved = exits(rt.alloc(), host, &["save", "o", "a", "b"], 0);
+    let took = start.elapsed(rt)?;
+    let is_whole = is_saved && has_written(rt.alloc(), host, Output::Length("o", 713));
+    Ok((is_whole, took.as_micros()))
+}
+
+fn tell_two_files(rt: &HostRuntime, edits: u16) -> Result<(), Fail> {
+    let mut host = MemoryHost::new(rt.alloc(), u64::MAX);
+    let is_written = writes_author(&mut host, rt.alloc(), "a", 1, edits)
+        && writes_author(&mut host, rt.alloc(), "b", 2, edits);
+    let (is_whole, took) = two_files_timed(rt, &mut host)?;
+    eprintln!(rt; "2 files of {edits} edits each, at times in turn: saved in {took} microseconds")?;
+    if is_written && is_whole {
+        Ok(())
+    } else {
+        Err(Fail::new("the edits of two files are not saved"))
+    }
+}
+
+#[test]
+fn speed_of_joining_files(rt: HostRuntime) -> Result<(), Fail> {
+    tell_two_files(&rt, 1_000)?;
+    tell_two_files(&rt, 4_000)?;
+    tell_two_files(&rt, 16_000)
 }
