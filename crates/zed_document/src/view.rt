@@ -347,10 +347,10 @@ impl<'a> View<'a> {
         append_live(self.elements(id), out)
     }
 
-    /// The number of a text in the order in which texts were made, if it was. It is sought by halves, since that is the order of their names.
+    /// The number of a text in the order in which texts were made, if it was. It is sought by halves, since in every document that is
+    /// the order of their names.
     pub fn text_number(&self, id: TextId) -> Option<usize>
-        requires { IsOrdered self.now }
-        ensures is { MatchOption result (find_text id self.now.texts ≡ None) (λ k. find_text id self.now.texts ≡ Some (text_at self.now k)) }
+        ensures is { IsOrdered self.now → MatchOption result (find_text id self.now.texts ≡ None) (λ k. find_text id self.now.texts ≡ Some (text_at self.now k)) }
         ensures within { IfSome result (λ k. k < length self.now.texts) }
     {
         number_among(self.plain.texts.as_slice(), id)
@@ -389,8 +389,7 @@ fn find_made(texts: &[Text], id: TextId) -> Option<&Text>
 
 /// The place of a text among texts in the order of their names.
 fn number_among(texts: &[Text], id: TextId) -> Option<usize>
-    requires { NamesRise (λ t. t.id.stamp) (λ t. t.id.index) texts.now }
-    ensures is { MatchOption result (find_text id texts.now ≡ None) (λ k. find_text id texts.now ≡ Some (slice_index_or texts.now k no_text)) }
+    ensures is { NamesRise (λ t. t.id.stamp) (λ t. t.id.index) texts.now → MatchOption result (find_text id texts.now ≡ None) (λ k. find_text id texts.now ≡ Some (slice_index_or texts.now k no_text)) }
     ensures within { IfSome result (λ k. k < length texts.now) }
 {
     texts.binary_search_by(|text| text.id.cmp(&id)).ok()
