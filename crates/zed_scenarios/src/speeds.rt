@@ -17,6 +17,9 @@ const RECORD: [u8; 31] = [
     27, 0, 0, 0, 2, 0, 0, 0, 0, 0, 1, 0, 6, 1, 0, 0, 0, 0, 0, 0, 0, 0, 0, 0, 0, 5, 5, 5, 5, 21, 14,
 ];
 
+/// The edits of the file that is read, 620,012 bytes.
+const RECORDS: usize = 20_000;
+
 /// An edit file of so many records.
 fn long_file(alloc: Global, records: usize) -> Result<Vec<u8>, AllocError> {
     let mut file = [b'Z', b'E', b'D', 1, 7, 0, 0, 0, 0, 0, 0, 0].to_vec(alloc)?;
@@ -49,16 +52,27 @@ fn read_timed(rt: &HostRuntime, file: &[u8], piece: usize) -> Result<(usize, u12
     Ok((edits, took.as_micros()))
 }
 
+/// How many bytes a second.
+fn speed(bytes: usize, microseconds: u128) -> u128 {
+    (bytes as u128).saturating_mul(1_000_000) / microseconds.max(1)
+}
+
 fn tell_reading(rt: &HostRuntime, file: &[u8], piece: usize) -> Result<(), Fail> {
     let (edits, took) = read_timed(rt, file, piece)?;
-    let bytes = file.len();
-    eprintln!(rt; "{edits} edits, {bytes} bytes, in pieces of {piece}: {took} microseconds")?;
-    Ok(())
+    let speed = speed(file.len(), took);
+    eprintln!(rt;
+        "{edits} edits in pieces of {piece}: {took} microseconds, {speed} bytes a second"
+    )?;
+    if edits == RECORDS {
+        Ok(())
+    } else {
+        Err(Fail::new("not every edit is read"))
+    }
 }
 
 #[test]
 fn speed_of_reading(rt: HostRuntime) -> Result<(), Fail> {
-    let file = long_file(rt.alloc(), 20_000)?;
+    let file = long_file(rt.alloc(), RECORDS)?;
     tell_reading(&rt, file.as_slice(), 1)?;
     tell_reading(&rt, file.as_slice(), 4096)?;
     tell_reading(&rt, file.as_slice(), 4_000_000)
