@@ -8,7 +8,8 @@ abbrev pub followed_by : List Tile → Option (List Tile × List ℕ) → Option
 followed_by tiles None = None
 followed_by tiles (Some found) = Some (tiles ++ found.0, found.1)
 
--- So many tiles from the runs at the front, and what follows these runs; the last run may stand for more. None where the runs end before. The law tiles_are_runs says what is found.
+-- So many tiles from the runs at the front, and what follows these runs; None where the runs end before. The last run may
+-- stand for more. The law tiles_are_runs says what is found.
 unfoldable pub tiles_at : ℕ → List ℕ → Option (List Tile × List ℕ)
 tiles_at zero rest = Some ([], rest)
 tiles_at (suc wanted) (count ∷ element ∷ colour ∷ rest) =

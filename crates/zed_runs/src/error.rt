@@ -1,6 +1,8 @@
+//! Why runs can't be written or read.
+
 use thiserror::Error;
 
-/// Why runs can't be written or read.
+/// Why runs can't be written or read. Its texts are for whoever debugs; the program prints none of them.
 #[derive(Clone, Copy, Debug, PartialEq, Eq, Error)]
 pub enum RunsError {
     /// A growth was refused.

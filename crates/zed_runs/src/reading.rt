@@ -1,7 +1,8 @@
+//! Reading runs.
 ghost use Rattle.std.specs.Prelude.{◌≡◌, ◌<◌, ◌≤◌, ◌+◌, ◌-◌, ◌++◌, ℕ, List, length, take, drop, replicate, Some, None, IfOk, IfErr, OnErr};
 ghost use Rattle.zed_types.specs.declared.tile.Tile.{Tile};
 ghost use Rattle.zed_types.specs.declared.tile.TheConstants.{TILES};
-ghost use Rattle.zed_runs.specs.Runs.{Runs, tiles_of_count};
+ghost use Rattle.zed_runs.specs.Runs.{Runs, EachFront, tiles_of_count};
 ghost use Rattle.zed_runs.specs.Reading.{tiles_at};
 
 use crate::error::RunsError;
@@ -20,11 +21,11 @@ fn tiles_of(count: u8) -> usize
 /// stand for more tiles than are wanted. `Truncated` where the bytes end before the board is full. Takes no memory.
 pub fn read_runs(bytes: &[u8]) -> Result<([Tile; TILES], usize), RunsError>
     ensures within { IfOk result (λ found. found.1 ≤ length bytes.now) }
-    ensures exact { IfOk result (λ found. tiles_at TILES bytes.now ≡ Some (found.0, drop found.1 bytes.now)) }
-    ensures found { IfOk result (λ found. Runs found.0 (take found.1 bytes.now)) }
+    ensures exact { IfOk result (λ x. tiles_at TILES bytes.now ≡ Some (x.0, drop x.1 bytes.now)) }
+    ensures result { IfOk result (λ found. Runs found.0 (take found.1 bytes.now)) }
 
     // Each text of runs at the front is read as what it stands for.
-    ensures reads { (tiles : List Tile) (front rest : List ℕ) → Runs tiles front → bytes.now ≡ front ++ rest → result ≡ Ok (tiles, length front) }
+    ensures reads { EachFront bytes.now (λ tiles len. result ≡ Ok (tiles, len)) }
     ensures exact_fault { OnErr result (tiles_at TILES bytes.now ≡ None) }
     ensures none { OnErr result ((tiles : List Tile) (len : ℕ) → Runs tiles (take len bytes.now) → ⊥) }
     ensures truncated { IfErr result (λ e. e ≡ RunsError.Truncated) }

@@ -1,6 +1,7 @@
+//! Writing runs.
 ghost use Rattle.std.specs.Prelude.{◌≡◌, ◌<◌, ◌≤◌, ◌+◌, ◌≢◌, [], ◌∷◌, ◌++◌, ℕ, List, length, take, replicate, slice_get, Some, OnOk, OnErr, IfErr, vec_len};
 ghost use Rattle.std.specs.Vec.{vec_capacity};
-ghost use Rattle.zed_runs.specs.Runs.{greedy};
+ghost use Rattle.zed_runs.specs.Runs.{AppendsGreedy, NoRoomForGreedy, greedy};
 
 use crate::error::RunsError;
 use std::alloc::AllocError;
@@ -56,12 +57,12 @@ fn push_runs(tiles: &[Tile], out: &mut Vec<u8>) -> Result<(), AllocError>
 ///
 /// `Memory` where a growth was refused; nothing is appended then.
 pub fn write_runs(tiles: &[Tile; TILES], out: &mut Vec<u8>) -> Result<(), RunsError>
-    ensures ok { OnOk result (out.new.items ≡ out.old.items ++ greedy tiles.now) }
-    ensures memory { IfErr result (λ e. e ≡ RunsError.Memory) }
-    ensures err { OnErr result (out.new.items ≡ out.old.items) }
+    ensures result { OnOk result (AppendsGreedy tiles.now out.old.items out.new.items) }
+    ensures only_memory { IfErr result (λ e. e ≡ RunsError.Memory) }
+    ensures kept { OnErr result (out.new.items ≡ out.old.items) }
 
-    // Memory is answered only where the vector had no room for the text.
-    ensures full { OnErr result (vec_capacity out.old < vec_len out.old + length (greedy tiles.now)) }
+    // Only where the vector had no room for the text.
+    ensures memory_only_when { OnErr result (NoRoomForGreedy tiles.now (vec_capacity out.old) (vec_len out.old)) }
 {
     let before = out.len();
     match push_runs(tiles, out) {

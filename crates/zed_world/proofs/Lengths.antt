@@ -6,21 +6,21 @@ use Rattle.zed_world.specs.declared.error.WorldError.{WorldError}
 use Rattle.zed_world.specs.declared.board.BoardData.{BoardData}
 use Rattle.zed_world.specs.Contents.{Contents}
 use Rattle.zed_world.specs.Writing.{header_text, body_text, board_text, world_text, first_over, unless_refused, written}
-use Rattle.zed_world.specs.Normal.{IsNormal}
+use Rattle.zed_world.specs.Normal.{HasNormalParts, HasShortBody}
 use Rattle.zed_world.specs.Canonical.{IsCanonical}
 use Rattle.zed_world.proofs.HeaderAgain.{header_again}
-use Rattle.zed_world.proofs.WorldAgain.{IsShort, short_within}
+use Rattle.zed_world.proofs.WorldAgain.{short_within}
 use Rattle.zed_world.proofs.ReadNormal.{world_normal}
 
-board_length : (b : BoardData) → IsShort b → length (board_text b) ≤ 32769
+board_length : (b : BoardData) → HasShortBody b → length (board_text b) ≤ 32769
 unfolding board_text
 board_length b h = omega (arith, length-append (little_bytes 2 (length (body_text b))) (body_text b))
 
-boards_length : (bs : List BoardData) → AllByRecursion IsShort bs → length (flat_map board_text bs) ≤ 32769 * length bs
+boards_length : (bs : List BoardData) → AllByRecursion HasShortBody bs → length (flat_map board_text bs) ≤ 32769 * length bs
 boards_length [] h = omega arith
 boards_length (b ∷ bs) h = omega (arith, length-append (board_text b) (flat_map board_text bs), board_length b h.0, boards_length bs h.1)
 
-world_length : (w : Contents) → IsNormal w → AllByRecursion IsShort w.boards → length (world_text w) ≤ 3310181
+world_length : (w : Contents) → HasNormalParts w → AllByRecursion HasShortBody w.boards → length (world_text w) ≤ 3310181
 unfolding world_text
 world_length w n short =
     let others = length w.boards - 1 in

@@ -18,7 +18,7 @@ use Rattle.byteorder.specs.Endian.{little_number}
 use Rattle.zed_world.specs.Fields.{integer_at, string_at, board_number, board_integer, stat_integer}
 use Rattle.zed_world.specs.Offsets.{flags_at, header_at, properties_at, stat_with}
 use Rattle.zed_world.specs.Reading.{◌>>=◌, counted, found_or, shared, code_of, code_at, stat_at, items_at, board_with, board_at, body_at, next_board_at, contents_at, world_at}
-use Rattle.zed_world.specs.Normal.{IsAtMost, IsNormalHeader, IsNormalProperties, IsNormalCode, IsNormalStat, AreNormalStats, IsNormalBoard, IsNormal}
+use Rattle.zed_world.specs.Normal.{IsAtMost, IsNormalHeader, IsNormalProperties, IsNormalCode, IsNormalStat, AreNormalStats, IsNormalBoard, HasNormalParts}
 use Rattle.zed_world.proofs.FieldsAgain.{integer_fits, string_fits}
 use Rattle.zed_world.proofs.Binds.{bind_ok, ok_is, guard_ok, choice_ok, found_ok}
 use Rattle.zed_world.proofs.Tiles.{tiles_long}
@@ -227,7 +227,7 @@ boards_normal boards n bytes bs some h =
     all_more [] x p q = (q, tt)
     all_more (y ∷ xs) x p q = (p.0, all_more xs x p.1 q)
 
-pub contents_normal : (bytes : List ℕ) (w : Contents) → contents_at bytes ≡ Ok w → IsNormal w
+pub contents_normal : (bytes : List ℕ) (w : Contents) → contents_at bytes ≡ Ok w → HasNormalParts w
 unfolding contents_at
 contents_normal bytes w h =
     let made : ℕ → List BoardData → Contents = λ others bs. record { header = header_at (others + 1) bytes; boards = bs } in
@@ -238,15 +238,15 @@ contents_normal bytes w h =
     let b = bind_ok (items_at (next_board_at (others + 1)) (others + 1) [] (drop 512 bytes)) (λ (bs : List BoardData). Ok (made others bs)) w c.2 in
     let some : 0 < others + 1 = omega arith in
     let n = boards_normal (others + 1) (others + 1) (drop 512 bytes) b.0 some b.1 in
-    let it : IsNormal (made others b.0) = record {
+    let it : HasNormalParts (made others b.0) = record {
       some = omega (arith, n.1);
       few = omega (arith, n.1);
       header = subst (λ (k : ℕ). IsNormalHeader k (header_at (others + 1) bytes)) (sym n.1) (header_normal (others + 1) bytes some);
       boards = subst (λ (k : ℕ). AllByRecursion (IsNormalBoard k) b.0) (sym n.1) n.0;
     } in
-    subst (λ (y : Contents). IsNormal y) (ok_is (made others b.0) w b.2) it
+    subst (λ (y : Contents). HasNormalParts y) (ok_is (made others b.0) w b.2) it
 
-pub world_normal : (bytes : List ℕ) (w : Contents) → world_at bytes ≡ Ok w → IsNormal w
+pub world_normal : (bytes : List ℕ) (w : Contents) → world_at bytes ≡ Ok w → HasNormalParts w
 unfolding world_at
 world_normal bytes w h =
     let a = guard_ok (ltb (length bytes) 2) e.Truncated (cond (not (eqb (little_number 2 bytes) 65535)) (Err e.NotZzt) (cond (ltb (length bytes) 512) (Err e.Truncated) (contents_at bytes))) w h in

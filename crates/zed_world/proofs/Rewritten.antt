@@ -9,17 +9,18 @@ use Rattle.zed_world.specs.declared.board.BoardData.{BoardData}
 use Rattle.zed_world.specs.Contents.{Contents}
 use Rattle.zed_world.specs.Reading.{Gives, world_at}
 use Rattle.zed_world.specs.Writing.{body_text, world_text, first_over, unless_refused, written}
-use Rattle.zed_world.specs.Normal.{IsNormal}
+use Rattle.zed_world.specs.Normal.{HasNormalParts, HasShortBody}
 use Rattle.zed_world.specs.Canonical.{IsCanonical}
-use Rattle.zed_world.proofs.WorldAgain.{IsShort, WrittenIsRead, short_within}
+use Rattle.zed_world.proofs.WorldAgain.{short_within}
+use Rattle.zed_world.specs.Laws.{WrittenIsRead}
 
-none_over : (n : ℕ) (bs : List BoardData) → AllByRecursion IsShort bs → first_over 32767 n bs ≡ None
+none_over : (n : ℕ) (bs : List BoardData) → AllByRecursion HasShortBody bs → first_over 32767 n bs ≡ None
 none_over n [] h = refl
 none_over n (b ∷ bs) h =
     let test : ltb 32767 (length (body_text b)) ≡ false = le-ltb _ _ h.0 in
     rw test (none_over (n + 1) bs h.1)
 
-pub text_canonical : WrittenIsRead → (w : Contents) → IsNormal w → AllByRecursion IsShort w.boards → IsCanonical (world_text w)
+pub text_canonical : WrittenIsRead → (w : Contents) → HasNormalParts w → AllByRecursion HasShortBody w.boards → IsCanonical (world_text w)
 unfolding written
 text_canonical law w n short = record {
   world = w;
@@ -27,7 +28,7 @@ text_canonical law w n short = record {
   rewritten = ap (λ (o : Option WorldError). unless_refused o (world_text w)) (none_over 0 w.boards short);
 }
 
-canonical_of : WrittenIsRead → (limit : ℕ) (w : Contents) (text : List ℕ) → limit ≤ 32767 → IsNormal w → written limit w ≡ Ok text → IsCanonical text
+canonical_of : WrittenIsRead → (limit : ℕ) (w : Contents) (text : List ℕ) → limit ≤ 32767 → HasNormalParts w → written limit w ≡ Ok text → IsCanonical text
 unfolding written
 canonical_of law limit w text le n h = either (first_over limit 0 w.boards) refl h
   where
@@ -37,6 +38,6 @@ canonical_of law limit w text le n h = either (first_over limit 0 w.boards) refl
         let same : world_text w ≡ text = cc in
         subst (λ (t : List ℕ). IsCanonical t) same (text_canonical law w n (short_within limit 0 w.boards le p))
 
-pub written_canonical : WrittenIsRead → (limit : ℕ) (w : Contents) (r : Result (Vec ℕ) WorldError) → limit ≤ 32767 → IsNormal w → Gives (λ v. v.items) r (written limit w) → IfOk r (λ v. IsCanonical v.items)
+pub written_canonical : WrittenIsRead → (limit : ℕ) (w : Contents) (r : Result (Vec ℕ) WorldError) → limit ≤ 32767 → HasNormalParts w → Gives (λ v. v.items) r (written limit w) → IfOk r (λ v. IsCanonical v.items)
 written_canonical law limit w (Ok v) le n h = canonical_of law limit w v.items le n h
 written_canonical law limit w (Err e) le n h = tt

@@ -15,22 +15,20 @@ use Rattle.zed_world.specs.Fields.{integer_at}
 use Rattle.zed_world.specs.Offsets.{header_at}
 use Rattle.zed_world.specs.Reading.{Gives, counted, items_at, next_board_at, contents_at, world_at}
 use Rattle.zed_world.specs.Writing.{header_text, body_text, board_text, world_text, first_over, unless_refused, written}
-use Rattle.zed_world.specs.Normal.{IsNormalBoard, IsNormal}
+use Rattle.zed_world.specs.Normal.{IsNormalBoard, HasNormalParts, HasShortBody}
+use Rattle.zed_world.specs.Laws.{WrittenIsRead}
 use Rattle.zed_world.proofs.Tiles.{GreedyIsRead}
 use Rattle.zed_world.proofs.ItemsAgain.{Follow, items_again}
 use Rattle.zed_world.proofs.BoardAgain.{next_again, counted_again}
 use Rattle.zed_world.proofs.HeaderAgain.{Again, header_again}
 
-abbrev pub IsShort : BoardData → Type 0
-IsShort b = length (body_text b) ≤ 32767
-
-boards_follow : (boards : ℕ) (bs done : List BoardData) → AllByRecursion (IsNormalBoard boards) bs → AllByRecursion IsShort bs → Follow (λ _ b. IsShort b × IsNormalBoard boards b) done bs
+boards_follow : (boards : ℕ) (bs done : List BoardData) → AllByRecursion (IsNormalBoard boards) bs → AllByRecursion HasShortBody bs → Follow (λ _ b. HasShortBody b × IsNormalBoard boards b) done bs
 boards_follow boards [] done h k = tt
 boards_follow boards (b ∷ bs) done h k = ((k.0, h.0), boards_follow boards bs (done ++ b ∷ []) h.1 k.1)
 
-boards_again : GreedyIsRead → (boards : ℕ) (bs : List BoardData) (rest : List ℕ) → AllByRecursion (IsNormalBoard boards) bs → AllByRecursion IsShort bs → items_at (next_board_at boards) (length bs) [] (flat_map board_text bs ++ rest) ≡ Ok bs
+boards_again : GreedyIsRead → (boards : ℕ) (bs : List BoardData) (rest : List ℕ) → AllByRecursion (IsNormalBoard boards) bs → AllByRecursion HasShortBody bs → items_at (next_board_at boards) (length bs) [] (flat_map board_text bs ++ rest) ≡ Ok bs
 boards_again law boards bs rest h k =
-    items_again (next_board_at boards) board_text (λ (done : List BoardData) (b : BoardData). IsShort b × IsNormalBoard boards b) (λ done b after q. next_again law boards done b after q.0 q.1) bs [] rest (boards_follow boards bs [] h k)
+    items_again (next_board_at boards) board_text (λ (done : List BoardData) (b : BoardData). HasShortBody b × IsNormalBoard boards b) (λ done b after q. next_again law boards done b after q.0 q.1) bs [] rest (boards_follow boards bs [] h k)
 
 pub contents_is : (bytes : List ℕ) (others : ℕ) (bs : List BoardData) → integer_at bytes 2 ≡ pos others → others ≤ 100 → items_at (next_board_at (others + 1)) (others + 1) [] (drop 512 bytes) ≡ Ok bs
     → contents_at bytes ≡ Ok (record { header = header_at (others + 1) bytes; boards = bs })
@@ -46,7 +44,7 @@ world_is bytes long kind =
     let b : ltb (length bytes) 512 ≡ false = le-ltb _ _ long in
     rw (a, kind, b) refl
 
-pub world_again : GreedyIsRead → (w : Contents) (rest : List ℕ) → IsNormal w → AllByRecursion IsShort w.boards → world_at (world_text w ++ rest) ≡ Ok w
+pub world_again : GreedyIsRead → (w : Contents) (rest : List ℕ) → HasNormalParts w → AllByRecursion HasShortBody w.boards → world_at (world_text w ++ rest) ≡ Ok w
 unfolding world_text
 world_again law w rest n short =
     let others = length w.boards - 1 in
@@ -64,7 +62,7 @@ world_again law w rest n short =
     ap world_at e ∙ world_is bytes (omega (arith, length-append header (boards ++ rest), again.long)) again.kind ∙ contents_is bytes others w.boards again.others_is (omega arith) read
     ∙ ap (λ (h : Header). Ok (record w { header = h })) head
 
-pub short_within : (limit n : ℕ) (bs : List BoardData) → limit ≤ 32767 → first_over limit n bs ≡ None → AllByRecursion IsShort bs
+pub short_within : (limit n : ℕ) (bs : List BoardData) → limit ≤ 32767 → first_over limit n bs ≡ None → AllByRecursion HasShortBody bs
 short_within limit n [] le h = tt
 short_within limit n (b ∷ bs) le h =
     let test = not_over (ltb limit (length (body_text b))) refl h in
@@ -75,11 +73,7 @@ short_within limit n (b ∷ bs) le h =
     not_over true p q = absurd cc
     not_over false p q = (p, q)
 
--- what the law on written worlds promises
-abbrev pub WrittenIsRead : Type 0
-WrittenIsRead = (w : Contents) (rest : List ℕ) → IsNormal w → AllByRecursion IsShort w.boards → world_at (world_text w ++ rest) ≡ Ok w
-
-text_back : WrittenIsRead → (limit : ℕ) (w : Contents) (text : List ℕ) → limit ≤ 32767 → IsNormal w → written limit w ≡ Ok text → world_at text ≡ Ok w
+text_back : WrittenIsRead → (limit : ℕ) (w : Contents) (text : List ℕ) → limit ≤ 32767 → HasNormalParts w → written limit w ≡ Ok text → world_at text ≡ Ok w
 unfolding written
 text_back law limit w text le n h = either (first_over limit 0 w.boards) refl h
   where
@@ -89,6 +83,6 @@ text_back law limit w text le n h = either (first_over limit 0 w.boards) refl h
         let same : world_text w ≡ text = cc in
         ap world_at (sym same ∙ sym (append-nil (world_text w))) ∙ law w [] n (short_within limit 0 w.boards le p)
 
-pub written_back : WrittenIsRead → (limit : ℕ) (w : Contents) (r : Result (Vec ℕ) WorldError) → limit ≤ 32767 → IsNormal w → Gives (λ v. v.items) r (written limit w) → IfOk r (λ v. world_at v.items ≡ Ok w)
+pub written_back : WrittenIsRead → (limit : ℕ) (w : Contents) (r : Result (Vec ℕ) WorldError) → limit ≤ 32767 → HasNormalParts w → Gives (λ v. v.items) r (written limit w) → IfOk r (λ v. world_at v.items ≡ Ok w)
 written_back law limit w (Ok v) le n h = text_back law limit w v.items le n h
 written_back law limit w (Err e) le n h = tt

@@ -6,3 +6,5 @@ pub mod FileText
 pub mod Writing
 pub mod Normal
 pub mod Canonical
+pub mod Laws
+pub mod Refusals

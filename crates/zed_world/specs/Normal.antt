@@ -1,5 +1,5 @@
--- Which worlds can stand in a file, field by field.
-use Rattle.std.specs.Prelude.{◌≡◌, ℕ, ℤ, ◌<◌, ◌≤◌, ◌^◌, true, List, [], ◌∷◌, ◌++◌, length, slice_get, Some, IfSome, FitsSigned}
+-- Which worlds can stand in a file: those that some file spells. The parts of each fit their fields.
+use Rattle.std.specs.Prelude.{◌≡◌, ℕ, ℤ, ◌<◌, ◌≤◌, ◌^◌, true, List, [], ◌∷◌, ◌++◌, length, slice_get, Some, IfSome, Ok, FitsSigned}
 use Rattle.std.specs.List.{AllByRecursion}
 use Rattle.std.specs.Int.{w16}
 use Rattle.zed_types.specs.declared.tile.Tile.{Tile}
@@ -12,14 +12,18 @@ use Rattle.zed_world.specs.declared.board.Properties.{Properties}
 use Rattle.zed_world.specs.declared.board.BoardData.{BoardData}
 use Rattle.zed_world.specs.Contents.{Contents}
 use Rattle.zed_world.specs.Offsets.{is_passage_at}
-use Rattle.zed_world.specs.Writing.{code_length}
+use Rattle.zed_world.specs.Reading.{world_at}
+use Rattle.zed_world.specs.Writing.{code_length, body_text}
 
+-- a number of 16 bits with a sign
 abbrev pub IsInteger : ℤ → Type 0
 IsInteger z = FitsSigned w16 z
 
+-- a text that fits in a field of so many bytes
 abbrev pub IsAtMost : ℕ → List ℕ → Type 0
 IsAtMost field text = length text ≤ field
 
+-- a header, in a world of so many boards
 pub record IsNormalHeader (boards : ℕ) (h : Header) : Type 0 where
   pub ammo : IsInteger h.ammo
   pub gems : IsInteger h.gems
@@ -36,6 +40,7 @@ pub record IsNormalHeader (boards : ℕ) (h : Header) : Type 0 where
   pub time_passed : IsInteger h.time_passed
   pub hundredths : IsInteger h.hundredths
 
+-- the properties of a board, in a world of so many boards
 pub record IsNormalProperties (boards : ℕ) (p : Properties) : Type 0 where
   pub north : p.north < boards
   pub south : p.south < boards
@@ -61,10 +66,12 @@ pub record IsNormalStat (boards stats : ℕ) (tiles : List Tile) (lower : List S
   pub position : IsInteger s.position
   pub code : IsNormalCode lower s.code
 
+-- stats above these lower ones
 abbrev pub AreNormalStats : ℕ → ℕ → List Tile → List StatData → List StatData → Type 0
 AreNormalStats boards stats tiles lower [] = Unit {0}
 AreNormalStats boards stats tiles lower (s ∷ ss) = IsNormalStat boards stats tiles lower s × AreNormalStats boards stats tiles (lower ++ s ∷ []) ss
 
+-- a board, in a world of so many boards
 pub record IsNormalBoard (boards : ℕ) (b : BoardData) : Type 0 where
   pub name : IsAtMost 50 b.name
   pub tiles : length b.tiles ≡ TILES
@@ -73,11 +80,21 @@ pub record IsNormalBoard (boards : ℕ) (b : BoardData) : Type 0 where
   pub few : length b.stats ≤ 151
   pub stats : AreNormalStats boards (length b.stats) b.tiles [] b.stats
 
-pub record IsNormal (w : Contents) : Type 0 where
+-- each part of a world fits its field; that all parts of a board fit in one body is no matter here
+pub record HasNormalParts (w : Contents) : Type 0 where
   pub some : 1 ≤ length w.boards
   pub few : length w.boards ≤ 101
   pub header : IsNormalHeader (length w.boards) w.header
   pub boards : AllByRecursion (IsNormalBoard (length w.boards)) w.boards
+
+-- some file spells this world, so all parts of each board fit in a body that may be read
+pub record IsNormal (w : Contents) : Type 0 where
+  pub file : List ℕ
+  pub read : world_at file ≡ Ok w
+
+-- the body that the writer makes of this board is one that may be read
+abbrev pub HasShortBody : BoardData → Type 0
+HasShortBody b = length (body_text b) ≤ 32767
 
 -- what the writer asks of a board
 pub record IsWritable (b : BoardData) : Type 0 where

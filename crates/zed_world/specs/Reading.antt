@@ -1,5 +1,5 @@
 -- What a world file says: from left to right, with the first fault that is met.
-use Rattle.std.specs.Prelude.{ℕ, zero, suc, ℤ, pos, negsuc, ◌+◌, not, ◌==◌, nat_lt, nat_le, if◌then◌else◌, List, [], ◌∷◌, ◌++◌, length, take, drop, slice_get, Option, Some, None, Result, Ok, Err, ◌≡◌, ◌⊎◌}
+use Rattle.std.specs.Prelude.{ℕ, zero, suc, ℤ, pos, negsuc, ◌+◌, not, ◌==◌, ◌≤◌, nat_lt, nat_le, if◌then◌else◌, List, [], ◌∷◌, ◌++◌, length, take, drop, slice_get, Option, Some, None, Result, Ok, Err, ◌≡◌, ◌⊎◌}
 use Rattle.byteorder.specs.Endian.{little_number}
 use Rattle.zed_types.specs.declared.tile.Tile.{Tile}
 use Rattle.zed_types.specs.declared.tile.TheConstants.{TILES}
@@ -15,11 +15,12 @@ use Rattle.zed_world.specs.Offsets.{header_at, properties_at, stat_with}
 use Rattle.zed_world.specs.Fields.{integer_at, string_at}
 
 infixl 10 ◌>>=◌
+-- what is found first, and then what follows from it; or the first fault
 abbrev pub ◌>>=◌ : {A B : Type 0} → Result A WorldError → (A → Result B WorldError) → Result B WorldError
 (Ok x) >>= f = f x
 (Err e) >>= f = Err e
 
--- What a function returned, seen by view, is what reading gives, unless memory ran out.
+-- what a function returned, seen by view, is what reading gives, unless memory ran out
 abbrev pub Gives : {X Y : Type 0} → (X → Y) → Result X WorldError → Result Y WorldError → Type 0
 Gives view (Ok x) read = read ≡ Ok (view x)
 Gives view (Err e) read = (e ≡ Memory) ⊎ (read ≡ Err e)
@@ -49,6 +50,7 @@ shared n code.None = code.None
 shared n (code.Own bytes) = code.Same n
 shared n (code.Same m) = code.Same m
 
+-- the program of a stat that there may be
 abbrev pub code_of : Option StatData → Code
 code_of None = code.None
 code_of (Some stat) = stat.code
@@ -74,6 +76,7 @@ board_with boards name tiles rest =
       stats ← items_at (stat_at boards (others + 1) tiles) (others + 1) [] (drop 88 rest)
       Ok (record { name = name; tiles = tiles; properties = properties_at boards rest; stats = stats })
 
+-- a board by its body
 unfoldable pub board_at : ℕ → List ℕ → Result BoardData WorldError
 board_at boards body =
     if nat_lt (length body) 51 then Err Truncated else do
@@ -96,6 +99,16 @@ next_board_at boards done bytes = do
   board ← board_at boards body.0
   Ok (board, body.1)
 
+-- the number of boards beside the title stands in the header, and there may be as many
+abbrev pub CountsBoards : List ℕ → Type 0
+CountsBoards bytes = (others : ℕ) × (others ≤ 100) × (integer_at bytes 2 ≡ pos others)
+
+-- the header is whole, is that of a world file, and counts the boards
+pub record BeginsAWorld (bytes : List ℕ) : Type 0 where
+  pub long : 512 ≤ length bytes
+  pub type_word : little_number 2 bytes ≡ 65535
+  pub counts : CountsBoards bytes
+
 -- behind the tests of the header; bytes may follow the last board
 unfoldable pub contents_at : List ℕ → Result Contents WorldError
 contents_at bytes = do
@@ -103,6 +116,7 @@ contents_at bytes = do
   boards ← items_at (next_board_at (others + 1)) (others + 1) [] (drop 512 bytes)
   Ok (record { header = header_at (others + 1) bytes; boards = boards })
 
+-- the world that bytes spell, or the first fault
 unfoldable pub world_at : List ℕ → Result Contents WorldError
 world_at bytes =
     if nat_lt (length bytes) 2 then Err Truncated else

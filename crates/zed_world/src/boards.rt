@@ -1,4 +1,5 @@
-ghost use Rattle.std.specs.Prelude.{◌≡◌, ◌+◌, ◌≤◌, IfOk, length, []};
+//! Reading boards.
+ghost use Rattle.std.specs.Prelude.{◌≡◌, ◌+◌, ◌≤◌, pos, IfOk, IfErr, length, []};
 ghost use Rattle.zed_types.specs.declared.tile.TheConstants.{TILES};
 ghost use Rattle.zed_runs.specs.Reading.{tiles_at};
 ghost use Rattle.zed_world.specs.Fields.{integer_at};
@@ -23,8 +24,9 @@ pub(crate) fn count_of(
 ) -> Result<usize, WorldError>
     requires few { most ≤ 150 }
     requires within { at + 2 ≤ length bytes.now }
-    ensures exact { result ≡ counted most fault (integer_at bytes.now at) }
-    ensures within { IfOk result (λ n. n ≤ most) }
+    ensures result { result ≡ counted most fault (integer_at bytes.now at) }
+    ensures within { IfOk result (λ n. (n ≤ most) × (integer_at bytes.now at ≡ pos n)) }
+    ensures only_fault { IfErr result (λ e. e ≡ fault) }
 {
     let n = integer_of(bytes, at);
     if 0 <= n && n as usize <= most {
@@ -37,10 +39,7 @@ pub(crate) fn count_of(
 fn tiles_of(bytes: &[u8]) -> Result<([Tile; TILES], &[u8]), WorldError>
     ensures { Gives (λ x. (x.0, x.1.now)) result (found_or WorldError.Truncated (tiles_at TILES bytes.now)) }
 {
-    let found = match read_runs(bytes) {
-        Ok(found) => found,
-        Err(_) => return Err(WorldError::Truncated),
-    };
+    let found = read_runs(bytes)?;
     let tiles = found.0;
     Ok((tiles, &bytes[found.1..]))
 }

@@ -1,4 +1,6 @@
+//! Files that are just what the writer makes.
 ghost use Rattle.std.specs.Prelude.{◌≡◌, ◌↔◌, IsTrue, IfOk, IfErr};
+ghost use Rattle.zed_world.specs.Reading.{BeginsAWorld};
 ghost use Rattle.zed_world.specs.Canonical.{IsCanonical};
 
 use crate::error::WorldError;
@@ -11,8 +13,11 @@ use zed_types::READ_BODY_LIMIT;
 ///
 /// A file that is read with leniency isn't canonical, nor one with bytes behind its last board. `Memory` is the only refusal.
 pub fn is_canonical(alloc: Global, bytes: &[u8]) -> Result<bool, WorldError>
-    ensures exact { IfOk result (λ is. IsTrue is ↔ IsCanonical bytes.now) }
-    ensures memory { IfErr result (λ e. e ≡ WorldError.Memory) }
+    ensures result { IfOk result (λ is. IsTrue is ↔ IsCanonical bytes.now) }
+    ensures only_memory { IfErr result (λ e. e ≡ WorldError.Memory) }
+
+    // No growth is needed where the front of the file is at fault already.
+    ensures memory_only_when { IfErr result (λ e. BeginsAWorld bytes.now) }
 {
     let world = match read_world(alloc, bytes) {
         Ok(world) => world,

@@ -1,10 +1,14 @@
+//! Why a world can't be read or written.
+
 ghost use Rattle.std.specs.Prelude.{◌≡◌};
 ghost use Rattle.zed_world.specs.declared.error.WorldError.TheVariants.{Memory};
+ghost use Rattle.zed_world.specs.Refusals.{of_runs};
 
 use std::alloc::{AllocError, AllocFailed};
 use thiserror::Error;
+use zed_runs::RunsError;
 
-/// Why a world can't be read or written.
+/// Why a world can't be read or written. Its texts are for whoever debugs; the program prints none of them.
 #[derive(Clone, Copy, Debug, PartialEq, Eq, Error)]
 pub enum WorldError {
     /// A growth was refused.
@@ -38,6 +42,17 @@ impl From<AllocError> for WorldError {
 
     fn from(_e: AllocError) -> WorldError {
         WorldError::Memory
+    }
+}
+
+impl From<RunsError> for WorldError {
+    ghost from_gives = { λ r e. e ≡ of_runs r };
+
+    fn from(e: RunsError) -> WorldError {
+        match e {
+            RunsError::Memory => WorldError::Memory,
+            RunsError::Truncated => WorldError::Truncated,
+        }
     }
 }
 

@@ -1,6 +1,7 @@
-ghost use Rattle.std.specs.Prelude.{◌≡◌, ◌≤◌, IfOk, length};
+//! Reading a world file.
+ghost use Rattle.std.specs.Prelude.{◌≡◌, ◌≤◌, IfOk, IfErr, length};
 ghost use Rattle.zed_world.specs.FileText.{IsFileText};
-ghost use Rattle.zed_world.specs.Reading.{Gives, contents_at, world_at};
+ghost use Rattle.zed_world.specs.Reading.{BeginsAWorld, CountsBoards, Gives, contents_at, world_at};
 
 use crate::blocks::header_of;
 use crate::board::BoardData;
@@ -17,7 +18,8 @@ use zed_types::{BOARDS_LIMIT, Seq};
 #[tactic(auto, unfolding(crate::specs::Reading::contents_at))]
 fn contents_of(alloc: Global, bytes: &[u8]) -> Result<(Header, Seq<BoardData>), WorldError>
     requires { 512 ≤ length bytes.now }
-    ensures { Gives (λ x. record { header = x.0; boards = x.1 }) result (contents_at bytes.now) }
+    ensures result { Gives (λ x. record { header = x.0; boards = x.1 }) result (contents_at bytes.now) }
+    ensures memory_only_when { IfErr result (λ e. e ≡ WorldError.Memory → CountsBoards bytes.now) }
 {
     let others = count_of(BOARDS_LIMIT, WorldError::TooManyBoards, bytes, 2)?;
     let (_, after) = bytes.split_at(512);
@@ -29,7 +31,8 @@ fn contents_of(alloc: Global, bytes: &[u8]) -> Result<(Header, Seq<BoardData>), 
 /// The world that the bytes spell, or the first fault.
 #[tactic(auto, unfolding(crate::specs::Reading::world_at))]
 fn world_of(alloc: Global, bytes: &[u8]) -> Result<World, WorldError>
-    ensures { Gives (λ w. w) result (world_at bytes.now) }
+    ensures result { Gives (λ w. w) result (world_at bytes.now) }
+    ensures memory_only_when { IfErr result (λ e. e ≡ WorldError.Memory → BeginsAWorld bytes.now) }
 {
     if bytes.len() < 2 {
         return Err(WorldError::Truncated);
@@ -41,7 +44,7 @@ fn world_of(alloc: Global, bytes: &[u8]) -> Result<World, WorldError>
         return Err(WorldError::Truncated);
     }
     let (header, boards) = contents_of(alloc, bytes)?;
-    Ok(World::new(header, boards))
+    Ok(World::spelled(header, boards))
 }
 
 /// Reads a world file, with all leniency.
@@ -50,12 +53,15 @@ fn world_of(alloc: Global, bytes: &[u8]) -> Result<World, WorldError>
 /// isn't there is read as none; chains of shared programs are followed to the stat that has the bytes; unused bytes, pointers
 /// and what follows the last stat of a board or the last board are dropped. The refusals come in the order in which they are
 /// met: `Truncated` below 2 bytes, `NotZzt`, `Truncated` below 512 bytes, `TooManyBoards`, and then board by board `Truncated`,
-/// `BadBoardSize`, `TooManyStats` and `BadShare`. `Memory` where a growth was refused.
+/// `BadBoardSize`, `TooManyStats` and `BadShare`. `Memory` where a growth was refused, and so never before the boards are counted.
 pub fn read_world(alloc: Global, bytes: &[u8]) -> Result<World, WorldError>
-    ensures exact { Gives (λ w. w) result (world_at bytes.now) }
+    ensures result { Gives (λ w. w) result (world_at bytes.now) }
 
     // The same by the places of the fields.
     ensures spelled { IfOk result (λ w. IsFileText w bytes.now) }
+
+    // No growth is needed to tell what is wrong with the front of the file.
+    ensures memory_only_when { IfErr result (λ e. e ≡ WorldError.Memory → BeginsAWorld bytes.now) }
 {
     files_are_read_by_place();
     world_of(alloc, bytes)

@@ -1,13 +1,16 @@
+//! The value of a world.
 ghost use Rattle.std.specs.Prelude.{◌≡◌};
-ghost use Rattle.zed_world.specs.Normal.{IsNormal};
+ghost use Rattle.std.specs.List.{AllByRecursion};
+ghost use Rattle.zed_world.specs.Normal.{HasNormalParts, HasShortBody, IsNormal};
 
 use crate::board::BoardData;
 use crate::header::Header;
+use crate::laws::{read_is_normal, written_is_read};
 use std::marker::Model;
 use zed_types::Seq;
 
-/// A world that can stand in a file: each number, string and list fits its field, and each board, stat and program that it names
-/// is there. Contracts see its header and the list of its boards.
+/// A world that some file spells: each number, string and list fits its field, each board, stat and program that it names is
+/// there, and what a board has fits in one body. Contracts see its header and the list of its boards.
 #[derive(Debug, Drop)]
 pub struct World {
     header: Header,
@@ -29,6 +32,16 @@ impl Model for World {
 impl World {
     /// A world of these boards, the title first.
     pub fn new(header: Header, boards: Seq<BoardData>) -> World
+        requires parts { HasNormalParts (record { header = header; boards = boards }) }
+        requires bodies { AllByRecursion HasShortBody boards }
+        ensures { result ≡ record { header = header; boards = boards } }
+    {
+        written_is_read();
+        World { header, boards }
+    }
+
+    /// The world that some file spells.
+    pub(crate) fn spelled(header: Header, boards: Seq<BoardData>) -> World
         requires { IsNormal (record { header = header; boards = boards }) }
         ensures { result ≡ record { header = header; boards = boards } }
     {
@@ -38,16 +51,18 @@ impl World {
     /// What stands in front of the boards.
     pub fn header(&self) -> &Header
         ensures is { result.now ≡ self.now.header }
-        ensures normal { IsNormal self.now }
+        ensures normal { HasNormalParts self.now }
     {
+        read_is_normal();
         &self.header
     }
 
     /// The boards, 1 to 101, the title first.
     pub fn boards(&self) -> &[BoardData]
         ensures are { result.now ≡ self.now.boards }
-        ensures normal { IsNormal self.now }
+        ensures normal { HasNormalParts self.now }
     {
+        read_is_normal();
         self.boards.as_slice()
     }
 }

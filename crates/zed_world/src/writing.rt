@@ -1,9 +1,11 @@
+//! Writing a world file.
 ghost use Rattle.std.specs.Prelude.{◌≡◌, ℕ, ◌+◌, ◌<◌, ◌≤◌, ◌++◌, ◌⊎◌, None, Some, length, FitsSigned, OnOk, IfOk, IfErr};
 ghost use Rattle.std.specs.Int.{w16};
 ghost use Rattle.std.specs.List.{flat_map, AllByRecursion};
+ghost use Rattle.zed_runs.specs.Runs.{greedy};
 ghost use Rattle.zed_world.specs.Reading.{Gives, world_at};
 ghost use Rattle.zed_world.specs.Writing.{code_length, stat_text, body_text, board_text, first_over, written};
-ghost use Rattle.zed_world.specs.Normal.{IsWritable, IsNormal};
+ghost use Rattle.zed_world.specs.Normal.{IsWritable, HasNormalParts};
 ghost use Rattle.zed_world.specs.Canonical.{IsCanonical};
 
 use crate::board::BoardData;
@@ -14,7 +16,8 @@ use crate::stat::StatData;
 use crate::world::World;
 use byteorder::{ByteOrder, LittleEndian};
 use std::alloc::{AllocError, Global};
-use zed_runs::write_runs;
+use zed_runs::{greedy_is_the_one, write_runs};
+use zed_types::{TILES, Tile};
 
 fn put_stats(out: &mut Vec<u8>, stats: &[StatData]) -> Result<(), AllocError>
     requires { AllByRecursion (λ s. FitsSigned w16 (code_length s.code)) stats.now }
@@ -26,20 +29,30 @@ fn put_stats(out: &mut Vec<u8>, stats: &[StatData]) -> Result<(), AllocError>
     Ok(())
 }
 
+/// Appends the greedy runs of a table.
+fn put_tiles(out: &mut Vec<u8>, tiles: &[Tile; TILES]) -> Result<(), WorldError>
+    ensures result { OnOk result (out.new.items ≡ out.old.items ++ greedy tiles.now) }
+    ensures only_memory { IfErr result (λ e. e ≡ WorldError.Memory) }
+{
+    greedy_is_the_one();
+    write_runs(tiles, out)?;
+    Ok(())
+}
+
 /// Appends the body of a board.
 #[tactic(auto, unfolding(crate::specs::Writing::body_text))]
-fn put_body(out: &mut Vec<u8>, board: &BoardData) -> Result<(), AllocError>
+fn put_body(out: &mut Vec<u8>, board: &BoardData) -> Result<(), WorldError>
     requires { IsWritable board.now }
-    ensures { OnOk result (out.new.items ≡ out.old.items ++ body_text board.now) }
+    ensures result { OnOk result (out.new.items ≡ out.old.items ++ body_text board.now) }
+    ensures only_memory { IfErr result (λ e. e ≡ WorldError.Memory) }
 {
     put_string(out, 50, &board.name)?;
-    if write_runs(&board.tiles, out).is_err() {
-        return Err(AllocError);
-    }
+    put_tiles(out, &board.tiles)?;
     put_properties(out, &board.properties)?;
     let stats = board.stats.as_slice();
     put_number(out, (stats.len() - 1) as u8)?;
-    put_stats(out, stats)
+    put_stats(out, stats)?;
+    Ok(())
 }
 
 /// Appends a board, if its body isn't over the limit.
@@ -96,7 +109,7 @@ fn put_boards(
 fn text_of(alloc: Global, world: &World, limit: usize) -> Result<Vec<u8>, WorldError>
     requires { limit ≤ 32767 }
     ensures exact { Gives (λ v. v.items) result (written limit world.now) }
-    ensures normal { IsNormal world.now }
+    ensures normal { HasNormalParts world.now }
 {
     let mut out = Vec::new(alloc);
     let header = world.header();

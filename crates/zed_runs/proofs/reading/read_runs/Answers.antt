@@ -18,8 +18,8 @@ returns-in_default-clause-none c =
     let short : length (drop c.loop-used.used bytes) < 3 = rw take_rest at c.in_default.len_below in
     none_begins bytes t.0 c.loop-used.used t.1 few short
 
-pub returns-then-end-ge-TILES-clause-found : goal.returns-then-end-ge-TILES-clause-found
-returns-then-end-ge-TILES-clause-found c =
+pub returns-then-end-ge-TILES-clause-result : goal.returns-then-end-ge-TILES-clause-result
+returns-then-end-ge-TILES-clause-result c =
     let bytes = c.args.bytes.now in
     let filled = c.loop-used.filled in
     let tiles = c.loop-used.tiles in
@@ -73,7 +73,7 @@ pub returns-then-end-ge-TILES-clause-reads : goal.returns-then-end-ge-TILES-clau
 returns-then-end-ge-TILES-clause-reads c = λ tiles front rest r e.
     let bytes = c.args.bytes.now in
     let used = c.loop-used.used + 3 in
-    let same = one_front _ tiles (take used bytes) front (drop used bytes) rest (returns-then-end-ge-TILES-clause-found c) r (take-append-drop used bytes ∙ e) in
+    let same = one_front _ tiles (take used bytes) front (drop used bytes) rest (returns-then-end-ge-TILES-clause-result c) r (take-append-drop used bytes ∙ e) in
     let three : 3 ≤ length (drop c.loop-used.used bytes) = rw take_rest at c.in-len3-up.len_at_least in
     let long : used ≡ length front = omega (arith, ap length same.0, length-take used bytes, length-drop c.loop-used.used bytes) in
     let filled = same.1 in
@@ -86,4 +86,4 @@ pub returns-then-end-ge-TILES-clause-exact : goal.returns-then-end-ge-TILES-clau
 returns-then-end-ge-TILES-clause-exact c =
     let bytes = c.args.bytes.now in
     let used = c.loop-used.used + 3 in
-    ap (tiles_at 1500) (sym (take-append-drop used bytes)) ∙ runs_tiles _ (take used bytes) (drop used bytes) (returns-then-end-ge-TILES-clause-found c)
+    ap (tiles_at 1500) (sym (take-append-drop used bytes)) ∙ runs_tiles _ (take used bytes) (drop used bytes) (returns-then-end-ge-TILES-clause-result c)

@@ -1,4 +1,5 @@
-use Rattle.zed_world.proofs.WorldAgain.{WrittenIsRead, world_again}
+use Rattle.zed_world.specs.Laws.{WrittenIsRead}
+use Rattle.zed_world.proofs.WorldAgain.{world_again}
 use Rattle.zed_world.proofs.Rewritten.{text_canonical}
 use Rattle.zed_world.proofs.laws.written_is_read.Goals as goal
 
