@@ -1,12 +1,13 @@
 -- What a delivery answers.
-use Rattle.std.specs.Prelude.{◌≡◌, ◌≢◌, ◌⊎◌, ℕ, Bool, true, false, List, Option, Some, None, Result, Err, IsOkAnd, MatchBool}
+use Rattle.std.specs.Prelude.{◌≡◌, ◌≢◌, ◌⊎◌, ℕ, Bool, true, false, List, [], ◌∷◌, ◌++◌, Option, Some, None, Result, Ok, Err, Contains, IsOkAnd, MatchBool}
 use Rattle.std.specs.List.{find}
 use Rattle.zed_types.specs.declared.stamp.Stamp.{Stamp}
 use Rattle.zed_types.specs.Stamp.{same_stamp}
 use Rattle.zed_op.specs.declared.cause.Cause.{Cause}
 use Rattle.zed_op.specs.declared.op.Edit.{Edit}
-use Rattle.zed_op.specs.Fit.{fault}
-use Rattle.zed_op.specs.Set.{with_edit}
+use Rattle.zed_op.specs.Fit.{Fits, fault}
+use Rattle.zed_op.specs.Verdict.{HangsOnItsWorld}
+use Rattle.zed_op.specs.Set.{Agrees, AllFit, with_edit, set_of}
 use Rattle.zed_document.specs.declared.delivered.Delivered.{Delivered}
 use Rattle.zed_document.specs.declared.delivered.State.{State}
 use Rattle.zed_document.specs.declared.delivered.State.TheVariants.{Taken, Held, Known}
@@ -44,3 +45,49 @@ AnswersFit None es e r = AnswersAt (edit_with e.stamp es) es e r
 -- what a delivery answers, want of memory aside: Stale, then the fault of the edit, then Clash, else what became of it
 abbrev pub Answers : Replica → Edit → Result Delivered DocumentError → Type 0
 Answers d e r = MatchBool d.is_stale (r ≡ Err Stale) (AnswersFit (fault e) d.edits e r)
+
+-- a delivery takes memory for the check of a world, and else for an edit that fits and whose stamp is new
+abbrev pub MayTakeMemoryFor : Replica → Edit → Type 0
+MayTakeMemoryFor d e = (d.is_stale ≡ false) × (HangsOnItsWorld e ⊎ (Fits e × (edit_with e.stamp d.edits ≡ None)))
+
+-- a document with one more edit
+abbrev pub after_edit : Edit → Replica → Replica
+after_edit e d = record d { edits = with_edit e d.edits }
+
+-- deliveries one after the other, up to the first that is refused: what is answered, and the edits that they leave
+abbrev pub DeliversEach : Replica → List Edit → Result (Unit {0}) DocumentError → List Edit → Type 0
+DeliversEach d [] r left = (r ≡ Ok tt) × (left ≡ d.edits)
+DeliversEach d (e ∷ es) r left =
+    ((told : Delivered) × Answers d e (Ok told) × DeliversEach (after_edit e d) es r left)
+    ⊎ ((refusal : DocumentError) × Answers d e (Err refusal) × (r ≡ Err refusal) × (left ≡ d.edits))
+
+-- one of these deliveries may take memory when its turn comes
+abbrev pub MayTakeMemoryForEach : Replica → List Edit → Type 0
+MayTakeMemoryForEach d [] = ⊥
+MayTakeMemoryForEach d (e ∷ es) =
+    MayTakeMemoryFor d e
+    ⊎ ((told : Delivered) × Answers d e (Ok told) × MayTakeMemoryForEach (after_edit e d) es)
+
+-- another edit of the list has the stamp of this one
+abbrev pub ClashesWith : List Edit → Edit → Type 0
+ClashesWith es f = (e : Edit) × Contains es e × (e.stamp ≡ f.stamp) × (e ≢ f)
+
+-- of the edits of a list, the first that clashes with one before it has this stamp
+pub record IsFirstClash (es : List Edit) (s : Stamp) : Type 0 where
+  pub before : List Edit
+  pub edit : Edit
+  pub after : List Edit
+  pub whole : es ≡ before ++ edit ∷ after
+  pub agrees : Agrees before
+  pub clashes : ClashesWith before edit
+  pub stamp : edit.stamp ≡ s
+
+-- deliveries to a document without edits come to the set of all edits, or to the first clash of two
+abbrev pub DeliveriesComeToSets : Type 0
+DeliveriesComeToSets =
+    (d : Replica) (es : List Edit) (r : Result (Unit {0}) DocumentError) (left : List Edit)
+    → d.is_stale ≡ false
+    → d.edits ≡ []
+    → AllFit es
+    → DeliversEach d es r left
+    → ((r ≡ Ok tt) × Agrees es × (left ≡ set_of es)) ⊎ ((s : Stamp) × IsFirstClash es s × (r ≡ Err (Clash s)))

@@ -1,4 +1,5 @@
 pub mod Authoring
+pub mod Batch
 pub mod Delivery
 pub mod Errors
 pub mod Held

@@ -40,7 +40,7 @@ impl Document {
         ensures world { self.new.world ≡ self.old.world }
         ensures sound { OnOk result (self.new.is_stale ≡ false) }
         ensures stale { (result ≢ Err DocumentError.Memory) → self.new.is_stale ≡ self.old.is_stale }
-        ensures lean { result ≡ Err DocumentError.Memory → (self.old.is_stale ≡ false) × (is_spent_for self.old.edits op ≡ false) × MayTakeMemory self.old.edits (authored self.old.edits replica op) }
+        ensures memory_only_when { result ≡ Err DocumentError.Memory → (self.old.is_stale ≡ false) × (is_spent_for self.old.edits op ≡ false) × MayTakeMemory self.old.edits (authored self.old.edits replica op) }
     {
         if self.is_stale() {
             return Err(DocumentError::Stale);
@@ -72,7 +72,7 @@ impl Document {
         ensures world { self.new.world ≡ self.old.world }
         ensures sound { OnOk result (self.new.is_stale ≡ false) }
         ensures stale { (result ≢ Err DocumentError.Memory) → self.new.is_stale ≡ false }
-        ensures lean { result ≡ Err DocumentError.Memory → MayTakeMemory self.old.edits edit }
+        ensures memory_only_when { result ≡ Err DocumentError.Memory → MayTakeMemory self.old.edits edit }
     {
         match check(self.alloc(), &edit) {
             Ok(()) => self.make_checked(edit),
@@ -91,7 +91,7 @@ impl Document {
         ensures world { self.new.world ≡ self.old.world }
         ensures sound { OnOk result (self.new.is_stale ≡ false) }
         ensures stale { (result ≢ Err DocumentError.Memory) → self.new.is_stale ≡ false }
-        ensures lean { result ≡ Err DocumentError.Memory → can (replay self.old.edits) edit ≡ true }
+        ensures memory_only_when { result ≡ Err DocumentError.Memory → can (replay self.old.edits) edit ≡ true }
     {
         if self.has_all_of(&edit) {
             self.take(edit)

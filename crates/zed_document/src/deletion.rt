@@ -163,7 +163,7 @@ impl Document {
         to: usize,
     ) -> Result<Vec<Edit>, DocumentError>
         ensures answers { (result ≡ Err DocumentError.Memory) ⊎ AnswersDeletion self.now text from to (λ r. IsOkAnd r (λ v. v.items ≡ deletions_of self.now.edits replica text from to)) result }
-        ensures lean { result ≡ Err DocumentError.Memory → MayTakeMemoryToDelete self.now text from to }
+        ensures memory_only_when { result ≡ Err DocumentError.Memory → MayTakeMemoryToDelete self.now text from to }
     {
         let view = View::of(self.shown_with(text)?);
         if to <= from || view.length(text) < to {
@@ -184,7 +184,7 @@ impl Document {
         requires elements { elements.now ≡ elements_of (replay self.now.edits) text }
         requires part { is_part from to (length (text_shown (replay self.now.edits) text)) ≡ true }
         ensures answers { (result ≡ Err DocumentError.Memory) ⊎ MatchBool (is_spent self.now.edits (length (stretches_of self.now.edits text from to))) (result ≡ Err DocumentError.ClockSpent) (IsOkAnd result (λ v. v.items ≡ deletions_of self.now.edits replica text from to)) }
-        ensures lean { result ≡ Err DocumentError.Memory → is_spent self.now.edits (length (stretches_of self.now.edits text from to)) ≡ false }
+        ensures memory_only_when { result ≡ Err DocumentError.Memory → is_spent self.now.edits (length (stretches_of self.now.edits text from to)) ≡ false }
     {
         if are_spent(self.edits(), count_stretches(elements, from, to)) {
             return Err(DocumentError::ClockSpent);
@@ -252,7 +252,7 @@ impl Document {
         ensures kept { is_ok result ≡ false → (result ≢ Err DocumentError.Memory) → self.new ≡ self.old }
         ensures world { self.new.world ≡ self.old.world }
         ensures sound { OnOk result (self.new.is_stale ≡ false) }
-        ensures lean { result ≡ Err DocumentError.Memory → MayTakeMemoryToDelete self.old text from to }
+        ensures memory_only_when { result ≡ Err DocumentError.Memory → MayTakeMemoryToDelete self.old text from to }
     {
         let made = self.deletions(replica, text, from, to)?;
         deletions_follow(self.edits(), replica, text, from, to);

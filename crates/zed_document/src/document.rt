@@ -35,11 +35,10 @@ impl Model for Document {
 
 impl Document {
     ghost use Rattle.zed_document.specs.Held.{held_stamps, is_among as is_one_of};
-    ghost use Rattle.zed_document.specs.Delivery.{Answers, AnswersAt, TellsNew, edit_with};
+    ghost use Rattle.zed_document.specs.Delivery.{Answers, AnswersAt, MayTakeMemoryFor, TellsNew, edit_with};
     ghost use Rattle.zed_document.specs.Kept.{AllBelow};
     ghost use Rattle.zed_edit.specs.Replay.{replay};
     ghost use Rattle.zed_op.specs.Fit.{Fits};
-    ghost use Rattle.zed_op.specs.Verdict.{HangsOnItsWorld};
     ghost use Rattle.zed_op.specs.Set.{AllFit, IsRising, union, with_edit};
     ghost use Rattle.zed_document.specs.Merge.{AnswersMerge, below};
     ghost use Rattle.zed_types.specs.declared.stamp.Stamp.{Stamp as TheStamp};
@@ -131,7 +130,7 @@ impl Document {
         ensures world { self.new.world ≡ self.old.world }
         ensures sound { OnOk result (self.new.is_stale ≡ false) }
         ensures stale { (result ≢ Err DocumentError.Memory) → self.new.is_stale ≡ self.old.is_stale }
-        ensures lean { result ≡ Err DocumentError.Memory → (self.old.is_stale ≡ false) × (HangsOnItsWorld edit ⊎ (edit_with edit.stamp self.old.edits ≡ None)) }
+        ensures memory_only_when { result ≡ Err DocumentError.Memory → MayTakeMemoryFor self.old edit }
     {
         if self.is_stale {
             return Err(DocumentError::Stale);
@@ -151,7 +150,7 @@ impl Document {
         ensures world { self.new.world ≡ self.old.world }
         ensures sound { OnOk result (self.new.is_stale ≡ false) }
         ensures stale { (result ≢ Err DocumentError.Memory) → self.new.is_stale ≡ false }
-        ensures lean { result ≡ Err DocumentError.Memory → edit_with edit.stamp self.old.edits ≡ None }
+        ensures memory_only_when { result ≡ Err DocumentError.Memory → edit_with edit.stamp self.old.edits ≡ None }
     {
         match spot_of(&self.edits, edit.stamp) {
             Ok(there) => {
@@ -255,7 +254,7 @@ impl Document {
         ensures sound { OnOk result (self.new.is_stale ≡ false) }
         ensures only { IfErr result (λ e. e ≡ DocumentError.Memory) }
         ensures kept { OnErr result (self.new ≡ self.old) }
-        ensures lean { self.old.is_stale ≡ false → result ≡ Ok tt }
+        ensures memory_only_when { self.old.is_stale ≡ false → result ≡ Ok tt }
     {
         if self.is_stale {
             let Ok(plain) = replay(*self.edits.allocator(), &self.edits) else {

@@ -74,7 +74,7 @@ impl Document {
         ensures world { self.new.world ≡ self.old.world }
         ensures sound { OnOk result (self.new.is_stale ≡ false) }
         ensures stale { (result ≢ Err DocumentError.Memory) → self.new.is_stale ≡ self.old.is_stale }
-        ensures lean { result ≡ Err DocumentError.Memory → MayTakeMemoryAt self.old replica text position bytes }
+        ensures memory_only_when { result ≡ Err DocumentError.Memory → MayTakeMemoryAt self.old replica text position bytes }
     {
         match self.place_at(text, position) {
             Ok(after) => match next_stamp(self.edits(), replica) {

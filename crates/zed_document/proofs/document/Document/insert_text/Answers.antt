@@ -48,8 +48,8 @@ returns-in-Some-clause-shows c =
     let m = made_insertion c.replay_goes_edit_by_edit.ensures.step c.texts_keep_names.ensures.own c.args.self.now.edits c.args.replica c.args.text c.args.position c.args.bytes rising q.1 q.2 in
     on-ok c.make.result c.make.new.self.edits c.args.self.now.edits (c.args.self.now.edits ++ e ∷ []) (λ es. text (replay es) c.args.text ≡ with_bytes c.args.position c.args.bytes (text (replay c.args.self.now.edits) c.args.text)) (returns-in-Some-clause-edits c) m.shows
 
-pub returns-in-Some-clause-lean : goal.returns-in-Some-clause-lean
-returns-in-Some-clause-lean c = λ k.
+pub returns-in-Some-clause-memory_only_when : goal.returns-in-Some-clause-memory_only_when
+returns-in-Some-clause-memory_only_when c = λ k.
     let q = placed _ _ _ _ _ c.in-Ok.ensures in
     let s : c.in-Some.stamp ≡ record { time = next_time c.args.self.now.edits; replica = c.args.replica } = c.in-Some.ensures.next ∙ ap (λ es. next_stamp es c.args.replica) c.edits.ensures.all in
     let is = made-as c.args.self.now.edits c.args.replica c.args.text c.args.position c.args.bytes c.in-Some.stamp c.in-Ok.after s q.3 in
@@ -59,5 +59,5 @@ returns-in-Some-clause-lean c = λ k.
       made = q.1;
       within = leb-true c.args.position (length (text (replay c.args.self.now.edits) c.args.text)) q.2;
       left = spent;
-      fits = subst Fits is (insertion-fits c.args.self.now.edits c.in-Some.stamp c.args.text c.in-Ok.after c.args.bytes (c.make.ensures.lean k));
+      fits = subst Fits is (insertion-fits c.args.self.now.edits c.in-Some.stamp c.args.text c.in-Ok.after c.args.bytes (c.make.ensures.memory_only_when k));
     }
