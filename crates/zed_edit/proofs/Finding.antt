@@ -4,7 +4,7 @@ use Rattle.std.proofs.lemmas.List.{length-map}
 use Rattle.std.proofs.lemmas.List.Folds.{find-append}
 use Rattle.std.proofs.lemmas.List.Sums.{length-filter}
 use Rattle.std.specs.List.{find, flat_map}
-use Rattle.zed_types.specs.declared.text.TextElement.{TextElement}
+use Rattle.zed_types.specs.declared.text.TextByte.{TextByte}
 use Rattle.zed_types.specs.Text.{alive_bytes}
 use Rattle.zed_edit.specs.declared.plain.Board.{Board}
 use Rattle.zed_edit.specs.declared.plain.Stat.{Stat}
@@ -23,8 +23,8 @@ find_further q bs i d l h = rw (drop-cons bs i d l, add-one) (find-append_none q
 pub find_here : (q : Stat → Bool) (bs : List Board) (i : ℕ) (d : Board) (x : Stat) → i < length bs → find q (get_or bs i d).stats ≡ Some x → find q (flat_map (λ b. b.stats) (drop i bs)) ≡ Some x
 find_here q bs i d x l h = rw (drop-cons bs i d l) (find-append_some q (get_or bs i d).stats (flat_map (λ b. b.stats) (drop (suc i) bs)) x h)
 
-pub count_alive : (xs : List TextElement) → count_by (λ x. x.alive) xs ≡ length (alive_bytes xs)
-count_alive xs = sym (length-map (filter (λ x. x.alive) xs) (λ (x : TextElement). x.byte) ∙ length-filter (λ (x : TextElement). x.alive) xs)
+pub count_alive : (xs : List TextByte) → count_by (λ x. x.alive) xs ≡ length (alive_bytes xs)
+count_alive xs = sym (length-map (filter (λ x. x.alive) xs) (λ (x : TextByte). x.byte) ∙ length-filter (λ (x : TextByte). x.alive) xs)
 
 module _ {X : Type 0} (p : X → Bool) (xs : List X) (i : ℕ) (d : X) (l : i < length xs) where
   nth-skip : (n : ℕ) → p (get_or xs i d) ≡ false → slice_get (filter p (drop i xs)) n ≡ slice_get (filter p (drop (i + 1) xs)) n

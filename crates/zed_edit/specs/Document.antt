@@ -4,7 +4,7 @@ use Rattle.std.specs.List.{find, flat_map, list_any}
 use Rattle.zed_types.specs.declared.names.BoardId.{BoardId}
 use Rattle.zed_types.specs.declared.names.StatId.{StatId}
 use Rattle.zed_types.specs.declared.names.TextId.{TextId}
-use Rattle.zed_types.specs.declared.text.TextElement.{TextElement}
+use Rattle.zed_types.specs.declared.text.TextByte.{TextByte}
 use Rattle.zed_types.specs.Names.{same_board, same_stat, same_text, same_element}
 use Rattle.zed_types.specs.Text.{alive_bytes}
 use Rattle.zed_edit.specs.Header.{empty_header}
@@ -30,13 +30,13 @@ change_board b f p = record p { boards = change_such (λ x. same_board x.id b) f
 abbrev pub change_stat : StatId → (Stat → Stat) → Plain → Plain
 change_stat s f p = record p { boards = map (change_stats (change_such (λ x. same_stat x.id s) f)) p.boards }
 
-abbrev pub change_elements : (List TextElement → List TextElement) → Text → Text
+abbrev pub change_elements : (List TextByte → List TextByte) → Text → Text
 change_elements f t = record t { elements = f t.elements }
 
-abbrev pub change_text : TextId → (List TextElement → List TextElement) → Plain → Plain
+abbrev pub change_text : TextId → (List TextByte → List TextByte) → Plain → Plain
 change_text t f p = record p { texts = change_such (λ x. same_text x.id t) (change_elements f) p.texts }
 
-abbrev pub elements_in : Option Text → List TextElement
+abbrev pub elements_in : Option Text → List TextByte
 elements_in None = []
 elements_in (Some t) = t.elements
 
@@ -44,7 +44,7 @@ abbrev pub find_text : TextId → List Text → Option Text
 find_text t ts = find (λ x. same_text x.id t) ts
 
 -- the elements of a text, and its alive bytes
-abbrev pub elements : Plain → TextId → List TextElement
+abbrev pub elements : Plain → TextId → List TextByte
 elements p t = elements_in (find_text t p.texts)
 
 abbrev pub text : Plain → TextId → List ℕ
@@ -66,5 +66,5 @@ abbrev pub text_register : Plain → StatId → Option (Option TextId)
 text_register p s = option_map (λ x. x.fields.text) (find (λ x. same_stat x.id s) (all_stats p))
 
 -- the elements of a text, if it was made
-abbrev pub made_elements : Plain → TextId → Option (List TextElement)
+abbrev pub made_elements : Plain → TextId → Option (List TextByte)
 made_elements p t = option_map (λ x. x.elements) (find_text t p.texts)

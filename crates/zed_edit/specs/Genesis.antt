@@ -2,10 +2,9 @@
 use Rattle.std.specs.Prelude.{ℕ, zero, suc, ◌+◌, false, ◌==◌, if◌then◌else◌, List, [], ◌∷◌, length, take, count_by, filter_map, flat_map, is_some, Option, Some, None, option_map}
 use Rattle.zed_types.specs.declared.stamp.Stamp.{Stamp}
 use Rattle.zed_types.specs.declared.names.BoardId.{BoardId}
-use Rattle.zed_types.specs.declared.names.StatId.{StatId}
-use Rattle.zed_types.specs.declared.names.TextId.{TextId}
 use Rattle.zed_types.specs.declared.stat_field.ThirdParameter.{ThirdParameter}
 use Rattle.zed_types.specs.declared.stat_field.ThirdParameter.TheVariants as third
+use Rattle.zed_types.specs.Names.{board_of, stat_of, text_of}
 use Rattle.zed_types.specs.Table.{map_from}
 use Rattle.zed_types.specs.Text.{run_from}
 use Rattle.zed_world.specs.Offsets.{is_passage_at}
@@ -20,16 +19,6 @@ use Rattle.zed_edit.specs.declared.plain.Properties.{Properties}
 use Rattle.zed_edit.specs.declared.plain.Board.{Board}
 use Rattle.zed_edit.specs.declared.plain.Stat.{Stat}
 use Rattle.zed_edit.specs.declared.plain.Text.{Text}
-
--- thing n of an edit
-abbrev pub board_of : Stamp → ℕ → BoardId
-board_of s n = record { stamp = s; index = n }
-
-abbrev pub stat_of : Stamp → ℕ → StatId
-stat_of s n = record { stamp = s; index = n }
-
-abbrev pub text_of : Stamp → ℕ → TextId
-text_of s n = record { stamp = s; index = n }
 
 -- an exit's number, of which 0 is none
 abbrev pub exit_of : Stamp → ℕ → Option BoardId

@@ -15,7 +15,8 @@ use Rattle.zed_edit.specs.Header.{set_header}
 use Rattle.zed_edit.specs.Board.{new_board, set_board_property, set_board_cells, add_stat, remove_board}
 use Rattle.zed_edit.specs.Stat.{set_stat, new_stat, remove_stat}
 use Rattle.zed_edit.specs.Document.{empty_document, change_board, change_stat, change_text, has}
-use Rattle.zed_edit.specs.Genesis.{board_of, stat_of, text_of, header_of, opened_boards, opened_texts}
+use Rattle.zed_types.specs.Names.{board_of, stat_of, text_of}
+use Rattle.zed_edit.specs.Genesis.{header_of, opened_boards, opened_texts}
 use Rattle.zed_op.specs.Names.{names_of}
 
 -- whether all of these things were made

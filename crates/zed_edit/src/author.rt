@@ -25,8 +25,8 @@ fn add_board(alloc: Global, plain: &mut Plain, stamp: Stamp, name: &Bytes) -> Re
     ensures memory { IfErr result (λ e. e ≡ EditError.Memory) }
     ensures kept { plain.new.passed_over ≡ plain.old.passed_over }
 {
-    let id = BoardId { stamp, index: 0 };
-    let player = StatId { stamp, index: 0 };
+    let id = BoardId::new(stamp, 0);
+    let player = StatId::new(stamp, 0);
     let board = new_board(alloc, id, player, name)?;
     plain.boards.push(board).map_err(EditError::of_growth)
 }
@@ -41,7 +41,7 @@ fn add_stat(
     ensures memory { IfErr result (λ e. e ≡ EditError.Memory) }
     ensures kept { plain.new.passed_over ≡ plain.old.passed_over }
 {
-    let stat = new_stat(StatId { stamp, index: 0 }, false, fields);
+    let stat = new_stat(StatId::new(stamp, 0), false, fields);
     add_to_boards(plain.boards.as_mut_slice(), b, stat)
 }
 
@@ -51,7 +51,7 @@ fn add_text(alloc: Global, plain: &mut Plain, stamp: Stamp) -> Result<(), EditEr
     ensures kept { plain.new.passed_over ≡ plain.old.passed_over }
 {
     let text = Text {
-        id: TextId { stamp, index: 0 },
+        id: TextId::new(stamp, 0),
         elements: Seq::new(alloc),
     };
     plain.texts.push(text).map_err(EditError::of_growth)
@@ -106,7 +106,7 @@ pub fn step(alloc: Global, plain: &mut Plain, edit: &Edit) -> Result<(), EditErr
     ensures memory { IfErr result (λ e. e ≡ EditError.Memory) }
     ensures kept { OnErr result (plain.new.passed_over ≡ plain.old.passed_over) }
 {
-    if can(plain, edit) {
+    if can(alloc, plain, edit) {
         do_edit(alloc, plain, edit)
     } else {
         remember(plain, edit)

@@ -57,10 +57,7 @@ fn open_text(
     };
     let run = run_of(alloc, stamp, program.as_slice()).map_err(EditError::of_growth)?;
     let text = Text {
-        id: TextId {
-            stamp,
-            index: t as u32,
-        },
+        id: TextId::new(stamp, t as u32),
         elements: Seq::from_vec(run),
     };
     texts.push(text).map_err(EditError::of_growth)?;

@@ -2,7 +2,8 @@
 
 ghost use Rattle.std.specs.Prelude.{◌≡◌, ◌+◌, ◌<◌, ◌≤◌, ◌^◌, length, is_some, option_map, IfOk, IfErr};
 ghost use Rattle.zed_types.specs.Table.{map_from};
-ghost use Rattle.zed_edit.specs.Genesis.{stat_of, text_of as name_of_text, exit_of as exit_to, header_of as header_in, properties_of as properties_in, own_program, programs_before as programs_below, text_number, parameter_of as parameter_in, opened_stat as stat_opened, opened_board as board_opened};
+ghost use Rattle.zed_types.specs.Names.{stat_of, text_of as name_of_text};
+ghost use Rattle.zed_edit.specs.Genesis.{exit_of as exit_to, header_of as header_in, properties_of as properties_in, own_program, programs_before as programs_below, text_number, parameter_of as parameter_in, opened_stat as stat_opened, opened_board as board_opened};
 
 use crate::plain::{Board, Header, Properties, Stat};
 use std::alloc::Global;
@@ -18,10 +19,7 @@ fn exit_of(stamp: Stamp, n: u8) -> Option<BoardId>
     if n == 0 {
         return None;
     }
-    Some(BoardId {
-        stamp,
-        index: u32::from(n),
-    })
+    Some(BoardId::new(stamp, u32::from(n)))
 }
 
 fn copy_of(bytes: &Bytes) -> Result<Bytes, EditError>
@@ -71,10 +69,7 @@ pub(crate) fn header_of(stamp: Stamp, header: &zed_world::Header) -> Result<Head
         hundredths: header.hundredths,
         keys: header.keys,
         saved: header.saved,
-        current_board: BoardId {
-            stamp,
-            index: u32::from(header.current_board),
-        },
+        current_board: BoardId::new(stamp, u32::from(header.current_board)),
         world_name: copy_of(&header.name)?,
         flags,
     })
@@ -130,10 +125,7 @@ fn text_of(stamp: Stamp, t: usize, stats: &[StatData], j: usize, code: &Code) ->
         Code::Own(_) => programs_before(j, stats),
         Code::Same(n) => programs_before(usize::from(*n), stats),
     };
-    Some(TextId {
-        stamp,
-        index: (t + below) as u32,
-    })
+    Some(TextId::new(stamp, (t + below) as u32))
 }
 
 fn parameter_of(stamp: Stamp, board: &BoardData, stat: &StatData) -> ThirdParameter
@@ -142,10 +134,7 @@ fn parameter_of(stamp: Stamp, board: &BoardData, stat: &StatData) -> ThirdParame
     if !is_passage(&board.tiles, stat.x, stat.y) {
         return ThirdParameter::Byte(stat.p3);
     }
-    ThirdParameter::Board(BoardId {
-        stamp,
-        index: u32::from(stat.p3),
-    })
+    ThirdParameter::Board(BoardId::new(stamp, u32::from(stat.p3)))
 }
 
 /// Stat `k` of a board whose stats are numbered from `m`.
@@ -155,10 +144,7 @@ fn stat_if(stamp: Stamp, m: usize, k: Option<u8>) -> Option<StatId>
 {
     match k {
         None => None,
-        Some(k) => Some(StatId {
-            stamp,
-            index: (m + usize::from(k)) as u32,
-        }),
+        Some(k) => Some(StatId::new(stamp, (m + usize::from(k)) as u32)),
     }
 }
 
@@ -170,10 +156,7 @@ fn opened_stat(stamp: Stamp, m: usize, t: usize, board: &BoardData, j: usize, x:
     ensures { result ≡ stat_opened stamp m t board.now j x.now }
 {
     Stat {
-        id: StatId {
-            stamp,
-            index: (m + j) as u32,
-        },
+        id: StatId::new(stamp, (m + j) as u32),
         is_player: j == 0,
         fields: StatFields {
             x: x.x,
@@ -232,10 +215,7 @@ pub(crate) fn opened_board(
     ensures memory { IfErr result (λ e. e ≡ EditError.Memory) }
 {
     Ok(Board {
-        id: BoardId {
-            stamp,
-            index: n as u32,
-        },
+        id: BoardId::new(stamp, n as u32),
         tiles: board.tiles,
         properties: properties_of(stamp, &board.name, &board.properties)?,
         stats: opened_stats(alloc, stamp, m, t, board)?,

@@ -3,7 +3,7 @@ ghost use Rattle.zed_edit.specs.Document.{empty_document};
 
 use crate::header::empty_header;
 use std::alloc::Global;
-use zed_types::{BoardId, Bytes, Seq, Stamp, StatFields, StatId, TILES, TextElement, TextId, Tile};
+use zed_types::{BoardId, Bytes, Seq, Stamp, StatFields, StatId, TILES, TextByte, TextId, Tile};
 
 /// The header registers.
 #[derive(Drop)]
@@ -68,7 +68,7 @@ pub struct Board {
 #[derive(Drop)]
 pub struct Text {
     pub id: TextId,
-    pub elements: Seq<TextElement>,
+    pub elements: Seq<TextByte>,
 }
 
 /// The document of one author. Boards, the stats of each, and texts stand in the order in which they were made, removed ones too,

@@ -3,7 +3,7 @@
 ghost use Rattle.std.specs.Prelude.{◌≡◌, ◌↔◌, IsTrue};
 
 use crate::plain::{Board, Header, Plain, Properties, Stat, Text};
-use zed_types::{Bytes, TextElement, Tile};
+use zed_types::{Bytes, TextByte, Tile};
 
 fn are_same_strings(a: &[Bytes], b: &[Bytes]) -> bool
     ensures { IsTrue result ↔ a.now ≡ b.now }
@@ -33,7 +33,7 @@ fn are_same_stats(a: &[Stat], b: &[Stat]) -> bool
     true
 }
 
-fn are_same_elements(a: &[TextElement], b: &[TextElement]) -> bool
+fn are_same_elements(a: &[TextByte], b: &[TextByte]) -> bool
     ensures { IsTrue result ↔ a.now ≡ b.now }
 {
     if a.len() != b.len() {

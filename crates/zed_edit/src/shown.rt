@@ -11,7 +11,7 @@ use crate::has::text_named;
 use crate::plain::{Board, Plain, Stat};
 use std::alloc::{AllocError, Global};
 use zed_op::EditError;
-use zed_types::{StatId, TextElement, TextId};
+use zed_types::{StatId, TextByte, TextId};
 
 fn stat_on(board: &Board, s: StatId) -> Option<&Stat>
     ensures { lent result ≡ find (λ x. same_stat x.id s) board.now.stats }
@@ -31,7 +31,7 @@ fn stat_among(boards: &[Board], s: StatId) -> Option<&Stat>
     None
 }
 
-fn alive_bytes(alloc: Global, elements: &[TextElement]) -> Result<Vec<u8>, AllocError>
+fn alive_bytes(alloc: Global, elements: &[TextByte]) -> Result<Vec<u8>, AllocError>
     ensures { IfOk result (λ v. v.items ≡ bytes_alive elements.now) }
 {
     let mut bytes = Vec::new(alloc);
@@ -44,7 +44,7 @@ fn alive_bytes(alloc: Global, elements: &[TextElement]) -> Result<Vec<u8>, Alloc
 }
 
 #[tactic(auto, using(crate::proofs::Finding::count_alive))]
-fn alive_count(elements: &[TextElement]) -> usize
+fn alive_count(elements: &[TextByte]) -> usize
     ensures { result ≡ length (bytes_alive elements.now) }
 {
     elements.iter().filter(|e| e.alive).count()
@@ -62,7 +62,7 @@ impl Plain {
     }
 
     /// The bytes of a text in order under their names, dead ones too. None where the text was not made.
-    pub fn elements(&self, t: TextId) -> Option<&[TextElement]>
+    pub fn elements(&self, t: TextId) -> Option<&[TextByte]>
         ensures { lent result ≡ made_elements self.now t }
     {
         match text_named(self, t) {

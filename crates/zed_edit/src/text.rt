@@ -9,24 +9,17 @@ ghost use Rattle.zed_edit.specs.Document.{change_such, change_elements};
 use crate::plain::Text;
 use std::alloc::{AllocError, Global};
 use zed_op::EditError;
-use zed_types::{ByteRange, ElemId, Seq, Stamp, TextElement, TextId};
+use zed_types::{ByteRange, ElemId, Seq, Stamp, TextByte, TextId};
 
 /// The bytes of an insertion under their names.
-pub(crate) fn run_of(
-    alloc: Global,
-    stamp: Stamp,
-    bytes: &[u8],
-) -> Result<Vec<TextElement>, AllocError>
+pub(crate) fn run_of(alloc: Global, stamp: Stamp, bytes: &[u8]) -> Result<Vec<TextByte>, AllocError>
     requires { length bytes.now < 2 ^ 32 }
     ensures { IfOk result (λ run. run.items ≡ run_from stamp 0 bytes.now) }
 {
     let mut run = Vec::with_capacity(alloc, bytes.len())?;
     for (i, byte) in bytes.iter().enumerate() {
-        run.push(TextElement {
-            id: ElemId {
-                stamp,
-                index: i as u32,
-            },
+        run.push(TextByte {
+            id: ElemId::new(stamp, i as u32),
             byte: *byte,
             alive: true,
         })?;
@@ -34,7 +27,7 @@ pub(crate) fn run_of(
     Ok(run)
 }
 
-fn place_of(elements: &Seq<TextElement>, a: ElemId) -> Option<usize>
+fn place_of(elements: &Seq<TextByte>, a: ElemId) -> Option<usize>
     ensures place { result ≡ position (λ x. same_element x.id a) elements.now }
     ensures bound { IfSome result (λ i. i < 2 ^ 64 - 1) }
 {
@@ -43,9 +36,9 @@ fn place_of(elements: &Seq<TextElement>, a: ElemId) -> Option<usize>
 
 /// Puts a run directly after the byte named, or at the head.
 fn put_run(
-    elements: &mut Seq<TextElement>,
+    elements: &mut Seq<TextByte>,
     after: Option<ElemId>,
-    run: Vec<TextElement>,
+    run: Vec<TextByte>,
 ) -> Result<(), AllocError>
     ensures { IfOk result (λ _. elements.new ≡ put_after after run.items elements.old) }
 {
@@ -101,10 +94,10 @@ pub(crate) fn insert_bytes(
 fn is_within(range: ByteRange, a: ElemId) -> bool
     ensures { result ≡ is_in_range range a }
 {
-    a.stamp == range.stamp && range.first <= a.index && a.index <= range.last
+    a.name.stamp == range.stamp && range.first <= a.name.index && a.name.index <= range.last
 }
 
-fn kill_if(element: &mut TextElement, range: ByteRange)
+fn kill_if(element: &mut TextByte, range: ByteRange)
     ensures { element.new ≡ kill_within range element.old }
 {
     if is_within(range, element.id) {
@@ -112,7 +105,7 @@ fn kill_if(element: &mut TextElement, range: ByteRange)
     }
 }
 
-fn kill_bytes(elements: &mut [TextElement], range: ByteRange)
+fn kill_bytes(elements: &mut [TextByte], range: ByteRange)
     ensures { elements.new ≡ kill range elements.old }
 {
     for x in elements.iter_mut() {

@@ -7,7 +7,7 @@ use Rattle.zed_types.specs.declared.stamp.Stamp.{Stamp}
 use Rattle.zed_types.specs.declared.names.BoardId.{BoardId}
 use Rattle.zed_types.specs.declared.tile.Tile.{Tile}
 use Rattle.zed_types.specs.declared.tile.Rectangle.{Rectangle}
-use Rattle.zed_types.specs.Names.{same_board, same_stat}
+use Rattle.zed_types.specs.Names.{board_of, stat_of, same_board, same_stat}
 use Rattle.zed_types.specs.Table.{is_inside, place_at, map_from}
 use Rattle.zed_world.specs.Contents.{Contents}
 use Rattle.zed_world.specs.Reading.{world_at}
@@ -19,7 +19,7 @@ use Rattle.zed_edit.specs.declared.plain.Plain.{Plain as Document}
 use Rattle.zed_edit.specs.Board.{new_board, set_board_property, set_board_cells, add_stat, change_stats, remove_board}
 use Rattle.zed_edit.specs.Stat.{set_stat, new_stat, remove_stat}
 use Rattle.zed_edit.specs.Document.{change_such}
-use Rattle.zed_edit.specs.Genesis.{board_of, stat_of, opened_boards}
+use Rattle.zed_edit.specs.Genesis.{opened_boards}
 use Rattle.zed_edit.specs.Replay.{open_world, can, do_op, do_edit, pass_over}
 use Rattle.zed_laws.specs.Registers.{overwritten, tile_in, tile_of, tile_of_op, CellsAreRegisters}
 use Rattle.zed_types.proofs.StampOrder.{same_board-true, same_board-apart}

@@ -5,8 +5,8 @@ use Rattle.std.specs.Option.{option_or}
 use Rattle.std.proofs.lemmas.List.Folds.{find-append}
 use Rattle.zed_types.specs.declared.stamp.Stamp.{Stamp}
 use Rattle.zed_types.specs.declared.names.TextId.{TextId}
-use Rattle.zed_types.specs.declared.text.TextElement.{TextElement}
-use Rattle.zed_types.specs.Names.{same_text}
+use Rattle.zed_types.specs.declared.text.TextByte.{TextByte}
+use Rattle.zed_types.specs.Names.{text_of, same_text}
 use Rattle.zed_types.specs.Text.{run_from, put_after, kill}
 use Rattle.zed_world.specs.Contents.{Contents}
 use Rattle.zed_world.specs.Reading.{world_at}
@@ -16,7 +16,7 @@ use Rattle.zed_op.specs.declared.op.Op.TheVariants.{Genesis, TextAdd, TextInsert
 use Rattle.zed_edit.specs.declared.plain.Text.{Text}
 use Rattle.zed_edit.specs.declared.plain.Plain.{Plain as Document}
 use Rattle.zed_edit.specs.Document.{change_such, change_elements, find_text, change_text}
-use Rattle.zed_edit.specs.Genesis.{text_of, opened_texts}
+use Rattle.zed_edit.specs.Genesis.{opened_texts}
 use Rattle.zed_edit.specs.Replay.{open_world, do_op}
 use Rattle.zed_types.proofs.StampOrder.{same_text-alike, same_text-apart}
 
@@ -58,7 +58,7 @@ text_step s (TextInsert u after bytes) t o =
 text_step s (TextDelete u r) t o = cond (same_text u t) (map_option (change_elements (kill r)) o) o
 text_step s _ t o = o
 
-find_text-change_text : (t u : TextId) (f : List TextElement → List TextElement) (p : Document) → find_text t (change_text u f p).texts ≡ cond (same_text u t) (map_option (change_elements f) (find_text t p.texts)) (find_text t p.texts)
+find_text-change_text : (t u : TextId) (f : List TextByte → List TextByte) (p : Document) → find_text t (change_text u f p).texts ≡ cond (same_text u t) (map_option (change_elements f) (find_text t p.texts)) (find_text t p.texts)
 find_text-change_text t u f p = go (same_text u t) refl
   where
     go : (b : Bool) → same_text u t ≡ b → find_text t (change_text u f p).texts ≡ cond (same_text u t) (map_option (change_elements f) (find_text t p.texts)) (find_text t p.texts)

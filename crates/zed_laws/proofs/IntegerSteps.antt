@@ -19,7 +19,7 @@ use Rattle.zed_types.specs.declared.stat_field.StatNumber.TheVariants.{StepX, St
 use Rattle.zed_types.specs.declared.stat_field.StatFields.{StatFields}
 use Rattle.zed_types.specs.declared.stat_field.StatSetting.{StatSetting}
 use Rattle.zed_types.specs.declared.stat_field.StatSetting.TheVariants as stat
-use Rattle.zed_types.specs.Names.{same_board, same_stat}
+use Rattle.zed_types.specs.Names.{board_of, stat_of, same_board, same_stat}
 use Rattle.zed_types.specs.Table.{map_from}
 use Rattle.zed_world.specs.Contents.{Contents}
 use Rattle.zed_types.specs.declared.tile.Tile.{Tile}
@@ -38,7 +38,7 @@ use Rattle.zed_edit.specs.declared.plain.Plain.{Plain}
 use Rattle.zed_edit.specs.Header.{with_number, set_header}
 use Rattle.zed_edit.specs.Board.{set_board_property, set_board_cells, new_board, add_stat, change_stats, remove_board}
 use Rattle.zed_edit.specs.Stat.{set_stat, new_stat, player_fields, remove_stat}
-use Rattle.zed_edit.specs.Genesis.{board_of, stat_of, opened_stat, opened_boards_from, opened_boards, programs_before}
+use Rattle.zed_edit.specs.Genesis.{opened_stat, opened_boards_from, opened_boards, programs_before}
 use Rattle.zed_edit.specs.Document.{empty_document, change_such}
 use Rattle.zed_edit.specs.Replay.{can, step, do_op, do_edit, pass_over, open_world, replay_on}
 use Rattle.zed_laws.specs.Integers.{HasHeaderInteger, HasBoardInteger, HasStatInteger, HasFieldIntegers, HasOpIntegers, HaveIntegers, HeaderHasIntegers, StatHasIntegers, BoardHasIntegers, HasIntegers, ReplayKeepsIntegers}

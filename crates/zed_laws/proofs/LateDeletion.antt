@@ -5,10 +5,10 @@ use Rattle.std.proofs.lemmas.Bool.{and_parts}
 use Rattle.zed_types.specs.declared.stamp.Stamp.{Stamp}
 use Rattle.zed_types.specs.declared.names.TextId.{TextId}
 use Rattle.zed_types.specs.declared.names.ElemId.{ElemId}
-use Rattle.zed_types.specs.declared.text.TextElement.{TextElement}
+use Rattle.zed_types.specs.declared.text.TextByte.{TextByte}
 use Rattle.zed_types.specs.declared.text.ByteRange.{ByteRange}
 use Rattle.zed_types.specs.Stamp.{before, same_stamp}
-use Rattle.zed_types.specs.Names.{same_text, same_element}
+use Rattle.zed_types.specs.Names.{byte_of, same_text, same_element}
 use Rattle.zed_types.specs.Text.{run_from, put_after, kill, kill_within, is_within}
 use Rattle.zed_op.specs.declared.op.Op.{Op}
 use Rattle.zed_op.specs.declared.op.Op.TheVariants.{TextInsert, TextDelete}
@@ -25,7 +25,7 @@ use Rattle.zed_laws.proofs.TextSteps.{elements_step, elements_steps, kill-append
 use Rattle.zed_laws.proofs.LateInsertion.{there-steps, text_there, rising-high}
 use Rattle.zed_laws.proofs.DoneEdits.{all_done, AllCan, all_done-append, AllCan-tail, AllCan-none_held, replay_on-all_done}
 
-kill-put_after : (x : ByteRange) (a : Option ElemId) (run xs : List TextElement) → kill x run ≡ run → kill x (put_after a run xs) ≡ put_after a run (kill x xs)
+kill-put_after : (x : ByteRange) (a : Option ElemId) (run xs : List TextByte) → kill x run ≡ run → kill x (put_after a run xs) ≡ put_after a run (kill x xs)
 kill-put_after x None run xs h = kill-append x run xs ∙ ap (λ front. front ++ kill x xs) h
 kill-put_after x (Some q) run [] h = refl
 kill-put_after x (Some q) run (y ∷ xs) h = go (same_element y.id q) refl (kill-put_after x (Some q) run xs h)
@@ -41,15 +41,15 @@ and_swap true false true = refl
 and_swap true false false = refl
 and_swap false b c = refl
 
-kill-kill : (x y : ByteRange) (xs : List TextElement) → kill x (kill y xs) ≡ kill y (kill x xs)
+kill-kill : (x y : ByteRange) (xs : List TextByte) → kill x (kill y xs) ≡ kill y (kill x xs)
 kill-kill x y [] = refl
 kill-kill x y (z ∷ xs) =
     let e = and_swap z.alive (not (is_within y z.id)) (not (is_within x z.id)) in
-    let mk : Bool → TextElement = λ b. record { id = z.id; byte = z.byte; alive = b } in
+    let mk : Bool → TextByte = λ b. record { id = z.id; byte = z.byte; alive = b } in
     ap (λ b. mk b ∷ kill x (kill y xs)) e ∙ ap (λ rest. kill_within y (kill_within x z) ∷ rest) (kill-kill x y xs)
 
 -- a later edit and marking dead: in either order
-kill-step : (t : TextId) (x : ByteRange) (r : Stamp) (op : Op) (xs : List TextElement) → same_stamp r x.stamp ≡ false → kill x (elements_step t r op xs) ≡ elements_step t r op (kill x xs)
+kill-step : (t : TextId) (x : ByteRange) (r : Stamp) (op : Op) (xs : List TextByte) → same_stamp r x.stamp ≡ false → kill x (elements_step t r op xs) ≡ elements_step t r op (kill x xs)
 kill-step t x r (TextInsert u after bytes) xs h = go (same_text u t)
   where
     go : (b : Bool) → kill x (cond b (put_after after (run_from r 0 bytes) xs) xs) ≡ cond b (put_after after (run_from r 0 bytes) (kill x xs)) (kill x xs)
@@ -62,7 +62,7 @@ kill-step t x r (TextDelete u y) xs h = go (same_text u t)
     go false = refl
 kill-step t x r _ xs h = refl
 
-kill-steps : (t : TextId) (x : ByteRange) (s : Stamp) (es : List Edit) (xs : List TextElement) → before x.stamp s ≡ true → AllByRecursion (λ e. before s e.stamp ≡ true) es → kill x (elements_steps t es xs) ≡ elements_steps t es (kill x xs)
+kill-steps : (t : TextId) (x : ByteRange) (s : Stamp) (es : List Edit) (xs : List TextByte) → before x.stamp s ≡ true → AllByRecursion (λ e. before s e.stamp ≡ true) es → kill x (elements_steps t es xs) ≡ elements_steps t es (kill x xs)
 kill-steps t x s [] xs b h = refl
 kill-steps t x s (e ∷ es) xs b h =
     kill-steps t x s es (elements_step t e.stamp e.op xs) b h.1
@@ -70,7 +70,7 @@ kill-steps t x s (e ∷ es) xs b h =
 
 first_earlier : (s : Stamp) (t : TextId) (x : ByteRange) → names_earlier (deletion s t x) ≡ true → before x.stamp s ≡ true
 first_earlier s t x h =
-    let k = and_parts (before t.stamp s) (before x.stamp s && (before x.stamp s && true)) h in
+    let k = and_parts (before t.name.stamp s) (before x.stamp s && (before x.stamp s && true)) h in
     let l = and_parts (before x.stamp s) (before x.stamp s && true) k.1 in
     l.0
 
@@ -82,7 +82,7 @@ deletion_among_done s t x low high r n m b =
     let c : AllCan empty_document (low ++ high) = AllCan-none_held empty_document (low ++ high) n in
     let d : AllCan empty_document (low ++ e ∷ high) = AllCan-none_held empty_document (low ++ e ∷ high) m in
     let i = AllCan-tail empty_document low (e ∷ high) d in
-    let j = and_parts (has p (text t)) (has p (element t (record { stamp = x.stamp; index = x.first })) && (has p (element t (record { stamp = x.stamp; index = x.last })) && true)) i.0 in
+    let j = and_parts (has p (text t)) (has p (element t (byte_of x.stamp x.first)) && (has p (element t (byte_of x.stamp x.last)) && true)) i.0 in
     let f = text_there t e p j.0 in
     ap (λ q. elements q t) (replay_on-all_done empty_document (low ++ e ∷ high) d ∙ all_done-append empty_document low (e ∷ high))
     ∙ there-steps t (e ∷ high) p f.0 f.1 ∙ ap (elements_steps t high) (rw (same_text-itself t) refl)

@@ -5,10 +5,10 @@ use Rattle.std.proofs.lemmas.Bool.{and_parts}
 use Rattle.zed_types.specs.declared.stamp.Stamp.{Stamp}
 use Rattle.zed_types.specs.declared.names.TextId.{TextId}
 use Rattle.zed_types.specs.declared.names.ElemId.{ElemId}
-use Rattle.zed_types.specs.declared.text.TextElement.{TextElement}
+use Rattle.zed_types.specs.declared.text.TextByte.{TextByte}
 use Rattle.zed_types.specs.declared.text.ByteRange.{ByteRange}
 use Rattle.zed_types.specs.Stamp.{before, same_stamp}
-use Rattle.zed_types.specs.Names.{same_text, same_element}
+use Rattle.zed_types.specs.Names.{text_of, byte_of, same_text, same_element}
 use Rattle.zed_types.specs.Table.{map_from}
 use Rattle.zed_types.specs.Text.{run_from, behind, put_after, put_late, kill}
 use Rattle.zed_world.specs.Contents.{Contents}
@@ -21,7 +21,7 @@ use Rattle.zed_edit.specs.declared.plain.Text.{Text}
 use Rattle.zed_edit.specs.declared.plain.Plain.{Plain as Document}
 use Rattle.zed_op.specs.declared.thing.Thing.TheVariants.{Text as text, Element as element}
 use Rattle.zed_edit.specs.Document.{change_elements, find_text, elements, elements_in, has, empty_document}
-use Rattle.zed_edit.specs.Genesis.{text_of, opened_text, programs_of}
+use Rattle.zed_edit.specs.Genesis.{opened_text, programs_of}
 use Rattle.zed_op.specs.Names.{names_of, element_named}
 use Rattle.zed_op.specs.Fit.{names_earlier}
 use Rattle.zed_op.specs.Set.{IsRising}
@@ -35,13 +35,13 @@ use Rattle.zed_laws.proofs.TextSteps.{elements_step, elements_steps, PlaceBelow,
 use Rattle.zed_laws.proofs.DoneEdits.{all_done, AllCan, all_done-append, AllCan-tail, AllCan-none_held, replay_on-all_done}
 
 -- a text that is there, after one edit and after many
-abbrev with_elements : Text → List TextElement → Text
+abbrev with_elements : Text → List TextByte → Text
 with_elements x ys = record x { elements = ys }
 
 there-step : (t : TextId) (e : Edit) (x : Text) → text_step e.stamp e.op t (Some x) ≡ Some (with_elements x (elements_step t e.stamp e.op x.elements))
 there-step t e x = go e.op
   where
-    choice : (b : Bool) (f : List TextElement → List TextElement) → cond b (Some (change_elements f x)) (Some x) ≡ Some (with_elements x (cond b (f x.elements) x.elements))
+    choice : (b : Bool) (f : List TextByte → List TextByte) → cond b (Some (change_elements f x)) (Some x) ≡ Some (with_elements x (cond b (f x.elements) x.elements))
     choice true f = refl
     choice false f = refl
 
@@ -61,19 +61,19 @@ there-steps t (e ∷ es) p x h =
     there-steps t es (do_edit p e) (with_elements x (elements_step t e.stamp e.op x.elements)) (find_text-do_op t e.stamp e.op p ∙ ap (text_step e.stamp e.op t) h ∙ there-step t e x)
 
 -- elements whose stamps pass
-abbrev pub StampsPass : (Stamp → Type 0) → List TextElement → Type 0
-StampsPass P xs = AllByRecursion (λ x. P x.id.stamp) xs
+abbrev pub StampsPass : (Stamp → Type 0) → List TextByte → Type 0
+StampsPass P xs = AllByRecursion (λ x. P x.id.name.stamp) xs
 
 module _ (P : Stamp → Type 0) where
   pass-run : (s : Stamp) (n : ℕ) (bytes : List ℕ) → P s → StampsPass P (run_from s n bytes)
   pass-run s n [] h = tt
   pass-run s n (b ∷ bytes) h = (h, pass-run s (n + 1) bytes h)
 
-  pass-append : (xs ys : List TextElement) → StampsPass P xs → StampsPass P ys → StampsPass P (xs ++ ys)
+  pass-append : (xs ys : List TextByte) → StampsPass P xs → StampsPass P ys → StampsPass P (xs ++ ys)
   pass-append [] ys a b = b
   pass-append (x ∷ xs) ys a b = (a.0, pass-append xs ys a.1 b)
 
-  pass-behind : (a : ElemId) (run xs : List TextElement) → StampsPass P run → StampsPass P xs → StampsPass P (behind a (λ rest. run ++ rest) xs)
+  pass-behind : (a : ElemId) (run xs : List TextByte) → StampsPass P run → StampsPass P xs → StampsPass P (behind a (λ rest. run ++ rest) xs)
   pass-behind a run [] r h = tt
   pass-behind a run (x ∷ xs) r h = (h.0, go (same_element x.id a) (pass-behind a run xs r h.1))
     where
@@ -81,15 +81,15 @@ module _ (P : Stamp → Type 0) where
       go true more = pass-append run xs r h.1
       go false more = more
 
-  pass-put : (a : Option ElemId) (run xs : List TextElement) → StampsPass P run → StampsPass P xs → StampsPass P (put_after a run xs)
+  pass-put : (a : Option ElemId) (run xs : List TextByte) → StampsPass P run → StampsPass P xs → StampsPass P (put_after a run xs)
   pass-put None run xs r h = pass-append run xs r h
   pass-put (Some a) run xs r h = pass-behind a run xs r h
 
-  pass-kill : (r : ByteRange) (xs : List TextElement) → StampsPass P xs → StampsPass P (kill r xs)
+  pass-kill : (r : ByteRange) (xs : List TextByte) → StampsPass P xs → StampsPass P (kill r xs)
   pass-kill r [] h = tt
   pass-kill r (x ∷ xs) h = (h.0, pass-kill r xs h.1)
 
-  pass-change : (b : Bool) (f : List TextElement → List TextElement) (o : Option Text) → ((xs : List TextElement) → StampsPass P xs → StampsPass P (f xs)) → StampsPass P (elements_in o) → StampsPass P (elements_in (cond b (map_option (change_elements f) o) o))
+  pass-change : (b : Bool) (f : List TextByte → List TextByte) (o : Option Text) → ((xs : List TextByte) → StampsPass P xs → StampsPass P (f xs)) → StampsPass P (elements_in o) → StampsPass P (elements_in (cond b (map_option (change_elements f) o) o))
   pass-change true f None kept h = tt
   pass-change true f (Some x) kept h = kept x.elements h
   pass-change false f o kept h = h
@@ -128,14 +128,14 @@ module _ (P : Stamp → Type 0) where
   pass-all_done t (e ∷ es) p h k = pass-all_done t es (do_edit p e) h.1 (pass-do_edit t e p h.0 k)
 
   -- an element that is there has a stamp that passes
-  pub pass-there : (a : ElemId) (xs : List TextElement) → StampsPass P xs → list_any (λ x. same_element x.id a) xs ≡ true → P a.stamp
+  pub pass-there : (a : ElemId) (xs : List TextByte) → StampsPass P xs → list_any (λ x. same_element x.id a) xs ≡ true → P a.name.stamp
   pass-there a [] h e = absurd (cc)
   pass-there a (x ∷ xs) h e = go (same_element x.id a) refl (λ k. pass-there a xs h.1 k)
     where
-      go : (b : Bool) → same_element x.id a ≡ b → (list_any (λ x. same_element x.id a) xs ≡ true → P a.stamp) → P a.stamp
+      go : (b : Bool) → same_element x.id a ≡ b → (list_any (λ x. same_element x.id a) xs ≡ true → P a.name.stamp) → P a.name.stamp
       go true b more =
-          let k = and_parts (same_stamp x.id.stamp a.stamp) (eqb x.id.index a.index) b in
-          subst P (same_stamp-true x.id.stamp a.stamp k.0) h.0
+          let k = and_parts (same_stamp x.id.name.stamp a.name.stamp) (eqb x.id.name.index a.name.index) b in
+          subst P (same_stamp-true x.id.name.stamp a.name.stamp k.0) h.0
       go false b more = more (rw b at e)
 
 -- edits that can be done, none with the stamp `s`, name no byte of `s`
@@ -146,8 +146,8 @@ names_none s p (TextInsert u (Some a) bytes) k c =
     let h' = and_parts (has p (element u a)) true h.1 in
     pass-there (λ r. same_stamp s r ≡ false) a (elements p u) (k u) h'.0
 names_none s p (TextDelete u x) k c =
-    let a : ElemId = record { stamp = x.stamp; index = x.first } in
-    let b : ElemId = record { stamp = x.stamp; index = x.last } in
+    let a : ElemId = byte_of x.stamp x.first in
+    let b : ElemId = byte_of x.stamp x.last in
     let h = and_parts (has p (text u)) (has_all p (element u a ∷ element u b ∷ [])) c in
     let h' = and_parts (has p (element u a)) (has_all p (element u b ∷ [])) h.1 in
     pass-there (λ r. same_stamp s r ≡ false) a (elements p u) (k u) h'.0
@@ -185,8 +185,8 @@ text_there t e p h = list_any-first (λ x. same_text x.id t) p.texts h
 place_earlier : (s : Stamp) (t : TextId) (a : Option ElemId) (bytes : List ℕ) → names_earlier (insertion s t a bytes) ≡ true → PlaceBelow s a
 place_earlier s t None bytes h = tt
 place_earlier s t (Some a) bytes h =
-    let k = and_parts (before t.stamp s) (before a.stamp s && true) h in
-    let l = and_parts (before a.stamp s) true k.1 in
+    let k = and_parts (before t.name.stamp s) (before a.name.stamp s && true) h in
+    let l = and_parts (before a.name.stamp s) true k.1 in
     l.0
 
 -- the texts of edits that are all done, with one more at its place

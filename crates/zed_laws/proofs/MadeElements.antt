@@ -5,10 +5,10 @@ use Rattle.std.proofs.lemmas.Bool.{and_parts, eqb-true}
 use Rattle.zed_types.specs.declared.stamp.Stamp.{Stamp}
 use Rattle.zed_types.specs.declared.names.TextId.{TextId}
 use Rattle.zed_types.specs.declared.names.ElemId.{ElemId}
-use Rattle.zed_types.specs.declared.text.TextElement.{TextElement}
+use Rattle.zed_types.specs.declared.text.TextByte.{TextByte}
 use Rattle.zed_types.specs.declared.text.ByteRange.{ByteRange}
 use Rattle.zed_types.specs.Stamp.{same_stamp}
-use Rattle.zed_types.specs.Names.{same_text, same_element}
+use Rattle.zed_types.specs.Names.{text_of, same_text, same_element}
 use Rattle.zed_types.specs.Table.{map_from}
 use Rattle.zed_types.specs.Text.{run_from, behind, put_after, kill}
 use Rattle.zed_world.specs.Contents.{Contents}
@@ -20,7 +20,7 @@ use Rattle.zed_op.specs.declared.op.Edit.{Edit}
 use Rattle.zed_edit.specs.declared.plain.Text.{Text}
 use Rattle.zed_edit.specs.declared.plain.Plain.{Plain}
 use Rattle.zed_edit.specs.Document.{change_such, change_elements, find_text, elements_in, empty_document}
-use Rattle.zed_edit.specs.Genesis.{text_of, opened_text, opened_texts, programs_of}
+use Rattle.zed_edit.specs.Genesis.{opened_text, opened_texts, programs_of}
 use Rattle.zed_edit.specs.Replay.{can, do_op, open_world, step, replay_on}
 use Rattle.zed_laws.specs.TextNames.{StampsPass, ElementsAreOfEdits, TextsAreOfEdits}
 
@@ -29,7 +29,7 @@ All-append P [] ys a b = b
 All-append P (x ∷ xs) ys a b = (a.0, All-append P xs ys a.1 b)
 
 -- a change of one text among others
-pub keep-change : (P Q : Text → Type 0) (t : TextId) (f : List TextElement → List TextElement) (xs : List Text) → ((x : Text) → P x → Q (change_elements f x)) → ((x : Text) → P x → Q x) → AllByRecursion P xs → AllByRecursion Q (change_such (λ x. same_text x.id t) (change_elements f) xs)
+pub keep-change : (P Q : Text → Type 0) (t : TextId) (f : List TextByte → List TextByte) (xs : List Text) → ((x : Text) → P x → Q (change_elements f x)) → ((x : Text) → P x → Q x) → AllByRecursion P xs → AllByRecursion Q (change_such (λ x. same_text x.id t) (change_elements f) xs)
 keep-change P Q t f [] g h a = tt
 keep-change P Q t f (x ∷ xs) g h a = (go (same_text x.id t), keep-change P Q t f xs g h a.1)
   where
@@ -38,18 +38,18 @@ keep-change P Q t f (x ∷ xs) g h a = (go (same_text x.id t), keep-change P Q t
     go false = h x a.0
 
 -- elements whose stamps pass a test
-abbrev pub Pass : (Stamp → Bool) → List TextElement → Type 0
-Pass test xs = AllByRecursion (λ x. test x.id.stamp ≡ true) xs
+abbrev pub Pass : (Stamp → Bool) → List TextByte → Type 0
+Pass test xs = AllByRecursion (λ x. test x.id.name.stamp ≡ true) xs
 
 -- a text whose stamps pass a test
 abbrev pub IsGood : (Stamp → Bool) → Text → Type 0
-IsGood test x = (test x.id.stamp ≡ true) × Pass test x.elements
+IsGood test x = (test x.id.name.stamp ≡ true) × Pass test x.elements
 
 pass-run : (test : Stamp → Bool) (s : Stamp) (n : ℕ) (bytes : List ℕ) → test s ≡ true → Pass test (run_from s n bytes)
 pass-run test s n [] h = tt
 pass-run test s n (b ∷ bytes) h = (h, pass-run test s (n + 1) bytes h)
 
-pub All-behind : (P : TextElement → Type 0) (a : ElemId) (run xs : List TextElement) → AllByRecursion P run → AllByRecursion P xs → AllByRecursion P (behind a (λ rest. run ++ rest) xs)
+pub All-behind : (P : TextByte → Type 0) (a : ElemId) (run xs : List TextByte) → AllByRecursion P run → AllByRecursion P xs → AllByRecursion P (behind a (λ rest. run ++ rest) xs)
 All-behind P a run [] r h = tt
 All-behind P a run (x ∷ xs) r h = (h.0, go (same_element x.id a) (All-behind P a run xs r h.1))
   where
@@ -57,11 +57,11 @@ All-behind P a run (x ∷ xs) r h = (h.0, go (same_element x.id a) (All-behind P
     go true more = All-append P run xs r h.1
     go false more = more
 
-All-put : (P : TextElement → Type 0) (a : Option ElemId) (run xs : List TextElement) → AllByRecursion P run → AllByRecursion P xs → AllByRecursion P (put_after a run xs)
+All-put : (P : TextByte → Type 0) (a : Option ElemId) (run xs : List TextByte) → AllByRecursion P run → AllByRecursion P xs → AllByRecursion P (put_after a run xs)
 All-put P None run xs r h = All-append P run xs r h
 All-put P (Some a) run xs r h = All-behind P a run xs r h
 
-pass-kill : (test : Stamp → Bool) (r : ByteRange) (xs : List TextElement) → Pass test xs → Pass test (kill r xs)
+pass-kill : (test : Stamp → Bool) (r : ByteRange) (xs : List TextByte) → Pass test xs → Pass test (kill r xs)
 pass-kill test r [] h = tt
 pass-kill test r (x ∷ xs) h = (h.0, pass-kill test r xs h.1)
 
@@ -77,7 +77,7 @@ good-do_op : (test : Stamp → Bool) (s : Stamp) (op : Op) (p : Plain) → test 
 good-do_op test s (Genesis bytes) p h a = good-world test s (world_at bytes) p h a
 good-do_op test s TextAdd p h a = All-append (IsGood test) p.texts (record { id = text_of s 0; elements = [] } ∷ []) a ((h, tt), tt)
 good-do_op test s (TextInsert t after bytes) p h a =
-    keep-change (IsGood test) (IsGood test) t (put_after after (run_from s 0 bytes)) p.texts (λ x g. (g.0, All-put (λ y. test y.id.stamp ≡ true) after (run_from s 0 bytes) x.elements (pass-run test s 0 bytes h) g.1)) (λ x g. g) a
+    keep-change (IsGood test) (IsGood test) t (put_after after (run_from s 0 bytes)) p.texts (λ x g. (g.0, All-put (λ y. test y.id.name.stamp ≡ true) after (run_from s 0 bytes) x.elements (pass-run test s 0 bytes h) g.1)) (λ x g. g) a
 good-do_op test s (TextDelete t r) p h a =
     keep-change (IsGood test) (IsGood test) t (kill r) p.texts (λ x g. (g.0, pass-kill test r x.elements g.1)) (λ x g. g) a
 good-do_op test s _ p h a = a
@@ -94,7 +94,7 @@ good-on test p [] h a = a
 good-on test p (e ∷ es) h a = good-on test (step p e) es h.1 (good-step test p e h.0 a)
 
 -- what holds of the elements of every text holds of those of the text of a name
-pub found-all : (P : List TextElement → Type 0) (t : TextId) (xs : List Text) → P [] → AllByRecursion (λ x. P x.elements) xs → P (elements_in (find_text t xs))
+pub found-all : (P : List TextByte → Type 0) (t : TextId) (xs : List Text) → P [] → AllByRecursion (λ x. P x.elements) xs → P (elements_in (find_text t xs))
 found-all P t [] n a = n
 found-all P t (x ∷ xs) n a = go (same_text x.id t) (found-all P t xs n a.1)
   where
@@ -121,14 +121,14 @@ same_stamp-true a b h =
     let r = eqb-true a.replica b.replica e.1 in
     ap (λ n. stamp_at n a.replica) t ∙ ap (λ n. stamp_at b.time n) r
 
-text-passes : (test : Stamp → Bool) (t : TextId) (xs : List Text) → AllByRecursion (IsGood test) xs → list_any (λ x. same_text x.id t) xs ≡ true → test t.stamp ≡ true
+text-passes : (test : Stamp → Bool) (t : TextId) (xs : List Text) → AllByRecursion (IsGood test) xs → list_any (λ x. same_text x.id t) xs ≡ true → test t.name.stamp ≡ true
 text-passes test t [] a h = absurd (cc)
 text-passes test t (x ∷ xs) a h = go (same_text x.id t) refl (λ k. text-passes test t xs a.1 k)
   where
-    go : (b : Bool) → same_text x.id t ≡ b → (list_any (λ y. same_text y.id t) xs ≡ true → test t.stamp ≡ true) → test t.stamp ≡ true
+    go : (b : Bool) → same_text x.id t ≡ b → (list_any (λ y. same_text y.id t) xs ≡ true → test t.name.stamp ≡ true) → test t.name.stamp ≡ true
     go true b more =
-        let k = and_parts (same_stamp x.id.stamp t.stamp) (eqb x.id.index t.index) b in
-        subst (λ s. test s ≡ true) (same_stamp-true x.id.stamp t.stamp k.0) a.0.0
+        let k = and_parts (same_stamp x.id.name.stamp t.name.stamp) (eqb x.id.name.index t.name.index) b in
+        subst (λ s. test s ≡ true) (same_stamp-true x.id.name.stamp t.name.stamp k.0) a.0.0
     go false b more = more (rw b at h)
 
 pub texts_are_of_edits : TextsAreOfEdits

@@ -12,9 +12,9 @@ use Rattle.zed_types.specs.declared.names.ElemId.{ElemId}
 use Rattle.zed_types.specs.declared.stat_field.StatSetting.{StatSetting}
 use Rattle.zed_types.specs.declared.stat_field.StatSetting.TheVariants.{Byte, Number}
 use Rattle.zed_types.specs.declared.stat_field.StatNumber.TheVariants.{StepX}
-use Rattle.zed_types.specs.declared.text.TextElement.{TextElement}
+use Rattle.zed_types.specs.declared.text.TextByte.{TextByte}
 use Rattle.zed_types.specs.declared.text.ByteRange.{ByteRange}
-use Rattle.zed_types.specs.Names.{same_board, same_stat, same_text, same_element}
+use Rattle.zed_types.specs.Names.{board_of, stat_of, text_of, same_board, same_stat, same_text, same_element}
 use Rattle.zed_types.specs.Text.{run_from, put_after, behind, kill}
 use Rattle.zed_world.specs.Contents.{Contents}
 use Rattle.zed_world.specs.Reading.{world_at}
@@ -30,7 +30,7 @@ use Rattle.zed_op.specs.declared.thing.Thing.TheVariants.{Board as board, Stat a
 use Rattle.zed_edit.specs.Board.{new_board, set_board_property, set_board_cells, add_stat, change_stats, remove_board}
 use Rattle.zed_edit.specs.Stat.{set_stat, new_stat, remove_stat}
 use Rattle.zed_edit.specs.Document.{change_such, change_elements, elements_in, find_text, has}
-use Rattle.zed_edit.specs.Genesis.{board_of, stat_of, text_of, opened_boards, opened_texts}
+use Rattle.zed_edit.specs.Genesis.{opened_boards, opened_texts}
 use Rattle.zed_op.specs.Names.{element_named, target_named, text_named, names_of}
 use Rattle.zed_edit.specs.Replay.{has_all, open_world, do_op}
 use Rattle.zed_types.proofs.StampOrder.{same_text-true}
@@ -138,7 +138,7 @@ change_stats-any s y f k bs =
 abbrev pub has_in : Option Text → ElemId → Bool
 has_in o a = list_any (λ x. same_element x.id a) (elements_in o)
 
-list_any-behind : (q : TextElement → Bool) (a : ElemId) (run xs : List TextElement) → list_any (λ x. same_element x.id a) xs ≡ true → list_any q (behind a (λ rest. run ++ rest) xs) ≡ (list_any q run || list_any q xs)
+list_any-behind : (q : TextByte → Bool) (a : ElemId) (run xs : List TextByte) → list_any (λ x. same_element x.id a) xs ≡ true → list_any q (behind a (λ rest. run ++ rest) xs) ≡ (list_any q run || list_any q xs)
 list_any-behind q a run [] h = absurd (cc)
 list_any-behind q a run (x ∷ xs) h = go (λ e. list_any-behind q a run xs e) (same_element x.id a) refl
   where
@@ -146,19 +146,19 @@ list_any-behind q a run (x ∷ xs) h = go (λ e. list_any-behind q a run xs e) (
     go more true b = rw b (ap (λ c. q x || c) (or_turned q run xs) ∙ or_rotate (q x) (list_any q xs) (list_any q run))
     go more false b = rw b (ap (λ c. q x || c) (more (rw b at h)) ∙ or_swap (q x) (list_any q run) (list_any q xs))
 
-list_any-kill : (a : ElemId) (r : ByteRange) (xs : List TextElement) → list_any (λ y. same_element y.id a) (kill r xs) ≡ list_any (λ y. same_element y.id a) xs
+list_any-kill : (a : ElemId) (r : ByteRange) (xs : List TextByte) → list_any (λ y. same_element y.id a) (kill r xs) ≡ list_any (λ y. same_element y.id a) xs
 list_any-kill a r [] = refl
 list_any-kill a r (y ∷ xs) = ap (λ c. same_element y.id a || c) (list_any-kill a r xs)
 
 -- an insertion makes its bytes, where its text and its place are there
-has_in-put : (after : Option ElemId) (a : ElemId) (run : List TextElement) (u : TextId) (p : Document) (x : Text) → find_text u p.texts ≡ Some x → has_all p (element_named u after) ≡ true → has_in (Some (change_elements (put_after after run) x)) a ≡ (list_any (λ y. same_element y.id a) run || has_in (Some x) a)
+has_in-put : (after : Option ElemId) (a : ElemId) (run : List TextByte) (u : TextId) (p : Document) (x : Text) → find_text u p.texts ≡ Some x → has_all p (element_named u after) ≡ true → has_in (Some (change_elements (put_after after run) x)) a ≡ (list_any (λ y. same_element y.id a) run || has_in (Some x) a)
 has_in-put None a run u p x e c = list_any-append (λ y. same_element y.id a) run x.elements
 has_in-put (Some y) a run u p x e c =
     let h = and_parts (has p (element u y)) true c in
     let there = rw e at h.0 in
     list_any-behind (λ z. same_element z.id a) y run x.elements there
 
-has_in-insert : (t u : TextId) (after : Option ElemId) (a : ElemId) (run : List TextElement) (p : Document) → has_all p (text u ∷ element_named u after) ≡ true → has_in (cond (same_text u t) (map_option (change_elements (put_after after run)) (find_text t p.texts)) (find_text t p.texts)) a ≡ ((same_text u t && list_any (λ x. same_element x.id a) run) || has_in (find_text t p.texts) a)
+has_in-insert : (t u : TextId) (after : Option ElemId) (a : ElemId) (run : List TextByte) (p : Document) → has_all p (text u ∷ element_named u after) ≡ true → has_in (cond (same_text u t) (map_option (change_elements (put_after after run)) (find_text t p.texts)) (find_text t p.texts)) a ≡ ((same_text u t && list_any (λ x. same_element x.id a) run) || has_in (find_text t p.texts) a)
 has_in-insert t u after a run p c = go (same_text u t) refl
   where
     there : same_text u t ≡ true → has_in (map_option (change_elements (put_after after run)) (find_text t p.texts)) a ≡ (list_any (λ x. same_element x.id a) run || has_in (find_text t p.texts) a)

@@ -3,10 +3,10 @@ use Rattle.std.proofs.Common.{◌≡◌, ℕ, ◌+◌, ◌<◌, Bool, true, fals
 use Rattle.std.specs.List.{AllByRecursion}
 use Rattle.zed_types.specs.declared.stamp.Stamp.{Stamp}
 use Rattle.zed_types.specs.declared.names.ElemId.{ElemId}
-use Rattle.zed_types.specs.declared.text.TextElement.{TextElement}
+use Rattle.zed_types.specs.declared.text.TextByte.{TextByte}
 use Rattle.zed_types.specs.declared.text.ByteRange.{ByteRange}
 use Rattle.zed_types.specs.Stamp.{before}
-use Rattle.zed_types.specs.Names.{same_element}
+use Rattle.zed_types.specs.Names.{text_of, byte_of, same_element}
 use Rattle.zed_types.specs.Table.{map_from}
 use Rattle.zed_types.specs.Text.{run_from, behind, put_after, kill}
 use Rattle.zed_world.specs.Contents.{Contents}
@@ -18,51 +18,48 @@ use Rattle.zed_op.specs.declared.op.Edit.{Edit}
 use Rattle.zed_edit.specs.declared.plain.Text.{Text}
 use Rattle.zed_edit.specs.declared.plain.Plain.{Plain}
 use Rattle.zed_edit.specs.Document.{empty_document}
-use Rattle.zed_edit.specs.Genesis.{text_of, opened_text, opened_texts, programs_of}
+use Rattle.zed_edit.specs.Genesis.{opened_text, opened_texts, programs_of}
 use Rattle.zed_edit.specs.Replay.{can, do_op, open_world, step, replay_on}
 use Rattle.zed_op.specs.Set.{IsRising}
 use Rattle.zed_laws.specs.TextNames.{HaveOwnNames, ElementsHaveOwnNames}
 use Rattle.zed_laws.proofs.MadeElements.{All-append, All-behind, keep-change, Pass, IsGood, good-step, found-all}
 
-abbrev Below : Stamp → List TextElement → Type 0
+abbrev Below : Stamp → List TextByte → Type 0
 Below s xs = Pass (λ r. before r s) xs
 
 -- none of these has the name
-abbrev Others : ElemId → List TextElement → Type 0
+abbrev Others : ElemId → List TextByte → Type 0
 Others a xs = AllByRecursion (λ y. same_element a y.id ≡ false) xs
 
-abbrev id_at : Stamp → ℕ → ElemId
-id_at s n = record { stamp = s; index = n }
-
-other-index : (s : Stamp) (m n : ℕ) → m < n → same_element (id_at s m) (id_at s n) ≡ false
+other-index : (s : Stamp) (m n : ℕ) → m < n → same_element (byte_of s m) (byte_of s n) ≡ false
 other-index s m n h = grind (arith)
 
-before-other : (a b : ElemId) → before a.stamp b.stamp ≡ true → same_element b a ≡ false
+before-other : (a b : ElemId) → before a.name.stamp b.name.stamp ≡ true → same_element b a ≡ false
 before-other a b h = grind (arith)
 
-before-other_back : (a b : ElemId) → before a.stamp b.stamp ≡ true → same_element a b ≡ false
+before-other_back : (a b : ElemId) → before a.name.stamp b.name.stamp ≡ true → same_element a b ≡ false
 before-other_back a b h = grind (arith)
 
-run-others : (s : Stamp) (m n : ℕ) (bytes : List ℕ) → m < n → Others (id_at s m) (run_from s n bytes)
+run-others : (s : Stamp) (m n : ℕ) (bytes : List ℕ) → m < n → Others (byte_of s m) (run_from s n bytes)
 run-others s m n [] h = tt
 run-others s m n (b ∷ bytes) h = (other-index s m n h, run-others s m (n + 1) bytes (omega arith))
 
-below-others : (s : Stamp) (n : ℕ) (xs : List TextElement) → Below s xs → Others (id_at s n) xs
+below-others : (s : Stamp) (n : ℕ) (xs : List TextByte) → Below s xs → Others (byte_of s n) xs
 below-others s n [] a = tt
-below-others s n (x ∷ xs) a = (before-other x.id (id_at s n) a.0, below-others s n xs a.1)
+below-others s n (x ∷ xs) a = (before-other x.id (byte_of s n) a.0, below-others s n xs a.1)
 
-earlier-others : (a : ElemId) (s : Stamp) (n : ℕ) (bytes : List ℕ) → before a.stamp s ≡ true → Others a (run_from s n bytes)
+earlier-others : (a : ElemId) (s : Stamp) (n : ℕ) (bytes : List ℕ) → before a.name.stamp s ≡ true → Others a (run_from s n bytes)
 earlier-others a s n [] h = tt
-earlier-others a s n (b ∷ bytes) h = (before-other_back a (id_at s n) h, earlier-others a s (n + 1) bytes h)
+earlier-others a s n (b ∷ bytes) h = (before-other_back a (byte_of s n) h, earlier-others a s (n + 1) bytes h)
 
-own-front : (s : Stamp) (n : ℕ) (bytes : List ℕ) (xs : List TextElement) → Below s xs → HaveOwnNames xs → HaveOwnNames (run_from s n bytes ++ xs)
+own-front : (s : Stamp) (n : ℕ) (bytes : List ℕ) (xs : List TextByte) → Below s xs → HaveOwnNames xs → HaveOwnNames (run_from s n bytes ++ xs)
 own-front s n [] xs b o = o
 own-front s n (c ∷ bytes) xs b o = (
-  All-append (λ y. same_element (id_at s n) y.id ≡ false) (run_from s (n + 1) bytes) xs (run-others s n (n + 1) bytes (omega arith)) (below-others s n xs b),
+  All-append (λ y. same_element (byte_of s n) y.id ≡ false) (run_from s (n + 1) bytes) xs (run-others s n (n + 1) bytes (omega arith)) (below-others s n xs b),
   own-front s (n + 1) bytes xs b o,
 )
 
-own-behind : (s : Stamp) (a : ElemId) (bytes : List ℕ) (xs : List TextElement) → Below s xs → HaveOwnNames xs → HaveOwnNames (behind a (λ rest. run_from s 0 bytes ++ rest) xs)
+own-behind : (s : Stamp) (a : ElemId) (bytes : List ℕ) (xs : List TextByte) → Below s xs → HaveOwnNames xs → HaveOwnNames (behind a (λ rest. run_from s 0 bytes ++ rest) xs)
 own-behind s a bytes [] b o = tt
 own-behind s a bytes (x ∷ xs) b o = go (same_element x.id a) (own-behind s a bytes xs b.1 o.1)
   where
@@ -70,15 +67,15 @@ own-behind s a bytes (x ∷ xs) b o = go (same_element x.id a) (own-behind s a b
     go true more = (All-append (λ y. same_element x.id y.id ≡ false) (run_from s 0 bytes) xs (earlier-others x.id s 0 bytes b.0) o.0, own-front s 0 bytes xs b.1 o.1)
     go false more = (All-behind (λ y. same_element x.id y.id ≡ false) a (run_from s 0 bytes) xs (earlier-others x.id s 0 bytes b.0) o.0, more)
 
-own-put : (s : Stamp) (after : Option ElemId) (bytes : List ℕ) (xs : List TextElement) → Below s xs → HaveOwnNames xs → HaveOwnNames (put_after after (run_from s 0 bytes) xs)
+own-put : (s : Stamp) (after : Option ElemId) (bytes : List ℕ) (xs : List TextByte) → Below s xs → HaveOwnNames xs → HaveOwnNames (put_after after (run_from s 0 bytes) xs)
 own-put s None bytes xs b o = own-front s 0 bytes xs b o
 own-put s (Some a) bytes xs b o = own-behind s a bytes xs b o
 
-kill-others : (a : ElemId) (r : ByteRange) (xs : List TextElement) → Others a xs → Others a (kill r xs)
+kill-others : (a : ElemId) (r : ByteRange) (xs : List TextByte) → Others a xs → Others a (kill r xs)
 kill-others a r [] h = tt
 kill-others a r (x ∷ xs) h = (h.0, kill-others a r xs h.1)
 
-own-kill : (r : ByteRange) (xs : List TextElement) → HaveOwnNames xs → HaveOwnNames (kill r xs)
+own-kill : (r : ByteRange) (xs : List TextByte) → HaveOwnNames xs → HaveOwnNames (kill r xs)
 own-kill r [] o = tt
 own-kill r (x ∷ xs) o = (kill-others x.id r xs o.0, own-kill r xs o.1)
 
@@ -129,13 +126,13 @@ AllBefore p (e ∷ es) = AllByRecursion (IsGood (λ r. before r e.stamp)) p.text
 later-trans : (a b c : Stamp) → before a b ≡ true → before b c ≡ true → before a c ≡ true
 later-trans a b c p q = grind (arith)
 
-later-elements : (s t : Stamp) (xs : List TextElement) → before s t ≡ true → Below s xs → Below t xs
+later-elements : (s t : Stamp) (xs : List TextByte) → before s t ≡ true → Below s xs → Below t xs
 later-elements s t [] h a = tt
-later-elements s t (x ∷ xs) h a = (later-trans x.id.stamp s t a.0 h, later-elements s t xs h a.1)
+later-elements s t (x ∷ xs) h a = (later-trans x.id.name.stamp s t a.0 h, later-elements s t xs h a.1)
 
 later-texts : (s t : Stamp) (xs : List Text) → before s t ≡ true → AllByRecursion (IsGood (λ r. before r s)) xs → AllByRecursion (IsGood (λ r. before r t)) xs
 later-texts s t [] h a = tt
-later-texts s t (x ∷ xs) h a = ((later-trans x.id.stamp s t a.0.0 h, later-elements s t x.elements h a.0.1), later-texts s t xs h a.1)
+later-texts s t (x ∷ xs) h a = ((later-trans x.id.name.stamp s t a.0.0 h, later-elements s t x.elements h a.0.1), later-texts s t xs h a.1)
 
 before-next : (p : Plain) (e : Edit) (es : List Edit) → IsRising (e ∷ es) → AllByRecursion (IsGood (λ r. before r e.stamp)) p.texts → AllBefore (step p e) es
 before-next p e [] r a = tt

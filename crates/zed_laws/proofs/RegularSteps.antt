@@ -24,7 +24,7 @@ use Rattle.zed_types.specs.declared.stat_field.StatNumber.TheVariants.{StepX, St
 use Rattle.zed_types.specs.declared.stat_field.StatSetting.{StatSetting}
 use Rattle.zed_types.specs.declared.stat_field.StatSetting.TheVariants as stat
 use Rattle.zed_types.specs.Stamp.{same_stamp}
-use Rattle.zed_types.specs.Names.{same_board, same_stat}
+use Rattle.zed_types.specs.Names.{board_of, stat_of, same_board, same_stat}
 use Rattle.zed_types.specs.Table.{map_from, is_inside, place_at}
 use Rattle.zed_world.specs.Contents.{Contents}
 use Rattle.zed_world.specs.declared.error.WorldError.{WorldError}
@@ -46,7 +46,7 @@ use Rattle.zed_types.specs.Header.{key_index, flag_index}
 use Rattle.zed_edit.specs.Header.{with_number, set_header}
 use Rattle.zed_edit.specs.Board.{set_property, set_board_property, set_board_cells, new_table, new_board, add_stat, change_stats, remove_board}
 use Rattle.zed_edit.specs.Stat.{set_stat, new_stat, remove_stat}
-use Rattle.zed_edit.specs.Genesis.{board_of, stat_of, opened_stat, opened_board, opened_boards_from, opened_boards, programs_before}
+use Rattle.zed_edit.specs.Genesis.{opened_stat, opened_board, opened_boards_from, opened_boards, programs_before}
 use Rattle.zed_edit.specs.Document.{empty_document, change_such}
 use Rattle.zed_op.specs.Fit.{Fits, is_in_range, is_header_in_range, is_property_in_range, has_good_stamps, names_earlier, has_good_world}
 use Rattle.zed_op.specs.Set.{AllFit}
@@ -126,13 +126,13 @@ cells_regular r tile b h = record { name = h.name; message = h.message; tiles = 
 
 same_name : (a b c : BoardId) → same_board a b ≡ true → same_board a c ≡ true → same_board b c ≡ true
 same_name a b c h k =
-    let h0 = and_parts (same_stamp a.stamp b.stamp) (a.index == b.index) h in
-    let k0 = and_parts (same_stamp a.stamp c.stamp) (a.index == c.index) k in
-    let h1 = and_parts (a.stamp.time == b.stamp.time) (a.stamp.replica == b.stamp.replica) h0.0 in
-    let k1 = and_parts (a.stamp.time == c.stamp.time) (a.stamp.replica == c.stamp.replica) k0.0 in
-    let time : eqb b.stamp.time c.stamp.time ≡ true = eq-eqb b.stamp.time c.stamp.time (sym (eqb-true a.stamp.time b.stamp.time h1.0) ∙ eqb-true a.stamp.time c.stamp.time k1.0) in
-    let replica : eqb b.stamp.replica c.stamp.replica ≡ true = eq-eqb b.stamp.replica c.stamp.replica (sym (eqb-true a.stamp.replica b.stamp.replica h1.1) ∙ eqb-true a.stamp.replica c.stamp.replica k1.1) in
-    let index : eqb b.index c.index ≡ true = eq-eqb b.index c.index (sym (eqb-true a.index b.index h0.1) ∙ eqb-true a.index c.index k0.1) in
+    let h0 = and_parts (same_stamp a.name.stamp b.name.stamp) (a.name.index == b.name.index) h in
+    let k0 = and_parts (same_stamp a.name.stamp c.name.stamp) (a.name.index == c.name.index) k in
+    let h1 = and_parts (a.name.stamp.time == b.name.stamp.time) (a.name.stamp.replica == b.name.stamp.replica) h0.0 in
+    let k1 = and_parts (a.name.stamp.time == c.name.stamp.time) (a.name.stamp.replica == c.name.stamp.replica) k0.0 in
+    let time : eqb b.name.stamp.time c.name.stamp.time ≡ true = eq-eqb b.name.stamp.time c.name.stamp.time (sym (eqb-true a.name.stamp.time b.name.stamp.time h1.0) ∙ eqb-true a.name.stamp.time c.name.stamp.time k1.0) in
+    let replica : eqb b.name.stamp.replica c.name.stamp.replica ≡ true = eq-eqb b.name.stamp.replica c.name.stamp.replica (sym (eqb-true a.name.stamp.replica b.name.stamp.replica h1.1) ∙ eqb-true a.name.stamp.replica c.name.stamp.replica k1.1) in
+    let index : eqb b.name.index c.name.index ≡ true = eq-eqb b.name.index c.name.index (sym (eqb-true a.name.index b.name.index h0.1) ∙ eqb-true a.name.index c.name.index k0.1) in
     rw (time, replica, index) refl
 
 removed_regular : (id : BoardId) → not (same_board id title) ≡ true → (b : Board) → same_board b.id id ≡ true → IsRegularBoard b → IsRegularBoard (remove_board b)

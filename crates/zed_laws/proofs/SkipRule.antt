@@ -6,50 +6,50 @@ use Rattle.zed_types.specs.declared.names.ElemId.{ElemId}
 use Rattle.zed_types.specs.Stamp.{before}
 use Rattle.zed_types.specs.Names.{same_element}
 use Rattle.zed_types.specs.Text.{behind, put_after, pass_later, put_late}
-use Rattle.zed_types.specs.declared.text.TextElement.{TextElement}
+use Rattle.zed_types.specs.declared.text.TextByte.{TextByte}
 
 -- no element of a run has this name
-abbrev pub NotNamed : ElemId → List TextElement → Type 0
+abbrev pub NotNamed : ElemId → List TextByte → Type 0
 NotNamed a xs = AllByRecursion (λ x. same_element x.id a ≡ false) xs
 
 -- every element of a run is of a later edit
-abbrev pub Later : Stamp → List TextElement → Type 0
-Later s xs = AllByRecursion (λ x. before s x.id.stamp ≡ true) xs
+abbrev pub Later : Stamp → List TextByte → Type 0
+Later s xs = AllByRecursion (λ x. before s x.id.name.stamp ≡ true) xs
 
 -- no element is of a later edit
-abbrev pub NoneLater : Stamp → List TextElement → Type 0
-NoneLater s xs = AllByRecursion (λ x. before s x.id.stamp ≡ false) xs
+abbrev pub NoneLater : Stamp → List TextByte → Type 0
+NoneLater s xs = AllByRecursion (λ x. before s x.id.name.stamp ≡ false) xs
 
-pub behind-run : (a : ElemId) (f : List TextElement → List TextElement) (run xs : List TextElement) → NotNamed a run → behind a f (run ++ xs) ≡ run ++ behind a f xs
+pub behind-run : (a : ElemId) (f : List TextByte → List TextByte) (run xs : List TextByte) → NotNamed a run → behind a f (run ++ xs) ≡ run ++ behind a f xs
 behind-run a f [] xs n = refl
 behind-run a f (x ∷ run) xs n = rw (n.0, behind-run a f run xs n.1)
 
-pub pass_later-run : (s : Stamp) (e run xs : List TextElement) → Later s run → pass_later s e (run ++ xs) ≡ run ++ pass_later s e xs
+pub pass_later-run : (s : Stamp) (e run xs : List TextByte) → Later s run → pass_later s e (run ++ xs) ≡ run ++ pass_later s e xs
 pass_later-run s e [] xs n = refl
 pass_later-run s e (x ∷ run) xs n = rw (n.0, pass_later-run s e run xs n.1)
 
-pub behind-none : (a : ElemId) (f : List TextElement → List TextElement) (run : List TextElement) → NotNamed a run → behind a f run ≡ run
+pub behind-none : (a : ElemId) (f : List TextByte → List TextByte) (run : List TextByte) → NotNamed a run → behind a f run ≡ run
 behind-none a f [] n = refl
 behind-none a f (x ∷ run) n = rw (n.0, behind-none a f run n.1)
 
 -- past the later elements, and a later run behind `q`: in either order
-pub pass_later-behind : (s : Stamp) (e h : List TextElement) (q : ElemId) (xs : List TextElement) → NotNamed q e → Later s h → pass_later s e (behind q (λ rest. h ++ rest) xs) ≡ behind q (λ rest. h ++ rest) (pass_later s e xs)
+pub pass_later-behind : (s : Stamp) (e h : List TextByte) (q : ElemId) (xs : List TextByte) → NotNamed q e → Later s h → pass_later s e (behind q (λ rest. h ++ rest) xs) ≡ behind q (λ rest. h ++ rest) (pass_later s e xs)
 pass_later-behind s e h q [] ne lh = sym (behind-none q (λ rest. h ++ rest) e ne)
 pass_later-behind s e h q (x ∷ xs) ne lh =
-    go (pass_later-behind s e h q xs ne lh) (before s x.id.stamp) refl (same_element x.id q) refl
+    go (pass_later-behind s e h q xs ne lh) (before s x.id.name.stamp) refl (same_element x.id q) refl
   where
-    go : pass_later s e (behind q (λ rest. h ++ rest) xs) ≡ behind q (λ rest. h ++ rest) (pass_later s e xs) → (b : Bool) → before s x.id.stamp ≡ b → (c : Bool) → same_element x.id q ≡ c → pass_later s e (behind q (λ rest. h ++ rest) (x ∷ xs)) ≡ behind q (λ rest. h ++ rest) (pass_later s e (x ∷ xs))
+    go : pass_later s e (behind q (λ rest. h ++ rest) xs) ≡ behind q (λ rest. h ++ rest) (pass_later s e xs) → (b : Bool) → before s x.id.name.stamp ≡ b → (c : Bool) → same_element x.id q ≡ c → pass_later s e (behind q (λ rest. h ++ rest) (x ∷ xs)) ≡ behind q (λ rest. h ++ rest) (pass_later s e (x ∷ xs))
     go more true b true c = rw (b, c) (ap (λ rest. x ∷ rest) (pass_later-run s e h xs lh))
     go more true b false c = rw (b, c) (ap (λ rest. x ∷ rest) more)
     go more false b true c = rw (b, behind-run q (λ rest. h ++ rest) e (x ∷ xs) ne, c)
     go more false b false c = rw (b, behind-run q (λ rest. h ++ rest) e (x ∷ xs) ne, c)
 
 -- no element of `e` has the name of the place `q`, if it is one
-abbrev pub PlaceNotIn : Option ElemId → List TextElement → Type 0
+abbrev pub PlaceNotIn : Option ElemId → List TextByte → Type 0
 PlaceNotIn None e = Unit {0}
 PlaceNotIn (Some q) e = NotNamed q e
 
-behind-behind : (s : Stamp) (e h : List TextElement) (p q : ElemId) (xs : List TextElement) → NotNamed q e → NotNamed p h → Later s h → behind p (pass_later s e) (behind q (λ rest. h ++ rest) xs) ≡ behind q (λ rest. h ++ rest) (behind p (pass_later s e) xs)
+behind-behind : (s : Stamp) (e h : List TextByte) (p q : ElemId) (xs : List TextByte) → NotNamed q e → NotNamed p h → Later s h → behind p (pass_later s e) (behind q (λ rest. h ++ rest) xs) ≡ behind q (λ rest. h ++ rest) (behind p (pass_later s e) xs)
 behind-behind s e h p q [] qe ph lh = refl
 behind-behind s e h p q (x ∷ xs) qe ph lh =
     go (behind-behind s e h p q xs qe ph lh) (same_element x.id p) refl (same_element x.id q) refl
@@ -61,21 +61,21 @@ behind-behind s e h p q (x ∷ xs) qe ph lh =
     go more false b false c = rw (b, c) (ap (λ rest. x ∷ rest) more)
 
 -- the skip rule and a later direct insertion: in either order
-pub put_late-put_after : (s : Stamp) (e h : List TextElement) (p q : Option ElemId) (xs : List TextElement) → PlaceNotIn q e → PlaceNotIn p h → Later s h → put_late p s e (put_after q h xs) ≡ put_after q h (put_late p s e xs)
+pub put_late-put_after : (s : Stamp) (e h : List TextByte) (p q : Option ElemId) (xs : List TextByte) → PlaceNotIn q e → PlaceNotIn p h → Later s h → put_late p s e (put_after q h xs) ≡ put_after q h (put_late p s e xs)
 put_late-put_after s e h None None xs qe ph lh = pass_later-run s e h xs lh
 put_late-put_after s e h None (Some q) xs qe ph lh = pass_later-behind s e h q xs qe lh
 put_late-put_after s e h (Some p) None xs qe ph lh = behind-run p (pass_later s e) h xs ph
 put_late-put_after s e h (Some p) (Some q) xs qe ph lh = behind-behind s e h p q xs qe ph lh
 
 -- where no element is of a later edit, the skip rule passes nothing
-pub pass_later-none : (s : Stamp) (e xs : List TextElement) → NoneLater s xs → pass_later s e xs ≡ e ++ xs
+pub pass_later-none : (s : Stamp) (e xs : List TextByte) → NoneLater s xs → pass_later s e xs ≡ e ++ xs
 pass_later-none s e [] n = sym (append-nil e)
 pass_later-none s e (x ∷ xs) n = rw (n.0)
 
-behind-none_later : (s : Stamp) (e : List TextElement) (p : ElemId) (xs : List TextElement) → NoneLater s xs → behind p (pass_later s e) xs ≡ behind p (λ rest. e ++ rest) xs
+behind-none_later : (s : Stamp) (e : List TextByte) (p : ElemId) (xs : List TextByte) → NoneLater s xs → behind p (pass_later s e) xs ≡ behind p (λ rest. e ++ rest) xs
 behind-none_later s e p [] n = refl
 behind-none_later s e p (x ∷ xs) n = rw (pass_later-none s e xs n.1, behind-none_later s e p xs n.1)
 
-pub put_late-none_later : (s : Stamp) (e : List TextElement) (p : Option ElemId) (xs : List TextElement) → NoneLater s xs → put_late p s e xs ≡ put_after p e xs
+pub put_late-none_later : (s : Stamp) (e : List TextByte) (p : Option ElemId) (xs : List TextByte) → NoneLater s xs → put_late p s e xs ≡ put_after p e xs
 put_late-none_later s e None xs n = pass_later-none s e xs n
 put_late-none_later s e (Some p) xs n = behind-none_later s e p xs n

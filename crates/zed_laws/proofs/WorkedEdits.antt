@@ -5,6 +5,7 @@ use Rattle.zed_types.specs.declared.stamp.Stamp.{Stamp}
 use Rattle.zed_types.specs.declared.names.BoardId.{BoardId}
 use Rattle.zed_types.specs.declared.names.TextId.{TextId}
 use Rattle.zed_types.specs.declared.names.ElemId.{ElemId}
+use Rattle.zed_types.specs.Names.{board_of, text_of, byte_of}
 use Rattle.zed_types.specs.declared.tile.Tile.{Tile}
 use Rattle.zed_op.specs.declared.op.Op.TheVariants.{BoardAdd, SetCells, TextAdd, TextInsert, TextDelete}
 use Rattle.zed_op.specs.declared.op.Edit.{Edit}
@@ -19,7 +20,7 @@ at time replica = record { time = time; replica = replica }
 
 -- a text with the bytes `AB`
 abbrev t : TextId
-t = record { stamp = at 2 9; index = 0 }
+t = text_of (at 2 9) 0
 
 abbrev new_text : Edit
 new_text = record { stamp = at 2 9; op = TextAdd }
@@ -28,7 +29,7 @@ abbrev ab : Edit
 ab = record { stamp = at 3 9; op = TextInsert t None (65 ∷ 66 ∷ []) }
 
 abbrev after : ℕ → ℕ → Option ElemId
-after time replica = Some (record { stamp = at time replica; index = 0 })
+after time replica = Some (byte_of (at time replica) 0)
 
 -- `x` and `y` both after `A`, `w` after `y`, and `z` after `x`
 abbrev x : Edit
@@ -77,7 +78,7 @@ woken_text = refl
 
 -- a new board, and two tiles for its place (5,5), which is tile 244 of its table
 abbrev b : BoardId
-b = record { stamp = at 2 9; index = 0 }
+b = board_of (at 2 9) 0
 
 abbrev new : Edit
 new = record { stamp = at 2 9; op = BoardAdd [] }

@@ -3,7 +3,7 @@ use Rattle.std.specs.Prelude.{◌≡◌, Bool, true, false, List, [], ◌∷◌}
 use Rattle.std.specs.List.{AllByRecursion}
 use Rattle.zed_types.specs.declared.stamp.Stamp.{Stamp}
 use Rattle.zed_types.specs.declared.names.TextId.{TextId}
-use Rattle.zed_types.specs.declared.text.TextElement.{TextElement}
+use Rattle.zed_types.specs.declared.text.TextByte.{TextByte}
 use Rattle.zed_types.specs.Names.{same_element}
 use Rattle.zed_op.specs.declared.op.Edit.{Edit}
 use Rattle.zed_op.specs.declared.thing.Thing.TheVariants as thing
@@ -12,7 +12,7 @@ use Rattle.zed_op.specs.Set.{IsRising}
 use Rattle.zed_edit.specs.Replay.{replay}
 
 -- no two elements have one name
-abbrev pub HaveOwnNames : List TextElement → Type 0
+abbrev pub HaveOwnNames : List TextByte → Type 0
 HaveOwnNames [] = Unit {0}
 HaveOwnNames (x ∷ xs) = AllByRecursion (λ y. same_element x.id y.id ≡ false) xs × HaveOwnNames xs
 
@@ -29,7 +29,7 @@ abbrev pub ElementsAreOfEdits : Type 0
 ElementsAreOfEdits =
     (test : Stamp → Bool) (es : List Edit) (t : TextId)
     → StampsPass test es
-    → AllByRecursion (λ x. test x.id.stamp ≡ true) (elements (replay es) t)
+    → AllByRecursion (λ x. test x.id.name.stamp ≡ true) (elements (replay es) t)
 
 -- and so has each text that was made
 abbrev pub TextsAreOfEdits : Type 0
@@ -37,4 +37,4 @@ TextsAreOfEdits =
     (test : Stamp → Bool) (es : List Edit) (t : TextId)
     → StampsPass test es
     → has (replay es) (thing.Text t) ≡ true
-    → test t.stamp ≡ true
+    → test t.name.stamp ≡ true

@@ -13,6 +13,7 @@ use Rattle.zed_types.specs.declared.property.BoardSetting.{BoardSetting}
 use Rattle.zed_types.specs.declared.property.BoardSetting.TheVariants.{Exit}
 use Rattle.zed_types.specs.declared.stat_field.StatSetting.{StatSetting}
 use Rattle.zed_types.specs.declared.stat_field.StatSetting.TheVariants.{P3, Follower, Leader, Text as TextSetting}
+use Rattle.zed_types.specs.Names.{byte_of}
 use Rattle.zed_op.specs.declared.op.Op.{Op}
 use Rattle.zed_op.specs.declared.op.Op.TheVariants.{Genesis, SetHeader, BoardAdd, BoardRemove, SetBoard, SetCells, StatAdd, StatRemove, SetStat, TextAdd, TextInsert, TextDelete}
 use Rattle.zed_op.specs.declared.thing.Thing.{Thing}
@@ -67,11 +68,11 @@ names_of (SetStat s setting) = stat s ∷ stat_names setting
 names_of TextAdd = []
 names_of (TextInsert t after bytes) = text t ∷ element_named t after
 names_of (TextDelete t r) =
-    text t ∷ element t (record { stamp = r.stamp; index = r.first }) ∷ element t (record { stamp = r.stamp; index = r.last }) ∷ []
+    text t ∷ element t (byte_of r.stamp r.first) ∷ element t (byte_of r.stamp r.last) ∷ []
 
 -- the stamp of a thing is that of the edit that made it
 abbrev pub stamp_of : Thing → Stamp
-stamp_of (board b) = b.stamp
-stamp_of (stat s) = s.stamp
-stamp_of (text t) = t.stamp
-stamp_of (element t a) = a.stamp
+stamp_of (board b) = b.name.stamp
+stamp_of (stat s) = s.name.stamp
+stamp_of (text t) = t.name.stamp
+stamp_of (element t a) = a.name.stamp

@@ -1,5 +1,6 @@
 ghost use Rattle.std.specs.Prelude.{◌≡◌, ◌++◌};
 ghost use Rattle.std.specs.Option.{option_to_list};
+ghost use Rattle.zed_types.specs.Names.{byte_of as byte_at};
 ghost use Rattle.smallvec.specs.SmallVec.{HasRoomFor};
 ghost use Rattle.zed_op.specs.Names.{target_named, header_names, board_names, stat_names, names_of, stamp_of};
 
@@ -17,10 +18,10 @@ impl Thing {
         ensures { result ≡ stamp_of self.now }
     {
         match self {
-            Thing::Board(board) => board.stamp,
-            Thing::Stat(stat) => stat.stamp,
-            Thing::Text(text) => text.stamp,
-            Thing::Element(_, element) => element.stamp,
+            Thing::Board(board) => board.name.stamp,
+            Thing::Stat(stat) => stat.name.stamp,
+            Thing::Text(text) => text.name.stamp,
+            Thing::Element(_, element) => element.name.stamp,
         }
     }
 }
@@ -66,12 +67,9 @@ fn in_stat_setting(setting: &StatSetting) -> Option<Thing>
 }
 
 fn byte_of(range: &ByteRange, index: u32) -> ElemId
-    ensures { result ≡ record { stamp = range.now.stamp; index = index } }
+    ensures { result ≡ byte_at range.now.stamp index }
 {
-    ElemId {
-        stamp: range.stamp,
-        index,
-    }
+    ElemId::new(range.stamp, index)
 }
 
 fn add(things: &mut SmallVec<Thing, 3>, thing: Option<Thing>)

@@ -5,13 +5,11 @@ use Rattle.zed_types.specs.declared.stamp.Stamp.{Stamp}
 use Rattle.zed_types.specs.declared.names.BoardId.{BoardId}
 use Rattle.zed_types.specs.declared.names.TextId.{TextId}
 use Rattle.zed_types.specs.Stamp.{before, same_stamp}
-use Rattle.zed_types.specs.Names.{same_board, same_text}
+use Rattle.zed_types.specs.declared.names.Name.{Name}
+use Rattle.zed_types.specs.Names.{name_of, same_name, same_board, same_text}
 
 abbrev stamp_at : ℕ → ℕ → Stamp
 stamp_at t r = record { time = t; replica = r }
-
-abbrev text_at : Stamp → ℕ → TextId
-text_at s i = record { stamp = s; index = i }
 
 pub same_stamp-true : (a b : Stamp) → same_stamp a b ≡ true → a ≡ b
 same_stamp-true a b h =
@@ -23,15 +21,27 @@ same_stamp-true a b h =
 pub same_stamp-itself : (a : Stamp) → same_stamp a a ≡ true
 same_stamp-itself a = and_from (eqb a.time a.time) (eqb a.replica a.replica) (eq-eqb a.time a.time refl) (eq-eqb a.replica a.replica refl)
 
-pub same_text-true : (a b : TextId) → same_text a b ≡ true → a ≡ b
-same_text-true a b h =
+pub same_name-true : (a b : Name) → same_name a b ≡ true → a ≡ b
+same_name-true a b h =
     let e = and_parts (same_stamp a.stamp b.stamp) (eqb a.index b.index) h in
     let s = same_stamp-true a.stamp b.stamp e.0 in
     let i = eqb-true a.index b.index e.1 in
-    ap (λ n. text_at n a.index) s ∙ ap (λ n. text_at b.stamp n) i
+    ap (λ n. name_of n a.index) s ∙ ap (λ n. name_of b.stamp n) i
+
+pub same_name-itself : (a : Name) → same_name a a ≡ true
+same_name-itself a = and_from (same_stamp a.stamp a.stamp) (eqb a.index a.index) (same_stamp-itself a.stamp) (eq-eqb a.index a.index refl)
+
+pub same_name-apart : (a b c : Name) → same_name a b ≡ false → same_name c b ≡ true → same_name c a ≡ false
+same_name-apart a b c h e = grind (arith)
+
+abbrev text_at : Name → TextId
+text_at n = record { name = n }
+
+pub same_text-true : (a b : TextId) → same_text a b ≡ true → a ≡ b
+same_text-true a b h = ap text_at (same_name-true a.name b.name h)
 
 pub same_text-itself : (a : TextId) → same_text a a ≡ true
-same_text-itself a = and_from (same_stamp a.stamp a.stamp) (eqb a.index a.index) (same_stamp-itself a.stamp) (eq-eqb a.index a.index refl)
+same_text-itself a = same_name-itself a.name
 
 -- the order of stamps
 pub before_irrefl : (a : Stamp) → before a a ≡ false
@@ -65,17 +75,13 @@ pub same_text-alike : (a b c : TextId) → same_text a b ≡ true → same_text 
 same_text-alike a b c h = ap (λ n. same_text c n) (same_text-true a b h)
 
 pub same_text-apart : (a b c : TextId) → same_text a b ≡ false → same_text c b ≡ true → same_text c a ≡ false
-same_text-apart a b c h e = grind (arith)
+same_text-apart a b c h e = same_name-apart a.name b.name c.name h e
 
-abbrev board_at : Stamp → ℕ → BoardId
-board_at s i = record { stamp = s; index = i }
+abbrev board_at : Name → BoardId
+board_at n = record { name = n }
 
 pub same_board-true : (a b : BoardId) → same_board a b ≡ true → a ≡ b
-same_board-true a b h =
-    let e = and_parts (same_stamp a.stamp b.stamp) (eqb a.index b.index) h in
-    let s = same_stamp-true a.stamp b.stamp e.0 in
-    let i = eqb-true a.index b.index e.1 in
-    ap (λ n. board_at n a.index) s ∙ ap (λ n. board_at b.stamp n) i
+same_board-true a b h = ap board_at (same_name-true a.name b.name h)
 
 pub same_board-apart : (a b c : BoardId) → same_board a b ≡ false → same_board c b ≡ true → same_board c a ≡ false
-same_board-apart a b c h e = grind (arith)
+same_board-apart a b c h e = same_name-apart a.name b.name c.name h e

@@ -21,12 +21,12 @@ pub use elements::element;
 pub use header::{FlagSlot, HeaderNumber, HeaderSetting, KeyColour};
 pub use kind::{Element, Look, Push};
 pub use limits::{BOARDS_LIMIT, BODY_LIMIT, READ_BODY_LIMIT, STATS_LIMIT};
-pub use names::{BoardId, ElemId, StatId, TextId};
+pub use names::{BoardId, ElemId, Name, StatId, TextId};
 pub use property::{BoardByte, BoardFlag, BoardSetting, BoardText, Side};
 pub use seq::Seq;
 pub use stamp::{Stamp, one_order};
 pub use stat_field::{StatByte, StatFields, StatNumber, StatSetting, ThirdParameter};
-pub use text::{ByteRange, TextElement};
+pub use text::{ByteRange, TextByte};
 pub use tile::{COLUMNS, Place, ROWS, Rectangle, TILES, Tile};
 pub use written::Written;
 

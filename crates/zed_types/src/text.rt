@@ -3,7 +3,7 @@ use crate::stamp::Stamp;
 
 /// A byte of a text, under its name. A deleted one stays as a tombstone: it is no longer alive.
 #[derive(Clone, Copy, Debug, PartialEq, Eq)]
-pub struct TextElement {
+pub struct TextByte {
     pub id: ElemId,
     pub byte: u8,
     pub alive: bool,
