@@ -16,3 +16,5 @@ pub mod StatsByPlace
 pub mod FilesByPlace
 pub mod Rewritten
 pub mod Lengths
+pub mod Sizes
+pub mod Limits

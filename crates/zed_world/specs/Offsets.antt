@@ -51,11 +51,12 @@ properties_at boards bytes = record {
   time_limit = integer_at bytes 68;
 }
 
--- whether a passage stands at a place; outside the table nothing does
+-- whether a tile is a passage; outside the table there is none
 abbrev pub is_passage : Option Tile → Bool
 is_passage None = false
 is_passage (Some tile) = tile.element == 11
 
+-- whether a passage stands at this place of a table
 unfoldable pub is_passage_at : List Tile → ℕ → ℕ → Bool
 is_passage_at tiles x y = nat_lt 0 x && nat_le x 60 && nat_lt 0 y && nat_le y 25 && is_passage (slice_get tiles (60 * (y - 1) + (x - 1)))
 

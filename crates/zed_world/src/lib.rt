@@ -12,6 +12,7 @@ mod header;
 mod laws;
 mod put;
 mod reading;
+mod size;
 mod stat;
 mod stats;
 mod world;

@@ -1,17 +1,19 @@
 //! Writing a world file.
-ghost use Rattle.std.specs.Prelude.{◌≡◌, ℕ, ◌+◌, ◌<◌, ◌≤◌, ◌++◌, ◌⊎◌, None, Some, length, FitsSigned, OnOk, IfOk, IfErr};
+ghost use Rattle.std.specs.Prelude.{◌≡◌, ◌+◌, ◌<◌, ◌≤◌, ◌++◌, length, FitsSigned, OnOk, IfOk, IfErr};
 ghost use Rattle.std.specs.Int.{w16};
 ghost use Rattle.std.specs.List.{flat_map, AllByRecursion};
 ghost use Rattle.zed_runs.specs.Runs.{greedy};
 ghost use Rattle.zed_world.specs.Reading.{Gives, world_at};
-ghost use Rattle.zed_world.specs.Writing.{code_length, stat_text, body_text, board_text, first_over, written};
-ghost use Rattle.zed_world.specs.Normal.{IsWritable, HasNormalParts};
+ghost use Rattle.zed_world.specs.Writing.{HasText, code_length, stat_text, body_text, board_text, world_text, written};
+ghost use Rattle.zed_world.specs.Normal.{HasNormalParts, HasShortBody, IsWritable};
 ghost use Rattle.zed_world.specs.Canonical.{IsCanonical};
 
 use crate::board::BoardData;
 use crate::error::WorldError;
+use crate::header::Header;
 use crate::laws::written_is_read;
 use crate::put::{put_header, put_number, put_properties, put_stat, put_string};
+use crate::size::within_limit;
 use crate::stat::StatData;
 use crate::world::World;
 use byteorder::{ByteOrder, LittleEndian};
@@ -55,83 +57,70 @@ fn put_body(out: &mut Vec<u8>, board: &BoardData) -> Result<(), WorldError>
     Ok(())
 }
 
-/// Appends a board, if its body isn't over the limit.
+/// Appends a board.
 #[tactic(auto, unfolding(crate::specs::Writing::board_text))]
-fn put_board(
-    alloc: Global,
-    out: &mut Vec<u8>,
-    limit: usize,
-    number: usize,
-    board: &BoardData,
-) -> Result<(), WorldError>
+fn put_board(alloc: Global, out: &mut Vec<u8>, board: &BoardData) -> Result<(), WorldError>
     requires writable { IsWritable board.now }
-    requires limit { limit ≤ 32767 }
-    ensures within { OnOk result (length (body_text board.now) ≤ limit) }
-    ensures ok { OnOk result (out.new.items ≡ out.old.items ++ board_text board.now) }
-    ensures err { IfErr result (λ e. (e ≡ WorldError.Memory) ⊎ ((limit < length (body_text board.now)) × (e ≡ WorldError.BoardOver number (length (body_text board.now))))) }
+    requires short { HasShortBody board.now }
+    ensures result { OnOk result (out.new.items ≡ out.old.items ++ board_text board.now) }
+    ensures only_memory { IfErr result (λ e. e ≡ WorldError.Memory) }
 {
     let mut body = Vec::new(alloc);
     put_body(&mut body, board)?;
-    let bytes = body.len();
-    if limit < bytes {
-        return Err(WorldError::BoardOver {
-            board: number,
-            bytes,
-        });
-    }
     let mut size = [0; 2];
-    LittleEndian::write_u16(&mut size, bytes as u16);
+    LittleEndian::write_u16(&mut size, body.len() as u16);
     out.extend_from_slice(&size)?;
     out.extend_from_slice(&body)?;
     Ok(())
 }
 
-/// Appends the boards, if no body is over the limit.
-fn put_boards(
-    alloc: Global,
-    out: &mut Vec<u8>,
-    limit: usize,
-    boards: &[BoardData],
-) -> Result<(), WorldError>
+/// Appends the boards.
+fn put_boards(alloc: Global, out: &mut Vec<u8>, boards: &[BoardData]) -> Result<(), WorldError>
     requires writable { AllByRecursion IsWritable boards.now }
-    requires limit { limit ≤ 32767 }
-    ensures within { OnOk result (first_over limit 0 boards.now ≡ None) }
-    ensures ok { OnOk result (out.new.items ≡ out.old.items ++ flat_map board_text boards.now) }
-    ensures err { IfErr result (λ e. (e ≡ WorldError.Memory) ⊎ (first_over limit 0 boards.now ≡ Some e)) }
+    requires short { AllByRecursion HasShortBody boards.now }
+    ensures result { OnOk result (out.new.items ≡ out.old.items ++ flat_map board_text boards.now) }
+    ensures only_memory { IfErr result (λ e. e ≡ WorldError.Memory) }
 {
-    for (number, board) in boards.iter().enumerate() {
-        put_board(alloc, out, limit, number, board)?;
+    for board in boards {
+        put_board(alloc, out, board)?;
     }
     Ok(())
 }
 
-#[tactic(auto, unfolding(crate::specs::Writing::written, crate::specs::Writing::world_text))]
-fn text_of(alloc: Global, world: &World, limit: usize) -> Result<Vec<u8>, WorldError>
-    requires { limit ≤ 32767 }
-    ensures exact { Gives (λ v. v.items) result (written limit world.now) }
-    ensures normal { HasNormalParts world.now }
+/// The text of a world of short bodies.
+#[tactic(auto, unfolding(crate::specs::Writing::world_text))]
+fn text_of(alloc: Global, header: &Header, boards: &[BoardData]) -> Result<Vec<u8>, WorldError>
+    requires parts { HasNormalParts (record { header = header.now; boards = boards.now }) }
+    requires writable { AllByRecursion IsWritable boards.now }
+    requires short { AllByRecursion HasShortBody boards.now }
+    ensures result { IfOk result (λ v. v.items ≡ world_text (record { header = header.now; boards = boards.now })) }
+    ensures only_memory { IfErr result (λ e. e ≡ WorldError.Memory) }
 {
     let mut out = Vec::new(alloc);
-    let header = world.header();
-    let boards = world.boards();
     put_header(&mut out, (boards.len() - 1) as u8, header)?;
-    put_boards(alloc, &mut out, limit, boards)?;
+    put_boards(alloc, &mut out, boards)?;
     Ok(out)
 }
 
 /// Writes the one text of a world.
 ///
 /// The limit is the most bytes that the body of a board may have, at most 32,767, which is the most that `read_world` takes.
-/// `BoardOver` for the first board whose body has more, with its number and how many; `Memory` where a growth was refused.
+/// `BoardOver` for the first board whose body has more, with its number and how many; then `Memory` where a growth was refused.
 /// Unused bytes and pointers are 0, flags are 0 or 1, runs are greedy, and a shared program stands with the stat that owns it.
 pub fn write_world(alloc: Global, world: &World, limit: usize) -> Result<Vec<u8>, WorldError>
     requires { limit ≤ 32767 }
-    ensures exact { Gives (λ v. v.items) result (written limit world.now) }
+    ensures result { Gives (λ v. v.items) result (written limit world.now) }
 
     // What is written is read again.
     ensures back { IfOk result (λ v. world_at v.items ≡ Ok world.now) }
     ensures canonical { IfOk result (λ v. IsCanonical v.items) }
+
+    // No growth is needed to tell that a board is over the limit.
+    ensures memory_only_when { IfErr result (λ e. e ≡ WorldError.Memory → HasText limit world.now) }
 {
     written_is_read();
-    text_of(alloc, world, limit)
+    let header = world.header();
+    let boards = world.boards();
+    within_limit(limit, boards)?;
+    text_of(alloc, header, boards)
 }
