@@ -2,7 +2,8 @@
 use Rattle.std.proofs.Common.{◌≡◌, ℕ, zero, suc, ◌+◌, ◌<◌, ◌≤◌, Bool, true, false, cond, List, [], ◌∷◌, ◌++◌, length, Option, Some, None, refl, sym, arith}
 use Rattle.zed_types.specs.declared.names.ElemId.{ElemId}
 use Rattle.zed_types.specs.declared.text.ByteRange.{ByteRange}
-use Rattle.zed_types.specs.declared.text.TextElement.{TextElement}
+use Rattle.zed_types.specs.declared.text.TextByte.{TextByte}
+use Rattle.zed_types.specs.Names.{byte_of}
 use Rattle.zed_document.specs.Authoring.{alone, goes_before, with_byte, stretches, part}
 use Rattle.zed_document.specs.Stretches.{ends_before, with_last, begun}
 use Rattle.zed_document.proofs.Stretched.{stretches-behind}
@@ -10,7 +11,7 @@ use Rattle.zed_document.proofs.Stretched.{stretches-behind}
 -- the byte that ends the last of some stretches, or that before them
 abbrev pub end_of : Option ElemId → List ByteRange → Option ElemId
 end_of b [] = b
-end_of b (r ∷ rs) = end_of (Some (record { stamp = r.stamp; index = r.last })) rs
+end_of b (r ∷ rs) = end_of (Some (byte_of r.stamp r.last)) rs
 
 end-with : (b : Option ElemId) (rs : List ByteRange) (a : ElemId) → end_of b (with_last rs a) ≡ Some a
 end-with b [] a = refl
@@ -19,7 +20,7 @@ end-with b (r ∷ []) a = go (ends_before r a) refl
     go : (t : Bool) → ends_before r a ≡ t → end_of b (with_last (r ∷ []) a) ≡ Some a
     go true t = rw t refl
     go false t = rw t refl
-end-with b (r ∷ s ∷ rs) a = end-with (Some (record { stamp = r.stamp; index = r.last })) (s ∷ rs) a
+end-with b (r ∷ s ∷ rs) a = end-with (Some (byte_of r.stamp r.last)) (s ∷ rs) a
 
 count-behind : (b : Option ElemId) (r : ByteRange) (rs : List ByteRange) (a : ElemId) → length (with_last (r ∷ rs) a) ≡ length (r ∷ rs) + begun (end_of b (r ∷ rs)) a
 count-behind b r [] a = go (ends_before r a) refl
@@ -27,17 +28,17 @@ count-behind b r [] a = go (ends_before r a) refl
     go : (t : Bool) → ends_before r a ≡ t → length (with_last (r ∷ []) a) ≡ 1 + begun (end_of b (r ∷ [])) a
     go true t = rw t refl
     go false t = rw t refl
-count-behind b r (s ∷ rs) a = let more = count-behind (Some (record { stamp = r.stamp; index = r.last })) s rs a in omega arith
+count-behind b r (s ∷ rs) a = let more = count-behind (Some (byte_of r.stamp r.last)) s rs a in omega arith
 
 count-with : (rs : List ByteRange) (a : ElemId) → length (with_last rs a) ≡ length rs + begun (end_of None rs) a
 count-with [] a = refl
 count-with (r ∷ rs) a = count-behind None r rs a
 
 -- a count of the stretches of bytes, and the last of the bytes
-abbrev pub Counts : ℕ → Option ElemId → List TextElement → Type 0
+abbrev pub Counts : ℕ → Option ElemId → List TextByte → Type 0
 Counts n b xs = (n ≡ length (stretches xs)) × (b ≡ end_of None (stretches xs))
 
-pub count-next : (n : ℕ) (b : Option ElemId) (xs : List TextElement) (x : TextElement) → Counts n b xs → Counts (n + begun b x.id) (Some x.id) (xs ++ x ∷ [])
+pub count-next : (n : ℕ) (b : Option ElemId) (xs : List TextByte) (x : TextByte) → Counts n b xs → Counts (n + begun b x.id) (Some x.id) (xs ++ x ∷ [])
 count-next n b xs x h = rw (stretches-behind xs x, h.0, h.1) (sym (count-with (stretches xs) x.id), sym (end-with None (stretches xs) x.id))
 
 begun-most : (b : Option ElemId) (a : ElemId) → begun b a ≤ 1
@@ -57,11 +58,11 @@ byte-most a (r ∷ rs) = go (goes_before a r) refl
     go true t = rw t (omega arith)
     go false t = rw t (omega arith)
 
-stretches-most : (xs : List TextElement) → length (stretches xs) ≤ length xs
+stretches-most : (xs : List TextByte) → length (stretches xs) ≤ length xs
 stretches-most [] = omega arith
 stretches-most (x ∷ xs) = let one = byte-most x.id (stretches xs) in let more = stretches-most xs in omega arith
 
-part-most : (f t : ℕ) (xs : List TextElement) → length (part f t xs) ≤ t
+part-most : (f t : ℕ) (xs : List TextByte) → length (part f t xs) ≤ t
 part-most zero zero xs = omega arith
 part-most zero (suc t) [] = omega arith
 part-most zero (suc t) (x ∷ xs) = let more = part-most zero t xs in omega arith
@@ -69,7 +70,7 @@ part-most (suc f) zero xs = omega arith
 part-most (suc f) (suc t) [] = omega arith
 part-most (suc f) (suc t) (x ∷ xs) = let more = part-most f t xs in omega arith
 
-pub count-fits : (n : ℕ) (b : Option ElemId) (a : ElemId) (f t : ℕ) (xs all : List TextElement) → Counts n b xs → length xs < length (part f t all) → n + begun b a ≤ t
+pub count-fits : (n : ℕ) (b : Option ElemId) (a : ElemId) (f t : ℕ) (xs all : List TextByte) → Counts n b xs → length xs < length (part f t all) → n + begun b a ≤ t
 count-fits n b a f t xs all h l =
     let one = begun-most b a in
     let few = stretches-most xs in

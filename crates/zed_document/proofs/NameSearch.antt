@@ -16,59 +16,54 @@ use Rattle.std.proofs.lemmas.List.Folds.{find_at}
 use Rattle.std.proofs.lemmas.List.Sorted.{searchable_from_sorted}
 use Rattle.std.proofs.lemmas.List.Sums.{position_or_len_is}
 use Rattle.zed_types.specs.declared.stamp.Stamp.{Stamp}
+use Rattle.zed_types.specs.declared.names.Name.{Name}
 use Rattle.zed_types.specs.Stamp.{same_stamp, stamp_cmp}
+use Rattle.zed_types.specs.Names.{same_name}
 use Rattle.zed_laws.specs.NameOrder.{is_earlier, NamesRise}
-
--- a name: a stamp and an index
-abbrev pub Name : Type 0
-Name = Stamp × ℕ
 
 -- the order of names
 abbrev pub name_cmp : Name → Name → Ordering
-name_cmp = then_cmp (on (λ (a : Name). a.0) stamp_cmp) (on (λ (a : Name). a.1) nat_cmp)
+name_cmp = then_cmp (on (λ (a : Name). a.stamp) stamp_cmp) (on (λ (a : Name). a.index) nat_cmp)
 
 stamps_total : IsTotalOrder stamp_cmp
 stamps_total = then_total (on_total (λ (s : Stamp). s.time) nat_cmp_total) (on_total (λ (s : Stamp). s.replica) nat_cmp_total)
 
 names_total : IsTotalOrder name_cmp
-names_total = then_total (on_total (λ (a : Name). a.0) stamps_total) (on_total (λ (a : Name). a.1) nat_cmp_total)
+names_total = then_total (on_total (λ (a : Name). a.stamp) stamps_total) (on_total (λ (a : Name). a.index) nat_cmp_total)
 
-earlier-less : (a b : Name) → is_earlier a.0 a.1 b.0 b.1 ≡ true → name_cmp a b ≡ Less
+earlier-less : (a b : Name) → is_earlier a b ≡ true → name_cmp a b ≡ Less
 earlier-less a b h = grind (arith, nat_tests)
 
-less-differs : (a b : Name) → name_cmp a b ≡ Less → (same_stamp a.0 b.0 && a.1 == b.1) ≡ false
+less-differs : (a b : Name) → name_cmp a b ≡ Less → same_name a b ≡ false
 less-differs a b h = grind (arith, nat_tests)
 
-greater-differs : (a b : Name) → name_cmp a b ≡ Greater → (same_stamp a.0 b.0 && a.1 == b.1) ≡ false
+greater-differs : (a b : Name) → name_cmp a b ≡ Greater → same_name a b ≡ false
 greater-differs a b h = grind (arith, nat_tests)
 
-equal-same : (a b : Name) → name_cmp a b ≡ Equal → (same_stamp a.0 b.0 && a.1 == b.1) ≡ true
+equal-same : (a b : Name) → name_cmp a b ≡ Equal → same_name a b ≡ true
 equal-same a b h = grind (arith, nat_tests)
 
-module _ {X : Type 0} (stamp : X → Stamp) (index : X → ℕ) where
-  abbrev name : X → Name
-  name x = (stamp x, index x)
-
+module _ {X : Type 0} (name : X → Name) where
   -- of two members the one before has the earlier name
-  rises_far : (xs : List X) (i j : ℕ) (d : X) → NamesRise stamp index xs → i < j → j < length xs → name_cmp (name (get_or xs i d)) (name (get_or xs j d)) ≡ Less
+  rises_far : (xs : List X) (i j : ℕ) (d : X) → NamesRise name xs → i < j → j < length xs → name_cmp (name (get_or xs i d)) (name (get_or xs j d)) ≡ Less
   rises_far [] i j d h lt within = absurd (omega arith)
   rises_far (x ∷ xs) i zero d h lt within = absurd (omega arith)
   rises_far (x ∷ xs) (suc i) (suc j) d h lt within = rises_far xs i j d h.1 (omega arith) (omega arith)
   rises_far (x ∷ xs) zero (suc j) d h lt within = earlier-less (name x) (name (get_or xs j d)) (among xs j h.0 (omega arith))
     where
-      among : (ys : List X) (k : ℕ) → AllByRecursion (λ y. is_earlier (stamp x) (index x) (stamp y) (index y) ≡ true) ys → k < length ys → is_earlier (stamp x) (index x) (stamp (get_or ys k d)) (index (get_or ys k d)) ≡ true
+      among : (ys : List X) (k : ℕ) → AllByRecursion (λ y. is_earlier (name x) (name y) ≡ true) ys → k < length ys → is_earlier (name x) (name (get_or ys k d)) ≡ true
       among [] k a lt = absurd (omega arith)
       among (y ∷ ys) zero a lt = a.0
       among (y ∷ ys) (suc k) a lt = among ys k a.1 (omega arith)
 
-  sorted : (xs : List X) → NamesRise stamp index xs → IsSortedBy (λ a b. is_lt (name_cmp (name a) (name b))) xs
+  sorted : (xs : List X) → NamesRise name xs → IsSortedBy (λ a b. is_lt (name_cmp (name a) (name b))) xs
   sorted xs h k d low within =
       let less = rises_far xs k (k + 1) d h (omega arith) within in
       ap is_lt (names_total.antisymm (name (get_or xs (k + 1) d)) (name (get_or xs k d)) ∙ ap ordering_reverse less)
 
   -- whether a member has a name
   abbrev has_name : Name → X → Bool
-  has_name n y = same_stamp (stamp y) n.0 && index y == n.1
+  has_name n y = same_name (name y) n
 
   position_at : (test : X → Bool) (xs : List X) (i : ℕ) → position_or_len test xs ≡ i → i < length xs → position test xs ≡ Some i
   position_at test xs i e lt =
@@ -80,7 +75,7 @@ module _ {X : Type 0} (stamp : X → Stamp) (index : X → ℕ) where
       let past : ltb (length xs) (length xs) ≡ false = le-ltb (length xs) (length xs) (omega arith) in
       rw (e, past) refl
 
-  found : (n : Name) (xs : List X) (i : ℕ) (d : X) → NamesRise stamp index xs → i < length xs → name_cmp (name (get_or xs i d)) n ≡ Equal → position (has_name n) xs ≡ Some i
+  found : (n : Name) (xs : List X) (i : ℕ) (d : X) → NamesRise name xs → i < length xs → name_cmp (name (get_or xs i d)) n ≡ Equal → position (has_name n) xs ≡ Some i
   found n xs i d h within equal =
       let lower : (k : ℕ) → k < i → has_name n (get_or xs k d) ≡ false
       = λ k lt. less-differs (name (get_or xs k d)) n (sym (alike_right names_total (name (get_or xs i d)) n (name (get_or xs k d)) equal) ∙ rises_far xs k i d h lt within) in
@@ -93,7 +88,7 @@ module _ {X : Type 0} (stamp : X → Stamp) (index : X → ℕ) where
       position_none (has_name n) xs (position_or_len_is (has_name n) xs (length xs) d (omega arith) none (λ lt. absurd (omega arith)))
 
   -- a search by halves finds what a search from the front does
-  pub sought : (n : Name) (xs : List X) (r : Result ℕ ℕ) → NamesRise stamp index xs → IsSearchInRange r (length xs) → IsBinarySearchResult (λ y. name_cmp (name y) n) xs r → position (has_name n) xs ≡ result_ok r
+  pub sought : (n : Name) (xs : List X) (r : Result ℕ ℕ) → NamesRise name xs → IsSearchInRange r (length xs) → IsBinarySearchResult (λ y. name_cmp (name y) n) xs r → position (has_name n) xs ≡ result_ok r
   sought n [] (Ok i) h bound result = absurd (omega arith)
   sought n [] (Err i) h bound result = refl
   sought n (x ∷ xs) (Ok i) h bound result = found n (x ∷ xs) i x h bound (result x)

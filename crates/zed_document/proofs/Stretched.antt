@@ -3,7 +3,7 @@ use Rattle.std.proofs.Common.{◌≡◌, ℕ, zero, suc, ◌+◌, Bool, true, fa
 use Rattle.std.specs.Prelude.{slice_index_or}
 use Rattle.std.proofs.lemmas.Bool.{and_parts}
 use Rattle.zed_types.specs.declared.names.ElemId.{ElemId}
-use Rattle.zed_types.specs.declared.text.TextElement.{TextElement}
+use Rattle.zed_types.specs.declared.text.TextByte.{TextByte}
 use Rattle.zed_types.specs.declared.text.ByteRange.{ByteRange}
 use Rattle.zed_types.specs.Stamp.{same_stamp}
 use Rattle.zed_document.specs.Authoring.{alone, goes_before, with_byte, stretches}
@@ -43,12 +43,12 @@ front-behind b a (r ∷ []) = go (goes_before b r) refl (ends_before r a) refl
   where
     go : (t : Bool) → goes_before b r ≡ t → (u : Bool) → ends_before r a ≡ u → with_byte b (with_last (r ∷ []) a) ≡ with_last (with_byte b (r ∷ [])) a
     go true t true u =
-        let s : r.stamp ≡ a.stamp = same_stamp-true r.stamp a.stamp (and_parts (same_stamp r.stamp a.stamp) _ u).0 in
+        let s : r.stamp ≡ a.name.stamp = same_stamp-true r.stamp a.name.stamp (and_parts (same_stamp r.stamp a.name.stamp) _ u).0 in
         let t' : goes_before b (stretched r a) ≡ true = rw s at t in
         rw (t, u, t') refl
     go true t false u = rw (t, u, t) refl
     go false t true u =
-        let s : r.stamp ≡ a.stamp = same_stamp-true r.stamp a.stamp (and_parts (same_stamp r.stamp a.stamp) _ u).0 in
+        let s : r.stamp ≡ a.name.stamp = same_stamp-true r.stamp a.name.stamp (and_parts (same_stamp r.stamp a.name.stamp) _ u).0 in
         let t' : goes_before b (stretched r a) ≡ false = rw s at t in
         rw (t, u, t') refl
     go false t false u = rw (t, u, t) refl
@@ -59,6 +59,6 @@ front-behind b a (r ∷ s ∷ rs) = go (goes_before b r) refl
     go false t = rw t refl
 
 -- one more byte behind others
-pub stretches-behind : (xs : List TextElement) (x : TextElement) → stretches (xs ++ x ∷ []) ≡ with_last (stretches xs) x.id
+pub stretches-behind : (xs : List TextByte) (x : TextByte) → stretches (xs ++ x ∷ []) ≡ with_last (stretches xs) x.id
 stretches-behind [] x = refl
 stretches-behind (y ∷ ys) x = ap (with_byte y.id) (stretches-behind ys x) ∙ front-behind y.id x.id (stretches ys)

@@ -7,7 +7,7 @@ use Rattle.std.proofs.lemmas.Bool.{leb-true}
 use Rattle.zed_types.specs.declared.stamp.Stamp.{Stamp}
 use Rattle.zed_types.specs.declared.names.ElemId.{ElemId}
 use Rattle.zed_types.specs.declared.names.TextId.{TextId}
-use Rattle.zed_types.specs.declared.text.TextElement.{TextElement}
+use Rattle.zed_types.specs.declared.text.TextByte.{TextByte}
 use Rattle.zed_types.specs.Names.{same_element, same_text}
 use Rattle.zed_types.specs.Text.{run_from, behind, put_after, alive_bytes}
 use Rattle.zed_op.specs.declared.cause.Cause.{Cause}
@@ -34,10 +34,10 @@ use Rattle.zed_types.proofs.StampOrder.{same_stamp-itself}
 use Rattle.zed_document.proofs.Spots.{edit_with-past}
 
 pub same_element-itself : (a : ElemId) → same_element a a ≡ true
-same_element-itself a = rw (same_stamp-itself a.stamp) (grind (arith))
+same_element-itself a = rw (same_stamp-itself a.name.stamp) (grind (arith))
 
 -- the text of a name is changed where it is
-pub changed-text : (t : TextId) (f : List TextElement → List TextElement) (xs : List Text) → list_any (λ x. same_text x.id t) xs ≡ true → elements_in (find_text t (change_such (λ x. same_text x.id t) (change_elements f) xs)) ≡ f (elements_in (find_text t xs))
+pub changed-text : (t : TextId) (f : List TextByte → List TextByte) (xs : List Text) → list_any (λ x. same_text x.id t) xs ≡ true → elements_in (find_text t (change_such (λ x. same_text x.id t) (change_elements f) xs)) ≡ f (elements_in (find_text t xs))
 changed-text t f [] h = absurd (cc)
 changed-text t f (x ∷ xs) h = go (same_text x.id t) refl (λ k. changed-text t f xs k)
   where
@@ -46,7 +46,7 @@ changed-text t f (x ∷ xs) h = go (same_text x.id t) refl (λ k. changed-text t
     go false b more = rw (b, b) (more (rw b at h))
 
 -- the alive bytes of parts
-pub alive-append : (xs ys : List TextElement) → alive_bytes (xs ++ ys) ≡ alive_bytes xs ++ alive_bytes ys
+pub alive-append : (xs ys : List TextByte) → alive_bytes (xs ++ ys) ≡ alive_bytes xs ++ alive_bytes ys
 alive-append [] ys = refl
 alive-append (x ∷ xs) ys = go x.alive refl (alive-append xs ys)
   where
@@ -69,7 +69,7 @@ get-there (y ∷ ys) zero l = (y, refl)
 get-there (y ∷ ys) (suc k) l = get-there ys k (omega arith)
 
 -- what holds of all elements holds of each that is alive
-alive-each : (P : TextElement → Type 0) (xs : List TextElement) (k : ℕ) (x : TextElement) → AllByRecursion P xs → slice_get (alive xs) k ≡ Some x → P x
+alive-each : (P : TextByte → Type 0) (xs : List TextByte) (k : ℕ) (x : TextByte) → AllByRecursion P xs → slice_get (alive xs) k ≡ Some x → P x
 alive-each P [] k x a h = absurd (cc)
 alive-each P (y ∷ ys) k x a h = go y.alive refl k h (λ j q. alive-each P ys j x a.1 q)
   where
@@ -78,7 +78,7 @@ alive-each P (y ∷ ys) k x a h = go y.alive refl k h (λ j q. alive-each P ys j
     go true b (suc j) q more = more j (rw b at q)
     go false b j q more = more j (rw b at q)
 
-alive-there : (xs : List TextElement) (k : ℕ) (x : TextElement) → slice_get (alive xs) k ≡ Some x → list_any (λ y. same_element y.id x.id) xs ≡ true
+alive-there : (xs : List TextByte) (k : ℕ) (x : TextByte) → slice_get (alive xs) k ≡ Some x → list_any (λ y. same_element y.id x.id) xs ≡ true
 alive-there [] k x h = absurd (cc)
 alive-there (y ∷ ys) k x h = go y.alive refl k h (λ j q. alive-there ys j x q)
   where
@@ -94,11 +94,11 @@ alive-there (y ∷ ys) k x h = go y.alive refl k h (λ j q. alive-there ys j x q
     go true b (suc j) q more = rw (more j (rw b at q)) (or_true (same_element y.id x.id))
     go false b j q more = rw (more j (rw b at q)) (or_true (same_element y.id x.id))
 
-abbrev pub ShowsBehind : List TextElement → ElemId → List TextElement → ℕ → Type 0
+abbrev pub ShowsBehind : List TextByte → ElemId → List TextByte → ℕ → Type 0
 ShowsBehind run a xs k = alive_bytes (behind a (λ rest. run ++ rest) xs) ≡ take (suc k) (alive_bytes xs) ++ (alive_bytes run ++ drop (suc k) (alive_bytes xs))
 
 -- a run put after an alive byte stands behind it among the alive bytes
-pub behind-shows : (run xs : List TextElement) (k : ℕ) (x : TextElement) → HaveOwnNames xs → slice_get (alive xs) k ≡ Some x → ShowsBehind run x.id xs k
+pub behind-shows : (run xs : List TextByte) (k : ℕ) (x : TextByte) → HaveOwnNames xs → slice_get (alive xs) k ≡ Some x → ShowsBehind run x.id xs k
 behind-shows run [] k x o h = absurd (cc)
 behind-shows run (y ∷ ys) k x o h = go y.alive refl k h (λ j q. behind-shows run ys j x o.1 q) (λ j q. alive-each (λ z. same_element y.id z.id ≡ false) ys j x o.0 q)
   where
@@ -117,7 +117,7 @@ behind-shows run (y ∷ ys) k x o h = go y.alive refl k h (λ j q. behind-shows 
         rw (b, s) (more j q')
 
 -- a run put at a position stands there among the alive bytes
-pub put-shows : (s : Stamp) (bytes : List ℕ) (xs : List TextElement) (p : ℕ) → HaveOwnNames xs → nat_le p (length (alive_bytes xs)) ≡ true → alive_bytes (put_after (byte_before xs p) (run_from s 0 bytes) xs) ≡ with_bytes p bytes (alive_bytes xs)
+pub put-shows : (s : Stamp) (bytes : List ℕ) (xs : List TextByte) (p : ℕ) → HaveOwnNames xs → nat_le p (length (alive_bytes xs)) ≡ true → alive_bytes (put_after (byte_before xs p) (run_from s 0 bytes) xs) ≡ with_bytes p bytes (alive_bytes xs)
 put-shows s bytes xs zero o l = alive-append (run_from s 0 bytes) xs ∙ ap (λ run. run ++ alive_bytes xs) (alive-run s 0 bytes)
 put-shows s bytes xs (suc k) o l =
     let m : length (alive_bytes xs) ≡ length (alive xs) = length-map (alive xs) (λ x. x.byte) in
@@ -133,7 +133,7 @@ put-shows s bytes xs (suc k) o l =
 place-made : (p : Plain) (t : TextId) (k : ℕ) → has p (thing.Text t) ≡ true → nat_le k (length (text p t)) ≡ true → (s : Stamp) (bytes : List ℕ) → can p (record { stamp = s; op = TextInsert t (byte_before (elements p t) k) bytes }) ≡ true
 place-made p t zero h l s bytes = rw h refl
 place-made p t (suc k) h l s bytes =
-    let xs : List TextElement = elements p t in
+    let xs : List TextByte = elements p t in
     let m : length (alive_bytes xs) ≡ length (alive xs) = length-map (alive xs) (λ x. x.byte) in
     let n = leb-true (suc k) (length (alive_bytes xs)) l in
     let g = get-there (alive xs) k (omega arith) in
@@ -155,7 +155,7 @@ made_insertion one names es replica t p bytes rises h l =
     let e : Edit = authored es replica (insertion_at es t p bytes) in
     let below : AllBelow e.stamp es = authored-late es replica (insertion_at es t p bytes) refl in
     let c : can (replay es) e ≡ true = place-made (replay es) t p h l e.stamp bytes in
-    let xs : List TextElement = elements (replay es) t in
+    let xs : List TextByte = elements (replay es) t in
     let stepped : step (replay es) e ≡ do_edit (replay es) e = ap (λ b. cond b (do_edit (replay es) e) (pass_over (replay es) e)) c in
     let changed : elements (do_edit (replay es) e) t ≡ put_after (byte_before xs p) (run_from e.stamp 0 bytes) xs = changed-text t (put_after (byte_before xs p) (run_from e.stamp 0 bytes)) (replay es).texts h in
     record {

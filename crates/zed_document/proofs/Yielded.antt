@@ -13,9 +13,9 @@ use Rattle.std.specs.declared.iter.Filter.{Filter}
 use Rattle.std.specs.declared.slice.Iter.{Iter}
 use denote.Param.Members.{Mut}
 use denote.Ref.{Bor}
-use Rattle.zed_types.specs.declared.text.TextElement.{TextElement}
+use Rattle.zed_types.specs.declared.text.TextByte.{TextByte}
 use Rattle.zed_document.specs.Authoring.{alive, part}
 
-pub yields-part : {F : Type 0} {g : Mut F (Bor (Bor TextElement) × Unit {0}) Bool} {f : F} {s : Skip (Take (Filter (Iter TextElement) F))} (from to : ℕ) (all : List TextElement) → iter_rest (filter_source (take_source (skip_source s))) ≡ all → filter_callee (take_source (skip_source s)) ≡ f → take_count (skip_source s) ≡ to → skip_count s ≡ from → ((x : Bor TextElement) (b : Bool) (q : F) → CalledAt g f x b q → (q ≡ f) × (b ≡ x.now.alive)) → YieldsList (skip_steps (take_steps (filter_steps fronts g))) (λ y. y.now) s (part from to (alive all))
+pub yields-part : {F : Type 0} {g : Mut F (Bor (Bor TextByte) × Unit {0}) Bool} {f : F} {s : Skip (Take (Filter (Iter TextByte) F))} (from to : ℕ) (all : List TextByte) → iter_rest (filter_source (take_source (skip_source s))) ≡ all → filter_callee (take_source (skip_source s)) ≡ f → take_count (skip_source s) ≡ to → skip_count s ≡ from → ((x : Bor TextByte) (b : Bool) (q : F) → CalledAt g f x b q → (q ≡ f) × (b ≡ x.now.alive)) → YieldsList (skip_steps (take_steps (filter_steps fronts g))) (λ y. y.now) s (part from to (alive all))
 yields-part {g = g} from to all rest callee most passed h =
     YieldsList-from_skip from (YieldsList-from_take to (YieldsList-from_filter g (λ x. x.alive) (YieldsList-from_slice all rest) callee h) most) passed

@@ -4,7 +4,7 @@ use Rattle.std.specs.List.{filter}
 use Rattle.zed_types.specs.declared.names.ElemId.{ElemId}
 use Rattle.zed_types.specs.declared.names.TextId.{TextId}
 use Rattle.zed_types.specs.declared.text.ByteRange.{ByteRange}
-use Rattle.zed_types.specs.declared.text.TextElement.{TextElement}
+use Rattle.zed_types.specs.declared.text.TextByte.{TextByte}
 use Rattle.zed_types.specs.Stamp.{same_stamp}
 use Rattle.zed_op.specs.declared.cause.Cause.{Cause}
 use Rattle.zed_op.specs.declared.op.Op.{Op}
@@ -76,11 +76,11 @@ abbrev pub MayTakeMemory : List Edit → Edit → Type 0
 MayTakeMemory es e = HangsOnItsWorld e ⊎ (Fits e × (can (replay es) e ≡ true))
 
 -- the alive elements of a text
-abbrev pub alive : List TextElement → List TextElement
+abbrev pub alive : List TextByte → List TextByte
 alive xs = filter (λ x. x.alive) xs
 
 -- the name of the alive byte before a position, none at the head
-abbrev pub byte_before : List TextElement → ℕ → Option ElemId
+abbrev pub byte_before : List TextByte → ℕ → Option ElemId
 byte_before xs zero = None
 byte_before xs (suc p) = option_map (λ x. x.id) (slice_get (alive xs) p)
 
@@ -115,18 +115,18 @@ pub record MayTakeMemoryAt (d : Replica) (replica : ℕ) (t : TextId) (p : ℕ) 
 
 -- whether an element stands directly before a stretch in one insertion
 abbrev pub goes_before : ElemId → ByteRange → Bool
-goes_before a r = same_stamp a.stamp r.stamp && (a.index + 1) == r.first
+goes_before a r = same_stamp a.name.stamp r.stamp && (a.name.index + 1) == r.first
 
 abbrev pub alone : ElemId → ByteRange
-alone a = record { stamp = a.stamp; first = a.index; last = a.index }
+alone a = record { stamp = a.name.stamp; first = a.name.index; last = a.name.index }
 
 -- one more byte in front of stretches: part of the first, or a stretch of its own
 abbrev pub with_byte : ElemId → List ByteRange → List ByteRange
 with_byte a [] = alone a ∷ []
-with_byte a (r ∷ rs) = if goes_before a r then record r { first = a.index } ∷ rs else alone a ∷ r ∷ rs
+with_byte a (r ∷ rs) = if goes_before a r then record r { first = a.name.index } ∷ rs else alone a ∷ r ∷ rs
 
 -- bytes cut into the longest stretches of one insertion with indices that rise by one
-abbrev pub stretches : List TextElement → List ByteRange
+abbrev pub stretches : List TextByte → List ByteRange
 stretches [] = []
 stretches (x ∷ xs) = with_byte x.id (stretches xs)
 

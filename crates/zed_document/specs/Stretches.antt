@@ -11,11 +11,11 @@ use Rattle.zed_document.specs.Kept.{AllBelow}
 
 -- whether a byte stands directly behind a stretch, in the same insertion
 abbrev pub ends_before : ByteRange → ElemId → Bool
-ends_before r a = same_stamp r.stamp a.stamp && (r.last + 1) == a.index
+ends_before r a = same_stamp r.stamp a.name.stamp && (r.last + 1) == a.name.index
 
 -- a stretch that goes on to a byte
 abbrev pub stretched : ByteRange → ElemId → ByteRange
-stretched r a = record { stamp = a.stamp; first = r.first; last = a.index }
+stretched r a = record { stamp = a.name.stamp; first = r.first; last = a.name.index }
 
 -- one more byte behind stretches: part of the last, or a stretch of its own
 abbrev pub with_last : List ByteRange → ElemId → List ByteRange

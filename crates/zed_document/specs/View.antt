@@ -24,8 +24,7 @@ use Rattle.zed_edit.specs.declared.plain.Board.{Board}
 use Rattle.zed_edit.specs.declared.plain.Stat.{Stat}
 use Rattle.zed_edit.specs.declared.plain.Text.{Text}
 use Rattle.zed_edit.specs.declared.plain.Plain.{Plain}
-use Rattle.zed_edit.specs.Genesis.{stat_of, text_of}
-use Rattle.zed_types.specs.Names.{title}
+use Rattle.zed_types.specs.Names.{title, stat_of, text_of}
 use Rattle.zed_edit.specs.Stat.{new_stat, player_fields}
 use Rattle.zed_edit.specs.Board.{new_board, empty_tile}
 use Rattle.zed_document.specs.declared.view.MadeBoard.{MadeBoard}
@@ -33,7 +32,7 @@ use Rattle.zed_document.specs.declared.view.MadeStat.{MadeStat}
 
 -- a board and a stat to speak of where a number is past the end
 abbrev pub no_stat : Stat
-no_stat = new_stat (stat_of title.stamp 0) true player_fields
+no_stat = new_stat (stat_of title.name.stamp 0) true player_fields
 
 unfoldable pub no_board : Board
 no_board = new_board title no_stat.id []
@@ -48,7 +47,7 @@ stat_at b j = slice_index_or b.stats j no_stat
 
 -- a text to speak of where a number is past the end
 abbrev pub no_text : Text
-no_text = record { id = text_of title.stamp 0; elements = [] }
+no_text = record { id = text_of title.name.stamp 0; elements = [] }
 
 -- text k of those that were made
 abbrev pub text_at : Plain → ℕ → Text

@@ -57,7 +57,7 @@ impl Document {
         ensures { result ≡ can (replay self.now.edits) edit.now }
     {
         match self.shown() {
-            Ok(plain) => can(plain, edit),
+            Ok(plain) => can(self.alloc(), plain, edit),
             Err(_) => false,
         }
     }

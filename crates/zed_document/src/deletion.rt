@@ -17,34 +17,34 @@ use std::alloc::Global;
 use zed_edit::{Edit, Op};
 use zed_laws::{made_things_stay, replay_goes_edit_by_edit, texts_keep_names};
 use zed_op::fit_is_of_parts;
-use zed_types::{ByteRange, ElemId, Stamp, TextElement, TextId};
+use zed_types::{ByteRange, ElemId, Stamp, TextByte, TextId};
 
 /// Whether a byte stands directly behind a stretch, in the same insertion.
-fn ends_before(range: ByteRange, name: ElemId) -> bool
-    ensures { result ≡ goes_behind range name }
+fn ends_before(range: ByteRange, byte: ElemId) -> bool
+    ensures { result ≡ goes_behind range byte }
 {
-    range.stamp == name.stamp && u64::from(range.last) + 1 == u64::from(name.index)
+    range.stamp == byte.name.stamp && u64::from(range.last) + 1 == u64::from(byte.name.index)
 }
 
 /// A stretch that goes on to a byte.
-fn stretch(range: ByteRange, name: ElemId) -> ByteRange
-    ensures { result ≡ stretched range name }
+fn stretch(range: ByteRange, byte: ElemId) -> ByteRange
+    ensures { result ≡ stretched range byte }
 {
     ByteRange {
-        stamp: name.stamp,
+        stamp: byte.name.stamp,
         first: range.first,
-        last: name.index,
+        last: byte.name.index,
     }
 }
 
 /// A stretch of one byte.
-fn alone(name: ElemId) -> ByteRange
-    ensures { result ≡ one_byte name }
+fn alone(byte: ElemId) -> ByteRange
+    ensures { result ≡ one_byte byte }
 {
     ByteRange {
-        stamp: name.stamp,
-        first: name.index,
-        last: name.index,
+        stamp: byte.name.stamp,
+        first: byte.name.index,
+        last: byte.name.index,
     }
 }
 
@@ -79,7 +79,7 @@ fn begun(last: Option<ElemId>, name: ElemId) -> usize
 
 /// How many stretches there are of the alive bytes of a text from one position to another. It takes no memory, so that a spent clock
 /// can be told before any is taken.
-fn count_stretches(elements: &[TextElement], from: usize, to: usize) -> usize
+fn count_stretches(elements: &[TextByte], from: usize, to: usize) -> usize
     ensures { result ≡ length (stretches (part from to (alive elements.now))) }
 {
     let mut stretches = 0;
@@ -94,7 +94,7 @@ fn count_stretches(elements: &[TextElement], from: usize, to: usize) -> usize
 /// The stretches of the alive bytes of a text from one position to another.
 fn stretches_in(
     alloc: Global,
-    elements: &[TextElement],
+    elements: &[TextByte],
     from: usize,
     to: usize,
 ) -> Result<Vec<ByteRange>, DocumentError>
@@ -177,7 +177,7 @@ impl Document {
         &self,
         replica: u16,
         text: TextId,
-        elements: &[TextElement],
+        elements: &[TextByte],
         from: usize,
         to: usize,
     ) -> Result<Vec<Edit>, DocumentError>

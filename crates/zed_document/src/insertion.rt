@@ -13,10 +13,10 @@ use crate::error::DocumentError;
 use crate::view::View;
 use zed_edit::{Edit, Op};
 use zed_laws::{replay_goes_edit_by_edit, texts_keep_names};
-use zed_types::{Bytes, ElemId, TextElement, TextId};
+use zed_types::{Bytes, ElemId, TextByte, TextId};
 
 /// The name of the k-th of the bytes that are alive.
-fn live_name(elements: &[TextElement], k: usize) -> Option<ElemId>
+fn live_name(elements: &[TextByte], k: usize) -> Option<ElemId>
     ensures { result ≡ option_map (λ x. x.id) (slice_get (alive elements.now) k) }
 {
     let mut left = k;
@@ -32,7 +32,7 @@ fn live_name(elements: &[TextElement], k: usize) -> Option<ElemId>
 }
 
 /// The name of the byte before a position, none at the head.
-fn name_before(elements: &[TextElement], position: usize) -> Result<Option<ElemId>, DocumentError>
+fn name_before(elements: &[TextByte], position: usize) -> Result<Option<ElemId>, DocumentError>
     ensures { MatchBool (nat_le position (length (alive_bytes elements.now))) (result ≡ Ok (byte_before elements.now position)) (result ≡ Err DocumentError.OutOfRange) }
 {
     if position == 0 {

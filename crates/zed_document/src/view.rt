@@ -11,7 +11,7 @@ use std::marker::Model;
 use zed_edit::{Board, Plain, Stat, Text};
 use zed_types::{
     BoardByte, BoardFlag, BoardId, BoardText, Bytes, COLUMNS, FlagSlot, HeaderNumber, KeyColour,
-    Place, Side, StatByte, StatId, StatNumber, TILES, TextElement, TextId, ThirdParameter, Tile,
+    Place, Side, StatByte, StatId, StatNumber, TILES, TextByte, TextId, ThirdParameter, Tile,
 };
 
 /// A board that was made, and whether it is marked removed.
@@ -316,7 +316,7 @@ impl<'a> View<'a> {
     }
 
     /// The bytes of a text, dead ones included.
-    pub(crate) fn elements(&self, id: TextId) -> &[TextElement]
+    pub(crate) fn elements(&self, id: TextId) -> &[TextByte]
         ensures { result.now ≡ elements self.now id }
     {
         match find_made(self.plain.texts.as_slice(), id) {
@@ -356,7 +356,7 @@ impl<'a> View<'a> {
         number_among(self.plain.texts.as_slice(), id)
     }
 
-    fn elements_at(&self, k: usize) -> &[TextElement]
+    fn elements_at(&self, k: usize) -> &[TextByte]
         requires { k < length self.now.texts }
         ensures { result.now ≡ (text_at self.now k).elements }
     {
@@ -389,21 +389,21 @@ fn find_made(texts: &[Text], id: TextId) -> Option<&Text>
 
 /// The place of a text among texts in the order of their names.
 fn number_among(texts: &[Text], id: TextId) -> Option<usize>
-    ensures is { NamesRise (λ t. t.id.stamp) (λ t. t.id.index) texts.now → MatchOption result (find_text id texts.now ≡ None) (λ k. find_text id texts.now ≡ Some (slice_index_or texts.now k no_text)) }
+    ensures is { NamesRise (λ t. t.id.name) texts.now → MatchOption result (find_text id texts.now ≡ None) (λ k. find_text id texts.now ≡ Some (slice_index_or texts.now k no_text)) }
     ensures within { IfSome result (λ k. k < length texts.now) }
 {
     texts.binary_search_by(|text| text.id.cmp(&id)).ok()
 }
 
 /// How many bytes are alive.
-fn count_live(elements: &[TextElement]) -> usize
+fn count_live(elements: &[TextByte]) -> usize
     ensures { result ≡ length (alive_bytes elements.now) }
 {
     elements.iter().filter(|element| element.alive).count()
 }
 
 /// The k-th byte of those alive.
-fn live_byte(elements: &[TextElement], k: usize) -> Option<u8>
+fn live_byte(elements: &[TextByte], k: usize) -> Option<u8>
     ensures { result ≡ slice_get (alive_bytes elements.now) k }
 {
     let mut left = k;
@@ -419,7 +419,7 @@ fn live_byte(elements: &[TextElement], k: usize) -> Option<u8>
 }
 
 /// Appends the bytes of those alive, or a front of them.
-fn push_live(elements: &[TextElement], out: &mut Vec<u8>) -> Result<(), AllocError>
+fn push_live(elements: &[TextByte], out: &mut Vec<u8>) -> Result<(), AllocError>
     ensures ok { OnOk result (out.new.items ≡ out.old.items ++ alive_bytes elements.now) }
     ensures err { OnErr result (take (length out.old.items) out.new.items ≡ out.old.items) }
 {
@@ -432,7 +432,7 @@ fn push_live(elements: &[TextElement], out: &mut Vec<u8>) -> Result<(), AllocErr
 }
 
 /// Appends the bytes of those alive, or nothing.
-fn append_live(elements: &[TextElement], out: &mut Vec<u8>) -> Result<(), AllocError>
+fn append_live(elements: &[TextByte], out: &mut Vec<u8>) -> Result<(), AllocError>
     ensures ok { OnOk result (out.new.items ≡ out.old.items ++ alive_bytes elements.now) }
     ensures err { OnErr result (out.new.items ≡ out.old.items) }
 {

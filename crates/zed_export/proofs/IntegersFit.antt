@@ -4,7 +4,7 @@ use Rattle.std.specs.Prelude.{filter}
 use Rattle.std.specs.List.{AllByRecursion}
 use Rattle.zed_types.specs.declared.names.TextId.{TextId}
 use Rattle.zed_types.specs.Stamp.{before, same_stamp}
-use Rattle.zed_world.specs.Normal.{IsNormal}
+use Rattle.zed_world.specs.Normal.{HasNormalParts}
 use Rattle.zed_op.specs.declared.op.Edit.{Edit}
 use Rattle.zed_op.specs.Set.{with_edit, union, set_of}
 use Rattle.zed_edit.specs.declared.plain.Board.{Board}
@@ -51,7 +51,7 @@ boards_fit p (b ∷ bs) h =
     let live = each_filtered StatHasIntegers (λ s. not s.removed) b.stats h.0.stats in
     (record { time_limit = h.0.time_limit; stats = stats_fit p b [] (filter (λ s. not s.removed) b.stats) live }, boards_fit p bs h.1)
 
-pub integers_normal : (limit : ℕ) (p : Plain) → IsRegular p → HasIntegers p → limit ≤ 32767 → refusal_of limit p ≡ None → IsNormal (world_of p)
+pub integers_normal : (limit : ℕ) (p : Plain) → IsRegular p → HasIntegers p → limit ≤ 32767 → refusal_of limit p ≡ None → HasNormalParts (world_of p)
 integers_normal limit p regular integers low within =
     let h = integers.header in
     world_normal limit p regular low within

@@ -13,7 +13,7 @@ use Rattle.zed_types.specs.Names.{same_board, same_stat}
 use Rattle.zed_world.specs.declared.stat.StatData.{StatData}
 use Rattle.zed_world.specs.Offsets.{is_passage_at}
 use Rattle.zed_world.specs.Writing.{code_text, stat_text}
-use Rattle.zed_world.specs.Normal.{AreNormalStats, IsNormalBoard, IsNormal}
+use Rattle.zed_world.specs.Normal.{AreNormalStats, IsNormalBoard, HasNormalParts}
 use Rattle.zed_edit.specs.declared.plain.Board.{Board}
 use Rattle.zed_edit.specs.declared.plain.Stat.{Stat}
 use Rattle.zed_edit.specs.declared.plain.Plain.{Plain}
@@ -102,7 +102,7 @@ all_normal limit number p (b ∷ bs) low some r h fits =
     let both = neither (board_refusal limit number (exported_board p b)) (boards_refusal limit (number + 1) (map (exported_board p) bs)) h in
     (board_normal limit number p b low some r.0 both.0 fits.0, all_normal limit (number + 1) p bs low some r.1 both.1 fits.1)
 
-pub world_normal : (limit : ℕ) (p : Plain) → IsRegular p → limit ≤ 32767 → refusal_of limit p ≡ None → FitsHeader (world_of p).header → AllByRecursion FitsBoard (world_of p).boards → IsNormal (world_of p)
+pub world_normal : (limit : ℕ) (p : Plain) → IsRegular p → limit ≤ 32767 → refusal_of limit p ≡ None → FitsHeader (world_of p).header → AllByRecursion FitsBoard (world_of p).boards → HasNormalParts (world_of p)
 world_normal limit p r low h fits_header fits_boards =
     let n = length (live_boards p) in
     let same : length (exported_boards p) ≡ n = length-map (live_boards p) (exported_board p) in

@@ -42,7 +42,7 @@ rise-map f stamp index [] h = tt
 rise-map f stamp index (x ∷ xs) h = (all-map (λ y. is_earlier (stamp (f x)) (index (f x)) (stamp y) (index y) ≡ true) f xs h.0, rise-map f stamp index xs h.1)
 
 pub board_names_rise : (p : Plain) → IsOrdered p → NamesRise (λ b. b.stamp) (λ b. b.index) (board_names p)
-board_names_rise p h = rise-map (λ (b : Board). b.id) (λ b. b.stamp) (λ b. b.index) _ (rise-filter (λ (b : Board). b.id.stamp) (λ (b : Board). b.id.index) (λ (b : Board). not b.removed) p.boards h.boards)
+board_names_rise p h = rise-map (λ (b : Board). b.id) (λ b. b.stamp) (λ b. b.index) _ (rise-filter (λ (b : Board). b.id.name.stamp) (λ (b : Board). b.id.name.index) (λ (b : Board). not b.removed) p.boards h.boards)
 
-pub stat_names_rise : (b : Board) → NamesRise (λ s. s.id.stamp) (λ s. s.id.index) b.stats → NamesRise (λ s. s.stamp) (λ s. s.index) (stat_names b)
-stat_names_rise b h = rise-map (λ (s : Stat). s.id) (λ s. s.stamp) (λ s. s.index) _ (rise-filter (λ (s : Stat). s.id.stamp) (λ (s : Stat). s.id.index) (λ (s : Stat). not s.removed) b.stats h)
+pub stat_names_rise : (b : Board) → NamesRise (λ s. s.id.name.stamp) (λ s. s.id.name.index) b.stats → NamesRise (λ s. s.stamp) (λ s. s.index) (stat_names b)
+stat_names_rise b h = rise-map (λ (s : Stat). s.id) (λ s. s.stamp) (λ s. s.index) _ (rise-filter (λ (s : Stat). s.id.name.stamp) (λ (s : Stat). s.id.name.index) (λ (s : Stat). not s.removed) b.stats h)

@@ -4,7 +4,7 @@ use Rattle.zed_types.specs.declared.tile.Tile.{Tile}
 use Rattle.zed_world.specs.declared.board.BoardData.{BoardData}
 use Rattle.zed_world.specs.Contents.{Contents}
 use Rattle.zed_world.specs.Reading.{world_at}
-use Rattle.zed_world.specs.Normal.{IsNormal}
+use Rattle.zed_world.specs.Normal.{HasNormalParts}
 use Rattle.zed_world.specs.Writing.{body_text, world_text}
 use Rattle.zed_op.specs.declared.thing.Thing.TheVariants as thing
 use Rattle.zed_edit.specs.declared.plain.Plain.{Plain}
@@ -84,6 +84,6 @@ abbrev pub SavedIsRead : Type 0
 SavedIsRead =
     (limit : ℕ) (p : Plain) (file : List ℕ)
     → limit ≤ 32767
-    → IsNormal (world_of p)
+    → HasNormalParts (world_of p)
     → saved limit p ≡ Ok file
     → world_at file ≡ Ok (world_of p)

@@ -10,7 +10,7 @@ use Rattle.zed_world.specs.declared.header.Header.{Header}
 use Rattle.zed_world.specs.declared.board.BoardData.{BoardData}
 use Rattle.zed_world.specs.Contents.{Contents}
 use Rattle.zed_world.specs.Canonical.{IsCanonical}
-use Rattle.zed_world.specs.Normal.{IsNormal}
+use Rattle.zed_world.specs.Normal.{HasNormalParts}
 use Rattle.zed_program.specs.Fresh.{fresh_header, fresh_world, genesis_of, title_of}
 
 bytes_same : (bytes : List ℕ) → bytes_eq bytes bytes ≡ true
@@ -35,7 +35,7 @@ unfolding new_table
 table_is_long = refl
 
 -- a new world can stand in a file
-pub fresh_is_normal : (name : List ℕ) → IsNormal (fresh_world name)
+pub fresh_is_normal : (name : List ℕ) → HasNormalParts (fresh_world name)
 fresh_is_normal name = record {
   some = search rules;
   few = search rules;
@@ -70,8 +70,8 @@ fresh_is_normal name = record {
 
 -- so can one that is made of its parts
 pub made_is_normal : (name : List ℕ) (h : Header) (bs : List BoardData) (b : BoardData) → h ≡ fresh_header name → bs ≡ [] ++ b ∷ [] → b ≡ title_of new_table
-    → IsNormal (record { header = h; boards = bs })
+    → HasNormalParts (record { header = h; boards = bs })
 made_is_normal name h bs b is boards title =
     let make : Header → List BoardData → Contents = λ h bs. record { header = h; boards = bs } in
     let path : make h bs ≡ make (fresh_header name) (title_of new_table ∷ []) = rw (is, boards, title) refl in
-    subst IsNormal (sym path) (fresh_is_normal name)
+    subst HasNormalParts (sym path) (fresh_is_normal name)

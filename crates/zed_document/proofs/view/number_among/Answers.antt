@@ -11,7 +11,7 @@ use Rattle.zed_document.proofs.view.number_among.Goals as goal
 pub returns-clause-is : goal.returns-clause-is
 returns-clause-is c = λ rises.
     let facts = c.binary_search_by.ensures in
-    let by_name = facts.position (λ (t : Text). name_cmp (t.id.stamp, t.id.index) (c.args.id.stamp, c.args.id.index)) (always_returns_same _ _ _ (λ a r g called. (search rules, search rules))) in
+    let by_name = facts.position (λ (t : Text). name_cmp t.id.name c.args.id.name) (always_returns_same _ _ _ (λ a r g called. (search rules, search rules))) in
     let found : c.ok.result ≡ position (λ (t : Text). same_text t.id c.args.id) c.args.texts.now
-    = c.ok.ensures.value ∙ sym (sought (λ (t : Text). t.id.stamp) (λ (t : Text). t.id.index) (c.args.id.stamp, c.args.id.index) c.args.texts.now c.binary_search_by.result rises facts.bound by_name) in
+    = c.ok.ensures.value ∙ sym (sought (λ (t : Text). t.id.name) c.args.id.name c.args.texts.now c.binary_search_by.result rises facts.bound by_name) in
     found_there (λ (t : Text). same_text t.id c.args.id) c.args.texts.now no_text c.ok.result found

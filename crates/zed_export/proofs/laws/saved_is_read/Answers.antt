@@ -2,7 +2,7 @@ use Rattle.std.proofs.Common.{◌≡◌, ℕ, ◌≤◌, ◌++◌, List, [], len
 use Rattle.std.specs.List.{AllByRecursion}
 use Rattle.std.proofs.lemmas.List.{append-nil}
 use Rattle.zed_world.specs.Contents.{Contents}
-use Rattle.zed_world.specs.Normal.{IsNormal}
+use Rattle.zed_world.specs.Normal.{HasNormalParts}
 use Rattle.zed_world.specs.Reading.{world_at}
 use Rattle.zed_world.specs.Writing.{body_text, world_text}
 use Rattle.zed_op.specs.Set.{set_of}
@@ -20,7 +20,7 @@ use Rattle.zed_export.proofs.Within.{boards_within, all_readable}
 use Rattle.zed_export.proofs.laws.saved_is_read.Goals as goal
 
 WrittenIsRead : Type 0
-WrittenIsRead = (w : Contents) (rest : List ℕ) → IsNormal w → AllByRecursion (λ b. length (body_text b) ≤ 32767) w.boards → world_at (world_text w ++ rest) ≡ Ok w
+WrittenIsRead = (w : Contents) (rest : List ℕ) → HasNormalParts w → AllByRecursion (λ b. length (body_text b) ≤ 32767) w.boards → world_at (world_text w ++ rest) ≡ Ok w
 
 read_again : WrittenIsRead → SavedIsRead
 unfolding WrittenIsRead
@@ -38,7 +38,7 @@ authored_is_read read fit regular integers limit es file authored low answer = g
     p : Plain
     p = replay (set_of es)
 
-    normal : refusal_of limit p ≡ None → IsNormal (world_of p)
+    normal : refusal_of limit p ≡ None → HasNormalParts (world_of p)
     normal within = integers_normal limit p (regular (set_of es) (fit es authored.fit)) (integers (set_of es) (each_of_set (λ e. HasOpIntegers e.op) es authored.integers)) low within
 
     go : (o : Option ExportError) → refusal_of limit p ≡ o → unless_over o (world_text (world_of p)) ≡ Ok file → world_at file ≡ Ok (world_of p)
