@@ -1,5 +1,6 @@
 ghost use Rattle.std.specs.Prelude.{◌≡◌, ◌≢◌, ◌≤◌, ◌⊎◌, [], ◌∷◌, ◌++◌, if◌then◌else◌, length, take, insert, is_ok, true, false, None, Ok, Err, OnOk, OnErr, IfOk, IfErr, IsOkAnd, MatchBool, ◌↔◌};
 
+use crate::batch::{Batch, gather};
 use crate::delivered::{Delivered, State};
 use crate::error::{DocumentError, of_edit};
 use crate::held::{count_woken, is_among};
@@ -10,7 +11,7 @@ use std::alloc::Global;
 use std::marker::Model;
 use zed_edit::{Edit, Plain, check, replay, step};
 use zed_laws::replay_goes_edit_by_edit;
-use zed_op::{sets_rise, sets_stay_fit};
+use zed_op::{rising_lists_are_sets, sets_rise, sets_stay_fit};
 use zed_types::Stamp;
 
 /// A replica of a world. Contracts see the number of its world, its edits in rising stamp order, and whether it is stale.
@@ -35,7 +36,7 @@ impl Model for Document {
 
 impl Document {
     ghost use Rattle.zed_document.specs.Held.{held_stamps, is_among as is_one_of};
-    ghost use Rattle.zed_document.specs.Delivery.{Answers, AnswersAt, MayTakeMemoryFor, TellsNew, edit_with};
+    ghost use Rattle.zed_document.specs.Delivery.{Answers, AnswersAt, DeliversEach, MayTakeMemoryFor, MayTakeMemoryForEach, TellsNew, edit_with};
     ghost use Rattle.zed_document.specs.Kept.{AllBelow};
     ghost use Rattle.zed_edit.specs.Replay.{replay};
     ghost use Rattle.zed_op.specs.Fit.{Fits};
@@ -304,11 +305,75 @@ impl Document {
         let edits = join(alloc, &self.edits, other)?;
         sets_rise();
         sets_stay_fit();
-        let Ok(plain) = replay(alloc, &edits) else {
+        self.show(edits)
+    }
+
+    /// Puts other edits in place of the own ones.
+    fn show(&mut self, edits: Vec<Edit>) -> Result<(), DocumentError>
+        requires sound { self.old.is_stale ≡ false }
+        requires fit { AllFit edits.items }
+        requires rising { IsRising edits.items }
+        ensures edits { OnOk result (self.new.edits ≡ edits.items) }
+        ensures only { IfErr result (λ e. e ≡ DocumentError.Memory) }
+        ensures kept { OnErr result (self.new ≡ self.old) }
+        ensures world { self.new.world ≡ self.old.world }
+        ensures sound { self.new.is_stale ≡ false }
+    {
+        let Ok(plain) = replay(*self.edits.allocator(), &edits) else {
             return Err(DocumentError::Memory);
         };
         self.edits = edits;
         self.plain = plain;
         Ok(())
+    }
+
+    /// Joins new edits to the own ones.
+    fn take_all(&mut self, edits: Vec<Edit>) -> Result<(), DocumentError>
+        requires sound { self.old.is_stale ≡ false }
+        requires fit { AllFit edits.items }
+        requires rising { IsRising edits.items }
+        ensures edits { OnOk result (self.new.edits ≡ union self.old.edits edits.items) }
+        ensures only { IfErr result (λ e. e ≡ DocumentError.Memory) }
+        ensures some { OnErr result (edits.items ≢ []) }
+        ensures kept { OnErr result (self.new ≡ self.old) }
+        ensures world { self.new.world ≡ self.old.world }
+        ensures sound { self.new.is_stale ≡ false }
+    {
+        rising_lists_are_sets();
+        if edits.is_empty() {
+            return Ok(());
+        }
+        if self.edits.is_empty() {
+            self.show(edits)
+        } else {
+            self.take_in(&edits)
+        }
+    }
+
+    /// Delivers edits that fit, one after the other in the order in which they come, up to the first that is refused: Stale, or
+    /// Clash. Those before it stay. On Memory nothing has changed. Whatever their order, the work is as for edits that come in order.
+    pub fn deliver_all(&mut self, edits: Vec<Edit>) -> Result<(), DocumentError>
+        requires { AllFit edits.items }
+        ensures result { (result ≡ Err DocumentError.Memory)
+            ⊎ DeliversEach self.old edits.items result self.new.edits }
+        ensures kept { result ≡ Err DocumentError.Memory → self.new.edits ≡ self.old.edits }
+        ensures world { self.new.world ≡ self.old.world }
+        ensures stale { self.new.is_stale ≡ self.old.is_stale }
+        ensures memory_only_when { result ≡ Err DocumentError.Memory
+            → MayTakeMemoryForEach self.old edits.items }
+    {
+        if edits.is_empty() {
+            return Ok(());
+        }
+        if self.is_stale {
+            return Err(DocumentError::Stale);
+        }
+        let alloc = *self.edits.allocator();
+        let Batch { edits, clash } = gather(alloc, &self.edits, edits)?;
+        self.take_all(edits)?;
+        match clash {
+            Some(at) => Err(DocumentError::Clash(at)),
+            None => Ok(()),
+        }
     }
 }

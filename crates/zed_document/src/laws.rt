@@ -1,3 +1,4 @@
+ghost use Rattle.zed_document.specs.Delivery.{DeliveriesComeToSets};
 ghost use Rattle.zed_document.specs.Laws.{MergeCommutes, MergeAssociates, MergeRepeats, MergeOfItself, EditsDecide, DeliveriesMakeIt, MergeIsDeliveries, OrderNeverCounts};
 
 use zed_op::{rising_lists_are_sets, set_is_its_edits, sets_rise, union_is_of_sets};
@@ -24,4 +25,11 @@ pub fn edits_decide()
 {
     set_is_its_edits();
     union_is_of_sets();
+}
+
+/// Deliveries to a document without edits come to the set of all, unless two edits clash: neither their order nor repeats count.
+pub fn deliveries_come_to_sets()
+    ensures { DeliveriesComeToSets }
+{
+    set_is_its_edits();
 }

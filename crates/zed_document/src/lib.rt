@@ -3,6 +3,7 @@
 #![tactic(auto)]
 
 mod author;
+mod batch;
 mod clock;
 mod deletion;
 mod delivered;
@@ -20,5 +21,5 @@ mod view;
 pub use delivered::{Delivered, State};
 pub use document::Document;
 pub use error::DocumentError;
-pub use laws::{edits_decide, merging_is_of_sets};
+pub use laws::{deliveries_come_to_sets, edits_decide, merging_is_of_sets};
 pub use view::{MadeBoard, MadeStat, View};

@@ -1,0 +1,252 @@
+-- What one edit more of a batch makes of the map, and what the whole of it comes to.
+use Rattle.std.proofs.Common.{◌≡◌, ◌∙◌, ◌<◌, ◌==◌, ℕ, zero, suc, length, arith, true, false, List, [], ◌∷◌, Some, None, Ok, Err, refl, ap, sym, subst}
+use Rattle.std.specs.Prelude.{◌≢◌, Contains, IfSome, IsSomeAnd, MatchOption, Option}
+use Rattle.std.specs.BTreeMap.{insert_entry, is_at}
+use Rattle.std.specs.Map.{lookup, values_of}
+use mathlib.Core.Logic.{◌⊎◌, inl, inr}
+use Rattle.zed_types.specs.declared.stamp.Stamp.{Stamp}
+use Rattle.zed_types.specs.Stamp.{stamp_cmp}
+use Rattle.zed_op.specs.declared.op.Edit.{Edit}
+use Rattle.zed_op.specs.Fit.{Fits}
+use Rattle.zed_op.specs.Set.{AllFit, IsRising, union, with_edit}
+use Rattle.zed_op.specs.SetLaws.{EditKeepsFit, EditKeepsRising, EditThereIsNothing, RisingIsItsEdits, UnionKeepsRising}
+use Rattle.zed_document.specs.declared.delivered.Delivered.{Delivered}
+use Rattle.zed_document.specs.declared.delivered.State.TheVariants.{Known}
+use Rattle.zed_document.specs.declared.error.DocumentError.{DocumentError}
+use Rattle.zed_document.specs.declared.error.DocumentError.TheVariants.{Clash, Memory, Stale}
+use Rattle.zed_document.specs.Batch.{HasAnother, HasNew, IsBatch, IsFree, IsGathered, JoinOn, first_of, stamped, unless_clash}
+use Rattle.zed_document.specs.Delivery.{Answers, AnswersAt, DeliversEach, MayTakeMemoryForEach, after_edit, edit_with, state_of}
+use Rattle.zed_document.specs.Held.{held_stamps, is_among, woken}
+use Rattle.zed_document.specs.Replica.{Replica}
+use Rattle.zed_document.proofs.Clashing.{edit_with-stands}
+use Rattle.zed_document.proofs.Lookups.{found-union, union-with_edit}
+use Rattle.zed_document.proofs.Stamped.{edits_stamped, insert_stamped, looked_up}
+
+abbrev pub Entries : Type 0
+Entries = List (Stamp × Edit)
+
+-- the laws of sets that are used
+pub record SetsHold : Type 0 where
+  pub rises : EditKeepsRising
+  pub joins : UnionKeepsRising
+  pub known : RisingIsItsEdits
+  pub fits : EditKeepsFit
+  pub nothing : EditThereIsNothing
+
+-- what is there under a stamp, in the log or in the map
+abbrev pub there : List Edit → Entries → Stamp → Option Edit
+there log m s = first_of (edit_with s log) (lookup (is_at (stamp_cmp s)) m)
+
+-- the map has one more edit, or has it already
+pub record IsMore (log ms : List Edit) (n : Entries) (e : Edit) : Type 0 where
+  pub more : List Edit
+  pub is : n ≡ stamped more
+  pub rising : IsRising more
+  pub fit : AllFit more
+  pub union_is : union log more ≡ with_edit e (union log ms)
+  pub free : IsFree (union log ms) e
+  pub new : (more ≡ ms) ⊎ (edit_with e.stamp (union log ms) ≡ None)
+
+there-is : SetsHold → (log ms : List Edit) (m : Entries) (s : Stamp) → m ≡ stamped ms → IsRising log → edit_with s (union log ms) ≡ there log m s
+there-is laws log ms m s is r = found-union laws.rises s log ms r ∙ ap (first_of (edit_with s log)) (looked_up m ms s is)
+
+none-second : (a b : Option Edit) → first_of a b ≡ None → b ≡ None
+none-second None b h = h
+none-second (Some x) b h = absurd (let no : Some x ≡ None = h in cc)
+
+pub one-more : SetsHold → (log ms : List Edit) (m n : Entries) (e : Edit) → m ≡ stamped ms → IsRising log → IsRising ms → AllFit ms → Fits e
+    → MatchOption (there log m e.stamp) (n ≡ insert_entry stamp_cmp m e.stamp e) (λ f. (f ≡ e) × (n ≡ m))
+    → IsMore log ms n e
+one-more laws log ms m n e is r q fit fits put = go (there log m e.stamp) (there-is laws log ms m e.stamp is r) refl put
+  where
+    go : (o : Option Edit) → edit_with e.stamp (union log ms) ≡ o → there log m e.stamp ≡ o
+        → MatchOption o (n ≡ insert_entry stamp_cmp m e.stamp e) (λ f. (f ≡ e) × (n ≡ m)) → IsMore log ms n e
+    go None at was new =
+        let none : edit_with e.stamp ms ≡ None = looked_up m ms e.stamp is ∙ none-second (edit_with e.stamp log) _ was in
+        record {
+          more = with_edit e ms;
+          is = new ∙ ap (λ l. insert_entry stamp_cmp l e.stamp e) is ∙ insert_stamped e ms none;
+          rising = laws.rises e ms q;
+          fit = laws.fits e ms fits fit;
+          union_is = union-with_edit laws.rises laws.joins laws.known log ms e r q;
+          free = rw at tt;
+          new = inr at;
+        }
+    go (Some f) at was known =
+        let stands : Contains (union log ms) e = subst (Contains (union log ms)) known.0 (edit_with-stands e.stamp (union log ms) f at).0 in
+        record {
+          more = ms;
+          is = known.1 ∙ is;
+          rising = q;
+          fit = fit;
+          union_is = sym (laws.nothing e (union log ms) (laws.joins log ms r) stands);
+          free = rw at known.0;
+          new = inl refl;
+        }
+
+-- another edit of its stamp is there
+pub another : SetsHold → (log ms : List Edit) (m : Entries) (e : Edit) → m ≡ stamped ms → IsRising log
+    → IsSomeAnd (there log m e.stamp) (λ f. f ≢ e) → HasAnother (union log ms) e
+another laws log ms m e is r other = rw (there-is laws log ms m e.stamp is r) other
+
+-- nothing of its stamp is there
+pub none-there : SetsHold → (log ms : List Edit) (m : Entries) (e : Edit) → m ≡ stamped ms → IsRising log
+    → there log m e.stamp ≡ None → edit_with e.stamp (union log ms) ≡ None
+none-there laws log ms m e is r none = there-is laws log ms m e.stamp is r ∙ none
+
+-- a delivery of an edit that has no other of its stamp
+taken-answer : (d : Replica) (e : Edit) → d.is_stale ≡ false → Fits e → IsFree d.edits e → (told : Delivered) × Answers d e (Ok told)
+taken-answer d e sound fits free = rw (sound, fits) (go (edit_with e.stamp d.edits) free)
+  where
+    go : (o : Option Edit) → IfSome o (λ f. f ≡ e) → (told : Delivered) × AnswersAt o d.edits e (Ok told)
+    go None free = (record { state = state_of (is_among (held_stamps (with_edit e d.edits)) e.stamp); woken = woken d.edits (with_edit e d.edits); visits = 0 }, (refl, refl))
+    go (Some f) free = (record { state = Known; woken = 0; visits = 0 }, inl (free, (refl, refl)))
+
+clash-answer : (d : Replica) (e : Edit) → d.is_stale ≡ false → Fits e → HasAnother d.edits e → Answers d e (Err (Clash e.stamp))
+clash-answer d e sound fits other = rw (sound, fits) (go (edit_with e.stamp d.edits) other)
+  where
+    go : (o : Option Edit) → IsSomeAnd o (λ f. f ≢ e) → AnswersAt o d.edits e (Err (Clash e.stamp))
+    go None other = absurd other
+    go (Some f) other = inr (other, refl)
+
+-- edits that join a log are delivered one after the other
+pub joined-each : (d : Replica) (es : List Edit) (clash : Option Stamp) (left : List Edit) → d.is_stale ≡ false → AllFit es
+    → JoinOn d.edits es clash left → DeliversEach d es (unless_clash clash) left
+joined-each d [] clash left sound fit h = rw h.0 (refl, h.1)
+joined-each d (e ∷ es) clash left sound fit h =
+    elim h [
+      | inl taken ↦ (let one = taken-answer d e sound fit.0 taken.0 in inl (one.0, one.1, joined-each (after_edit e d) es clash left sound fit.1 taken.1))
+      | inr other ↦ inr (Clash e.stamp, clash-answer d e sound fit.0 other.0, ap unless_clash other.1, other.2)
+    ]
+
+-- a new edit of them takes memory when its turn comes
+pub new-each : (d : Replica) (es : List Edit) → d.is_stale ≡ false → AllFit es → HasNew d.edits es → MayTakeMemoryForEach d es
+new-each d [] sound fit h = absurd h
+new-each d (e ∷ es) sound fit h =
+    elim h [
+      | inl new ↦ inl (sound, inr (fit.0, new))
+      | inr taken ↦ (let one = taken-answer d e sound fit.0 taken.0 in inr (one.0, one.1, new-each (after_edit e d) es sound fit.1 taken.1))
+    ]
+
+-- part of the edits are in the map, and the rest is still to join the log
+pub record IsGoing (log all rest : List Edit) (m : Entries) : Type 0 where
+  pub edits : List Edit
+  pub is : m ≡ stamped edits
+  pub rising : IsRising edits
+  pub fit : AllFit edits
+  pub rest_fit : AllFit rest
+  pub joins : (clash : Option Stamp) (left : List Edit) → JoinOn (union log edits) rest clash left → JoinOn log all clash left
+  pub brings : HasNew (union log edits) rest → HasNew log all
+  pub new : (edits ≡ []) ⊎ HasNew log all
+
+pub going-begins : (log all : List Edit) (m : Entries) → AllFit all → m ≡ [] → IsGoing log all all m
+going-begins log all m fit none = record {
+  edits = [];
+  is = none;
+  rising = tt;
+  fit = tt;
+  rest_fit = fit;
+  joins = λ clash left h. h;
+  brings = λ h. h;
+  new = inl refl;
+}
+
+pub going-on : SetsHold → (log all rest others : List Edit) (m n : Entries) (e : Edit) → IsRising log → others ≡ e ∷ rest → IsGoing log all others m
+    → MatchOption (there log m e.stamp) (n ≡ insert_entry stamp_cmp m e.stamp e) (λ f. (f ≡ e) × (n ≡ m))
+    → IsGoing log all rest n
+going-on laws log all rest others m n e r split was put = go (subst (λ es. IsGoing log all es m) split was)
+  where
+    go : IsGoing log all (e ∷ rest) m → IsGoing log all rest n
+    go g =
+        let more = one-more laws log g.edits m n e g.is r g.rising g.fit g.rest_fit.0 put in
+        record {
+          edits = more.more;
+          is = more.is;
+          rising = more.rising;
+          fit = more.fit;
+          rest_fit = g.rest_fit.1;
+          joins = λ clash left h. g.joins clash left (inl (more.free, subst (λ es. JoinOn es rest clash left) more.union_is h));
+          brings = λ h. g.brings (inr (more.free, subst (λ es. HasNew es rest) more.union_is h));
+          new = elim more.new [
+            | inl same ↦ elim g.new [ inl none ↦ inl (same ∙ none) | inr new ↦ inr new ]
+            | inr none ↦ inr (g.brings (inl none))
+          ];
+        }
+
+pub going-clashes : SetsHold → (log all rest others : List Edit) (m n : Entries) (e : Edit) → IsRising log → others ≡ e ∷ rest → IsGoing log all others m
+    → n ≡ m → IsSomeAnd (there log m e.stamp) (λ f. f ≢ e) → IsGathered log all n (Some e.stamp)
+going-clashes laws log all rest others m n e r split was kept other = go (subst (λ es. IsGoing log all es m) split was)
+  where
+    go : IsGoing log all (e ∷ rest) m → IsGathered log all n (Some e.stamp)
+    go g = (
+      g.edits,
+      kept ∙ g.is,
+      record {
+        rising = g.rising;
+        fit = g.fit;
+        joins = g.joins (Some e.stamp) (union log g.edits) (inr (another laws log g.edits m e g.is r other, refl, refl));
+        new = g.new;
+      },
+    )
+
+pub going-ends : (log all rest : List Edit) (m : Entries) → rest ≡ [] → IsGoing log all rest m → IsGathered log all m None
+going-ends log all rest m none was = go (subst (λ es. IsGoing log all es m) none was)
+  where
+    go : IsGoing log all [] m → IsGathered log all m None
+    go g = (
+      g.edits,
+      g.is,
+      record {
+        rising = g.rising;
+        fit = g.fit;
+        joins = g.joins None (union log g.edits) (refl, refl);
+        new = g.new;
+      },
+    )
+
+pub going-lacks : SetsHold → (log all rest others : List Edit) (m : Entries) (e : Edit) → IsRising log → others ≡ e ∷ rest → IsGoing log all others m
+    → there log m e.stamp ≡ None → HasNew log all
+going-lacks laws log all rest others m e r split was none = go (subst (λ es. IsGoing log all es m) split was)
+  where
+    go : IsGoing log all (e ∷ rest) m → HasNew log all
+    go g = g.brings (inl (none-there laws log g.edits m e g.is r none))
+
+-- the map as a list of edits
+pub batch-of : (log all : List Edit) (m : Entries) (clash : Option Stamp) (edits : List Edit) → IsGathered log all m clash → edits ≡ values_of m → IsBatch log all edits clash
+batch-of log all m clash edits g is =
+    let same : edits ≡ g.0 = is ∙ ap values_of g.1 ∙ edits_stamped g.0 in
+    subst (λ es. IsBatch log all es clash) (sym same) g.2
+
+-- a clash is told with the stamp of the edit
+pub clash_again : (e : DocumentError) (s t : Stamp) {P Q : Type 0} → e ≡ Clash s → (e ≡ Memory) ⊎ ((e ≡ Clash t) × P × Q) → (s ≡ t) × P × Q
+clash_again e s t is h = elim h [ inl bad ↦ absurd (not_memory (sym is ∙ bad)) | inr k ↦ (same_clash s t (sym is ∙ k.0), k.1, k.2) ]
+  where
+    not_memory : Clash s ≡ Memory → ⊥
+    not_memory bad = let no : Clash s ≡ Memory = bad in cc
+
+    same_clash : (a b : Stamp) → Clash a ≡ Clash b → a ≡ b
+    same_clash a b e = cc
+
+-- nothing is delivered to a stale document
+pub stale-each : (d : Replica) (es : List Edit) → d.is_stale ≡ true → 0 < length es → DeliversEach d es (Err Stale) d.edits
+stale-each d [] stale some = absurd (omega arith)
+stale-each d (e ∷ es) stale some = inr (Stale, rw stale refl, refl, refl)
+
+-- a batch that was taken in is delivered, up to its clash
+pub batch-each : (d : Replica) (log all ms : List Edit) (clash : Option Stamp) (left : List Edit) → log ≡ d.edits → d.is_stale ≡ false → AllFit all
+    → IsBatch log all ms clash → left ≡ union d.edits ms → DeliversEach d all (unless_clash clash) left
+batch-each d log all ms clash left is sound fit b made =
+    let joins : JoinOn d.edits all clash (union d.edits ms) = subst (λ es. JoinOn es all clash (union es ms)) is b.joins in
+    subst (λ es. DeliversEach d all (unless_clash clash) es) (sym made) (joined-each d all clash (union d.edits ms) sound fit joins)
+
+pub batch-new : (d : Replica) (log all ms : List Edit) (clash : Option Stamp) → log ≡ d.edits → d.is_stale ≡ false → AllFit all
+    → IsBatch log all ms clash → ms ≢ [] → MayTakeMemoryForEach d all
+batch-new d log all ms clash is sound fit b some =
+    elim b.new [ inl none ↦ absurd (some none) | inr new ↦ new-each d all sound fit (subst (λ es. HasNew es all) is new) ]
+
+pub gather-new : (d : Replica) (log all : List Edit) → log ≡ d.edits → d.is_stale ≡ false → AllFit all → HasNew log all → MayTakeMemoryForEach d all
+gather-new d log all is sound fit new = new-each d all sound fit (subst (λ es. HasNew es all) is new)
+
+pub not_none : (n : ℕ) → (n == 0) ≡ false → 0 < n
+not_none zero h = absurd (let bad : true ≡ false = h in cc)
+not_none (suc n) h = omega arith
