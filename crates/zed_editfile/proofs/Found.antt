@@ -91,7 +91,7 @@ stays bytes x found p e g r = elim r [
 ]
 
 pub feeds_nothing : (x : List ℕ) (before : List Edit) (p : Progress) (e : EditFileError) → p.fault ≡ Some e → Feeds x before before p p
-feeds_nothing x before p e g = record { edits = []; gained = sym (append-nil before); reads = λ bytes found r. stays bytes x found p e g r }
+feeds_nothing x before p e g = record { edits = []; gained = sym (append-nil before); good = tt; reads = λ bytes found r. stays bytes x found p e g r }
 
 -- ---- going on
 
@@ -115,6 +115,7 @@ on_head : (asked : Option ℕ) (rest x : List ℕ) (before after : List Edit) (s
 on_head asked rest x before after s same ends = record {
   edits = [];
   gained = same ∙ sym (append-nil before);
+  good = tt;
   reads = λ bytes found r.
       let i = in_head asked rest bytes found r in
       inl (record { world = refl; none = append-nil found ∙ i.1; stop = elim ends [ inl m ↦ inl m | inr e ↦ inr (ap (λ (t : List ℕ). head_stop asked (t ++ x)) i.0 ∙ e) ] });
@@ -124,6 +125,7 @@ into_records : (asked : Option ℕ) (n : ℕ) (rest x : List ℕ) (before after 
 into_records asked n rest x before after s e = record {
   edits = e.records.gains.edits;
   gained = e.records.gains.gained;
+  good = e.records.gains.good;
   reads = λ bytes found r.
       let i = in_head asked rest bytes found r in
       let new : List Edit = e.records.gains.edits in
@@ -145,6 +147,7 @@ on_records : (asked : Option ℕ) (m n : ℕ) (rest x : List ℕ) (before after 
 on_records asked m n rest x before after s same c = record {
   edits = c.gains.edits;
   gained = c.gains.gained;
+  good = c.gains.good;
   reads = λ bytes found r.
       elim r [
         | inl h ↦ let d : Some m ≡ None = h.world in absurd cc

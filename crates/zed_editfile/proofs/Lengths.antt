@@ -3,6 +3,7 @@ use Rattle.std.proofs.Common.{◌≡◌, ℕ, leb, ℤ, ◌+◌, ◌*◌, ◌≤
 use Rattle.std.proofs.lemmas.Bool.{leb-true, le-leb, and_parts}
 use Rattle.std.proofs.lemmas.Slice.Eq.{bytes_eq-Decides}
 use Rattle.zed_types.specs.declared.stamp.Stamp.{Stamp}
+use Rattle.zed_types.specs.declared.names.Name.{Name as ThingName}
 use Rattle.zed_types.specs.declared.names.BoardId.{BoardId}
 use Rattle.zed_types.specs.declared.names.StatId.{StatId}
 use Rattle.zed_types.specs.declared.names.TextId.{TextId}
@@ -52,25 +53,25 @@ canonical bytes h = either (world_at bytes) refl h
 
 -- ---- fields
 
-length_name : (s : Stamp) (i : ℕ) → length (name s i) ≡ 12
+length_name : (n : ThingName) → length (name n) ≡ 12
 unfolding name
-length_name s i = simp (length-append, length_number) refl
+length_name n = simp (length-append, length_number) refl
 
 length_optional : {A : Type 0} (spell : A → List ℕ) (n : ℕ) → ((a : A) → length (spell a) ≡ n) → (o : Option A) → length (optional spell o) ≤ 1 + n
 length_optional spell n h None = omega arith
 length_optional spell n h (Some a) = omega (arith, h a)
 
 length_board : (b : BoardId) → length (board_name b) ≡ 12
-length_board b = length_name b.stamp b.index
+length_board b = length_name b.name
 
 length_stat : (s : StatId) → length (stat_name s) ≡ 12
-length_stat s = length_name s.stamp s.index
+length_stat s = length_name s.name
 
 length_text : (t : TextId) → length (text_name t) ≡ 12
-length_text t = length_name t.stamp t.index
+length_text t = length_name t.name
 
 length_element : (a : ElemId) → length (element_name a) ≡ 12
-length_element a = length_name a.stamp a.index
+length_element a = length_name a.name
 
 length_target : (p : ThirdParameter) → length (third_parameter p) ≤ 13
 length_target (third.Byte n) = omega arith

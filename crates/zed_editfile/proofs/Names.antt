@@ -1,65 +1,59 @@
 -- Names, optional names, ranges of bytes and third parameters: what is read is spelled so, and what is spelled is read again.
-use Rattle.std.proofs.Common.{◌≡◌, ℕ, cond, List, ◌∷◌, ◌++◌, Option, Some, None, Ok, refl, sym, ap, ◌∙◌, append_assoc}
+use Rattle.std.proofs.Common.{◌≡◌, ℕ, Bool, true, false, cond, List, ◌∷◌, ◌++◌, Option, Some, None, Ok, Err, refl, sym, ap, ◌∙◌, append_assoc}
 use Rattle.std.specs.Prelude.{IfSome}
-use Rattle.zed_types.specs.declared.stamp.Stamp.{Stamp}
+use Rattle.std.specs.Option.{option_map}
+use Rattle.zed_types.specs.declared.names.Name.{Name}
 use Rattle.zed_types.specs.declared.text.ByteRange.{ByteRange}
 use Rattle.zed_types.specs.declared.stat_field.ThirdParameter.{ThirdParameter}
 use Rattle.zed_types.specs.declared.stat_field.ThirdParameter.TheVariants as third
 use Rattle.zed_editfile.specs.Spelling.{number, boolean, stamp, name, board_name, stat_name, text_name, element_name, optional, third_parameter}
-use Rattle.zed_editfile.specs.Reading.{Field, mapped, byte_at, boolean_at, name_at, board_name_at, stat_name_at, text_name_at, element_name_at, optional_at, range_at, third_parameter_at}
+use Rattle.zed_editfile.specs.Reading.{◌>>=◌, Field, mapped, byte_at, boolean_at, name_at, board_with, stat_with, text_with, element_with, board_name_at, stat_name_at, text_name_at, element_name_at, optional_at, range_at, third_parameter_at}
 use Rattle.zed_editfile.specs.Sizes.{IsName, IsBoardName, IsStatName, IsTextName, IsElementName, IsRange, IsThirdParameter}
 use Rattle.zed_editfile.proofs.Codec.{IsField, Completes, takes_then, takes_end, takes_all, takes_mapped, takes_choice, again_then, again_mapped, byte_field, number_field, boolean_field, stamp_field}
 
-abbrev spelled : Stamp × ℕ → List ℕ
-spelled n = name n.0 n.1
-
-name_completes : Completes IsName spelled (λ t. t) name_at
+name_completes : Completes IsName name (λ t. t) name_at
 unfolding name_at name
 name_completes =
-    takes_then stamp_field IsName spelled (λ t. t) _
-    (λ made gm. takes_then (number_field 4) IsName spelled (λ t. stamp made ++ t) _
-    (λ n gn. takes_end IsName spelled (λ t. stamp made ++ (number 4 n ++ t)) (made, n) (gm, gn) (λ t. sym (append_assoc (stamp made) (number 4 n) t))))
+    takes_then stamp_field IsName name (λ t. t) _
+    (λ made gm. takes_then (number_field 4) IsName name (λ t. stamp made ++ t) _
+    (λ n gn. takes_end IsName name (λ t. stamp made ++ (number 4 n ++ t)) (record { stamp = made; index = n }) (gm, gn) (λ t. sym (append_assoc (stamp made) (number 4 n) t))))
 
-name_again : (n : Stamp × ℕ) (rest : List ℕ) → IsName n → name_at (spelled n ++ rest) ≡ Ok (n, rest)
+name_again : (n : Name) (rest : List ℕ) → IsName n → name_at (name n ++ rest) ≡ Ok (n, rest)
 unfolding name_at name
 name_again n rest g =
-    ap name_at (append_assoc (stamp n.0) (number 4 n.1) rest)
-    ∙ again_then stamp_field _ (number 4 n.1 ++ rest) (Ok (n, rest)) n.0 g.0 (again_then (number_field 4) _ rest (Ok (n, rest)) n.1 g.1 refl)
+    ap name_at (append_assoc (stamp n.stamp) (number 4 n.index) rest)
+    ∙ again_then stamp_field _ (number 4 n.index ++ rest) (Ok (n, rest)) n.stamp g.0 (again_then (number_field 4) _ rest (Ok (n, rest)) n.index g.1 refl)
 
-name_field : IsField IsName spelled name_at
-name_field = record { again = name_again; takes = takes_all IsName spelled name_at name_completes }
-
-board_name_completes : Completes IsBoardName board_name (λ t. t) board_name_at
-unfolding board_name_at
-board_name_completes = takes_then name_field IsBoardName board_name (λ t. t) _ (λ n gn. takes_end IsBoardName board_name (λ t. spelled n ++ t) (record { stamp = n.0; index = n.1 }) gn (λ t. refl))
+name_field : IsField IsName name name_at
+name_field = record { again = name_again; takes = takes_all IsName name name_at name_completes }
 
 pub board_name_field : IsField IsBoardName board_name board_name_at
 unfolding board_name_at
-board_name_field = record { again = λ a rest g. again_then name_field _ rest (Ok (a, rest)) (a.stamp, a.index) g refl; takes = takes_all IsBoardName board_name board_name_at board_name_completes }
-
-stat_name_completes : Completes IsStatName stat_name (λ t. t) stat_name_at
-unfolding stat_name_at
-stat_name_completes = takes_then name_field IsStatName stat_name (λ t. t) _ (λ n gn. takes_end IsStatName stat_name (λ t. spelled n ++ t) (record { stamp = n.0; index = n.1 }) gn (λ t. refl))
+board_name_field = record {
+  again = λ a rest g. again_mapped name_field board_with rest a.name g;
+  takes = takes_all IsBoardName board_name board_name_at (takes_mapped name_field IsBoardName board_name (λ t. t) board_with (λ n g. g) (λ n t. refl));
+}
 
 pub stat_name_field : IsField IsStatName stat_name stat_name_at
 unfolding stat_name_at
-stat_name_field = record { again = λ a rest g. again_then name_field _ rest (Ok (a, rest)) (a.stamp, a.index) g refl; takes = takes_all IsStatName stat_name stat_name_at stat_name_completes }
-
-text_name_completes : Completes IsTextName text_name (λ t. t) text_name_at
-unfolding text_name_at
-text_name_completes = takes_then name_field IsTextName text_name (λ t. t) _ (λ n gn. takes_end IsTextName text_name (λ t. spelled n ++ t) (record { stamp = n.0; index = n.1 }) gn (λ t. refl))
+stat_name_field = record {
+  again = λ a rest g. again_mapped name_field stat_with rest a.name g;
+  takes = takes_all IsStatName stat_name stat_name_at (takes_mapped name_field IsStatName stat_name (λ t. t) stat_with (λ n g. g) (λ n t. refl));
+}
 
 pub text_name_field : IsField IsTextName text_name text_name_at
 unfolding text_name_at
-text_name_field = record { again = λ a rest g. again_then name_field _ rest (Ok (a, rest)) (a.stamp, a.index) g refl; takes = takes_all IsTextName text_name text_name_at text_name_completes }
-
-element_name_completes : Completes IsElementName element_name (λ t. t) element_name_at
-unfolding element_name_at
-element_name_completes = takes_then name_field IsElementName element_name (λ t. t) _ (λ n gn. takes_end IsElementName element_name (λ t. spelled n ++ t) (record { stamp = n.0; index = n.1 }) gn (λ t. refl))
+text_name_field = record {
+  again = λ a rest g. again_mapped name_field text_with rest a.name g;
+  takes = takes_all IsTextName text_name text_name_at (takes_mapped name_field IsTextName text_name (λ t. t) text_with (λ n g. g) (λ n t. refl));
+}
 
 pub element_name_field : IsField IsElementName element_name element_name_at
 unfolding element_name_at
-element_name_field = record { again = λ a rest g. again_then name_field _ rest (Ok (a, rest)) (a.stamp, a.index) g refl; takes = takes_all IsElementName element_name element_name_at element_name_completes }
+element_name_field = record {
+  again = λ a rest g. again_mapped name_field element_with rest a.name g;
+  takes = takes_all IsElementName element_name element_name_at (takes_mapped name_field IsElementName element_name (λ t. t) element_with (λ n g. g) (λ n t. refl));
+}
 
 optional_completes : {A : Type 0} {good : A → Type 0} {spell : A → List ℕ} {read : List ℕ → Field A} → IsField good spell read → Completes (λ o. IfSome o good) (optional spell) (λ t. t) (optional_at read)
 unfolding optional_at
@@ -116,3 +110,33 @@ third_parameter_again (third.Board b) rest g = again_mapped board_name_field thi
 
 pub third_parameter_field : IsField IsThirdParameter third_parameter third_parameter_at
 third_parameter_field = record { again = third_parameter_again; takes = takes_all IsThirdParameter third_parameter third_parameter_at third_parameter_completes }
+
+-- ---- an optional name is read in one way, whatever it is a name of
+
+mapped_twice : {A : Type 0} (make : Name → A) (r : Field Name) → mapped Some (mapped make r) ≡ mapped (option_map make) (mapped Some r)
+mapped_twice make (Err e) = refl
+mapped_twice make (Ok x) = refl
+
+optional_made : {A : Type 0} (make : Name → A) (tag : Bool × List ℕ) → cond tag.0 (mapped Some (mapped make (name_at tag.1))) (Ok (None, tag.1)) ≡ mapped (option_map make) (cond tag.0 (mapped Some (name_at tag.1)) (Ok (None, tag.1)))
+optional_made make (true, t) = mapped_twice make (name_at t)
+optional_made make (false, t) = refl
+
+tagged : {A : Type 0} (make : Name → A) (r : Field Bool) → (r >>= λ tag. cond tag.0 (mapped Some (mapped make (name_at tag.1))) (Ok (None, tag.1))) ≡ mapped (option_map make) (r >>= λ tag. cond tag.0 (mapped Some (name_at tag.1)) (Ok (None, tag.1)))
+tagged make (Err e) = refl
+tagged make (Ok tag) = optional_made make tag
+
+pub optional_board : (bytes : List ℕ) → optional_at board_name_at bytes ≡ mapped (option_map board_with) (optional_at name_at bytes)
+unfolding optional_at board_name_at
+optional_board bytes = tagged board_with (boolean_at bytes)
+
+pub optional_stat : (bytes : List ℕ) → optional_at stat_name_at bytes ≡ mapped (option_map stat_with) (optional_at name_at bytes)
+unfolding optional_at stat_name_at
+optional_stat bytes = tagged stat_with (boolean_at bytes)
+
+pub optional_text : (bytes : List ℕ) → optional_at text_name_at bytes ≡ mapped (option_map text_with) (optional_at name_at bytes)
+unfolding optional_at text_name_at
+optional_text bytes = tagged text_with (boolean_at bytes)
+
+pub optional_element : (bytes : List ℕ) → optional_at element_name_at bytes ≡ mapped (option_map element_with) (optional_at name_at bytes)
+unfolding optional_at element_name_at
+optional_element bytes = tagged element_with (boolean_at bytes)

@@ -3,6 +3,7 @@ use Rattle.std.specs.Prelude.{◌≡◌, ◌⊎◌, ℕ, ℤ, ◌-◌, Bool, tru
 use Rattle.std.specs.Int.{w16, cast_signed}
 use Rattle.byteorder.specs.Endian.{little_number}
 use Rattle.zed_types.specs.declared.stamp.Stamp.{Stamp}
+use Rattle.zed_types.specs.declared.names.Name.{Name as ThingName}
 use Rattle.zed_types.specs.declared.names.BoardId.{BoardId}
 use Rattle.zed_types.specs.declared.names.StatId.{StatId}
 use Rattle.zed_types.specs.declared.names.TextId.{TextId}
@@ -92,31 +93,43 @@ stamp_at bytes = do
   Ok (record { time = time.0; replica = replica.0 }, replica.1)
 
 -- a stamp and an index
-unfoldable pub name_at : List ℕ → Field (Stamp × ℕ)
+unfoldable pub name_at : List ℕ → Field ThingName
 name_at bytes = do
   made ← stamp_at bytes
   n ← number_at 4 made.1
-  Ok ((made.0, n.0), n.1)
+  Ok (record { stamp = made.0; index = n.0 }, n.1)
 
+-- the board of a name
+abbrev pub board_with : ThingName → BoardId
+board_with n = record { name = n }
+
+-- the stat of a name
+abbrev pub stat_with : ThingName → StatId
+stat_with n = record { name = n }
+
+-- the text of a name
+abbrev pub text_with : ThingName → TextId
+text_with n = record { name = n }
+
+-- the byte of a text of a name
+abbrev pub element_with : ThingName → ElemId
+element_with n = record { name = n }
+
+-- the name of a board
 unfoldable pub board_name_at : List ℕ → Field BoardId
-board_name_at bytes = do
-  name ← name_at bytes
-  Ok (record { stamp = name.0.0; index = name.0.1 }, name.1)
+board_name_at bytes = mapped board_with (name_at bytes)
 
+-- the name of a stat
 unfoldable pub stat_name_at : List ℕ → Field StatId
-stat_name_at bytes = do
-  name ← name_at bytes
-  Ok (record { stamp = name.0.0; index = name.0.1 }, name.1)
+stat_name_at bytes = mapped stat_with (name_at bytes)
 
+-- the name of a text
 unfoldable pub text_name_at : List ℕ → Field TextId
-text_name_at bytes = do
-  name ← name_at bytes
-  Ok (record { stamp = name.0.0; index = name.0.1 }, name.1)
+text_name_at bytes = mapped text_with (name_at bytes)
 
+-- the name of a byte of a text
 unfoldable pub element_name_at : List ℕ → Field ElemId
-element_name_at bytes = do
-  name ← name_at bytes
-  Ok (record { stamp = name.0.0; index = name.0.1 }, name.1)
+element_name_at bytes = mapped element_with (name_at bytes)
 
 -- a tag, and a name behind a tag of 1
 unfoldable pub optional_at : {A : Type 0} → (List ℕ → Field A) → List ℕ → Field (Option A)

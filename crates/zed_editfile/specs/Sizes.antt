@@ -3,6 +3,7 @@ use Rattle.std.specs.Prelude.{◌≡◌, ℕ, ◌<◌, ◌^◌, true, List, leng
 use Rattle.std.specs.List.{list_all}
 use Rattle.std.specs.Int.{w16}
 use Rattle.zed_types.specs.declared.stamp.Stamp.{Stamp}
+use Rattle.zed_types.specs.declared.names.Name.{Name}
 use Rattle.zed_types.specs.declared.names.BoardId.{BoardId}
 use Rattle.zed_types.specs.declared.names.StatId.{StatId}
 use Rattle.zed_types.specs.declared.names.TextId.{TextId}
@@ -35,20 +36,20 @@ abbrev pub IsStamp : Stamp → Type 0
 IsStamp s = (s.time < 2 ^ 48) × (s.replica < 2 ^ 16)
 
 -- a stamp and four bytes
-abbrev pub IsName : Stamp × ℕ → Type 0
-IsName n = IsStamp n.0 × (n.1 < 2 ^ 32)
+abbrev pub IsName : Name → Type 0
+IsName n = IsStamp n.stamp × (n.index < 2 ^ 32)
 
 abbrev pub IsBoardName : BoardId → Type 0
-IsBoardName b = IsName (b.stamp, b.index)
+IsBoardName b = IsName b.name
 
 abbrev pub IsStatName : StatId → Type 0
-IsStatName s = IsName (s.stamp, s.index)
+IsStatName s = IsName s.name
 
 abbrev pub IsTextName : TextId → Type 0
-IsTextName t = IsName (t.stamp, t.index)
+IsTextName t = IsName t.name
 
 abbrev pub IsElementName : ElemId → Type 0
-IsElementName a = IsName (a.stamp, a.index)
+IsElementName a = IsName a.name
 
 abbrev pub IsTile : Tile → Type 0
 IsTile t = (t.element < 256) × (t.colour < 256)

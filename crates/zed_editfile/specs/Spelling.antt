@@ -4,6 +4,7 @@ use Rattle.std.specs.Int.{w16, cast_unsigned}
 use Rattle.std.specs.List.{flat_map}
 use Rattle.byteorder.specs.Endian.{little_bytes}
 use Rattle.zed_types.specs.declared.stamp.Stamp.{Stamp}
+use Rattle.zed_types.specs.declared.names.Name.{Name as ThingName}
 use Rattle.zed_types.specs.declared.names.BoardId.{BoardId}
 use Rattle.zed_types.specs.declared.names.StatId.{StatId}
 use Rattle.zed_types.specs.declared.names.TextId.{TextId}
@@ -59,20 +60,24 @@ abbrev pub stamp : Stamp → List ℕ
 stamp s = number 6 s.time ++ number 2 s.replica
 
 -- the stamp of a thing and its index, twelve bytes
-unfoldable pub name : Stamp → ℕ → List ℕ
-name s i = stamp s ++ number 4 i
+unfoldable pub name : ThingName → List ℕ
+name n = stamp n.stamp ++ number 4 n.index
 
+-- the name of a board
 abbrev pub board_name : BoardId → List ℕ
-board_name b = name b.stamp b.index
+board_name b = name b.name
 
+-- the name of a stat
 abbrev pub stat_name : StatId → List ℕ
-stat_name s = name s.stamp s.index
+stat_name s = name s.name
 
+-- the name of a text
 abbrev pub text_name : TextId → List ℕ
-text_name t = name t.stamp t.index
+text_name t = name t.name
 
+-- the name of a byte of a text
 abbrev pub element_name : ElemId → List ℕ
-element_name a = name a.stamp a.index
+element_name a = name a.name
 
 -- a tag, and the name where there is one
 abbrev pub optional : {A : Type 0} → (A → List ℕ) → Option A → List ℕ

@@ -116,10 +116,12 @@ pub record InRecords (bytes : List ℕ) (edits : List Edit) (p : Progress) : Typ
 abbrev pub Reads : List ℕ → List Edit → Progress → Type 0
 Reads bytes edits p = InHead bytes edits p ⊎ InRecords bytes edits p
 
--- what a reader has of the bytes after a piece, if it had some before it: the edits that a list gained are added
+-- What a reader has of the bytes after a piece, if it had some before it: the edits that a list gained are added. Whatever it
+-- had before, these fit, and their numbers have the sizes of their fields.
 pub record Feeds (piece : List ℕ) (before after : List Edit) (p q : Progress) : Type 0 where
   pub edits : List Edit
   pub gained : after ≡ before ++ edits
+  pub good : AreRecords edits
   pub reads : (bytes : List ℕ) (found : List Edit) → Reads bytes found p → Reads (bytes ++ piece) (found ++ edits) q
 
 abbrev pub ending_by : Option EditFileError → Option ℕ → List ℕ → Option EditFileError

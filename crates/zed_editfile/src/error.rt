@@ -1,13 +1,17 @@
+//! Why an edit file can't be read or written.
+
 ghost use Rattle.std.specs.Prelude.{◌≡◌};
 ghost use Rattle.zed_editfile.specs.declared.error.EditFileError.TheVariants.{Memory};
+ghost use Rattle.zed_editfile.specs.Refusals.{of_edit};
 
 use std::alloc::{AllocError, AllocFailed};
 use thiserror::Error;
-use zed_op::Cause;
+use zed_op::{Cause, EditError};
 
-/// Why an edit file can't be read or written.
+/// Why an edit file can't be read or written. Its texts are for whoever debugs; the program prints none of them.
 #[derive(Clone, Copy, Debug, PartialEq, Eq, Error)]
 pub enum EditFileError {
+    /// A growth was refused.
     #[error("out of memory")]
     Memory,
     /// The first three bytes aren't `ZED`.
@@ -35,6 +39,17 @@ impl From<AllocError> for EditFileError {
 
     fn from(_e: AllocError) -> EditFileError {
         EditFileError::Memory
+    }
+}
+
+impl From<EditError> for EditFileError {
+    ghost from_gives = { λ e f. f ≡ of_edit e };
+
+    fn from(e: EditError) -> EditFileError {
+        match e {
+            EditError::Memory => EditFileError::Memory,
+            EditError::BadEdit(cause) => EditFileError::BadEdit(cause),
+        }
     }
 }
 

@@ -6,7 +6,7 @@ use byteorder::{ByteOrder, LittleEndian};
 use std::alloc::Global;
 use zed_op::Cause;
 use zed_types::{
-    BoardId, ByteRange, Bytes, ElemId, Rectangle, Stamp, StatId, TextId, ThirdParameter, Tile,
+    BoardId, ByteRange, Bytes, ElemId, Name, Rectangle, Stamp, StatId, TextId, ThirdParameter, Tile,
 };
 
 #[tactic(auto, unfolding(crate::specs::Reading::byte_at))]
@@ -99,92 +99,81 @@ pub(crate) fn stamp_of(bytes: &[u8]) -> Result<(Stamp, &[u8]), EditFileError>
 
 /// The stamp and the index of a name.
 #[tactic(auto, unfolding(crate::specs::Reading::name_at))]
-fn name_of(bytes: &[u8]) -> Result<((Stamp, u32), &[u8]), EditFileError>
+fn name_of(bytes: &[u8]) -> Result<(Name, &[u8]), EditFileError>
     ensures { Gives (λ x. (x.0, x.1.now)) result (name_at bytes.now) }
 {
     let (stamp, rest) = stamp_of(bytes)?;
     let (index, rest) = u32_of(rest)?;
-    Ok(((stamp, index), rest))
+    Ok((Name { stamp, index }, rest))
+}
+
+/// A tag, and a name behind a tag of 1.
+#[tactic(auto, unfolding(crate::specs::Reading::optional_at))]
+fn optional_of(bytes: &[u8]) -> Result<(Option<Name>, &[u8]), EditFileError>
+    ensures { Gives (λ x. (x.0, x.1.now)) result (optional_at name_at bytes.now) }
+{
+    let (tag, rest) = boolean_of(bytes)?;
+    if !tag {
+        return Ok((None, rest));
+    }
+    let (name, rest) = name_of(rest)?;
+    Ok((Some(name), rest))
 }
 
 #[tactic(auto, unfolding(crate::specs::Reading::board_name_at))]
 pub(crate) fn board_of(bytes: &[u8]) -> Result<(BoardId, &[u8]), EditFileError>
     ensures { Gives (λ x. (x.0, x.1.now)) result (board_name_at bytes.now) }
 {
-    let ((stamp, index), rest) = name_of(bytes)?;
-    Ok((BoardId { stamp, index }, rest))
+    let (name, rest) = name_of(bytes)?;
+    Ok((BoardId { name }, rest))
 }
 
 #[tactic(auto, unfolding(crate::specs::Reading::stat_name_at))]
 pub(crate) fn stat_of(bytes: &[u8]) -> Result<(StatId, &[u8]), EditFileError>
     ensures { Gives (λ x. (x.0, x.1.now)) result (stat_name_at bytes.now) }
 {
-    let ((stamp, index), rest) = name_of(bytes)?;
-    Ok((StatId { stamp, index }, rest))
+    let (name, rest) = name_of(bytes)?;
+    Ok((StatId { name }, rest))
 }
 
 #[tactic(auto, unfolding(crate::specs::Reading::text_name_at))]
 pub(crate) fn text_of(bytes: &[u8]) -> Result<(TextId, &[u8]), EditFileError>
     ensures { Gives (λ x. (x.0, x.1.now)) result (text_name_at bytes.now) }
 {
-    let ((stamp, index), rest) = name_of(bytes)?;
-    Ok((TextId { stamp, index }, rest))
+    let (name, rest) = name_of(bytes)?;
+    Ok((TextId { name }, rest))
 }
 
-#[tactic(auto, unfolding(crate::specs::Reading::element_name_at))]
-fn element_of(bytes: &[u8]) -> Result<(ElemId, &[u8]), EditFileError>
-    ensures { Gives (λ x. (x.0, x.1.now)) result (element_name_at bytes.now) }
-{
-    let ((stamp, index), rest) = name_of(bytes)?;
-    Ok((ElemId { stamp, index }, rest))
-}
-
-#[tactic(auto, unfolding(crate::specs::Reading::optional_at))]
+#[tactic(auto, using(crate::proofs::Names::optional_board))]
 pub(crate) fn optional_board_of(bytes: &[u8]) -> Result<(Option<BoardId>, &[u8]), EditFileError>
     ensures { Gives (λ x. (x.0, x.1.now)) result (optional_at board_name_at bytes.now) }
 {
-    let (tag, rest) = boolean_of(bytes)?;
-    if !tag {
-        return Ok((None, rest));
-    }
-    let (board, rest) = board_of(rest)?;
-    Ok((Some(board), rest))
+    let (name, rest) = optional_of(bytes)?;
+    Ok((name.map(|name| BoardId { name }), rest))
 }
 
-#[tactic(auto, unfolding(crate::specs::Reading::optional_at))]
+#[tactic(auto, using(crate::proofs::Names::optional_stat))]
 pub(crate) fn optional_stat_of(bytes: &[u8]) -> Result<(Option<StatId>, &[u8]), EditFileError>
     ensures { Gives (λ x. (x.0, x.1.now)) result (optional_at stat_name_at bytes.now) }
 {
-    let (tag, rest) = boolean_of(bytes)?;
-    if !tag {
-        return Ok((None, rest));
-    }
-    let (stat, rest) = stat_of(rest)?;
-    Ok((Some(stat), rest))
+    let (name, rest) = optional_of(bytes)?;
+    Ok((name.map(|name| StatId { name }), rest))
 }
 
-#[tactic(auto, unfolding(crate::specs::Reading::optional_at))]
+#[tactic(auto, using(crate::proofs::Names::optional_text))]
 pub(crate) fn optional_text_of(bytes: &[u8]) -> Result<(Option<TextId>, &[u8]), EditFileError>
     ensures { Gives (λ x. (x.0, x.1.now)) result (optional_at text_name_at bytes.now) }
 {
-    let (tag, rest) = boolean_of(bytes)?;
-    if !tag {
-        return Ok((None, rest));
-    }
-    let (text, rest) = text_of(rest)?;
-    Ok((Some(text), rest))
+    let (name, rest) = optional_of(bytes)?;
+    Ok((name.map(|name| TextId { name }), rest))
 }
 
-#[tactic(auto, unfolding(crate::specs::Reading::optional_at))]
+#[tactic(auto, using(crate::proofs::Names::optional_element))]
 pub(crate) fn optional_element_of(bytes: &[u8]) -> Result<(Option<ElemId>, &[u8]), EditFileError>
     ensures { Gives (λ x. (x.0, x.1.now)) result (optional_at element_name_at bytes.now) }
 {
-    let (tag, rest) = boolean_of(bytes)?;
-    if !tag {
-        return Ok((None, rest));
-    }
-    let (element, rest) = element_of(rest)?;
-    Ok((Some(element), rest))
+    let (name, rest) = optional_of(bytes)?;
+    Ok((name.map(|name| ElemId { name }), rest))
 }
 
 #[tactic(auto, unfolding(crate::specs::Reading::tile_at))]

@@ -1,46 +1,50 @@
-ghost use Rattle.std.specs.Prelude.{◌≡◌, ◌≢◌, ◌<◌, ◌^◌, ℕ, List, [], ◌++◌, Option, Some, None, Ok, false, slice_index};
+//! Laws on edit files: each edit that fits has one spelling, each list of such edits one text, and each text one reading.
 ghost use Rattle.zed_op.specs.declared.op.Edit.{Edit};
 ghost use Rattle.zed_op.specs.Fit.{Fits};
 ghost use Rattle.zed_op.specs.Set.{AllFit};
-ghost use Rattle.zed_editfile.specs.declared.error.EditFileError.TheVariants.{Memory};
-ghost use Rattle.zed_editfile.specs.Reading.{edit_at};
-ghost use Rattle.zed_editfile.specs.Sizes.{HasRoom};
-ghost use Rattle.zed_editfile.specs.Spelling.{spelling, record_text, file_text};
-ghost use Rattle.zed_editfile.specs.Stream.{is_other, IsRecord, AreRecords, Progress, Reads};
+ghost use Rattle.zed_editfile.specs.Laws.{IsReadBack, IsSpelledOnce, DiffersFrom, BeginsNoOther, HasOneText, HasNoOtherText, IsReadWhole, ReadsOneWay, TextsAreRead};
+ghost use Rattle.zed_editfile.specs.Stream.{AreRecords, IsRecord};
 
 use crate::room::{op_has_room, stamp_has_room};
 use zed_op::Edit;
 use zed_world::canonical_files_are_short;
 
-/// A body that spells an edit is the spelling of that edit, and what an edit spells is read as that edit: so each edit
-/// that fits has one spelling.
-pub fn one_spelling()
-    ensures back { (e : Edit) → HasRoom e → Fits e → edit_at (spelling e) ≡ Ok e }
-    ensures found { (bytes : List ℕ) (e : Edit) → ((i : ℕ) → slice_index bytes i < 256) → edit_at bytes ≡ Ok e → (bytes ≡ spelling e) × HasRoom e × Fits e }
-{}
+/// An edit that fits is read from its spelling, and bytes that spell an edit are the one spelling of it.
+pub fn one_spelling(edit: &Edit, body: &[u8])
+    ensures back { Fits edit.now → IsReadBack edit.now }
+    ensures found { IsSpelledOnce body.now }
+{
+    fitting_edits_are_records(edit);
+}
 
-/// No record begins another one.
-pub fn no_record_begins_another()
-    ensures { (e f : Edit) (x y : List ℕ) → IsRecord e → IsRecord f → record_text e ++ x ≡ record_text f ++ y → (e ≡ f) × (x ≡ y) }
-{}
+/// Of two edits that fit, the record of the one doesn't begin that of the other.
+pub fn no_record_begins_another(edit: &Edit, other: &Edit)
+    ensures { Fits edit.now → Fits other.now → DiffersFrom edit.now other.now }
+{
+    fitting_edits_are_records(edit);
+    fitting_edits_are_records(other);
+}
 
-/// Each list of edits of a world has one text.
-pub fn one_file_text()
-    ensures { (m n : ℕ) (es fs : List Edit) → m < 2 ^ 64 → n < 2 ^ 64 → AreRecords es → AreRecords fs → file_text m es ≡ file_text n fs → (m ≡ n) × (es ≡ fs) }
-{}
+/// Two files of edits that fit have one text only where they are of one world and have the same edits.
+pub fn one_file_text(world: u64, edits: &[Edit], other: u64, others: &[Edit])
+    ensures { AllFit edits.now → AllFit others.now → HasOneText world edits.now other others.now }
+{
+    fitting_edits_make_a_file(world, edits);
+    fitting_edits_make_a_file(other, others);
+}
 
 /// Bytes are read in one way, however they are cut, unless memory ran out; and the text of edits is read as those edits.
 pub fn one_reading()
-    ensures one { (bytes : List ℕ) (es fs : List Edit) (p q : Progress) → p.asked ≡ q.asked → p.fault ≢ Some Memory → q.fault ≢ Some Memory → Reads bytes es p → Reads bytes fs q → (es ≡ fs) × (p ≡ q) }
-    ensures file { (asked : Option ℕ) (n : ℕ) (es : List Edit) → n < 2 ^ 64 → is_other asked n ≡ false → AreRecords es → Reads (file_text n es) es (record { asked = asked; world = Some n; rest = []; fault = None }) }
+    ensures one { ReadsOneWay }
+    ensures file { TextsAreRead }
 {}
 
 /// Every edit that fits has a record, since each number fits its field by its type and the body has one of the lengths: the
 /// body is read as the edit, and no record of another edit begins with its record or stands at the front of it.
 pub fn fitting_edits_are_records(edit: &Edit)
     ensures record { Fits edit.now → IsRecord edit.now }
-    ensures back { Fits edit.now → edit_at (spelling edit.now) ≡ Ok edit.now }
-    ensures alone { (f : Edit) (x y : List ℕ) → Fits edit.now → IsRecord f → record_text edit.now ++ x ≡ record_text f ++ y → (edit.now ≡ f) × (x ≡ y) }
+    ensures back { Fits edit.now → IsReadBack edit.now }
+    ensures alone { Fits edit.now → BeginsNoOther edit.now }
 {
     canonical_files_are_short();
     stamp_has_room(edit.stamp);
@@ -51,8 +55,8 @@ pub fn fitting_edits_are_records(edit: &Edit)
 /// of memory, has these edits, the world, and nothing left.
 pub fn fitting_edits_make_a_file(world: u64, edits: &[Edit])
     ensures records { AllFit edits.now → AreRecords edits.now }
-    ensures one { (n : ℕ) (es : List Edit) → n < 2 ^ 64 → AllFit edits.now → AreRecords es → file_text world edits.now ≡ file_text n es → (world ≡ n) × (edits.now ≡ es) }
-    ensures read { (es : List Edit) (p : Progress) → AllFit edits.now → is_other p.asked world ≡ false → p.fault ≢ Some Memory → Reads (file_text world edits.now) es p → (es ≡ edits.now) × (p ≡ record { asked = p.asked; world = Some world; rest = []; fault = None }) }
+    ensures one { AllFit edits.now → HasNoOtherText world edits.now }
+    ensures read { AllFit edits.now → IsReadWhole world edits.now }
 {
     for edit in edits {
         fitting_edits_are_records(edit);

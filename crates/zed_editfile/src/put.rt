@@ -1,9 +1,9 @@
 ghost use Rattle.std.specs.Prelude.{◌≡◌, ◌<◌, ◌++◌, length, OnOk};
-ghost use Rattle.zed_editfile.specs.Spelling.{number, integer, boolean, string, stamp, name, board_name, stat_name, text_name, element_name, optional, tile, rectangle, third_parameter};
+ghost use Rattle.zed_editfile.specs.Spelling.{number, integer, boolean, string, stamp, name, optional, tile, rectangle, third_parameter};
 
 use byteorder::{ByteOrder, LittleEndian};
 use std::alloc::AllocError;
-use zed_types::{BoardId, Bytes, ElemId, Rectangle, Stamp, StatId, TextId, ThirdParameter, Tile};
+use zed_types::{Bytes, Name, Rectangle, Stamp, ThirdParameter, Tile};
 
 #[tactic(auto, unfolding(crate::specs::Spelling::number))]
 fn put_u16(out: &mut Vec<u8>, n: u16) -> Result<(), AllocError>
@@ -85,87 +85,22 @@ pub(crate) fn put_stamp(out: &mut Vec<u8>, made: Stamp) -> Result<(), AllocError
 }
 
 #[tactic(auto, unfolding(crate::specs::Spelling::name))]
-fn put_name(out: &mut Vec<u8>, made: Stamp, index: u32) -> Result<(), AllocError>
-    ensures { OnOk result (out.new.items ≡ out.old.items ++ name made index) }
+pub(crate) fn put_name(out: &mut Vec<u8>, made: Name) -> Result<(), AllocError>
+    ensures { OnOk result (out.new.items ≡ out.old.items ++ name made) }
 {
-    put_stamp(out, made)?;
-    put_u32(out, index)
+    put_stamp(out, made.stamp)?;
+    put_u32(out, made.index)
 }
 
-pub(crate) fn put_board(out: &mut Vec<u8>, board: BoardId) -> Result<(), AllocError>
-    ensures { OnOk result (out.new.items ≡ out.old.items ++ board_name board) }
+/// Appends a tag, and the name where there is one.
+pub(crate) fn put_optional(out: &mut Vec<u8>, made: Option<Name>) -> Result<(), AllocError>
+    ensures { OnOk result (out.new.items ≡ out.old.items ++ optional name made) }
 {
-    put_name(out, board.stamp, board.index)
-}
-
-pub(crate) fn put_stat(out: &mut Vec<u8>, stat: StatId) -> Result<(), AllocError>
-    ensures { OnOk result (out.new.items ≡ out.old.items ++ stat_name stat) }
-{
-    put_name(out, stat.stamp, stat.index)
-}
-
-pub(crate) fn put_text(out: &mut Vec<u8>, text: TextId) -> Result<(), AllocError>
-    ensures { OnOk result (out.new.items ≡ out.old.items ++ text_name text) }
-{
-    put_name(out, text.stamp, text.index)
-}
-
-fn put_element(out: &mut Vec<u8>, element: ElemId) -> Result<(), AllocError>
-    ensures { OnOk result (out.new.items ≡ out.old.items ++ element_name element) }
-{
-    put_name(out, element.stamp, element.index)
-}
-
-pub(crate) fn put_optional_board(
-    out: &mut Vec<u8>,
-    board: Option<BoardId>,
-) -> Result<(), AllocError>
-    ensures { OnOk result (out.new.items ≡ out.old.items ++ optional board_name board) }
-{
-    match board {
+    match made {
         None => put_boolean(out, false),
-        Some(board) => {
+        Some(made) => {
             put_boolean(out, true)?;
-            put_board(out, board)
-        }
-    }
-}
-
-pub(crate) fn put_optional_stat(out: &mut Vec<u8>, stat: Option<StatId>) -> Result<(), AllocError>
-    ensures { OnOk result (out.new.items ≡ out.old.items ++ optional stat_name stat) }
-{
-    match stat {
-        None => put_boolean(out, false),
-        Some(stat) => {
-            put_boolean(out, true)?;
-            put_stat(out, stat)
-        }
-    }
-}
-
-pub(crate) fn put_optional_text(out: &mut Vec<u8>, text: Option<TextId>) -> Result<(), AllocError>
-    ensures { OnOk result (out.new.items ≡ out.old.items ++ optional text_name text) }
-{
-    match text {
-        None => put_boolean(out, false),
-        Some(text) => {
-            put_boolean(out, true)?;
-            put_text(out, text)
-        }
-    }
-}
-
-pub(crate) fn put_optional_element(
-    out: &mut Vec<u8>,
-    element: Option<ElemId>,
-) -> Result<(), AllocError>
-    ensures { OnOk result (out.new.items ≡ out.old.items ++ optional element_name element) }
-{
-    match element {
-        None => put_boolean(out, false),
-        Some(element) => {
-            put_boolean(out, true)?;
-            put_element(out, element)
+            put_name(out, made)
         }
     }
 }
@@ -192,7 +127,7 @@ pub(crate) fn put_third_parameter(
         ThirdParameter::Byte(byte) => out.extend_from_slice(&[0, byte]),
         ThirdParameter::Board(board) => {
             put_boolean(out, true)?;
-            put_board(out, board)
+            put_name(out, board.name)
         }
     }
 }

@@ -3,8 +3,7 @@ ghost use Rattle.zed_op.specs.Fit.{is_header_in_range, is_property_in_range, is_
 ghost use Rattle.zed_editfile.specs.Spelling.{header_number, header_setting, board_byte, board_flag, side, board_text, board_setting, stat_byte, stat_number, stat_setting, stat_fields, op_text};
 
 use crate::put::{
-    put_board, put_boolean, put_integer, put_optional_board, put_optional_element,
-    put_optional_stat, put_optional_text, put_rectangle, put_stamp, put_stat, put_string, put_text,
+    put_boolean, put_integer, put_name, put_optional, put_rectangle, put_stamp, put_string,
     put_third_parameter, put_tile, put_u32,
 };
 use std::alloc::AllocError;
@@ -54,7 +53,7 @@ fn put_header_setting(out: &mut Vec<u8>, setting: &HeaderSetting) -> Result<(), 
         }
         HeaderSetting::CurrentBoard(board) => {
             out.push(17)?;
-            put_board(out, *board)
+            put_name(out, board.name)
         }
         HeaderSetting::WorldName(name) => {
             out.push(18)?;
@@ -124,7 +123,7 @@ fn put_board_setting(out: &mut Vec<u8>, setting: &BoardSetting) -> Result<(), Al
         }
         BoardSetting::Exit(of, board) => {
             out.push(side(*of))?;
-            put_optional_board(out, *board)
+            put_optional(out, board.map(|x| x.name))
         }
         BoardSetting::Text(property, text) => {
             out.push(board_text(*property))?;
@@ -172,15 +171,15 @@ fn put_stat_setting(out: &mut Vec<u8>, setting: &StatSetting) -> Result<(), Allo
         }
         StatSetting::Follower(stat) => {
             out.push(9)?;
-            put_optional_stat(out, *stat)
+            put_optional(out, stat.map(|x| x.name))
         }
         StatSetting::Leader(stat) => {
             out.push(10)?;
-            put_optional_stat(out, *stat)
+            put_optional(out, stat.map(|x| x.name))
         }
         StatSetting::Text(text) => {
             out.push(13)?;
-            put_optional_text(out, *text)
+            put_optional(out, text.map(|x| x.name))
         }
     }
 }
@@ -196,7 +195,7 @@ fn put_stat_fields(out: &mut Vec<u8>, fields: &StatFields) -> Result<(), AllocEr
     out.extend_from_slice(&[fields.p1, fields.p2])?;
     put_third_parameter(out, fields.p3)?;
     put_tile(out, fields.under)?;
-    put_optional_text(out, fields.text)
+    put_optional(out, fields.text.map(|x| x.name))
 }
 
 /// Appends the number of an op, and its fields.
@@ -219,43 +218,43 @@ pub(crate) fn put_op(out: &mut Vec<u8>, op: &Op) -> Result<(), AllocError>
         }
         Op::BoardRemove(board) => {
             out.push(4)?;
-            put_board(out, *board)
+            put_name(out, board.name)
         }
         Op::SetBoard(board, setting) => {
             out.push(5)?;
-            put_board(out, *board)?;
+            put_name(out, board.name)?;
             put_board_setting(out, setting)
         }
         Op::SetCells(board, cells, tile) => {
             out.push(6)?;
-            put_board(out, *board)?;
+            put_name(out, board.name)?;
             put_rectangle(out, *cells)?;
             put_tile(out, *tile)
         }
         Op::StatAdd(board, fields) => {
             out.push(7)?;
-            put_board(out, *board)?;
+            put_name(out, board.name)?;
             put_stat_fields(out, fields)
         }
         Op::StatRemove(stat) => {
             out.push(8)?;
-            put_stat(out, *stat)
+            put_name(out, stat.name)
         }
         Op::SetStat(stat, setting) => {
             out.push(9)?;
-            put_stat(out, *stat)?;
+            put_name(out, stat.name)?;
             put_stat_setting(out, setting)
         }
         Op::TextAdd => Ok(out.push(10)?),
         Op::TextInsert(text, after, bytes) => {
             out.push(11)?;
-            put_text(out, *text)?;
-            put_optional_element(out, *after)?;
+            put_name(out, text.name)?;
+            put_optional(out, after.map(|x| x.name))?;
             out.extend_from_slice(bytes.as_slice())
         }
         Op::TextDelete(text, range) => {
             out.push(12)?;
-            put_text(out, *text)?;
+            put_name(out, text.name)?;
             put_stamp(out, range.stamp)?;
             put_u32(out, range.first)?;
             put_u32(out, range.last)

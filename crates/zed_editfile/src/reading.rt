@@ -8,7 +8,7 @@ use crate::error::EditFileError;
 use crate::ops::fields_of;
 use byteorder::{ByteOrder, LittleEndian};
 use std::alloc::Global;
-use zed_op::{Edit, EditError, check};
+use zed_op::{Edit, check};
 
 /// Fewest bytes of a body: a stamp and an op.
 const LEAST_BODY: usize = 9;
@@ -20,11 +20,8 @@ const MOST_BODY: usize = 4_194_304;
 fn fitting(alloc: Global, edit: Edit) -> Result<Edit, EditFileError>
     ensures { Gives (λ e. e) result (unless_faulty (fault edit) edit) }
 {
-    match check(alloc, &edit) {
-        Ok(()) => Ok(edit),
-        Err(EditError::Memory) => Err(EditFileError::Memory),
-        Err(EditError::BadEdit(cause)) => Err(EditFileError::BadEdit(cause)),
-    }
+    check(alloc, &edit)?;
+    Ok(edit)
 }
 
 /// The edit that the body of a record spells, if it fits.

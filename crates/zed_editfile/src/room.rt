@@ -8,7 +8,8 @@ ghost use Rattle.zed_editfile.specs.Sizes.{AreStamped, IsStamp, IsName, IsTile, 
 
 use zed_op::Op;
 use zed_types::{
-    BoardSetting, HeaderSetting, Rectangle, Stamp, StatFields, StatSetting, ThirdParameter, Tile,
+    BoardSetting, HeaderSetting, Name, Rectangle, Stamp, StatFields, StatSetting, ThirdParameter,
+    Tile,
 };
 
 pub(crate) fn stamp_has_room(stamp: Stamp)
@@ -16,8 +17,8 @@ pub(crate) fn stamp_has_room(stamp: Stamp)
 {}
 
 /// The stamp of a thing, and its index.
-fn name_has_room(stamp: Stamp, index: u32)
-    ensures { is_stamp stamp ≡ true → IsName (stamp, index) }
+fn name_has_room(name: Name)
+    ensures { is_stamp name.stamp ≡ true → IsName name }
 {}
 
 fn cells_have_room(cells: Rectangle, tile: Tile)
@@ -30,7 +31,7 @@ fn target_has_room(target: ThirdParameter)
 {
     match target {
         ThirdParameter::Byte(_) => {}
-        ThirdParameter::Board(board) => name_has_room(board.stamp, board.index),
+        ThirdParameter::Board(board) => name_has_room(board.name),
     }
 }
 
@@ -41,7 +42,7 @@ fn header_setting_has_room(setting: &HeaderSetting)
         HeaderSetting::Number(_, number) => {
             let _number = *number;
         }
-        HeaderSetting::CurrentBoard(board) => name_has_room(board.stamp, board.index),
+        HeaderSetting::CurrentBoard(board) => name_has_room(board.name),
         HeaderSetting::Key(_, _) | HeaderSetting::Saved(_) => {}
         HeaderSetting::WorldName(_) | HeaderSetting::Flag(_, _) => {}
     }
@@ -57,7 +58,7 @@ fn board_setting_has_room(setting: &BoardSetting)
         BoardSetting::TimeLimit(limit) => {
             let _limit = *limit;
         }
-        BoardSetting::Exit(_, Some(board)) => name_has_room(board.stamp, board.index),
+        BoardSetting::Exit(_, Some(board)) => name_has_room(board.name),
         BoardSetting::Exit(_, None) | BoardSetting::Flag(_, _) | BoardSetting::Text(_, _) => {}
     }
 }
@@ -68,9 +69,9 @@ fn stat_setting_has_room(setting: StatSetting)
     match setting {
         StatSetting::P3(target) => target_has_room(target),
         StatSetting::Follower(Some(stat)) | StatSetting::Leader(Some(stat)) => {
-            name_has_room(stat.stamp, stat.index);
+            name_has_room(stat.name);
         }
-        StatSetting::Text(Some(text)) => name_has_room(text.stamp, text.index),
+        StatSetting::Text(Some(text)) => name_has_room(text.name),
         StatSetting::Byte(_, _) | StatSetting::Number(_, _) => {}
         StatSetting::Follower(None) | StatSetting::Leader(None) | StatSetting::Text(None) => {}
     }
@@ -81,7 +82,7 @@ fn stat_fields_have_room(fields: StatFields)
 {
     target_has_room(fields.p3);
     if let Some(text) = fields.text {
-        name_has_room(text.stamp, text.index);
+        name_has_room(text.name);
     }
 }
 
@@ -91,34 +92,40 @@ pub(crate) fn op_has_room(op: &Op)
     match op {
         Op::Genesis(_) | Op::BoardAdd(_) | Op::TextAdd => {}
         Op::SetHeader(setting) => header_setting_has_room(setting),
-        Op::BoardRemove(board) => name_has_room(board.stamp, board.index),
+        Op::BoardRemove(board) => name_has_room(board.name),
         Op::SetBoard(board, setting) => {
-            name_has_room(board.stamp, board.index);
+            name_has_room(board.name);
             board_setting_has_room(setting);
         }
         Op::SetCells(board, cells, tile) => {
-            name_has_room(board.stamp, board.index);
+            name_has_room(board.name);
             cells_have_room(*cells, *tile);
         }
         Op::StatAdd(board, fields) => {
-            name_has_room(board.stamp, board.index);
+            name_has_room(board.name);
             stat_fields_have_room(*fields);
         }
-        Op::StatRemove(stat) => name_has_room(stat.stamp, stat.index),
+        Op::StatRemove(stat) => name_has_room(stat.name),
         Op::SetStat(stat, setting) => {
-            name_has_room(stat.stamp, stat.index);
+            name_has_room(stat.name);
             stat_setting_has_room(*setting);
         }
         Op::TextInsert(text, after, _) => {
-            name_has_room(text.stamp, text.index);
+            name_has_room(text.name);
             if let Some(element) = *after {
-                name_has_room(element.stamp, element.index);
+                name_has_room(element.name);
             }
         }
         Op::TextDelete(text, range) => {
-            name_has_room(text.stamp, text.index);
-            name_has_room(range.stamp, range.first);
-            name_has_room(range.stamp, range.last);
+            name_has_room(text.name);
+            name_has_room(Name {
+                stamp: range.stamp,
+                index: range.first,
+            });
+            name_has_room(Name {
+                stamp: range.stamp,
+                index: range.last,
+            });
         }
     }
 }

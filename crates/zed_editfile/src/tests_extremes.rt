@@ -4,8 +4,8 @@ use std::test::*;
 use zed_op::{Edit, Op, check};
 use zed_types::{
     BoardByte, BoardFlag, BoardId, BoardSetting, BoardText, ByteRange, Bytes, ElemId, FlagSlot,
-    HeaderNumber, HeaderSetting, KeyColour, Rectangle, Side, Stamp, StatByte, StatFields, StatId,
-    StatNumber, StatSetting, TextId, ThirdParameter, Tile,
+    HeaderNumber, HeaderSetting, KeyColour, Name, Rectangle, Side, Stamp, StatByte, StatFields,
+    StatId, StatNumber, StatSetting, TextId, ThirdParameter, Tile,
 };
 
 /// The latest stamp that there is but one, so that edits at the last one may name it.
@@ -19,25 +19,18 @@ const LAST: Stamp = Stamp {
     replica: 65_535,
 };
 
-const BOARD: BoardId = BoardId {
+const NAME: Name = Name {
     stamp: LATE,
     index: 4_294_967_295,
 };
 
-const STAT: StatId = StatId {
-    stamp: LATE,
-    index: 4_294_967_295,
-};
+const BOARD: BoardId = BoardId { name: NAME };
 
-const TEXT: TextId = TextId {
-    stamp: LATE,
-    index: 4_294_967_295,
-};
+const STAT: StatId = StatId { name: NAME };
 
-const ELEMENT: ElemId = ElemId {
-    stamp: LATE,
-    index: 4_294_967_295,
-};
+const TEXT: TextId = TextId { name: NAME };
+
+const ELEMENT: ElemId = ElemId { name: NAME };
 
 fn text_of(alloc: Global, len: usize) -> Result<Bytes, Fail> {
     let mut bytes = Vec::new(alloc);

@@ -10,4 +10,4 @@ pub returns-clause-back : goal.returns-clause-back
 returns-clause-back c = λ fits. edit_again c.args.edit.now (returns-clause-record c fits).1 fits
 
 pub returns-clause-alone : goal.returns-clause-alone
-returns-clause-alone c = λ f x y fits good same. one_record c.args.edit.now f x y (returns-clause-record c fits) good same
+returns-clause-alone c = λ fits f x y good same. one_record c.args.edit.now f x y (returns-clause-record c fits) good same

@@ -1,11 +1,13 @@
-use Rattle.std.proofs.Common.{◌≡◌, ◌⊎◌, inl, inr, Option, Some, None, Result, Ok, Err, refl, ap, ◌∙◌}
+use Rattle.std.proofs.Common.{◌≡◌, ◌⊎◌, inl, inr, Option, Some, None, Result, Ok, Err, refl}
 use Rattle.zed_op.specs.declared.cause.Cause.{Cause}
 use Rattle.zed_op.specs.declared.cause.EditError.{EditError}
 use Rattle.zed_op.specs.declared.cause.EditError.TheVariants as edit
 use Rattle.zed_op.specs.declared.op.Edit.{Edit}
 use Rattle.zed_op.specs.Fit.{fault}
 use Rattle.zed_op.specs.Verdict.{verdict}
-use Rattle.zed_editfile.specs.declared.error.EditFileError.TheVariants.{BadEdit}
+use Rattle.zed_editfile.specs.declared.error.EditFileError.TheVariants.{Memory, BadEdit}
+use Rattle.zed_editfile.specs.Refusals.{of_edit}
+use Rattle.std.proofs.lemmas.Result.{err_from_is_err_and}
 use Rattle.zed_editfile.specs.Reading.{unless_faulty}
 use Rattle.zed_editfile.proofs.reading.fitting.Goals as goal
 
@@ -17,8 +19,14 @@ bad : (r : Result (Unit {0}) EditError) (o : Option Cause) (cause : Cause) (e : 
 bad r None cause e h v = elim v [ inl m ↦ absurd cc | inr n ↦ absurd cc ]
 bad r (Some c) cause e h v = elim v [ inl m ↦ absurd cc | inr n ↦ cc ]
 
-pub returns-in-Ok : goal.returns-in-Ok
-returns-in-Ok c = good c.check.result (fault c.args.edit) c.in-Ok.field-0 c.args.edit c.in-Ok.is c.check.ensures.exact
+told : (r : Result (Unit {0}) EditError) (o : Option Cause) (x : EditError) (e : Edit) → r ≡ Err x → (r ≡ Err edit.Memory) ⊎ (r ≡ verdict o) → (of_edit x ≡ Memory) ⊎ (unless_faulty o e ≡ Err (of_edit x))
+told r o edit.Memory e h v = inl refl
+told r o (edit.BadEdit cause) e h v = inr (bad r o cause e h v)
+
+pub returns-in_err-check : goal.returns-in_err-check
+returns-in_err-check c =
+    let p = err_from_is_err_and c.from_residual.result c.from_residual.ensures.1 in
+    rw (p.1, p.2) (told c.check.result (fault c.args.edit) c.in_err-check.field-0.0 c.args.edit c.in_err-check.was c.check.ensures.exact)
 
 pub returns : goal.returns
-returns c = inr (bad c.check.result (fault c.args.edit) c.in-Err-BadEdit.cause c.args.edit (c.in-Err-BadEdit.is ∙ ap Err c.in-Err-BadEdit.field-0-is) c.check.ensures.exact)
+returns c = good c.check.result (fault c.args.edit) c.in_ok-check.field-0 c.args.edit c.in_ok-check.was c.check.ensures.exact

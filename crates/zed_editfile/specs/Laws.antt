@@ -1,0 +1,51 @@
+-- What the laws on edit files promise.
+use Rattle.std.specs.Prelude.{◌≡◌, ◌≢◌, ◌<◌, ◌^◌, ℕ, List, [], ◌++◌, Option, Some, None, Ok, false, slice_index}
+use Rattle.zed_op.specs.declared.op.Edit.{Edit}
+use Rattle.zed_op.specs.Fit.{Fits}
+use Rattle.zed_editfile.specs.declared.error.EditFileError.TheVariants.{Memory}
+use Rattle.zed_editfile.specs.Reading.{edit_at}
+use Rattle.zed_editfile.specs.Sizes.{HasRoom}
+use Rattle.zed_editfile.specs.Spelling.{spelling, record_text, file_text}
+use Rattle.zed_editfile.specs.Stream.{is_other, IsRecord, AreRecords, Progress, Reads}
+
+-- the spelling of the edit is read as the edit
+abbrev pub IsReadBack : Edit → Type 0
+IsReadBack e = edit_at (spelling e) ≡ Ok e
+
+-- an edit that the bytes spell fits, has the sizes of its fields, and has no other spelling
+abbrev pub IsSpelledOnce : List ℕ → Type 0
+IsSpelledOnce bytes = (e : Edit) → edit_at bytes ≡ Ok e → (bytes ≡ spelling e) × HasRoom e × Fits e
+
+-- the record of the one edit doesn't begin that of the other, unless they are one edit
+abbrev pub DiffersFrom : Edit → Edit → Type 0
+DiffersFrom e f = (x y : List ℕ) → record_text e ++ x ≡ record_text f ++ y → (e ≡ f) × (x ≡ y)
+
+-- the record of the edit doesn't begin any other record
+abbrev pub BeginsNoOther : Edit → Type 0
+BeginsNoOther e = (f : Edit) (x y : List ℕ) → IsRecord f → record_text e ++ x ≡ record_text f ++ y → (e ≡ f) × (x ≡ y)
+
+-- two files have one text only where they are one
+abbrev pub HasOneText : ℕ → List Edit → ℕ → List Edit → Type 0
+HasOneText m es n fs = file_text m es ≡ file_text n fs → (m ≡ n) × (es ≡ fs)
+
+-- no other file has the text of this one
+abbrev pub HasNoOtherText : ℕ → List Edit → Type 0
+HasNoOtherText m es = (n : ℕ) (fs : List Edit) → n < 2 ^ 64 → AreRecords fs → file_text m es ≡ file_text n fs → (m ≡ n) × (es ≡ fs)
+
+-- a reader that was given the whole text of these edits has them, the world, and nothing left, unless its memory ran out
+abbrev pub IsReadWhole : ℕ → List Edit → Type 0
+IsReadWhole m es =
+    (found : List Edit) (p : Progress) → is_other p.asked m ≡ false → p.fault ≢ Some Memory → Reads (file_text m es) found p
+    → (found ≡ es) × (p ≡ record { asked = p.asked; world = Some m; rest = []; fault = None })
+
+-- two readers of the same bytes that ask for the same world and have memory are where the other is, with the same edits
+abbrev pub ReadsOneWay : Type 0
+ReadsOneWay =
+    (bytes : List ℕ) (es fs : List Edit) (p q : Progress) → p.asked ≡ q.asked → p.fault ≢ Some Memory → q.fault ≢ Some Memory
+    → Reads bytes es p → Reads bytes fs q → (es ≡ fs) × (p ≡ q)
+
+-- the text of records is read as their edits
+abbrev pub TextsAreRead : Type 0
+TextsAreRead =
+    (asked : Option ℕ) (n : ℕ) (es : List Edit) → n < 2 ^ 64 → is_other asked n ≡ false → AreRecords es
+    → Reads (file_text n es) es (record { asked = asked; world = Some n; rest = []; fault = None })
