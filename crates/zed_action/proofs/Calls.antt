@@ -25,13 +25,6 @@ use Rattle.zed_action.specs.declared.error.ActionError.{ActionError}
 use Rattle.zed_action.specs.declared.error.ActionError.TheVariants.{Memory}
 use Rattle.zed_action.specs.Deeds.{Authors, Deletes, Inserts, Starts, next_text, refusal_of, with_edits}
 
--- a document after a call that was done differs by its edits alone
-pub after_call : (old new : Replica) → old.is_stale ≡ false → new.is_stale ≡ false → new.world ≡ old.world → new ≡ with_edits new.edits old
-after_call old new was is world =
-    let make : ℕ → Bool → Replica = λ w s. record { world = w; edits = new.edits; is_stale = s } in
-    let path : make new.world new.is_stale ≡ make old.world old.is_stale = rw (world, was, is) refl in
-    path
-
 abbrev Answer : Type 0
 Answer = Result Edit DocumentError
 
@@ -126,45 +119,57 @@ not_deleted d replica t from to e result is why =
       )
     ]
 
+-- documents are told apart by what their calls see of them
+abbrev seen : ℕ → List Edit → Bool → Replica
+seen w es b = record { world = w; edits = es; is_stale = b }
+
+inserts_same : (d o : Replica) (replica : ℕ) (t : TextId) (p : ℕ) (bytes : List ℕ) (made : Result (List Edit) ActionError)
+    → d.edits ≡ o.edits → d.is_stale ≡ o.is_stale → Inserts d replica t p bytes made → Inserts o replica t p bytes made
+inserts_same d o replica t p bytes made edits stale h =
+    let first : Inserts (seen o.world d.edits o.is_stale) replica t p bytes made = subst (λ b. Inserts (seen o.world d.edits b) replica t p bytes made) stale h in
+    subst (λ es. Inserts (seen o.world es o.is_stale) replica t p bytes made) edits first
+
+authors_same : (d o : Replica) (replica : ℕ) (op : Op) (made : Result (List Edit) ActionError)
+    → d.edits ≡ o.edits → d.is_stale ≡ o.is_stale → Authors d replica op made → Authors o replica op made
+authors_same d o replica op made edits stale h =
+    let first : Authors (seen o.world d.edits o.is_stale) replica op made = subst (λ b. Authors (seen o.world d.edits b) replica op made) stale h in
+    subst (λ es. Authors (seen o.world es o.is_stale) replica op made) edits first
+
 -- the second of three edits was refused
 pub second_refused : (d d1 : Replica) (replica : ℕ) (s : StatId) (t : TextId) (bytes : List ℕ) (e : ActionError)
-    → Authors d replica op.TextAdd (Ok d1.edits) → d1 ≡ with_edits d1.edits d → t ≡ next_text d replica
+    → Authors d replica op.TextAdd (Ok d1.edits) → d1.is_stale ≡ d.is_stale → t ≡ next_text d replica
     → (e ≡ Memory) ⊎ Inserts d1 replica t 0 bytes (Err e) → (e ≡ Memory) ⊎ Starts d replica s bytes (Err e)
-second_refused d d1 replica s t bytes e first after is why =
+second_refused d d1 replica s t bytes e first stale is why =
     elim why [
       | inl memory ↦ inl memory
-      | inr second ↦ inr (inl (d1.edits, first, inr (e, rw is at (subst (λ (x : Replica). Inserts x replica t 0 bytes (Err e)) after second), refl)))
+      | inr second ↦ inr (inl (d1.edits, first, inr (e, rw is at (inserts_same d1 (with_edits d1.edits d) replica t 0 bytes (Err e) refl stale second), refl)))
     ]
-
-abbrev Third : Replica → ℕ → StatId → TextId → Result (List Edit) ActionError → Type 0
-Third d replica s t made = Authors d replica (op.SetStat s (stat_setting.Text (Some t))) made
 
 -- two were made, and then the third or its refusal
 third_told : (d d1 d2 : Replica) (replica : ℕ) (s : StatId) (t : TextId) (bytes : List ℕ) (made : Result (List Edit) ActionError)
-    → Authors d replica op.TextAdd (Ok d1.edits) → d1 ≡ with_edits d1.edits d → t ≡ next_text d replica
-    → Inserts d1 replica t 0 bytes (Ok d2.edits) → d2 ≡ with_edits d2.edits d1
-    → Third d2 replica s t made → Starts d replica s bytes made
-third_told d d1 d2 replica s t bytes made first after is second after2 third =
-    let both : d2 ≡ with_edits d2.edits d = after2 ∙ ap (λ (x : Replica). with_edits d2.edits x) after in
+    → Authors d replica op.TextAdd (Ok d1.edits) → d1.is_stale ≡ d.is_stale → t ≡ next_text d replica
+    → Inserts d1 replica t 0 bytes (Ok d2.edits) → d2.is_stale ≡ d.is_stale
+    → Authors d2 replica (op.SetStat s (stat_setting.Text (Some t))) made → Starts d replica s bytes made
+third_told d d1 d2 replica s t bytes made first stale is second stale2 third =
     inl (
       d1.edits,
       first,
       inl (
         d2.edits,
-        rw is at (subst (λ (x : Replica). Inserts x replica t 0 bytes (Ok d2.edits)) after second),
-        rw is at (subst (λ (x : Replica). Third x replica s t made) both third),
+        rw is at (inserts_same d1 (with_edits d1.edits d) replica t 0 bytes (Ok d2.edits) refl stale second),
+        rw is at (authors_same d2 (with_edits d2.edits d) replica (op.SetStat s (stat_setting.Text (Some t))) made refl stale2 third),
       ),
     )
 
 pub third_done : (d d1 d2 : Replica) (replica : ℕ) (s : StatId) (t : TextId) (bytes : List ℕ) (new : List Edit)
-    → Authors d replica op.TextAdd (Ok d1.edits) → d1 ≡ with_edits d1.edits d → t ≡ next_text d replica
-    → Inserts d1 replica t 0 bytes (Ok d2.edits) → d2 ≡ with_edits d2.edits d1
+    → Authors d replica op.TextAdd (Ok d1.edits) → d1.is_stale ≡ d.is_stale → t ≡ next_text d replica
+    → Inserts d1 replica t 0 bytes (Ok d2.edits) → d2.is_stale ≡ d.is_stale
     → Authors d2 replica (op.SetStat s (stat_setting.Text (Some t))) (Ok new) → Starts d replica s bytes (Ok new)
-third_done d d1 d2 replica s t bytes new first after is second after2 third = third_told d d1 d2 replica s t bytes (Ok new) first after is second after2 third
+third_done d d1 d2 replica s t bytes new first stale is second stale2 third = third_told d d1 d2 replica s t bytes (Ok new) first stale is second stale2 third
 
 pub third_refused : (d d1 d2 : Replica) (replica : ℕ) (s : StatId) (t : TextId) (bytes : List ℕ) (e : ActionError)
-    → Authors d replica op.TextAdd (Ok d1.edits) → d1 ≡ with_edits d1.edits d → t ≡ next_text d replica
-    → Inserts d1 replica t 0 bytes (Ok d2.edits) → d2 ≡ with_edits d2.edits d1
+    → Authors d replica op.TextAdd (Ok d1.edits) → d1.is_stale ≡ d.is_stale → t ≡ next_text d replica
+    → Inserts d1 replica t 0 bytes (Ok d2.edits) → d2.is_stale ≡ d.is_stale
     → (e ≡ Memory) ⊎ Authors d2 replica (op.SetStat s (stat_setting.Text (Some t))) (Err e) → (e ≡ Memory) ⊎ Starts d replica s bytes (Err e)
-third_refused d d1 d2 replica s t bytes e first after is second after2 why =
-    elim why [ inl memory ↦ inl memory | inr third ↦ inr (third_told d d1 d2 replica s t bytes (Err e) first after is second after2 third) ]
+third_refused d d1 d2 replica s t bytes e first stale is second stale2 why =
+    elim why [ inl memory ↦ inl memory | inr third ↦ inr (third_told d d1 d2 replica s t bytes (Err e) first stale is second stale2 third) ]

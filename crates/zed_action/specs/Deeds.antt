@@ -1,5 +1,5 @@
 -- What an action does to a document.
-use Rattle.std.specs.Prelude.{◌≡◌, ◌⊎◌, ℕ, zero, suc, ℤ, pos, List, [], ◌∷◌, ◌++◌, Option, Some, None, Result, Ok, Err, MatchResult}
+use Rattle.std.specs.Prelude.{◌≡◌, ◌⊎◌, ℕ, zero, suc, ℤ, pos, List, [], ◌∷◌, ◌++◌, Option, Some, None, Result, Ok, Err, MatchResult, take}
 use Rattle.zed_types.specs.declared.names.BoardId.{BoardId}
 use Rattle.zed_types.specs.declared.names.StatId.{StatId}
 use Rattle.zed_types.specs.declared.names.TextId.{TextId}
@@ -204,3 +204,44 @@ Acts d replica words made = ActsOn d replica (action_of words) made
 -- a call ends so with these edits, or memory runs out
 abbrev pub Ends : {X : Type 0} → (Made → Type 0) → Result X ActionError → List Edit → Type 0
 Ends P result edits = MatchResult result (λ _. P (Ok edits)) (λ e. (e ≡ Memory) ⊎ P (Err e))
+
+-- ---- what a refused action leaves of a document's edits
+
+-- the edits with a new text
+abbrev pub with_text : Replica → ℕ → List Edit
+with_text d replica = with_edit (authored d.edits replica op.TextAdd) d.edits
+
+-- the edit that puts bytes into that text
+abbrev pub first_bytes : Replica → ℕ → List ℕ → Edit
+first_bytes d replica bytes = authored (with_text d replica) replica (insertion_at (with_text d replica) (next_text d replica) 0 bytes)
+
+-- nothing was made of a stat's program, or its text, or that text with its bytes
+abbrev pub LeavesStart : Replica → ℕ → List ℕ → List Edit → Type 0
+LeavesStart d replica bytes left =
+    (left ≡ d.edits) ⊎ ((left ≡ with_text d replica) ⊎ (left ≡ with_text d replica ++ first_bytes d replica bytes ∷ []))
+
+-- no byte was deleted; where memory ran out, the first of several deletions may have been made
+abbrev pub LeavesDeletion : Replica → ℕ → TextId → ℕ → ℕ → ActionError → List Edit → Type 0
+LeavesDeletion d replica t from to e left =
+    (left ≡ d.edits) ⊎ ((e ≡ Memory) × ((n : ℕ) × (left ≡ d.edits ++ take n (deletions_of d.edits replica t from to))))
+
+-- what is left where a deed is refused
+abbrev pub Leaves : Replica → ℕ → Deed → ActionError → List Edit → Type 0
+Leaves d replica (Make o) e left = left ≡ d.edits
+Leaves d replica (Insert t position bytes) e left = left ≡ d.edits
+Leaves d replica (Start s bytes) e left = LeavesStart d replica bytes left
+Leaves d replica (Delete t from to) e left = LeavesDeletion d replica t from to e left
+
+-- the same of an action that comes to a deed, or to none
+abbrev pub LeavesDeed : Replica → ℕ → Result Deed ActionError → ActionError → List Edit → Type 0
+LeavesDeed d replica (Err none) e left = left ≡ d.edits
+LeavesDeed d replica (Ok deed) e left = Leaves d replica deed e left
+
+-- and of words that are an action, or none
+abbrev pub LeavesAction : Replica → ℕ → Option Action → ActionError → List Edit → Type 0
+LeavesAction d replica None e left = left ≡ d.edits
+LeavesAction d replica (Some a) e left = LeavesDeed d replica (deed_of (replay d.edits) a) e left
+
+-- what is left where the words are refused
+abbrev pub LeavesWords : Replica → ℕ → List Word → ActionError → List Edit → Type 0
+LeavesWords d replica words e left = LeavesAction d replica (action_of words) e left

@@ -1,6 +1,6 @@
-ghost use Rattle.std.specs.Prelude.{◌≡◌, ◌≤◌, false, IfOk, OnOk};
+ghost use Rattle.std.specs.Prelude.{◌≡◌, ◌≢◌, ◌≤◌, Err, false, IfErr, IfOk, OnErr, OnOk};
 ghost use Rattle.zed_document.specs.Authoring.{authored};
-ghost use Rattle.zed_action.specs.Deeds.{Acts, Authors, Deletes, Ends, Inserts, Performs, Starts, with_edits};
+ghost use Rattle.zed_action.specs.Deeds.{Acts, Authors, Deletes, Ends, Inserts, Leaves, LeavesDeletion, LeavesStart, LeavesWords, Performs, Starts};
 ghost use Rattle.zed_action.specs.Words.{words_of};
 
 use crate::deed::{Deed, deed_of};
@@ -16,7 +16,9 @@ fn author(document: &mut Document, replica: u16, op: Op) -> Result<Edit, ActionE
     requires { document.old.is_stale ≡ false }
     ensures ends { Ends (Authors document.old replica op) result document.new.edits }
     ensures made { IfOk result (λ e. e ≡ authored document.old.edits replica op) }
-    ensures after { OnOk result (document.new ≡ with_edits document.new.edits document.old) }
+    ensures kept { OnErr result (document.new.edits ≡ document.old.edits) }
+    ensures sound { OnOk result (document.new.is_stale ≡ false) }
+    ensures stale { (result ≢ Err ActionError.Memory) → document.new.is_stale ≡ false }
     ensures world { document.new.world ≡ document.old.world }
 {
     match document.author(replica, op) {
@@ -35,7 +37,9 @@ fn insert(
 ) -> Result<(), ActionError>
     requires { document.old.is_stale ≡ false }
     ensures ends { Ends (Inserts document.old replica text position bytes) result document.new.edits }
-    ensures after { OnOk result (document.new ≡ with_edits document.new.edits document.old) }
+    ensures kept { OnErr result (document.new.edits ≡ document.old.edits) }
+    ensures sound { OnOk result (document.new.is_stale ≡ false) }
+    ensures stale { (result ≢ Err ActionError.Memory) → document.new.is_stale ≡ false }
     ensures world { document.new.world ≡ document.old.world }
 {
     match document.insert_text(replica, text, position as usize, bytes) {
@@ -55,6 +59,8 @@ fn delete(
     requires sound { document.old.is_stale ≡ false }
     requires replica { 1 ≤ replica }
     ensures ends { Ends (Deletes document.old replica text from to) result document.new.edits }
+    ensures kept { IfErr result (λ e. LeavesDeletion document.old replica text from to e document.new.edits) }
+    ensures stale { (result ≢ Err ActionError.Memory) → document.new.is_stale ≡ false }
     ensures world { document.new.world ≡ document.old.world }
 {
     match document.delete_text(replica, text, from as usize, to as usize) {
@@ -73,6 +79,8 @@ fn start(
 ) -> Result<(), ActionError>
     requires { document.old.is_stale ≡ false }
     ensures ends { Ends (Starts document.old replica stat bytes) result document.new.edits }
+    ensures kept { OnErr result (LeavesStart document.old replica bytes document.new.edits) }
+    ensures stale { (result ≢ Err ActionError.Memory) → document.new.is_stale ≡ false }
     ensures world { document.new.world ≡ document.old.world }
 {
     let edit = author(document, replica, Op::TextAdd)?;
@@ -90,6 +98,8 @@ fn perform(document: &mut Document, replica: u16, deed: Deed) -> Result<(), Acti
     requires sound { document.old.is_stale ≡ false }
     requires replica { 1 ≤ replica }
     ensures ends { Ends (Performs document.old replica deed) result document.new.edits }
+    ensures kept { IfErr result (λ e. Leaves document.old replica deed e document.new.edits) }
+    ensures stale { (result ≢ Err ActionError.Memory) → document.new.is_stale ≡ false }
     ensures world { document.new.world ≡ document.old.world }
 {
     match deed {
@@ -106,7 +116,8 @@ fn perform(document: &mut Document, replica: u16, deed: Deed) -> Result<(), Acti
 /// Does the action that the words say, as a replica of at least 1, to a document that isn't stale. In this order: BadAction for
 /// words that are no action; NoSuch for a number without a board, stat or text, and OutOfRange for a position over 0 in the program
 /// of a stat without a text; then what the document's own calls answer. A program that a stat doesn't have yet takes three edits: a
-/// text, its bytes, and the stat's register. After a refusal some of them may have been made.
+/// text, its bytes, and the stat's register. A refusal leaves the document as it was, but for the first of these three, and for the
+/// first of several deletions where memory ran out.
 pub fn act(
     alloc: Global,
     document: &mut Document,
@@ -116,6 +127,9 @@ pub fn act(
     requires sound { document.old.is_stale ≡ false }
     requires replica { 1 ≤ replica }
     ensures ends { Ends (Acts document.old replica (words_of words.now)) result document.new.edits }
+    ensures kept { IfErr result (λ e.
+        LeavesWords document.old replica (words_of words.now) e document.new.edits) }
+    ensures stale { (result ≢ Err ActionError.Memory) → document.new.is_stale ≡ false }
     ensures world { document.new.world ≡ document.old.world }
 {
     let action = parse(alloc, words)?;
