@@ -49,19 +49,19 @@ among-push g s (t ∷ ts) a h = go (same_stamp t g) refl (λ k. among-push g s t
     go true b more = absurd (let k = rw b at a in cc)
     go false b more = rw b (more (rw b at a))
 
-world-step : FitIsEachPart → (p : Plain) (e : Edit) → Fits e → is_among p.passed_over genesis_stamp ≡ false → is_among (step p e).passed_over genesis_stamp ≡ false
+world-step : FitIsEachPart → (p : Plain) (e : Edit) → Fits e → is_among p.held genesis_stamp ≡ false → is_among (step p e).held genesis_stamp ≡ false
 world-step parts p e f a = go (can p e) refl (same_stamp e.stamp genesis_stamp) refl
   where
-    go : (b : Bool) → can p e ≡ b → (w : Bool) → same_stamp e.stamp genesis_stamp ≡ w → is_among (step p e).passed_over genesis_stamp ≡ false
+    go : (b : Bool) → can p e ≡ b → (w : Bool) → same_stamp e.stamp genesis_stamp ≡ w → is_among (step p e).held genesis_stamp ≡ false
     go true b w h = rw b (rw (do_op-passed e.stamp e.op p) a)
     go false b true h =
         let own = (and_parts (is_own_stamp e.op e.stamp) _ ((parts e).0 f).0).0 in
         let c = world-can e.op e.stamp own h p in
         absurd (cc)
-    go false b false h = rw b (among-push genesis_stamp e.stamp p.passed_over a h)
+    go false b false h = rw b (among-push genesis_stamp e.stamp p.held a h)
 
 -- the stamp of the world is never that of an edit which is held
-world-never_held : FitIsEachPart → (es : List Edit) (p : Plain) → AllFit es → is_among p.passed_over genesis_stamp ≡ false → is_among (replay_on p es).passed_over genesis_stamp ≡ false
+world-never_held : FitIsEachPart → (es : List Edit) (p : Plain) → AllFit es → is_among p.held genesis_stamp ≡ false → is_among (replay_on p es).held genesis_stamp ≡ false
 world-never_held parts [] p f a = a
 world-never_held parts (e ∷ es) p f a = world-never_held parts es (step p e) f.1 (world-step parts p e f.0 a)
 
@@ -75,10 +75,10 @@ last-edit e es b = ap (with_edit e) (sym (append-nil es)) ∙ with_edit-between 
 taken-last : OneMoreIsOneStep → (e : Edit) (es : List Edit) → AllBelow e.stamp es → can (replay es) e ≡ true → is_among (held_stamps (with_edit e es)) e.stamp ≡ false
 taken-last one e es b c =
     let q : replay (with_edit e es) ≡ step (replay es) e = ap replay (last-edit e es b) ∙ one es e in
-    let d : (step (replay es) e).passed_over ≡ (replay es).passed_over = rw c (do_op-passed e.stamp e.op (replay es)) in
-    ap (λ (p : Plain). is_among p.passed_over e.stamp) q
+    let d : (step (replay es) e).held ≡ (replay es).held = rw c (do_op-passed e.stamp e.op (replay es)) in
+    ap (λ (p : Plain). is_among p.held e.stamp) q
     ∙ ap (λ ts. is_among ts e.stamp) d
-    ∙ below-not_among e.stamp (replay es).passed_over (passed-below e.stamp empty_document es tt b)
+    ∙ below-not_among e.stamp (replay es).held (passed-below e.stamp empty_document es tt b)
 
 pub taken-late : FitIsEachPart → OneMoreIsOneStep → EditKeepsFit → (e : Edit) (es : List Edit) → AllFit es → Fits e → IsLate es e → can (replay es) e ≡ true → is_among (held_stamps (with_edit e es)) e.stamp ≡ false
 taken-late parts one keeps e es fit f late c = go (is_genesis e.op) refl

@@ -20,7 +20,7 @@ use Rattle.zed_op.specs.declared.thing.Thing.TheVariants as thing
 use Rattle.zed_edit.specs.Document.{elements, text, has}
 use Rattle.zed_op.specs.Fit.{Fits, genesis_stamp, is_stamp, is_author_stamp, is_own_stamp}
 use Rattle.zed_laws.specs.Laws.{OneMoreIsOneStep, MadeStaysMade}
-use Rattle.zed_edit.specs.Replay.{replay, can, do_edit, pass_over}
+use Rattle.zed_edit.specs.Replay.{replay, can, do_edit, hold}
 use Rattle.zed_op.specs.Set.{AllFit, IsRising}
 use Rattle.zed_op.specs.Verdict.{FitIsEachPart}
 use Rattle.zed_laws.specs.TextNames.{ElementsHaveOwnNames, ElementsAreOfEdits, TextsAreOfEdits, StampsPass}
@@ -107,7 +107,7 @@ follow-all parts one stays (r ∷ rs) es time replica limit t g low l high own t
     let c : can (replay es) f ≡ true = rw (h, first, last) refl in
     let below : AllBelow f.stamp es = later-all f.stamp es g in
     let fits : Fits f = deletion-fits parts time replica limit (replay es) t r low (omega arith) own l ts tl a.0 in
-    let stepped : replay (es ++ f ∷ []) ≡ do_edit (replay es) f = one es f ∙ ap (λ b. cond b (do_edit (replay es) f) (pass_over (replay es) f)) c in
+    let stepped : replay (es ++ f ∷ []) ≡ do_edit (replay es) f = one es f ∙ ap (λ b. cond b (do_edit (replay es) f) (hold (replay es) f)) c in
     let stay : (x : Thing) → has (replay es) x ≡ true → has (replay (es ++ f ∷ [])) x ≡ true = λ x k. subst (λ (p : Plain). has p x ≡ true) (sym (one es f)) (stays (replay es) f x k) in
     let g' : greatest_time (es ++ f ∷ []) < time + 1 = greatest-push es f (time + 1) (omega arith) (omega arith) in
     let more = follow-all parts one stays rs (es ++ f ∷ []) (time + 1) replica limit t g' (omega arith) (omega arith) (omega arith) own ts tl (stay (thing.Text t) h) (stay-good (replay es) (replay (es ++ f ∷ [])) t limit rs stay a.1) in

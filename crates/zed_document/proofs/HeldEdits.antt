@@ -6,7 +6,7 @@ use Rattle.zed_types.specs.Stamp.{before}
 use Rattle.zed_op.specs.declared.op.Edit.{Edit}
 use Rattle.zed_edit.specs.declared.plain.Plain.{Plain}
 use Rattle.zed_edit.specs.Document.{empty_document}
-use Rattle.zed_laws.specs.Laws.{HeldArePassedOver}
+use Rattle.zed_laws.specs.Laws.{HeldAreRemembered}
 use Rattle.zed_edit.specs.Replay.{can, step, held, held_on}
 use Rattle.zed_op.specs.Set.{IsRising}
 use Rattle.zed_document.specs.Delivery.{edit_with}
@@ -57,14 +57,14 @@ same-found es fs (h ∷ hs) (g ∷ gs) a b q k =
     let e : h ≡ g = (let j : Some h ≡ Some g = sym one ∙ both ∙ other in cc) in
     ap (λ x. x ∷ hs) e ∙ ap (λ xs. g ∷ xs) (same-found es fs hs gs a.1 b.1 rest k.1)
 
-pub held-there : HeldArePassedOver → (es fs : List Edit) → IsRising es → IsRising fs → held es ≡ held fs → (held_stamps es ≡ held_stamps fs) × AgreeAtAll es fs (held_stamps es)
+pub held-there : HeldAreRemembered → (es fs : List Edit) → IsRising es → IsRising fs → held es ≡ held fs → (held_stamps es ≡ held_stamps fs) × AgreeAtAll es fs (held_stamps es)
 held-there law es fs r s q =
     let one = held-all (λ f. edit_with f.stamp es ≡ Some f) empty_document es (found es r) in
     let other = held-all (λ f. edit_with f.stamp fs ≡ Some f) empty_document fs (found fs s) in
     let other' : Found fs (held es) = subst (Found fs) (sym q) other in
     (sym (law es) ∙ ap (map (λ e. e.stamp)) q ∙ law fs, subst (AgreeAtAll es fs) (law es) (agree-found es fs (held es) one other'))
 
-pub held-back : HeldArePassedOver → (es fs : List Edit) → IsRising es → IsRising fs → held_stamps es ≡ held_stamps fs → AgreeAtAll es fs (held_stamps es) → held es ≡ held fs
+pub held-back : HeldAreRemembered → (es fs : List Edit) → IsRising es → IsRising fs → held_stamps es ≡ held_stamps fs → AgreeAtAll es fs (held_stamps es) → held es ≡ held fs
 held-back law es fs r s q k =
     let one = held-all (λ f. edit_with f.stamp es ≡ Some f) empty_document es (found es r) in
     let other = held-all (λ f. edit_with f.stamp fs ≡ Some f) empty_document fs (found fs s) in

@@ -23,22 +23,22 @@ kept-append law rises fit es e p q b k f fits last made =
     record {
       fit = rw last at (fit e es fits k.fit);
       rising = rw last at (rises e es k.rising);
-      held = ap (λ x. x.passed_over) is;
+      held = ap (λ x. x.held) is;
       shown = λ _. is;
     }
 
 -- what the new edit comes to is seen by the number of those passed over
 pub tells-append : OneMoreIsOneStep → (es : List Edit) (e : Edit) (old new : List Stamp) (d : Delivered) → AllBelow e.stamp es → with_edit e es ≡ es ++ e ∷ [] → old ≡ held_stamps es → new ≡ held_stamps (es ++ e ∷ []) → d.state ≡ state_of (ltb (length old) (length new)) → d.woken ≡ 0 → TellsNew es (with_edit e es) e d
 tells-append law es e old new d b last was is state count =
-    let q : (replay (es ++ e ∷ [])).passed_over ≡ (step (replay es) e).passed_over = ap (λ (p : Plain). p.passed_over) (law es e) in
-    let n : new ≡ (step (replay es) e).passed_over = is ∙ q in
-    let o : old ≡ (replay es).passed_over = was in
+    let q : (replay (es ++ e ∷ [])).held ≡ (step (replay es) e).held = ap (λ (p : Plain). p.held) (law es e) in
+    let n : new ≡ (step (replay es) e).held = is ∙ q in
+    let o : old ≡ (replay es).held = was in
     let either = step-passed (replay es) e in
     let below = passed-below e.stamp empty_document es tt b in
-    let among : is_among (replay (es ++ e ∷ [])).passed_over e.stamp ≡ ltb (length old) (length new) =
-    ap (λ ts. is_among ts e.stamp) q ∙ is_among-one_more e.stamp (replay es).passed_over (step (replay es) e).passed_over below either ∙ sym (ap (λ ts. ltb (length old) (length ts)) n ∙ ap (λ ts. ltb (length ts) (length (step (replay es) e).passed_over)) o) in
+    let among : is_among (replay (es ++ e ∷ [])).held e.stamp ≡ ltb (length old) (length new) =
+    ap (λ ts. is_among ts e.stamp) q ∙ is_among-one_more e.stamp (replay es).held (step (replay es) e).held below either ∙ sym (ap (λ ts. ltb (length old) (length ts)) n ∙ ap (λ ts. ltb (length ts) (length (step (replay es) e).held)) o) in
     let none : woken es (es ++ e ∷ []) ≡ 0 =
-    ap (λ ts. count_by (λ t. not (is_among ts t)) (replay es).passed_over) q ∙ count-one_more e.stamp (replay es).passed_over (step (replay es) e).passed_over either in
+    ap (λ ts. count_by (λ t. not (is_among ts t)) (replay es).held) q ∙ count-one_more e.stamp (replay es).held (step (replay es) e).held either in
     let Goal : List Edit → Type 0 = λ fs. TellsNew es fs e d in
     subst Goal (sym last) (state ∙ ap state_of (sym among), count ∙ sym none)
 
@@ -46,7 +46,7 @@ pub kept-insert : EditKeepsRising → EditKeepsFit → (es fs : List Edit) (e : 
 kept-insert rises fit es fs e p q b k fits is made = record {
   fit = rw is at (fit e es fits k.fit);
   rising = rw is at (rises e es k.rising);
-  held = ap (λ x. x.passed_over) made;
+  held = ap (λ x. x.held) made;
   shown = λ _. made;
 }
 

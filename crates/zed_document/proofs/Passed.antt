@@ -15,12 +15,12 @@ use Rattle.zed_document.specs.Held.{is_among}
 use Rattle.zed_types.proofs.StampOrder.{same_stamp-itself, before_differs}
 use Rattle.zed_document.specs.Kept.{AllBelow}
 
-open_world-passed : (s : Stamp) (w : Result Contents WorldError) (p : Plain) → (open_world s w p).passed_over ≡ p.passed_over
+open_world-passed : (s : Stamp) (w : Result Contents WorldError) (p : Plain) → (open_world s w p).held ≡ p.held
 open_world-passed s (Ok w) p = refl
 open_world-passed s (Err e) p = refl
 
 -- what is done passes nothing over
-pub do_op-passed : (s : Stamp) (op : Op) (p : Plain) → (do_op s op p).passed_over ≡ p.passed_over
+pub do_op-passed : (s : Stamp) (op : Op) (p : Plain) → (do_op s op p).held ≡ p.held
 do_op-passed s (Genesis bytes) p = open_world-passed s (world_at bytes) p
 do_op-passed s (SetHeader setting) p = refl
 do_op-passed s _ p = refl
@@ -32,15 +32,15 @@ StampsBelow-push : (s t : Stamp) (ts : List Stamp) → StampsBelow s ts → befo
 StampsBelow-push s t [] a h = (h, tt)
 StampsBelow-push s t (u ∷ ts) a h = (a.0, StampsBelow-push s t ts a.1 h)
 
-step-below : (s : Stamp) (p : Plain) (e : Edit) → StampsBelow s p.passed_over → before e.stamp s ≡ true → StampsBelow s (step p e).passed_over
+step-below : (s : Stamp) (p : Plain) (e : Edit) → StampsBelow s p.held → before e.stamp s ≡ true → StampsBelow s (step p e).held
 step-below s p e a h = go (can p e) refl
   where
-    go : (b : Bool) → can p e ≡ b → StampsBelow s (step p e).passed_over
+    go : (b : Bool) → can p e ≡ b → StampsBelow s (step p e).held
     go true b = rw b (rw (do_op-passed e.stamp e.op p) a)
-    go false b = rw b (StampsBelow-push s e.stamp p.passed_over a h)
+    go false b = rw b (StampsBelow-push s e.stamp p.held a h)
 
 -- the edits that are held have stamps of the set
-pub passed-below : (s : Stamp) (p : Plain) (es : List Edit) → StampsBelow s p.passed_over → AllBelow s es → StampsBelow s (replay_on p es).passed_over
+pub passed-below : (s : Stamp) (p : Plain) (es : List Edit) → StampsBelow s p.held → AllBelow s es → StampsBelow s (replay_on p es).held
 passed-below s p [] a b = a
 passed-below s p (e ∷ es) a b = passed-below s (step p e) es (step-below s p e a b.0) b.1
 
@@ -89,10 +89,10 @@ pub count-still_there : (ts us : List Stamp) → count_by (λ s. not (is_among (
 count-still_there ts us = count_none (λ s. not (is_among (ts ++ us) s)) ts (still_there ts us ts (all_among ts))
 
 -- a step passes its edit over, or nothing
-pub step-passed : (p : Plain) (e : Edit) → ((step p e).passed_over ≡ p.passed_over) ⊎ ((step p e).passed_over ≡ p.passed_over ++ e.stamp ∷ [])
+pub step-passed : (p : Plain) (e : Edit) → ((step p e).held ≡ p.held) ⊎ ((step p e).held ≡ p.held ++ e.stamp ∷ [])
 step-passed p e = go (can p e) refl
   where
-    go : (b : Bool) → can p e ≡ b → ((step p e).passed_over ≡ p.passed_over) ⊎ ((step p e).passed_over ≡ p.passed_over ++ e.stamp ∷ [])
+    go : (b : Bool) → can p e ≡ b → ((step p e).held ≡ p.held) ⊎ ((step p e).held ≡ p.held ++ e.stamp ∷ [])
     go true b = inl (rw b (do_op-passed e.stamp e.op p))
     go false b = inr (rw b)
 

@@ -19,7 +19,7 @@ use Rattle.zed_op.specs.declared.thing.Thing.TheVariants as thing
 use Rattle.zed_edit.specs.Document.{change_such, change_elements, find_text, elements_in, elements, text, has}
 use Rattle.zed_laws.specs.Laws.{OneMoreIsOneStep}
 use Rattle.zed_op.specs.Fit.{Fits, fault}
-use Rattle.zed_edit.specs.Replay.{replay, step, can, do_edit, pass_over}
+use Rattle.zed_edit.specs.Replay.{replay, step, can, do_edit, hold}
 use Rattle.zed_op.specs.Set.{IsRising, with_edit}
 use Rattle.zed_laws.specs.TextNames.{HaveOwnNames, ElementsHaveOwnNames}
 use Rattle.zed_document.specs.declared.error.DocumentError.{DocumentError}
@@ -156,7 +156,7 @@ made_insertion one names es replica t p bytes rises h l =
     let below : AllBelow e.stamp es = authored-late es replica (insertion_at es t p bytes) refl in
     let c : can (replay es) e ≡ true = place-made (replay es) t p h l e.stamp bytes in
     let xs : List TextByte = elements (replay es) t in
-    let stepped : step (replay es) e ≡ do_edit (replay es) e = ap (λ b. cond b (do_edit (replay es) e) (pass_over (replay es) e)) c in
+    let stepped : step (replay es) e ≡ do_edit (replay es) e = ap (λ b. cond b (do_edit (replay es) e) (hold (replay es) e)) c in
     let changed : elements (do_edit (replay es) e) t ≡ put_after (byte_before xs p) (run_from e.stamp 0 bytes) xs = changed-text t (put_after (byte_before xs p) (run_from e.stamp 0 bytes)) (replay es).texts h in
     record {
       late = below;

@@ -8,7 +8,7 @@ use Rattle.zed_edit.specs.Replay.{replay}
 
 -- the stamps of the edits that are held, rising
 abbrev pub held_stamps : List Edit → List Stamp
-held_stamps es = (replay es).passed_over
+held_stamps es = (replay es).held
 
 -- whether a stamp is among some
 abbrev pub is_among : List Stamp → Stamp → Bool

@@ -13,7 +13,7 @@ use Rattle.zed_document.specs.Held.{held_stamps}
 pub record IsKept (edits : List Edit) (is_stale : Bool) (plain : Plain) : Type 0 where
   pub fit : AllFit edits
   pub rising : IsRising edits
-  pub held : plain.passed_over ≡ held_stamps edits
+  pub held : plain.held ≡ held_stamps edits
   pub shown : is_stale ≡ false → plain ≡ replay edits
 
 -- all edits of a log come before a stamp

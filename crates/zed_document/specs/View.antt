@@ -1,22 +1,18 @@
 -- What a view shows, by the numbers of things in the order in which they were made.
-use Rattle.std.specs.Prelude.{ℕ, ℤ, Bool, true, List, [], slice_index_or, Option}
+use Rattle.std.specs.Prelude.{ℕ, ℤ, pos, Bool, true, false, List, [], slice_index_or, Option, Some, None}
 use Rattle.zed_types.specs.declared.names.BoardId.{BoardId}
 use Rattle.zed_types.specs.declared.tile.Tile.{Tile}
 use Rattle.zed_types.specs.declared.tile.Place.{Place}
 use Rattle.zed_types.specs.declared.header.HeaderNumber.{HeaderNumber}
-use Rattle.zed_types.specs.declared.header.HeaderNumber.TheVariants.{Ammo, Gems, Health, Torches, TorchTicks, EnergizerTicks, Score, TimePassed, Hundredths}
 use Rattle.zed_types.specs.declared.property.Side.{Side}
-use Rattle.zed_types.specs.declared.property.Side.TheVariants.{North, South, West, East}
 use Rattle.zed_types.specs.declared.property.BoardByte.{BoardByte}
-use Rattle.zed_types.specs.declared.property.BoardByte.TheVariants.{MaxShots, StartX, StartY}
 use Rattle.zed_types.specs.declared.property.BoardFlag.{BoardFlag}
-use Rattle.zed_types.specs.declared.property.BoardFlag.TheVariants.{Dark, ReEnter}
 use Rattle.zed_types.specs.declared.property.BoardText.{BoardText}
-use Rattle.zed_types.specs.declared.property.BoardText.TheVariants.{Name, Message}
 use Rattle.zed_types.specs.declared.stat_field.StatByte.{StatByte}
-use Rattle.zed_types.specs.declared.stat_field.StatByte.TheVariants.{X, Y, P1, P2, UnderElement, UnderColour}
 use Rattle.zed_types.specs.declared.stat_field.StatNumber.{StatNumber}
-use Rattle.zed_types.specs.declared.stat_field.StatNumber.TheVariants.{StepX, StepY, Cycle, Position}
+use Rattle.zed_types.specs.Header.{header_number_index}
+use Rattle.zed_types.specs.Board.{side_index, board_byte_index, board_flag_index, board_text_index}
+use Rattle.zed_types.specs.Stat.{stat_byte_index, stat_number_index}
 use Rattle.zed_types.specs.Table.{index_of}
 use Rattle.zed_edit.specs.declared.plain.Header.{Header}
 use Rattle.zed_edit.specs.declared.plain.Properties.{Properties}
@@ -63,47 +59,35 @@ made_board b = record { id = b.id; removed = b.removed }
 abbrev pub made_stat : Stat → MadeStat
 made_stat s = record { id = s.id; removed = s.removed }
 
--- the register of a field
+-- a number of the header
 abbrev pub header_number : HeaderNumber → Header → ℤ
-header_number Ammo h = h.ammo
-header_number Gems h = h.gems
-header_number Health h = h.health
-header_number Torches h = h.torches
-header_number TorchTicks h = h.torch_ticks
-header_number EnergizerTicks h = h.energizer_ticks
-header_number Score h = h.score
-header_number TimePassed h = h.time_passed
-header_number Hundredths h = h.hundredths
+header_number f h = slice_index_or h.numbers (header_number_index f) (pos 0)
 
+-- a property that is one byte
 abbrev pub board_byte : BoardByte → Properties → ℕ
-board_byte MaxShots p = p.max_shots
-board_byte StartX p = p.start_x
-board_byte StartY p = p.start_y
+board_byte f p = slice_index_or p.bytes (board_byte_index f) 0
 
+-- a property that is on or off
 abbrev pub board_flag : BoardFlag → Properties → Bool
-board_flag Dark p = p.dark
-board_flag ReEnter p = p.re_enter
+board_flag f p = slice_index_or p.flags (board_flag_index f) false
 
+-- the board behind a side
 abbrev pub exit : Side → Properties → Option BoardId
-exit North p = p.north
-exit South p = p.south
-exit West p = p.west
-exit East p = p.east
+exit f p = slice_index_or p.exits (side_index f) None
 
+-- a property that is a string
 abbrev pub board_text : BoardText → Properties → List ℕ
-board_text Name p = p.name
-board_text Message p = p.message
+board_text f p = slice_index_or p.texts (board_text_index f) []
 
+-- a field that is one byte
 abbrev pub stat_byte : StatByte → Stat → ℕ
-stat_byte X s = s.fields.x
-stat_byte Y s = s.fields.y
-stat_byte P1 s = s.fields.p1
-stat_byte P2 s = s.fields.p2
-stat_byte UnderElement s = s.fields.under.element
-stat_byte UnderColour s = s.fields.under.colour
+stat_byte f s = slice_index_or s.fields.bytes (stat_byte_index f) 0
 
+-- a number of a stat by its place: one that a new stat is given, or its position
+abbrev pub number_at : Option ℕ → Stat → ℤ
+number_at (Some i) s = slice_index_or s.fields.numbers i (pos 0)
+number_at None s = s.position
+
+-- a field that is a signed number
 abbrev pub stat_number : StatNumber → Stat → ℤ
-stat_number StepX s = s.fields.step_x
-stat_number StepY s = s.fields.step_y
-stat_number Cycle s = s.fields.cycle
-stat_number Position s = s.position
+stat_number f s = number_at (stat_number_index f) s

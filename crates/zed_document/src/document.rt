@@ -198,7 +198,7 @@ impl Document {
         if self.edits.reserve(1).is_err() {
             return Err(DocumentError::Memory);
         }
-        let passed_over = self.plain.held().len();
+        let before = self.plain.held().len();
         if step(*self.edits.allocator(), &mut self.plain, &edit).is_err() {
             self.is_stale = true;
             return Err(DocumentError::Memory);
@@ -206,7 +206,7 @@ impl Document {
         replay_goes_edit_by_edit();
         sets_rise();
         sets_stay_fit();
-        let is_held = passed_over < self.plain.held().len();
+        let is_held = before < self.plain.held().len();
         self.edits.push(edit).unwrap();
         Ok(Delivered {
             state: State::of_new(is_held),

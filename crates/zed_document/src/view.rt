@@ -55,18 +55,7 @@ impl<'a> View<'a> {
     pub fn header_number(&self, field: HeaderNumber) -> i16
         ensures { result ≡ header_number field self.now.header }
     {
-        let header = &self.plain.header;
-        match field {
-            HeaderNumber::Ammo => header.ammo,
-            HeaderNumber::Gems => header.gems,
-            HeaderNumber::Health => header.health,
-            HeaderNumber::Torches => header.torches,
-            HeaderNumber::TorchTicks => header.torch_ticks,
-            HeaderNumber::EnergizerTicks => header.energizer_ticks,
-            HeaderNumber::Score => header.score,
-            HeaderNumber::TimePassed => header.time_passed,
-            HeaderNumber::Hundredths => header.hundredths,
-        }
+        self.plain.header.numbers[usize::from(field.index())]
     }
 
     /// Whether the player has a key.
@@ -136,12 +125,7 @@ impl<'a> View<'a> {
         requires { i < length self.now.boards }
         ensures { result ≡ board_byte field (board_at self.now i).properties }
     {
-        let properties = &self.made(i).properties;
-        match field {
-            BoardByte::MaxShots => properties.max_shots,
-            BoardByte::StartX => properties.start_x,
-            BoardByte::StartY => properties.start_y,
-        }
+        self.made(i).properties.bytes[usize::from(field.index())]
     }
 
     /// A property that is on or off.
@@ -149,11 +133,7 @@ impl<'a> View<'a> {
         requires { i < length self.now.boards }
         ensures { result ≡ board_flag field (board_at self.now i).properties }
     {
-        let properties = &self.made(i).properties;
-        match field {
-            BoardFlag::Dark => properties.dark,
-            BoardFlag::ReEnter => properties.re_enter,
-        }
+        self.made(i).properties.flags[usize::from(field.index())]
     }
 
     /// A board's time limit, in seconds; 0 is none.
@@ -169,13 +149,7 @@ impl<'a> View<'a> {
         requires { i < length self.now.boards }
         ensures { result ≡ exit side (board_at self.now i).properties }
     {
-        let properties = &self.made(i).properties;
-        match side {
-            Side::North => properties.north,
-            Side::South => properties.south,
-            Side::West => properties.west,
-            Side::East => properties.east,
-        }
+        self.made(i).properties.exits[usize::from(side.index())]
     }
 
     /// A board's name, at most 50 bytes, or its message, at most 58.
@@ -183,11 +157,8 @@ impl<'a> View<'a> {
         requires { i < length self.now.boards }
         ensures { result.now ≡ board_text field (board_at self.now i).properties }
     {
-        let properties = &self.made(i).properties;
-        match field {
-            BoardText::Name => properties.name.as_slice(),
-            BoardText::Message => properties.message.as_slice(),
-        }
+        let texts: &[Bytes] = &self.made(i).properties.texts;
+        texts[usize::from(field.index())].as_slice()
     }
 
     /// The tile at a place of the table, columns 1 to 60 and rows 1 to 25.
@@ -253,15 +224,7 @@ impl<'a> View<'a> {
         requires stat { j < length (board_at self.now i).stats }
         ensures { result ≡ stat_byte field (stat_at (board_at self.now i) j) }
     {
-        let stat = self.made_stat(i, j);
-        match field {
-            StatByte::X => stat.fields.x,
-            StatByte::Y => stat.fields.y,
-            StatByte::P1 => stat.fields.p1,
-            StatByte::P2 => stat.fields.p2,
-            StatByte::UnderElement => stat.fields.under.element,
-            StatByte::UnderColour => stat.fields.under.colour,
-        }
+        self.made_stat(i, j).fields.bytes[usize::from(field.index())]
     }
 
     /// A field that is a signed number.
@@ -271,11 +234,9 @@ impl<'a> View<'a> {
         ensures { result ≡ stat_number field (stat_at (board_at self.now i) j) }
     {
         let stat = self.made_stat(i, j);
-        match field {
-            StatNumber::StepX => stat.fields.step_x,
-            StatNumber::StepY => stat.fields.step_y,
-            StatNumber::Cycle => stat.fields.cycle,
-            StatNumber::Position => stat.position,
+        match field.index() {
+            Some(place) => stat.fields.numbers[usize::from(place)],
+            None => stat.position,
         }
     }
 

@@ -1,16 +1,16 @@
 -- The world of a document whose signed numbers are of sixteen bits: each fits in its field.
-use Rattle.std.proofs.Common.{◌≡◌, ◌≤◌, ℕ, Bool, true, false, not, cond, List, [], ◌∷◌, ◌++◌, map, Option, None}
+use Rattle.std.proofs.Common.{◌≡◌, ◌≤◌, ℕ, zero, suc, ℤ, pos, get_or, rules, Bool, true, false, not, cond, List, [], ◌∷◌, ◌++◌, map, Option, None}
 use Rattle.std.specs.Prelude.{filter}
 use Rattle.std.specs.List.{AllByRecursion}
 use Rattle.zed_types.specs.declared.names.TextId.{TextId}
 use Rattle.zed_types.specs.Stamp.{before, same_stamp}
-use Rattle.zed_world.specs.Normal.{HasNormalParts}
+use Rattle.zed_world.specs.Normal.{HasNormalParts, IsInteger}
 use Rattle.zed_op.specs.declared.op.Edit.{Edit}
 use Rattle.zed_op.specs.Set.{with_edit, union, set_of}
 use Rattle.zed_edit.specs.declared.plain.Board.{Board}
 use Rattle.zed_edit.specs.declared.plain.Stat.{Stat}
 use Rattle.zed_edit.specs.declared.plain.Plain.{Plain}
-use Rattle.zed_edit.specs.Numbers.{live_boards}
+use Rattle.zed_edit.specs.Numbers.{alive_boards}
 use Rattle.zed_laws.specs.Integers.{StatHasIntegers, BoardHasIntegers, HasIntegers}
 use Rattle.zed_laws.specs.Regular.{IsRegular}
 use Rattle.zed_export.specs.World.{exported_above, exported_board, world_of}
@@ -39,11 +39,17 @@ each_of_set P es h = each_union P [] es tt h
 
 -- ---- the exported world
 
+-- a number of a list of such numbers, or 0 past its end
+number_fits : (zs : List ℤ) (i : ℕ) → AllByRecursion IsInteger zs → IsInteger (get_or zs i (pos 0))
+number_fits [] i h = search rules
+number_fits (z ∷ zs) zero h = h.0
+number_fits (z ∷ zs) (suc i) h = number_fits zs i h.1
+
 stats_fit : (p : Plain) (b : Board) (lower : List (Option TextId)) (ss : List Stat) → AllByRecursion StatHasIntegers ss → AllByRecursion FitsStat (exported_above p b lower ss)
 stats_fit p b lower [] h = tt
 stats_fit p b lower (s ∷ ss) h =
-    let f = h.0.fields in
-    (record { step_x = f.0; step_y = f.1; cycle = f.2; position = h.0.position }, stats_fit p b (lower ++ s.fields.text ∷ []) ss h.1)
+    let number = λ i. number_fits s.fields.numbers i h.0.numbers in
+    (record { step_x = number 0; step_y = number 1; cycle = number 2; position = h.0.position }, stats_fit p b (lower ++ s.fields.text ∷ []) ss h.1)
 
 boards_fit : (p : Plain) (bs : List Board) → AllByRecursion BoardHasIntegers bs → AllByRecursion FitsBoard (map (exported_board p) bs)
 boards_fit p [] h = tt
@@ -53,7 +59,7 @@ boards_fit p (b ∷ bs) h =
 
 pub integers_normal : (limit : ℕ) (p : Plain) → IsRegular p → HasIntegers p → limit ≤ 32767 → refusal_of limit p ≡ None → HasNormalParts (world_of p)
 integers_normal limit p regular integers low within =
-    let h = integers.header in
+    let number = λ i. number_fits p.header.numbers i integers.header in
     world_normal limit p regular low within
-    (record { ammo = h.ammo; gems = h.gems; health = h.health; torches = h.torches; torch_ticks = h.torch_ticks; energizer_ticks = h.energizer_ticks; score = h.score; time_passed = h.time_passed; hundredths = h.hundredths })
-    (boards_fit p (live_boards p) (each_filtered BoardHasIntegers (λ b. not b.removed) p.boards integers.boards))
+    (record { ammo = number 0; gems = number 1; health = number 2; torches = number 3; torch_ticks = number 4; energizer_ticks = number 5; score = number 6; time_passed = number 7; hundredths = number 8 })
+    (boards_fit p (alive_boards p) (each_filtered BoardHasIntegers (λ b. not b.removed) p.boards integers.boards))

@@ -1,5 +1,5 @@
 -- The world of a regular document that goes over no limit can stand in a file.
-use Rattle.std.proofs.Common.{◌≡◌, ℕ, ◌+◌, ◌<◌, ◌≤◌, Bool, true, false, not, cond, ltb, List, [], ◌∷◌, ◌++◌, length, map, refl, sym, ap, ◌∙◌, arith, Option, Some, None, IfSome}
+use Rattle.std.proofs.Common.{◌≡◌, ℕ, ◌+◌, ◌<◌, ◌≤◌, Bool, true, false, not, cond, ltb, List, [], ◌∷◌, ◌++◌, length, map, get_or, refl, sym, ap, ◌∙◌, arith, Option, Some, None, IfSome}
 use Rattle.std.specs.Prelude.{option_and_then}
 use Rattle.std.specs.List.{AllByRecursion, flat_map}
 use Rattle.std.proofs.lemmas.Bool.{ltb-true}
@@ -17,8 +17,11 @@ use Rattle.zed_world.specs.Normal.{AreNormalStats, IsNormalBoard, HasNormalParts
 use Rattle.zed_edit.specs.declared.plain.Board.{Board}
 use Rattle.zed_edit.specs.declared.plain.Stat.{Stat}
 use Rattle.zed_edit.specs.declared.plain.Plain.{Plain}
-use Rattle.zed_edit.specs.Numbers.{live_boards, live_stats, stat_number}
-use Rattle.zed_laws.specs.Regular.{IsRegularBoard, IsRegular}
+use Rattle.zed_edit.specs.Numbers.{alive_boards, alive_stats, stat_number}
+use Rattle.zed_laws.specs.Regular.{AreTexts, IsRegularBoard, IsRegular}
+use Rattle.zed_types.specs.declared.property.Side.TheVariants.{North, South, West, East}
+use Rattle.zed_types.specs.declared.stat_field.StatByte.TheVariants.{X, Y}
+use Rattle.zed_document.specs.View.{exit, stat_byte}
 use Rattle.zed_export.specs.World.{number_or_0, exit_number, parameter, exported_stat, exported_above, exported_board, exported_boards, world_of}
 use Rattle.zed_export.specs.Fields.{FitsStat, FitsBoard, FitsHeader, IsOwned}
 use Rattle.zed_export.specs.Limits.{boards_refusal, board_refusal, refusal_of}
@@ -29,30 +32,30 @@ use Rattle.zed_export.proofs.Boards.{length_above}
 use Rattle.zed_export.proofs.Shares.{owned_first, owned_more, code_normal}
 use Rattle.zed_export.proofs.Within.{neither, board_within, boards_within, count_within, title_within, some_board, some_stat, programs_below}
 
-number_below : (p : Plain) (b : BoardId) → 1 ≤ length (live_boards p) → number_or_0 p b < length (live_boards p)
-number_below p b some = found_or_0 (λ (x : Board). same_board x.id b) (live_boards p) some
+number_below : (p : Plain) (b : BoardId) → 1 ≤ length (alive_boards p) → number_or_0 p b < length (alive_boards p)
+number_below p b some = found_or_0 (λ (x : Board). same_board x.id b) (alive_boards p) some
 
-exit_below : (p : Plain) (o : Option BoardId) → 1 ≤ length (live_boards p) → exit_number p o < length (live_boards p)
+exit_below : (p : Plain) (o : Option BoardId) → 1 ≤ length (alive_boards p) → exit_number p o < length (alive_boards p)
 exit_below p None some = some
 exit_below p (Some b) some = number_below p b some
 
-parameter_below : (p : Plain) (t : Bool) (x : ThirdParameter) → 1 ≤ length (live_boards p) → t ≡ true → parameter p t x < length (live_boards p)
+parameter_below : (p : Plain) (t : Bool) (x : ThirdParameter) → 1 ≤ length (alive_boards p) → t ≡ true → parameter p t x < length (alive_boards p)
 parameter_below p true (third.Board b) some e = number_below p b some
-parameter_below p true (third.Byte n) some e = go (ltb n (length (live_boards p))) refl
+parameter_below p true (third.Byte n) some e = go (ltb n (length (alive_boards p))) refl
   where
-    go : (t : Bool) → ltb n (length (live_boards p)) ≡ t → cond t n 0 < length (live_boards p)
-    go true h = ltb-true n (length (live_boards p)) h
+    go : (t : Bool) → ltb n (length (alive_boards p)) ≡ t → cond t n 0 < length (alive_boards p)
+    go true h = ltb-true n (length (alive_boards p)) h
     go false h = some
 parameter_below p false x some e = absurd (cc)
 
-stat_below : (b : Board) (o : Option StatId) (n : ℕ) → n ≡ length (live_stats b) → IfSome (option_and_then (stat_number b) o) (λ k. k < n)
+stat_below : (b : Board) (o : Option StatId) (n : ℕ) → n ≡ length (alive_stats b) → IfSome (option_and_then (stat_number b) o) (λ k. k < n)
 stat_below b None n e = tt
-stat_below b (Some s) n e = rw e (found_within (λ (x : Stat). same_stat x.id s) (live_stats b))
+stat_below b (Some s) n e = rw e (found_within (λ (x : Stat). same_stat x.id s) (alive_stats b))
 
-stats_normal : (p : Plain) (b : Board) (n : ℕ) → n ≡ length (live_stats b) → 1 ≤ length (live_boards p) → (lower : List (Option TextId)) (done : List StatData) (ss : List Stat)
+stats_normal : (p : Plain) (b : Board) (n : ℕ) → n ≡ length (alive_stats b) → 1 ≤ length (alive_boards p) → (lower : List (Option TextId)) (done : List StatData) (ss : List Stat)
     → length done ≡ length lower → IsOwned p lower done
     → AllByRecursion FitsStat (exported_above p b lower ss) → AllByRecursion (λ (s : StatData). length (code_text s.code) ≤ 32767) (exported_above p b lower ss)
-    → AreNormalStats (length (live_boards p)) n b.tiles done (exported_above p b lower ss)
+    → AreNormalStats (length (alive_boards p)) n b.tiles done (exported_above p b lower ss)
 stats_normal p b n e some lower done [] long owned fits short = tt
 stats_normal p b n e some lower done (s ∷ ss) long owned fits short =
     let x = exported_stat p b lower s in (
@@ -60,7 +63,7 @@ stats_normal p b n e some lower done (s ∷ ss) long owned fits short =
         step_x = fits.0.step_x;
         step_y = fits.0.step_y;
         cycle = fits.0.cycle;
-        passage = parameter_below p (is_passage_at b.tiles s.fields.x s.fields.y) s.fields.p3 some;
+        passage = parameter_below p (is_passage_at b.tiles (stat_byte X s) (stat_byte Y s)) s.fields.p3 some;
         follower = stat_below b s.follower n e;
         leader = stat_below b s.leader n e;
         position = fits.0.position;
@@ -71,32 +74,40 @@ stats_normal p b n e some lower done (s ∷ ss) long owned fits short =
           (owned_more p lower done s.fields.text x long refl owned) fits.1 short.1,
     )
 
-board_normal : (limit number : ℕ) (p : Plain) (b : Board) → limit ≤ 32767 → 1 ≤ length (live_boards p) → IsRegularBoard b → board_refusal limit number (exported_board p b) ≡ None → FitsBoard (exported_board p b) → IsNormalBoard (length (live_boards p)) (exported_board p b)
+-- the name and the message of a board fit their fields
+texts_fit : (xs : List (List ℕ)) → AreTexts xs → (length (get_or xs 0 []) ≤ 50) × (length (get_or xs 1 []) ≤ 58)
+texts_fit [] h = absurd h
+texts_fit (name ∷ []) h = absurd h
+texts_fit (name ∷ message ∷ []) h = h
+texts_fit (name ∷ message ∷ more ∷ xs) h = absurd h
+
+board_normal : (limit number : ℕ) (p : Plain) (b : Board) → limit ≤ 32767 → 1 ≤ length (alive_boards p) → IsRegularBoard b → board_refusal limit number (exported_board p b) ≡ None → FitsBoard (exported_board p b) → IsNormalBoard (length (alive_boards p)) (exported_board p b)
 board_normal limit number p b low some r h fits =
     let x = exported_board p b in
     let within = board_within limit number x h in
-    let same : length x.stats ≡ length (live_stats b) = length_above p b [] (live_stats b) in
-    let first : 1 ≤ length (live_stats b) = some_stat b.stats r.player in
-    let whole = length_body x r.name r.message in
+    let same : length x.stats ≡ length (alive_stats b) = length_above p b [] (alive_stats b) in
+    let first : 1 ≤ length (alive_stats b) = some_stat b.stats r.player in
+    let texts = texts_fit b.properties.texts r.texts in
+    let whole = length_body x texts.0 texts.1 in
     let programs : length (flat_map stat_text x.stats) ≤ 32767 = omega (arith, within.1) in
     record {
-      name = r.name;
+      name = texts.0;
       tiles = r.tiles;
       properties = record {
-        north = exit_below p b.properties.north some;
-        south = exit_below p b.properties.south some;
-        west = exit_below p b.properties.west some;
-        east = exit_below p b.properties.east some;
-        message = r.message;
+        north = exit_below p (exit North b.properties) some;
+        south = exit_below p (exit South b.properties) some;
+        west = exit_below p (exit West b.properties) some;
+        east = exit_below p (exit East b.properties) some;
+        message = texts.1;
         time_limit = fits.time_limit;
       };
       some = omega arith;
       few = within.0;
-      stats = stats_normal p b (length x.stats) same some [] [] (live_stats b) refl (owned_first p) fits.stats (programs_below x.stats 32767 programs);
+      stats = stats_normal p b (length x.stats) same some [] [] (alive_stats b) refl (owned_first p) fits.stats (programs_below x.stats 32767 programs);
     }
 
-all_normal : (limit number : ℕ) (p : Plain) (bs : List Board) → limit ≤ 32767 → 1 ≤ length (live_boards p) → AllByRecursion IsRegularBoard bs → boards_refusal limit number (map (exported_board p) bs) ≡ None → AllByRecursion FitsBoard (map (exported_board p) bs)
-    → AllByRecursion (IsNormalBoard (length (live_boards p))) (map (exported_board p) bs)
+all_normal : (limit number : ℕ) (p : Plain) (bs : List Board) → limit ≤ 32767 → 1 ≤ length (alive_boards p) → AllByRecursion IsRegularBoard bs → boards_refusal limit number (map (exported_board p) bs) ≡ None → AllByRecursion FitsBoard (map (exported_board p) bs)
+    → AllByRecursion (IsNormalBoard (length (alive_boards p))) (map (exported_board p) bs)
 all_normal limit number p [] low some r h fits = tt
 all_normal limit number p (b ∷ bs) low some r h fits =
     let both = neither (board_refusal limit number (exported_board p b)) (boards_refusal limit (number + 1) (map (exported_board p) bs)) h in
@@ -104,11 +115,11 @@ all_normal limit number p (b ∷ bs) low some r h fits =
 
 pub world_normal : (limit : ℕ) (p : Plain) → IsRegular p → limit ≤ 32767 → refusal_of limit p ≡ None → FitsHeader (world_of p).header → AllByRecursion FitsBoard (world_of p).boards → HasNormalParts (world_of p)
 world_normal limit p r low h fits_header fits_boards =
-    let n = length (live_boards p) in
-    let same : length (exported_boards p) ≡ n = length-map (live_boards p) (exported_board p) in
+    let n = length (alive_boards p) in
+    let same : length (exported_boards p) ≡ n = length-map (alive_boards p) (exported_board p) in
     let some : 1 ≤ n = some_board p.boards r.boards (title_within limit p h) in
     let few : n ≤ 101 = count_within limit p h in
-    let boards = all_normal limit 0 p (live_boards p) low some (each_filtered IsRegularBoard (λ b. not b.removed) p.boards r.boards) (boards_within limit p h) fits_boards in
+    let boards = all_normal limit 0 p (alive_boards p) low some (each_filtered IsRegularBoard (λ b. not b.removed) p.boards r.boards) (boards_within limit p h) fits_boards in
     let current = number_below p p.header.current_board some in
     record {
       some = omega arith;

@@ -14,7 +14,7 @@ use Rattle.zed_edit.specs.declared.plain.Stat.{Stat}
 use Rattle.zed_edit.specs.declared.plain.Plain.{Plain}
 use Rattle.zed_types.specs.Names.{title}
 use Rattle.zed_edit.specs.Document.{has}
-use Rattle.zed_edit.specs.Numbers.{live_boards, live_stats}
+use Rattle.zed_edit.specs.Numbers.{alive_boards, alive_stats}
 use Rattle.zed_laws.specs.Regular.{HasPlayer, IsRegularBoard}
 use Rattle.zed_export.specs.declared.error.ExportError.{ExportError}
 use Rattle.zed_export.specs.World.{exported_board, exported_boards}
@@ -46,12 +46,12 @@ board_within limit n b h =
     (few_stats n (length b.stats) both.0, within_limit limit n (length (body_text b)) both.1)
 
 -- none of the boards has too many stats
-pub all_few : (limit n : ℕ) (p : Plain) (bs : List Board) → boards_refusal limit n (map (exported_board p) bs) ≡ None → AllByRecursion (λ (b : Board). length (live_stats b) ≤ 151) bs
+pub all_few : (limit n : ℕ) (p : Plain) (bs : List Board) → boards_refusal limit n (map (exported_board p) bs) ≡ None → AllByRecursion (λ (b : Board). length (alive_stats b) ≤ 151) bs
 all_few limit n p [] h = tt
 all_few limit n p (b ∷ bs) h =
     let x = exported_board p b in
     let both = neither (board_refusal limit n x) (boards_refusal limit (n + 1) (map (exported_board p) bs)) h in
-    let same : length x.stats ≡ length (live_stats b) = length_above p b [] (live_stats b) in
+    let same : length x.stats ≡ length (alive_stats b) = length_above p b [] (alive_stats b) in
     let few = (board_within limit n x both.0).0 in
     (rw (sym same) few, all_few limit (n + 1) p bs both.1)
 
@@ -66,20 +66,20 @@ none_over limit n (b ∷ bs) h =
 -- the parts of a document that goes over no limit
 pub boards_within : (limit : ℕ) (p : Plain) → refusal_of limit p ≡ None → boards_refusal limit 0 (exported_boards p) ≡ None
 boards_within limit p h =
-    let a = neither (title_refusal p) (or_else (count_refusal (length (live_boards p))) (boards_refusal limit 0 (exported_boards p))) h in
-    (neither (count_refusal (length (live_boards p))) (boards_refusal limit 0 (exported_boards p)) a.1).1
+    let a = neither (title_refusal p) (or_else (count_refusal (length (alive_boards p))) (boards_refusal limit 0 (exported_boards p))) h in
+    (neither (count_refusal (length (alive_boards p))) (boards_refusal limit 0 (exported_boards p)) a.1).1
 
-pub count_within : (limit : ℕ) (p : Plain) → refusal_of limit p ≡ None → length (live_boards p) ≤ 101
+pub count_within : (limit : ℕ) (p : Plain) → refusal_of limit p ≡ None → length (alive_boards p) ≤ 101
 count_within limit p h =
-    let a = neither (title_refusal p) (or_else (count_refusal (length (live_boards p))) (boards_refusal limit 0 (exported_boards p))) h in
-    few_boards (length (live_boards p)) (neither (count_refusal (length (live_boards p))) (boards_refusal limit 0 (exported_boards p)) a.1).0
+    let a = neither (title_refusal p) (or_else (count_refusal (length (alive_boards p))) (boards_refusal limit 0 (exported_boards p))) h in
+    few_boards (length (alive_boards p)) (neither (count_refusal (length (alive_boards p))) (boards_refusal limit 0 (exported_boards p)) a.1).0
 
 title_made : (t : Bool) (e : ExportError) → cond t None (Some e) ≡ None → t ≡ true
 title_made true e h = refl
 title_made false e h = absurd (cc)
 
 pub title_within : (limit : ℕ) (p : Plain) → refusal_of limit p ≡ None → has p (thing.Board title) ≡ true
-title_within limit p h = title_made (has p (thing.Board title)) _ (neither (title_refusal p) (or_else (count_refusal (length (live_boards p))) (boards_refusal limit 0 (exported_boards p))) h).0
+title_within limit p h = title_made (has p (thing.Board title)) _ (neither (title_refusal p) (or_else (count_refusal (length (alive_boards p))) (boards_refusal limit 0 (exported_boards p))) h).0
 
 -- where a title was made and stays, there is a board
 pub some_board : (bs : List Board) → AllByRecursion IsRegularBoard bs → list_any (λ (b : Board). same_board b.id title) bs ≡ true → 1 ≤ length (filter (λ (b : Board). not b.removed) bs)

@@ -16,7 +16,7 @@ use Rattle.zed_world.specs.declared.stat.StatData.{StatData}
 use Rattle.zed_edit.specs.declared.plain.Board.{Board}
 use Rattle.zed_edit.specs.declared.plain.Plain.{Plain}
 use Rattle.zed_edit.specs.Document.{text}
-use Rattle.zed_edit.specs.Numbers.{live_boards, live_stats}
+use Rattle.zed_edit.specs.Numbers.{alive_boards, alive_stats}
 use Rattle.zed_export.specs.World.{user_of, code_with}
 
 -- each number of a header fits in its field
@@ -50,10 +50,10 @@ pub record FitsWorld (w : Contents) : Type 0 where
 
 -- the names of the boards and of the stats that aren't removed, by number
 abbrev pub board_names : Plain → List BoardId
-board_names p = map (λ b. b.id) (live_boards p)
+board_names p = map (λ b. b.id) (alive_boards p)
 
 abbrev pub stat_names : Board → List StatId
-stat_names b = map (λ s. s.id) (live_stats b)
+stat_names b = map (λ s. s.id) (alive_stats b)
 
 -- the place of a board among these, or 0
 abbrev pub place_or_0 : List BoardId → BoardId → ℕ

@@ -10,7 +10,7 @@ use Rattle.zed_op.specs.declared.thing.Thing.TheVariants as thing
 use Rattle.zed_edit.specs.declared.plain.Plain.{Plain}
 use Rattle.zed_types.specs.Names.{title}
 use Rattle.zed_edit.specs.Document.{has}
-use Rattle.zed_edit.specs.Numbers.{live_boards}
+use Rattle.zed_edit.specs.Numbers.{alive_boards}
 use Rattle.zed_edit.specs.Replay.{replay}
 use Rattle.zed_document.specs.Replica.{Replica}
 use Rattle.zed_export.specs.declared.error.ExportError.{ExportError}
@@ -56,7 +56,7 @@ title_refusal p = if has p (thing.Board title) then None else Some NoWorld
 
 -- the first limit that a document goes over
 abbrev pub refusal_of : ℕ → Plain → Option ExportError
-refusal_of limit p = or_else (title_refusal p) (or_else (count_refusal (length (live_boards p))) (boards_refusal limit 0 (exported_boards p)))
+refusal_of limit p = or_else (title_refusal p) (or_else (count_refusal (length (alive_boards p))) (boards_refusal limit 0 (exported_boards p)))
 
 abbrev pub unless_over : {Y : Type 0} → Option ExportError → Y → Result Y ExportError
 unless_over None y = Ok y

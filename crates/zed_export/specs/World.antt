@@ -4,6 +4,13 @@ use Rattle.zed_types.specs.declared.names.BoardId.{BoardId}
 use Rattle.zed_types.specs.declared.names.TextId.{TextId}
 use Rattle.zed_types.specs.declared.stat_field.ThirdParameter.{ThirdParameter}
 use Rattle.zed_types.specs.declared.stat_field.ThirdParameter.TheVariants as third
+use Rattle.zed_types.specs.declared.header.HeaderNumber.TheVariants.{Ammo, Gems, Health, Torches, TorchTicks, EnergizerTicks, Score, TimePassed, Hundredths}
+use Rattle.zed_types.specs.declared.property.Side.TheVariants.{North, South, West, East}
+use Rattle.zed_types.specs.declared.property.BoardByte.TheVariants.{MaxShots, StartX, StartY}
+use Rattle.zed_types.specs.declared.property.BoardFlag.TheVariants.{Dark, ReEnter}
+use Rattle.zed_types.specs.declared.property.BoardText.TheVariants.{Name, Message}
+use Rattle.zed_types.specs.declared.stat_field.StatByte.TheVariants.{X, Y, P1, P2, UnderElement, UnderColour}
+use Rattle.zed_types.specs.declared.stat_field.StatNumber.TheVariants.{StepX, StepY, Cycle, Position}
 use Rattle.zed_types.specs.Names.{same_text}
 use Rattle.zed_world.specs.Contents.{Contents}
 use Rattle.zed_world.specs.Fields.{board_number as number_of_world}
@@ -19,7 +26,8 @@ use Rattle.zed_edit.specs.declared.plain.Board.{Board}
 use Rattle.zed_edit.specs.declared.plain.Stat.{Stat}
 use Rattle.zed_edit.specs.declared.plain.Plain.{Plain}
 use Rattle.zed_edit.specs.Document.{text}
-use Rattle.zed_edit.specs.Numbers.{live_boards, board_number, live_stats, stat_number}
+use Rattle.zed_edit.specs.Numbers.{alive_boards, board_number, alive_stats, stat_number as number_of_stat}
+use Rattle.zed_document.specs.View.{header_number, board_byte, board_flag, exit, board_text, stat_byte, stat_number}
 
 -- the number of a board, or 0 where it is removed
 abbrev pub number_or_0 : Plain → BoardId → ℕ
@@ -32,41 +40,41 @@ exit_number p (Some b) = number_or_0 p b
 
 abbrev pub exported_header : Plain → world_header.Header
 exported_header p = record {
-  ammo = p.header.ammo;
-  gems = p.header.gems;
+  ammo = header_number Ammo p.header;
+  gems = header_number Gems p.header;
   keys = p.header.keys;
-  health = p.header.health;
+  health = header_number Health p.header;
   current_board = number_or_0 p p.header.current_board;
-  torches = p.header.torches;
-  torch_ticks = p.header.torch_ticks;
-  energizer_ticks = p.header.energizer_ticks;
-  score = p.header.score;
+  torches = header_number Torches p.header;
+  torch_ticks = header_number TorchTicks p.header;
+  energizer_ticks = header_number EnergizerTicks p.header;
+  score = header_number Score p.header;
   name = p.header.world_name;
   flags = p.header.flags;
-  time_passed = p.header.time_passed;
-  hundredths = p.header.hundredths;
+  time_passed = header_number TimePassed p.header;
+  hundredths = header_number Hundredths p.header;
   saved = p.header.saved;
 }
 
 abbrev pub exported_properties : Plain → Properties → world_properties.Properties
 exported_properties p q = record {
-  max_shots = q.max_shots;
-  dark = q.dark;
-  north = exit_number p q.north;
-  south = exit_number p q.south;
-  west = exit_number p q.west;
-  east = exit_number p q.east;
-  re_enter = q.re_enter;
-  message = q.message;
-  start_x = q.start_x;
-  start_y = q.start_y;
+  max_shots = board_byte MaxShots q;
+  dark = board_flag Dark q;
+  north = exit_number p (exit North q);
+  south = exit_number p (exit South q);
+  west = exit_number p (exit West q);
+  east = exit_number p (exit East q);
+  re_enter = board_flag ReEnter q;
+  message = board_text Message q;
+  start_x = board_byte StartX q;
+  start_y = board_byte StartY q;
   time_limit = q.time_limit;
 }
 
 -- a board as a third parameter is its number; a byte on a passage stands if it is the number of a board of this world
 abbrev pub parameter : Plain → Bool → ThirdParameter → ℕ
 parameter p on_passage (third.Board b) = number_or_0 p b
-parameter p on_passage (third.Byte n) = if on_passage then number_of_world (length (live_boards p)) n else n
+parameter p on_passage (third.Byte n) = if on_passage then number_of_world (length (alive_boards p)) n else n
 
 -- ---- programs
 
@@ -95,18 +103,18 @@ exported_code p lower (Some t) = code_with (user_of t lower) (text p t)
 -- a stat with this program
 abbrev pub stat_with : Plain → Board → Stat → Code → StatData
 stat_with p b s program = record {
-  x = s.fields.x;
-  y = s.fields.y;
-  step_x = s.fields.step_x;
-  step_y = s.fields.step_y;
-  cycle = s.fields.cycle;
-  p1 = s.fields.p1;
-  p2 = s.fields.p2;
-  p3 = parameter p (is_passage_at b.tiles s.fields.x s.fields.y) s.fields.p3;
-  follower = option_and_then (stat_number b) s.follower;
-  leader = option_and_then (stat_number b) s.leader;
-  under = s.fields.under;
-  position = s.position;
+  x = stat_byte X s;
+  y = stat_byte Y s;
+  step_x = stat_number StepX s;
+  step_y = stat_number StepY s;
+  cycle = stat_number Cycle s;
+  p1 = stat_byte P1 s;
+  p2 = stat_byte P2 s;
+  p3 = parameter p (is_passage_at b.tiles (stat_byte X s) (stat_byte Y s)) s.fields.p3;
+  follower = option_and_then (number_of_stat b) s.follower;
+  leader = option_and_then (number_of_stat b) s.leader;
+  under = record { element = stat_byte UnderElement s; colour = stat_byte UnderColour s };
+  position = stat_number Position s;
   code = program;
 }
 
@@ -121,14 +129,14 @@ exported_above p b lower (s ∷ ss) = exported_stat p b lower s ∷ exported_abo
 
 abbrev pub exported_board : Plain → Board → BoardData
 exported_board p b = record {
-  name = b.properties.name;
+  name = board_text Name b.properties;
   tiles = b.tiles;
   properties = exported_properties p b.properties;
-  stats = exported_above p b [] (live_stats b);
+  stats = exported_above p b [] (alive_stats b);
 }
 
 abbrev pub exported_boards : Plain → List BoardData
-exported_boards p = map (exported_board p) (live_boards p)
+exported_boards p = map (exported_board p) (alive_boards p)
 
 abbrev pub world_of : Plain → Contents
 world_of p = record { header = exported_header p; boards = exported_boards p }

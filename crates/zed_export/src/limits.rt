@@ -2,7 +2,7 @@ ghost use Rattle.std.specs.Prelude.{◌≡◌, ◌<◌, ◌≤◌, length, None}
 ghost use Rattle.zed_op.specs.declared.thing.Thing.TheVariants as thing;
 ghost use Rattle.zed_types.specs.Names.{title};
 ghost use Rattle.zed_edit.specs.Document.{has};
-ghost use Rattle.zed_edit.specs.Numbers.{live_boards as boards_there, live_stats as stats_there};
+ghost use Rattle.zed_edit.specs.Numbers.{alive_boards as boards_there, alive_stats as stats_there};
 ghost use Rattle.zed_laws.specs.Regular.{IsRegular};
 ghost use Rattle.zed_laws.specs.NameOrder.{IsOrdered};
 ghost use Rattle.zed_document.specs.View.{board_at};
@@ -28,7 +28,7 @@ fn has_title(view: &View) -> bool
 }
 
 /// How many boards aren't removed.
-pub(crate) fn live_boards(view: &View) -> usize
+pub(crate) fn alive_boards(view: &View) -> usize
     ensures { result ≡ length (boards_there view.now) }
 {
     let mut count = 0;
@@ -41,7 +41,7 @@ pub(crate) fn live_boards(view: &View) -> usize
 }
 
 /// How many stats of a board aren't removed.
-pub(crate) fn live_stats(view: &View, i: usize) -> usize
+pub(crate) fn alive_stats(view: &View, i: usize) -> usize
     requires { i < length view.now.boards }
     ensures { result ≡ length (stats_there (board_at view.now i)) }
 {
@@ -62,7 +62,7 @@ fn over(alloc: Global, view: &View, limit: usize, i: usize, number: usize) -> Op
     requires limit { limit ≤ 32767 }
     ensures { result ≡ board_refusal limit number (exported_board view.now (board_at view.now i)) }
 {
-    let stats = live_stats(view, i).saturating_sub(1);
+    let stats = alive_stats(view, i).saturating_sub(1);
     if STATS_LIMIT < stats {
         return Some(ExportError::StatsOver {
             board: number,
@@ -110,7 +110,7 @@ pub(crate) fn first_limit(alloc: Global, view: &View, limit: usize) -> Option<Ex
     if !has_title(view) {
         return Some(ExportError::NoWorld);
     }
-    let boards = live_boards(view).saturating_sub(1);
+    let boards = alive_boards(view).saturating_sub(1);
     if BOARDS_LIMIT < boards {
         return Some(ExportError::BoardsOver(boards));
     }

@@ -2,9 +2,10 @@ ghost use Rattle.std.specs.Prelude.{◌≡◌, ◌+◌, ◌<◌, ◌≤◌, [], 
 ghost use Rattle.std.specs.List.{flat_map};
 ghost use Rattle.zed_runs.specs.Runs.{greedy};
 ghost use Rattle.zed_world.specs.Writing.{code_text, stat_text, body_text};
-ghost use Rattle.zed_edit.specs.Numbers.{live_stats};
+ghost use Rattle.zed_edit.specs.Numbers.{alive_stats};
 ghost use Rattle.zed_laws.specs.NameOrder.{IsOrdered};
-ghost use Rattle.zed_document.specs.View.{board_at};
+ghost use Rattle.zed_types.specs.declared.property.BoardText.TheVariants.{Name, Message};
+ghost use Rattle.zed_document.specs.View.{board_at, board_text};
 ghost use Rattle.zed_export.specs.World.{exported_code, exported_above, exported_board};
 ghost use Rattle.zed_export.specs.Limits.{told, goes_on};
 
@@ -64,9 +65,9 @@ fn program_bytes(view: &View, lower: &[Option<TextId>], text: Option<TextId>) ->
 /// How many bytes the stats of a board take.
 fn stats_bytes(alloc: Global, view: &View, i: usize) -> usize
     requires board { i < length view.now.boards }
-    requires few { length (live_stats (board_at view.now i)) ≤ 151 }
+    requires few { length (alive_stats (board_at view.now i)) ≤ 151 }
     requires ordered { IsOrdered view.now }
-    ensures { result ≡ told (length (flat_map stat_text (exported_above view.now (board_at view.now i) [] (live_stats (board_at view.now i))))) }
+    ensures { result ≡ told (length (flat_map stat_text (exported_above view.now (board_at view.now i) [] (alive_stats (board_at view.now i))))) }
 {
     let mut texts: SmallVec<Option<TextId>, 151> = SmallVec::new(alloc);
     let mut bytes: usize = 0;
@@ -84,10 +85,10 @@ fn stats_bytes(alloc: Global, view: &View, i: usize) -> usize
 /// How many bytes the body of a board takes.
 pub(crate) fn body_bytes(alloc: Global, view: &View, i: usize) -> usize
     requires board { i < length view.now.boards }
-    requires few { length (live_stats (board_at view.now i)) ≤ 151 }
+    requires few { length (alive_stats (board_at view.now i)) ≤ 151 }
     requires ordered { IsOrdered view.now }
-    requires name { length (board_at view.now i).properties.name ≤ 50 }
-    requires message { length (board_at view.now i).properties.message ≤ 58 }
+    requires name { length (board_text Name (board_at view.now i).properties) ≤ 50 }
+    requires message { length (board_text Message (board_at view.now i).properties) ≤ 58 }
     ensures { result ≡ told (length (body_text (exported_board view.now (board_at view.now i)))) }
 {
     let frame = FRAME + runs_bytes(view.table(i));

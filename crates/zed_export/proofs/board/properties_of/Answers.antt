@@ -1,6 +1,8 @@
 use Rattle.std.proofs.Common.{◌≡◌, ℕ, List, Option, rules, ap, ◌∙◌, refl}
 use Rattle.zed_types.specs.declared.names.BoardId.{BoardId}
-use Rattle.zed_document.specs.View.{board_at}
+use Rattle.zed_types.specs.declared.property.Side.TheVariants.{North, South, West, East}
+use Rattle.zed_types.specs.declared.property.BoardText.TheVariants.{Message}
+use Rattle.zed_document.specs.View.{board_at, exit, board_text}
 use Rattle.zed_export.specs.World.{exit_number}
 use Rattle.zed_export.specs.Fields.{exit_place, board_names}
 use Rattle.zed_export.proofs.Names.{exit_places}
@@ -13,10 +15,10 @@ returns-clause-is c =
     let q = (board_at p c.args.i).properties in
     let number : (n : ℕ) (x o : Option BoardId) → n ≡ exit_place c.args.boards.now x → x ≡ o → n ≡ exit_number p o
     = λ n x o e f. e ∙ ap (λ (names : List BoardId). exit_place names x) c.requires.boards ∙ ap (exit_place (board_names p)) f ∙ exit_places p o in
-    let north = number c.exit_number.result c.exit.result q.north c.exit_number.ensures c.exit.ensures in
-    let south = number c.exit_number-2.result c.exit-2.result q.south c.exit_number-2.ensures c.exit-2.ensures in
-    let west = number c.exit_number-3.result c.exit-3.result q.west c.exit_number-3.ensures c.exit-3.ensures in
-    let east = number c.exit_number-4.result c.exit-4.result q.east c.exit_number-4.ensures c.exit-4.ensures in
-    let message : c.in_ok-copy_of.field-0 ≡ q.message = c.in_ok-copy_of.ensures ∙ c.board_text.ensures in
+    let north = number c.exit_number.result c.exit.result (exit North q) c.exit_number.ensures c.exit.ensures in
+    let south = number c.exit_number-2.result c.exit-2.result (exit South q) c.exit_number-2.ensures c.exit-2.ensures in
+    let west = number c.exit_number-3.result c.exit-3.result (exit West q) c.exit_number-3.ensures c.exit-3.ensures in
+    let east = number c.exit_number-4.result c.exit-4.result (exit East q) c.exit_number-4.ensures c.exit-4.ensures in
+    let message : c.in_ok-copy_of.field-0 ≡ board_text Message q = c.in_ok-copy_of.ensures ∙ c.board_text.ensures in
     let limit = kept c.time_limit.result q.time_limit (search rules) c.time_limit.ensures in
     rw (c.board_byte.ensures, c.board_flag.ensures, north, south, west, east, c.board_flag-2.ensures, message, c.board_byte-2.ensures, c.board_byte-3.ensures, limit) refl

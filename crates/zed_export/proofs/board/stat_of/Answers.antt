@@ -5,7 +5,9 @@ use Rattle.zed_types.specs.declared.tile.Tile.{Tile}
 use Rattle.zed_world.specs.Offsets.{is_passage_at}
 use Rattle.zed_edit.specs.Numbers.{stat_number as number_of_stat}
 use Rattle.std.specs.Prelude.{option_and_then}
-use Rattle.zed_document.specs.View.{board_at, stat_at}
+use Rattle.zed_types.specs.declared.stat_field.StatByte.TheVariants.{X, Y}
+use Rattle.zed_types.specs.declared.stat_field.StatNumber.TheVariants.{StepX, StepY, Cycle, Position}
+use Rattle.zed_document.specs.View.{board_at, stat_at, stat_byte, stat_number}
 use Rattle.zed_export.specs.World.{parameter}
 use Rattle.zed_export.specs.Fields.{place_parameter, board_names, stat_place, stat_names}
 use Rattle.zed_export.proofs.Names.{parameter_places, stat_places}
@@ -21,15 +23,15 @@ returns-clause-is c =
     = λ n x o f. ap (λ (names : List StatId). stat_place names x) c.requires.stats ∙ ap (stat_place (stat_names b)) f ∙ stat_places b o in
     let follower = c.stat_number-4.ensures ∙ number s.follower c.follower.result s.follower c.follower.ensures in
     let leader = c.stat_number-5.ensures ∙ number s.leader c.leader.result s.leader c.leader.ensures in
-    let passage : c.is_passage-on_passage.result ≡ is_passage_at b.tiles s.fields.x s.fields.y
-    = c.is_passage-on_passage.ensures ∙ ap (λ (ts : List Tile). is_passage_at ts c.stat_byte-x.result c.stat_byte-y.result) c.table.ensures ∙ ap (λ (x : ℕ). is_passage_at b.tiles x c.stat_byte-y.result) c.stat_byte-x.ensures ∙ ap (is_passage_at b.tiles s.fields.x) c.stat_byte-y.ensures in
-    let p3 : c.parameter_of.result ≡ parameter p (is_passage_at b.tiles s.fields.x s.fields.y) s.fields.p3
+    let passage : c.is_passage-on_passage.result ≡ is_passage_at b.tiles (stat_byte X s) (stat_byte Y s)
+    = c.is_passage-on_passage.ensures ∙ ap (λ (ts : List Tile). is_passage_at ts c.stat_byte-x.result c.stat_byte-y.result) c.table.ensures ∙ ap (λ (x : ℕ). is_passage_at b.tiles x c.stat_byte-y.result) c.stat_byte-x.ensures ∙ ap (is_passage_at b.tiles (stat_byte X s)) c.stat_byte-y.ensures in
+    let p3 : c.parameter_of.result ≡ parameter p (is_passage_at b.tiles (stat_byte X s) (stat_byte Y s)) s.fields.p3
     = c.parameter_of.ensures ∙ ap (λ (names : List BoardId). place_parameter names c.is_passage-on_passage.result c.third_parameter.result) c.requires.boards
     ∙ ap (λ (t : Bool). place_parameter (board_names p) t c.third_parameter.result) passage
-    ∙ ap (place_parameter (board_names p) (is_passage_at b.tiles s.fields.x s.fields.y)) c.third_parameter.ensures
-    ∙ parameter_places p (is_passage_at b.tiles s.fields.x s.fields.y) s.fields.p3 in
-    let step_x = kept c.stat_number.result s.fields.step_x (search rules) c.stat_number.ensures in
-    let step_y = kept c.stat_number-2.result s.fields.step_y (search rules) c.stat_number-2.ensures in
-    let cycle = kept c.stat_number-3.result s.fields.cycle (search rules) c.stat_number-3.ensures in
-    let position = kept c.stat_number-6.result s.position (search rules) c.stat_number-6.ensures in
+    ∙ ap (place_parameter (board_names p) (is_passage_at b.tiles (stat_byte X s) (stat_byte Y s))) c.third_parameter.ensures
+    ∙ parameter_places p (is_passage_at b.tiles (stat_byte X s) (stat_byte Y s)) s.fields.p3 in
+    let step_x = kept c.stat_number.result (stat_number StepX s) (search rules) c.stat_number.ensures in
+    let step_y = kept c.stat_number-2.result (stat_number StepY s) (search rules) c.stat_number-2.ensures in
+    let cycle = kept c.stat_number-3.result (stat_number Cycle s) (search rules) c.stat_number-3.ensures in
+    let position = kept c.stat_number-6.result (stat_number Position s) (search rules) c.stat_number-6.ensures in
     rw (c.stat_byte-x.ensures, c.stat_byte-y.ensures, step_x, step_y, cycle, c.stat_byte.ensures, c.stat_byte-2.ensures, p3, follower, leader, c.stat_byte-3.ensures, c.stat_byte-4.ensures, position) refl

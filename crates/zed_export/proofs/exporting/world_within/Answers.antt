@@ -1,6 +1,6 @@
 use Rattle.std.proofs.Common.{◌≡◌, sym}
 use Rattle.std.specs.List.{AllByRecursion}
-use Rattle.zed_edit.specs.Numbers.{live_boards}
+use Rattle.zed_edit.specs.Numbers.{alive_boards}
 use Rattle.zed_export.specs.World.{exported_header, exported_boards}
 use Rattle.zed_export.specs.Fields.{FitsHeader, FitsBoard}
 use Rattle.zed_export.proofs.Within.{boards_within, all_few}
@@ -8,7 +8,7 @@ use Rattle.zed_export.proofs.Normality.{world_normal}
 use Rattle.zed_export.proofs.exporting.world_within.Goals as goal
 
 pub boards_of-requires-clause-few_stats : goal.boards_of-requires-clause-few_stats
-boards_of-requires-clause-few_stats c = all_few c.args.limit 0 c.args.view.now (live_boards c.args.view.now) (boards_within c.args.limit c.args.view.now c.requires.within)
+boards_of-requires-clause-few_stats c = all_few c.args.limit 0 c.args.view.now (alive_boards c.args.view.now) (boards_within c.args.limit c.args.view.now c.requires.within)
 
 pub new-requires : goal.new-requires
 new-requires c =

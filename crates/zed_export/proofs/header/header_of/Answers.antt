@@ -1,5 +1,7 @@
 use Rattle.std.proofs.Common.{◌≡◌, List, rules, ap, ◌∙◌, refl}
 use Rattle.zed_types.specs.declared.names.BoardId.{BoardId}
+use Rattle.zed_types.specs.declared.header.HeaderNumber.TheVariants.{Ammo, Gems, Health, Torches, TorchTicks, EnergizerTicks, Score, TimePassed, Hundredths}
+use Rattle.zed_document.specs.View.{header_number}
 use Rattle.zed_export.specs.World.{number_or_0}
 use Rattle.zed_export.specs.Fields.{place_or_0, board_names}
 use Rattle.zed_export.proofs.Names.{board_place}
@@ -10,15 +12,15 @@ pub returns-clause-is : goal.returns-clause-is
 returns-clause-is c =
     let p = c.args.view.now in
     let h = p.header in
-    let ammo = kept c.header_number.result h.ammo (search rules) c.header_number.ensures in
-    let gems = kept c.header_number-2.result h.gems (search rules) c.header_number-2.ensures in
-    let health = kept c.header_number-3.result h.health (search rules) c.header_number-3.ensures in
-    let torches = kept c.header_number-4.result h.torches (search rules) c.header_number-4.ensures in
-    let torch_ticks = kept c.header_number-5.result h.torch_ticks (search rules) c.header_number-5.ensures in
-    let energizer_ticks = kept c.header_number-6.result h.energizer_ticks (search rules) c.header_number-6.ensures in
-    let score = kept c.header_number-7.result h.score (search rules) c.header_number-7.ensures in
-    let time_passed = kept c.header_number-8.result h.time_passed (search rules) c.header_number-8.ensures in
-    let hundredths = kept c.header_number-9.result h.hundredths (search rules) c.header_number-9.ensures in
+    let ammo = kept c.header_number.result (header_number Ammo h) (search rules) c.header_number.ensures in
+    let gems = kept c.header_number-2.result (header_number Gems h) (search rules) c.header_number-2.ensures in
+    let health = kept c.header_number-3.result (header_number Health h) (search rules) c.header_number-3.ensures in
+    let torches = kept c.header_number-4.result (header_number Torches h) (search rules) c.header_number-4.ensures in
+    let torch_ticks = kept c.header_number-5.result (header_number TorchTicks h) (search rules) c.header_number-5.ensures in
+    let energizer_ticks = kept c.header_number-6.result (header_number EnergizerTicks h) (search rules) c.header_number-6.ensures in
+    let score = kept c.header_number-7.result (header_number Score h) (search rules) c.header_number-7.ensures in
+    let time_passed = kept c.header_number-8.result (header_number TimePassed h) (search rules) c.header_number-8.ensures in
+    let hundredths = kept c.header_number-9.result (header_number Hundredths h) (search rules) c.header_number-9.ensures in
     let board : c.board_number.result ≡ number_or_0 p h.current_board
     = c.board_number.ensures ∙ ap (λ (names : List BoardId). place_or_0 names c.current_board.result) c.requires.named ∙ ap (place_or_0 (board_names p)) c.current_board.ensures ∙ board_place p h.current_board in
     let name : c.in_ok-copy_of.field-0 ≡ h.world_name = c.in_ok-copy_of.ensures ∙ c.world_name.ensures in

@@ -1,5 +1,5 @@
 use Rattle.std.proofs.Common.{◌≡◌, length, [], arith}
-use Rattle.zed_edit.specs.Numbers.{live_stats}
+use Rattle.zed_edit.specs.Numbers.{alive_stats}
 use Rattle.zed_document.specs.View.{board_at}
 use Rattle.zed_export.specs.World.{exported_board}
 use Rattle.zed_export.proofs.Boards.{length_above, stats_over, body_over, not_over}
@@ -9,19 +9,19 @@ pub returns-then-stats-gt-STATS_LIMIT : goal.returns-then-stats-gt-STATS_LIMIT
 returns-then-stats-gt-STATS_LIMIT c =
     let b = board_at c.args.view.now c.args.i in
     let x = exported_board c.args.view.now b in
-    let same : length x.stats ≡ length (live_stats b) = length_above c.args.view.now b [] (live_stats b) in
-    stats_over c.args.limit c.args.number c.saturating_sub-stats.result x (omega (arith, c.saturating_sub-stats.ensures, c.live_stats.ensures)) (omega arith)
+    let same : length x.stats ≡ length (alive_stats b) = length_above c.args.view.now b [] (alive_stats b) in
+    stats_over c.args.limit c.args.number c.saturating_sub-stats.result x (omega (arith, c.saturating_sub-stats.ensures, c.alive_stats.ensures)) (omega arith)
 
 pub returns-then-limit-bytes : goal.returns-then-limit-bytes
 returns-then-limit-bytes c =
     let b = board_at c.args.view.now c.args.i in
     let x = exported_board c.args.view.now b in
-    let same : length x.stats ≡ length (live_stats b) = length_above c.args.view.now b [] (live_stats b) in
-    body_over c.args.limit c.args.number c.body_bytes-bytes.result x (omega (arith, c.saturating_sub-stats.ensures, c.live_stats.ensures)) c.requires.limit c.body_bytes-bytes.ensures (omega arith)
+    let same : length x.stats ≡ length (alive_stats b) = length_above c.args.view.now b [] (alive_stats b) in
+    body_over c.args.limit c.args.number c.body_bytes-bytes.result x (omega (arith, c.saturating_sub-stats.ensures, c.alive_stats.ensures)) c.requires.limit c.body_bytes-bytes.ensures (omega arith)
 
 pub returns-else-limit-bytes : goal.returns-else-limit-bytes
 returns-else-limit-bytes c =
     let b = board_at c.args.view.now c.args.i in
     let x = exported_board c.args.view.now b in
-    let same : length x.stats ≡ length (live_stats b) = length_above c.args.view.now b [] (live_stats b) in
-    not_over c.args.limit c.args.number c.body_bytes-bytes.result x (omega (arith, c.saturating_sub-stats.ensures, c.live_stats.ensures)) c.requires.limit c.body_bytes-bytes.ensures (omega arith)
+    let same : length x.stats ≡ length (alive_stats b) = length_above c.args.view.now b [] (alive_stats b) in
+    not_over c.args.limit c.args.number c.body_bytes-bytes.result x (omega (arith, c.saturating_sub-stats.ensures, c.alive_stats.ensures)) c.requires.limit c.body_bytes-bytes.ensures (omega arith)

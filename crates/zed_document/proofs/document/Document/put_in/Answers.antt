@@ -23,6 +23,6 @@ returns-clause-tells c =
     let is : c.insert.new.self.items ≡ with_edit c.args.edit c.args.self.now.edits = items ∙ rw v (sym c.requires.belongs) in
     let made : c.in-Ok.plain ≡ replay c.insert.new.self.items = search rules in
     let old : c.held-2.result.now ≡ held_stamps c.args.self.now.edits = c.held-2.ensures ∙ c.self.invariant.held ∙ ap held_stamps v in
-    let new : c.held-3.result.now ≡ held_stamps (with_edit c.args.edit c.args.self.now.edits) = c.held-3.ensures ∙ ap (λ p. p.passed_over) made ∙ ap held_stamps is in
+    let new : c.held-3.result.now ≡ held_stamps (with_edit c.args.edit c.args.self.now.edits) = c.held-3.ensures ∙ ap (λ p. p.held) made ∙ ap held_stamps is in
     let first : c.held.result.now ≡ c.held-3.result.now = c.held.ensures ∙ sym c.held-3.ensures in
     inr (tells-insert c.args.self.now.edits c.args.edit c.held-2.result.now c.held-3.result.now (record { state = c.of_new.result; woken = c.count_woken-woken.result; visits = 0 }) old new (c.of_new.ensures ∙ ap state_of (c.is_among-is_held.ensures ∙ ap (λ ts. is_among ts c.args.edit.stamp) first)) c.count_woken-woken.ensures)
