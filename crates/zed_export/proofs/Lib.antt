@@ -1,6 +1,6 @@
+pub mod Accepted
 pub mod Boards
 pub mod Each
-pub mod Histories
 pub mod IntegersFit
 pub mod Live
 pub mod Names

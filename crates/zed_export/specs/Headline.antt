@@ -1,39 +1,18 @@
 -- The headline: what authors who work apart can count on.
-use Rattle.std.specs.Prelude.{◌≡◌, ℕ, ◌≤◌, List, [], ◌∷◌, ◌++◌, Result, Ok}
+use Rattle.std.specs.Prelude.{◌≡◌, ◌⊎◌, ℕ, ◌≤◌, false, List, Result, Ok, Err, IsOkAnd, MatchResult}
 use Rattle.zed_world.specs.Reading.{world_at}
 use Rattle.zed_op.specs.declared.op.Edit.{Edit}
-use Rattle.zed_op.specs.Set.{Agrees, AllFit, IsRising, with_edit, set_of}
+use Rattle.zed_op.specs.Set.{Agrees, AllFit, IsRising, set_of, union}
 use Rattle.zed_op.specs.SetLaws.{HaveTheSame}
+use Rattle.zed_edit.specs.declared.plain.Plain.{Plain}
 use Rattle.zed_edit.specs.Replay.{replay, held}
 use Rattle.zed_laws.specs.Integers.{HaveIntegers}
+use Rattle.zed_document.specs.Merge.{Agree}
 use Rattle.zed_document.specs.Replica.{Replica}
-use Rattle.zed_document.specs.Laws.{document_of, merged}
-use Rattle.zed_document.specs.Same.{AreSame}
 use Rattle.zed_export.specs.declared.error.ExportError.{ExportError}
-use Rattle.zed_export.specs.Limits.{saved, unless_stale}
+use Rattle.zed_export.specs.declared.error.ExportError.TheVariants.{Memory}
+use Rattle.zed_export.specs.Limits.{saved}
 use Rattle.zed_export.specs.World.{world_of}
-
--- how a replica came to what it has: it began without edits, and then an edit was delivered, or another replica merged, one after the other
-pub data History : Type 0 where
-  Begun : History
-  Delivered : History → Edit → History
-  Merged : History → History → History
-
--- the edits that were accepted, in the order in which they came and with their repeats
-abbrev pub accepted : History → List Edit
-accepted Begun = []
-accepted (Delivered h e) = accepted h ++ e ∷ []
-accepted (Merged h k) = accepted h ++ accepted k
-
--- the replica that a delivery leaves
-abbrev pub delivered : Replica → Edit → Replica
-delivered d e = record d { edits = with_edit e d.edits }
-
--- the replica that all of it leaves
-abbrev pub replica_of : ℕ → History → Replica
-replica_of world Begun = document_of world []
-replica_of world (Delivered h e) = delivered (replica_of world h) e
-replica_of world (Merged h k) = merged (replica_of world h) (replica_of world k)
 
 -- what authors make: edits that fit, with numbers of the sizes of their types, and never two different ones with one stamp
 pub record AreAuthored (es : List Edit) : Type 0 where
@@ -46,49 +25,50 @@ abbrev pub AuthoredIsRead : Type 0
 AuthoredIsRead = (limit : ℕ) (es : List Edit) (file : List ℕ)
     → AreAuthored es → limit ≤ 32767 → saved limit (replay (set_of es)) ≡ Ok file → world_at file ≡ Ok (world_of (replay (set_of es)))
 
--- a replica shows, and holds back, what one author has who makes these edits one after the other
-abbrev pub HoldsDocumentOf : List Edit → Replica → Type 0
-HoldsDocumentOf es d = (replay d.edits ≡ replay es) × (held d.edits ≡ held es)
+-- two replicas of one world, neither stale, that accepted the same edits, however they came by them
+pub record HaveAcceptedTheSame (d o : Replica) : Type 0 where
+  pub world : d.world ≡ o.world
+  pub sound : d.is_stale ≡ false
+  pub other_sound : o.is_stale ≡ false
+  pub edits : HaveTheSame d.edits o.edits
 
--- a replica holds the document of one author who makes the accepted edits in stamp order
-abbrev pub HoldsOneAuthorsDocument : Type 0
-HoldsOneAuthorsDocument = (world : ℕ) (h : History) (made : List Edit)
-    → AreAuthored (accepted h) → HaveTheSame made (accepted h) → IsRising made → HoldsDocumentOf made (replica_of world h)
+-- what is shown is the document of one author who makes these edits one after the other, in stamp order
+abbrev pub IsOneAuthors : List Edit → Plain → Type 0
+IsOneAuthors es p = (made : List Edit) → IsRising made → HaveTheSame made es → p ≡ replay made
 
--- replicas that accepted the same edits, in any order and with any repeats, are the same
-abbrev pub OrderAndRepeatsNeverCount : Type 0
-OrderAndRepeatsNeverCount = (world : ℕ) (h k : History)
-    → AreAuthored (accepted h) → HaveTheSame (accepted h) (accepted k) → AreSame (replica_of world h) (replica_of world k)
+-- and what is held back are the edits that this author passes over
+abbrev pub HoldsOneAuthors : List Edit → Type 0
+HoldsOneAuthors es = (made : List Edit) → IsRising made → HaveTheSame made es → held es ≡ held made
+
+-- two answers are alike, want of memory aside: equal values, or the same refusal
+abbrev pub AreAlike : {X Y : Type 0} → (X → Y) → Result X ExportError → Result X ExportError → Type 0
+AreAlike view a b =
+    (a ≡ Err Memory) ⊎ ((b ≡ Err Memory)
+    ⊎ MatchResult a (λ x. IsOkAnd b (λ y. view x ≡ view y)) (λ e. b ≡ Err e))
+
+-- what one replica is after it has taken in another
+pub record IsMergeOf (d o merged : Replica) : Type 0 where
+  pub rising : IsRising d.edits
+  pub other_rising : IsRising o.edits
+  pub agree : Agree d.edits o.edits
+  pub world : merged.world ≡ d.world
+  pub one_world : d.world ≡ o.world
+  pub edits : merged.edits ≡ union d.edits o.edits
+  pub sound : merged.is_stale ≡ false
 
 -- it doesn't matter which of two replicas takes in the other
 abbrev pub MergingCommutes : Type 0
-MergingCommutes = (world : ℕ) (h k : History)
-    → AreAuthored (accepted (Merged h k)) → AreSame (replica_of world (Merged h k)) (replica_of world (Merged k h))
+MergingCommutes = (d o one other : Replica) → IsMergeOf d o one → IsMergeOf o d other → HaveAcceptedTheSame one other
 
 -- nor which two of three are merged first
 abbrev pub MergingAssociates : Type 0
-MergingAssociates = (world : ℕ) (h k l : History)
-    → AreAuthored (accepted (Merged h (Merged k l)))
-    → AreSame (replica_of world (Merged (Merged h k) l)) (replica_of world (Merged h (Merged k l)))
+MergingAssociates = (a b c ab bc first last : Replica)
+    → IsMergeOf a b ab → IsMergeOf ab c first → IsMergeOf b c bc → IsMergeOf a bc last → HaveAcceptedTheSame first last
 
 -- a replica that takes in itself, or again what it took in, is as it was
 abbrev pub MergingRepeats : Type 0
-MergingRepeats = (world : ℕ) (h k : History)
-    → AreAuthored (accepted (Merged h k))
-    → AreSame (replica_of world (Merged h h)) (replica_of world h) × AreSame (replica_of world (Merged (Merged h k) k)) (replica_of world (Merged h k))
+MergingRepeats = (d o one again : Replica)
+    → IsMergeOf d o one → IsMergeOf one o again → HaveAcceptedTheSame again one
 
--- what the saving of a replica answers where memory lasts: the bytes of a world file, or the limit that it goes over
-abbrev pub file_of : ℕ → Replica → Result (List ℕ) ExportError
-file_of limit d = unless_stale d (saved limit)
-
--- replicas that accepted the same edits save the same file, or are refused for the same limit
-abbrev pub SaveTheSameFile : Type 0
-SaveTheSameFile = (world limit : ℕ) (h k : History)
-    → AreAuthored (accepted h) → HaveTheSame (accepted h) (accepted k)
-    → file_of limit (replica_of world h) ≡ file_of limit (replica_of world k)
-
--- the saved file reads back as the exported world
-abbrev pub SavedFileReadsBack : Type 0
-SavedFileReadsBack = (world limit : ℕ) (h : History) (file : List ℕ)
-    → AreAuthored (accepted h) → limit ≤ 32767 → file_of limit (replica_of world h) ≡ Ok file
-    → world_at file ≡ Ok (world_of (replay (replica_of world h).edits))
+abbrev pub MergingItself : Type 0
+MergingItself = (d one : Replica) → d.is_stale ≡ false → IsMergeOf d d one → HaveAcceptedTheSame one d

@@ -9,10 +9,12 @@ mod laws;
 mod limits;
 mod numbers;
 mod program;
+mod replicas;
 mod size;
 mod warning;
 
 pub use error::ExportError;
 pub use exporting::{export, save};
-pub use laws::{headline, saved_is_read};
+pub use laws::saved_is_read;
+pub use replicas::{SideBySide, headline, merging_brings_the_same};
 pub use warning::{Warning, warnings};

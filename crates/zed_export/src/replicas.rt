@@ -1,0 +1,71 @@
+//! What replicas that accepted the same edits have in common, by what the calls on them answer.
+ghost use Rattle.std.specs.Prelude.{◌≡◌, ◌≤◌, IfOk, IsOkAnd, Ok, true};
+ghost use Rattle.zed_edit.specs.Replay.{held};
+ghost use Rattle.zed_world.specs.Reading.{world_at};
+ghost use Rattle.zed_export.specs.Headline.{AreAlike, HaveAcceptedTheSame, HoldsOneAuthors, IsOneAuthors, MergingAssociates, MergingCommutes, MergingItself, MergingRepeats};
+
+use crate::error::ExportError;
+use crate::exporting::{export, save};
+use std::alloc::Global;
+use zed_document::{Document, DocumentError, View, edits_decide};
+use zed_op::{rising_lists_are_sets, sets_rise, union_is_of_sets};
+use zed_world::World;
+
+/// What two replicas answer.
+#[derive(Drop)]
+pub struct SideBySide<'a> {
+    /// Whether they are the same.
+    pub same: Result<bool, DocumentError>,
+    pub view: Result<View<'a>, DocumentError>,
+    pub other_view: Result<View<'a>, DocumentError>,
+    pub world: Result<World, ExportError>,
+    pub other_world: Result<World, ExportError>,
+    pub file: Result<Vec<u8>, ExportError>,
+    pub other_file: Result<Vec<u8>, ExportError>,
+}
+
+/// Replicas that accepted the same edits, in any order and with any repeats, hold the document that one author would have who made
+/// those edits in stamp order; each saves the same world file, byte for byte, or refuses it for the same named limit; and the saved
+/// file reads back as the exported world. Want of memory is set aside.
+pub fn headline<'a>(
+    alloc: Global,
+    one: &'a Document,
+    other: &'a Document,
+    limit: usize,
+) -> SideBySide<'a>
+    requires accepted { HaveAcceptedTheSame one.now other.now }
+    requires limit { limit ≤ 32767 }
+    ensures same { result.same ≡ Ok true }
+    ensures document { IsOkAnd result.view (λ v. IsOneAuthors one.now.edits v) }
+    ensures other_document { IsOkAnd result.other_view (λ v. IsOneAuthors one.now.edits v) }
+    ensures held { HoldsOneAuthors one.now.edits }
+    ensures other_held { held other.now.edits ≡ held one.now.edits }
+    ensures worlds { AreAlike (λ w. w) result.world result.other_world }
+    ensures files { AreAlike (λ f. f.items) result.file result.other_file }
+    ensures back { IfOk result.file (λ f. IfOk result.world (λ w. world_at f.items ≡ Ok w)) }
+{
+    one.edits();
+    other.edits();
+    rising_lists_are_sets();
+    edits_decide();
+    SideBySide {
+        same: one.same(other),
+        view: one.view(),
+        other_view: other.view(),
+        world: export(alloc, one, limit),
+        other_world: export(alloc, other, limit),
+        file: save(alloc, one, limit),
+        other_file: save(alloc, other, limit),
+    }
+}
+
+/// Merging is commutative, associative and idempotent: whichever way replicas are merged, they accepted the same edits.
+pub fn merging_brings_the_same()
+    ensures commutative { MergingCommutes }
+    ensures associative { MergingAssociates }
+    ensures idempotent { MergingRepeats }
+    ensures itself { MergingItself }
+{
+    sets_rise();
+    union_is_of_sets();
+}
