@@ -13,7 +13,7 @@ use Rattle.zed_op.specs.declared.op.Op.{Op}
 use Rattle.zed_op.specs.declared.op.Op.TheVariants as op
 use Rattle.zed_op.specs.declared.op.Edit.{Edit}
 use Rattle.zed_edit.specs.declared.plain.Plain.{Plain}
-use Rattle.zed_edit.specs.Genesis as genesis
+use Rattle.zed_types.specs.Names as names
 use Rattle.zed_edit.specs.Numbers.{board_numbered, stat_numbered}
 use Rattle.zed_edit.specs.Replay.{replay}
 use Rattle.zed_op.specs.Set.{with_edit}
@@ -85,15 +85,9 @@ exit_in p b side to = do
 -- a new stat at a place, with a cycle, and without a text
 abbrev pub fields_of : ℕ → ℕ → ℤ → StatFields
 fields_of x y cycle = record {
-  x = x;
-  y = y;
-  step_x = pos 0;
-  step_y = pos 0;
-  cycle = cycle;
-  p1 = 0;
-  p2 = 0;
+  bytes = x ∷ y ∷ 0 ∷ 0 ∷ 0 ∷ 0 ∷ [];
+  numbers = pos 0 ∷ pos 0 ∷ cycle ∷ [];
   p3 = third.Byte 0;
-  under = record { element = 0; colour = 0 };
   text = None;
 }
 
@@ -174,7 +168,7 @@ InTurn First Next made = ((es : List Edit) × First (Ok es) × Next es made) ⊎
 
 -- the text that is authored next
 abbrev pub next_text : Replica → ℕ → TextId
-next_text d replica = genesis.text_of (authored d.edits replica op.TextAdd).stamp 0
+next_text d replica = names.text_of (authored d.edits replica op.TextAdd).stamp 0
 
 -- a stat gets a text, which gets these bytes: three edits
 abbrev pub Starts : Replica → ℕ → StatId → List ℕ → Made → Type 0

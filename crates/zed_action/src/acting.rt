@@ -84,10 +84,7 @@ fn start(
     ensures world { document.new.world ≡ document.old.world }
 {
     let edit = author(document, replica, Op::TextAdd)?;
-    let text = TextId {
-        stamp: edit.stamp,
-        index: 0,
-    };
+    let text = TextId::new(edit.stamp, 0);
     insert(document, replica, text, 0, bytes)?;
     let setting = StatSetting::Text(Some(text));
     author(document, replica, Op::SetStat(stat, setting))?;

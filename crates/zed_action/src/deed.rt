@@ -9,7 +9,7 @@ use crate::error::{ActionError, of_document};
 use zed_document::Document;
 use zed_edit::Op;
 use zed_types::{
-    BoardId, BoardSetting, BoardText, Bytes, Side, StatFields, StatId, TextId, ThirdParameter, Tile,
+    BoardId, BoardSetting, BoardText, Bytes, Side, StatFields, StatId, TextId, ThirdParameter,
 };
 
 /// What an action comes to.
@@ -72,15 +72,9 @@ fn fields_of(x: u8, y: u8, cycle: i16) -> StatFields
     ensures { result ≡ fields_of x y cycle }
 {
     StatFields {
-        x,
-        y,
-        step_x: 0,
-        step_y: 0,
-        cycle,
-        p1: 0,
-        p2: 0,
+        bytes: [x, y, 0, 0, 0, 0],
+        numbers: [0, 0, cycle],
         p3: ThirdParameter::Byte(0),
-        under: Tile::EMPTY,
         text: None,
     }
 }

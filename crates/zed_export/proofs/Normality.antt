@@ -75,7 +75,7 @@ stats_normal p b n e some lower done (s ∷ ss) long owned fits short =
     )
 
 -- the name and the message of a board fit their fields
-texts_fit : (xs : List (List ℕ)) → AreTexts xs → (length (get_or xs 0 []) ≤ 50) × (length (get_or xs 1 []) ≤ 58)
+pub texts_fit : (xs : List (List ℕ)) → AreTexts xs → (length (get_or xs 0 []) ≤ 50) × (length (get_or xs 1 []) ≤ 58)
 texts_fit [] h = absurd h
 texts_fit (name ∷ []) h = absurd h
 texts_fit (name ∷ message ∷ []) h = h

@@ -25,7 +25,7 @@ impl Model for BoardNames {
 
     ghost view = { λ n. n.names.items };
 
-    ghost invariant = { λ n. NamesRise (λ b. b.stamp) (λ b. b.index) n.names.items };
+    ghost invariant = { λ n. NamesRise (λ b. b.name) n.names.items };
 }
 
 impl BoardNames {
@@ -58,7 +58,7 @@ impl Model for StatNames {
 
     ghost view = { λ n. n.names.items };
 
-    ghost invariant = { λ n. NamesRise (λ s. s.stamp) (λ s. s.index) n.names.items };
+    ghost invariant = { λ n. NamesRise (λ s. s.name) n.names.items };
 }
 
 impl StatNames {

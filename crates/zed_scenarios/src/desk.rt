@@ -91,13 +91,10 @@ fn has_exit(plain: &Plain, n: usize, side: Side, wanted: Option<Name>) -> bool {
     let Some(board) = plain.boards.as_slice().get(n) else {
         return false;
     };
-    let found = match side {
-        Side::North => board.properties.north,
-        Side::South => board.properties.south,
-        Side::West => board.properties.west,
-        Side::East => board.properties.east,
-    };
-    is_board(found, wanted)
+    is_board(
+        board.properties.exits[usize::from(side.index())],
+        wanted,
+    )
 }
 
 fn has_tile(plain: &Plain, n: usize, place: usize, tile: Tile) -> bool {

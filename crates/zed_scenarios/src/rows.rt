@@ -41,31 +41,19 @@ pub(crate) enum Does {
 pub(crate) type Row = (u64, u16, Does);
 
 pub(crate) fn board_id(name: Name) -> BoardId {
-    BoardId {
-        stamp: stamp_of(name),
-        index: name.2,
-    }
+    BoardId::new(stamp_of(name), name.2)
 }
 
 pub(crate) fn stat_id(name: Name) -> StatId {
-    StatId {
-        stamp: stamp_of(name),
-        index: name.2,
-    }
+    StatId::new(stamp_of(name), name.2)
 }
 
 pub(crate) fn text_id(name: Name) -> TextId {
-    TextId {
-        stamp: stamp_of(name),
-        index: name.2,
-    }
+    TextId::new(stamp_of(name), name.2)
 }
 
 pub(crate) fn byte_id(name: Name) -> ElemId {
-    ElemId {
-        stamp: stamp_of(name),
-        index: name.2,
-    }
+    ElemId::new(stamp_of(name), name.2)
 }
 
 /// The stamp of the edit that made a thing.
@@ -105,15 +93,9 @@ fn optional_byte(name: Option<Name>) -> Option<ElemId> {
 
 fn fields(x: u8, y: u8, text: Option<TextId>) -> StatFields {
     StatFields {
-        x,
-        y,
-        step_x: 0,
-        step_y: 0,
-        cycle: 1,
-        p1: 0,
-        p2: 0,
+        bytes: [x, y, 0, 0, 0, 0],
+        numbers: [0, 0, 1],
         p3: ThirdParameter::Byte(0),
-        under: Tile::EMPTY,
         text,
     }
 }

@@ -42,18 +42,9 @@ fn stamp(at: At) -> Stamp {
 
 fn passage(to: Name, text: Name) -> StatFields {
     StatFields {
-        x: 3,
-        y: 4,
-        step_x: -1,
-        step_y: 1,
-        cycle: 3,
-        p1: 7,
-        p2: 8,
+        bytes: [3, 4, 7, 8, 22, 14],
+        numbers: [-1, 1, 3],
         p3: ThirdParameter::Board(board_id(to)),
-        under: Tile {
-            element: 22,
-            colour: 14,
-        },
         text: Some(text_id(text)),
     }
 }

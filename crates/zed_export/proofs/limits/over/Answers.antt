@@ -3,6 +3,11 @@ use Rattle.zed_edit.specs.Numbers.{alive_stats}
 use Rattle.zed_document.specs.View.{board_at}
 use Rattle.zed_export.specs.World.{exported_board}
 use Rattle.zed_export.proofs.Boards.{length_above, stats_over, body_over, not_over}
+use Rattle.zed_edit.specs.declared.plain.Board.{Board}
+use Rattle.zed_laws.specs.Regular.{IsRegularBoard}
+use Rattle.zed_document.specs.View.{no_board}
+use Rattle.zed_export.proofs.Normality.{texts_fit}
+use Rattle.zed_export.proofs.Ordered.{all_at}
 use Rattle.zed_export.proofs.limits.over.Goals as goal
 
 pub returns-then-stats-gt-STATS_LIMIT : goal.returns-then-stats-gt-STATS_LIMIT
@@ -25,3 +30,11 @@ returns-else-limit-bytes c =
     let x = exported_board c.args.view.now b in
     let same : length x.stats ≡ length (alive_stats b) = length_above c.args.view.now b [] (alive_stats b) in
     not_over c.args.limit c.args.number c.body_bytes-bytes.result x (omega (arith, c.saturating_sub-stats.ensures, c.alive_stats.ensures)) c.requires.limit c.body_bytes-bytes.ensures (omega arith)
+
+pub body_bytes-bytes-requires-clause-name : goal.body_bytes-bytes-requires-clause-name
+body_bytes-bytes-requires-clause-name c =
+    (texts_fit _ (all_at IsRegularBoard c.args.view.now.boards c.args.i no_board c.requires.board c.requires.regular.boards).texts).0
+
+pub body_bytes-bytes-requires-clause-message : goal.body_bytes-bytes-requires-clause-message
+body_bytes-bytes-requires-clause-message c =
+    (texts_fit _ (all_at IsRegularBoard c.args.view.now.boards c.args.i no_board c.requires.board c.requires.regular.boards).texts).1

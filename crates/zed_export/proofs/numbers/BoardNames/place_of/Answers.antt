@@ -9,5 +9,5 @@ pub returns-clause-is : goal.returns-clause-is
 returns-clause-is c =
     let facts = c.binary_search.ensures in
     c.ok.ensures.value
-    ∙ sym (sought (λ (x : BoardId). x.stamp) (λ (x : BoardId). x.index) (c.args.board.stamp, c.args.board.index) c.deref.result.now c.binary_search.result (rw c.deref.ensures.value c.self.invariant) facts.bound facts.position)
+    ∙ sym (sought (λ (x : BoardId). x.name) c.args.board.name c.deref.result.now c.binary_search.result (rw c.deref.ensures.value c.self.invariant) facts.bound facts.position)
     ∙ ap (position (λ (x : BoardId). same_board x c.args.board)) (c.deref.ensures.value ∙ c.self.view_is)

@@ -9,5 +9,5 @@ pub returns-clause-is : goal.returns-clause-is
 returns-clause-is c =
     let facts = c.binary_search.ensures in
     c.ok.ensures.value
-    ∙ sym (sought (λ (x : StatId). x.stamp) (λ (x : StatId). x.index) (c.args.stat.stamp, c.args.stat.index) c.deref.result.now c.binary_search.result (rw c.deref.ensures.value c.self.invariant) facts.bound facts.position)
+    ∙ sym (sought (λ (x : StatId). x.name) c.args.stat.name c.deref.result.now c.binary_search.result (rw c.deref.ensures.value c.self.invariant) facts.bound facts.position)
     ∙ ap (position (λ (x : StatId). same_stat x c.args.stat)) (c.deref.ensures.value ∙ c.self.view_is)
