@@ -4,9 +4,9 @@ use Rattle.zed_world.specs.Reading.{world_at}
 use Rattle.zed_op.specs.declared.op.Edit.{Edit}
 use Rattle.zed_op.specs.Set.{Agrees, AllFit, IsRising, set_of, union}
 use Rattle.zed_op.specs.SetLaws.{HaveTheSame}
+use Rattle.zed_op.specs.Sizes.{HaveSizes}
 use Rattle.zed_edit.specs.declared.plain.Plain.{Plain}
 use Rattle.zed_edit.specs.Replay.{replay, held}
-use Rattle.zed_laws.specs.Integers.{HaveIntegers}
 use Rattle.zed_document.specs.Merge.{Agree}
 use Rattle.zed_document.specs.Replica.{Replica}
 use Rattle.zed_export.specs.declared.error.ExportError.{ExportError}
@@ -17,7 +17,7 @@ use Rattle.zed_export.specs.World.{world_of}
 -- what authors make: edits that fit, with numbers of the sizes of their types, and never two different ones with one stamp
 pub record AreAuthored (es : List Edit) : Type 0 where
   pub fit : AllFit es
-  pub integers : HaveIntegers es
+  pub sizes : HaveSizes es
   pub agree : Agrees es
 
 -- what is saved of the set of such edits is read as the exported world

@@ -9,7 +9,8 @@ use Rattle.zed_op.specs.Set.{set_of}
 use Rattle.zed_op.specs.SetLaws.{SetKeepsFit}
 use Rattle.zed_edit.specs.declared.plain.Plain.{Plain}
 use Rattle.zed_edit.specs.Replay.{replay}
-use Rattle.zed_laws.specs.Integers.{HasOpIntegers, ReplayKeepsIntegers}
+use Rattle.zed_op.specs.Sizes.{HasSizes}
+use Rattle.zed_laws.specs.Integers.{ReplayKeepsIntegers}
 use Rattle.zed_laws.specs.Regular.{ReplayIsRegular}
 use Rattle.zed_export.specs.declared.error.ExportError.{ExportError}
 use Rattle.zed_export.specs.World.{exported_boards, world_of}
@@ -39,7 +40,7 @@ authored_is_read read fit regular integers limit es file authored low answer = g
     p = replay (set_of es)
 
     normal : refusal_of limit p ≡ None → HasNormalParts (world_of p)
-    normal within = integers_normal limit p (regular (set_of es) (fit es authored.fit)) (integers (set_of es) (each_of_set (λ e. HasOpIntegers e.op) es authored.integers)) low within
+    normal within = integers_normal limit p (regular (set_of es) (fit es authored.fit)) (integers (set_of es) (each_of_set HasSizes es authored.sizes)) low within
 
     go : (o : Option ExportError) → refusal_of limit p ≡ o → unless_over o (world_text (world_of p)) ≡ Ok file → world_at file ≡ Ok (world_of p)
     go (Some refusal) h a = absurd (cc)
