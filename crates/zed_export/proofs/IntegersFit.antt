@@ -48,7 +48,7 @@ number_fits (z ∷ zs) (suc i) h = number_fits zs i h.1
 stats_fit : (p : Plain) (b : Board) (lower : List (Option TextId)) (ss : List Stat) → AllByRecursion StatHasIntegers ss → AllByRecursion FitsStat (exported_above p b lower ss)
 stats_fit p b lower [] h = tt
 stats_fit p b lower (s ∷ ss) h =
-    let number = λ i. number_fits s.fields.numbers i h.0.numbers in
+    let number : (i : ℕ) → IsInteger (get_or s.fields.numbers i (pos 0)) = λ i. number_fits s.fields.numbers i h.0.numbers in
     (record { step_x = number 0; step_y = number 1; cycle = number 2; position = h.0.position }, stats_fit p b (lower ++ s.fields.text ∷ []) ss h.1)
 
 boards_fit : (p : Plain) (bs : List Board) → AllByRecursion BoardHasIntegers bs → AllByRecursion FitsBoard (map (exported_board p) bs)
@@ -59,7 +59,7 @@ boards_fit p (b ∷ bs) h =
 
 pub integers_normal : (limit : ℕ) (p : Plain) → IsRegular p → HasIntegers p → limit ≤ 32767 → refusal_of limit p ≡ None → HasNormalParts (world_of p)
 integers_normal limit p regular integers low within =
-    let number = λ i. number_fits p.header.numbers i integers.header in
+    let number : (i : ℕ) → IsInteger (get_or p.header.numbers i (pos 0)) = λ i. number_fits p.header.numbers i integers.header in
     world_normal limit p regular low within
     (record { ammo = number 0; gems = number 1; health = number 2; torches = number 3; torch_ticks = number 4; energizer_ticks = number 5; score = number 6; time_passed = number 7; hundredths = number 8 })
     (boards_fit p (alive_boards p) (each_filtered BoardHasIntegers (λ b. not b.removed) p.boards integers.boards))

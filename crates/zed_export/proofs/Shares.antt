@@ -7,6 +7,8 @@ use Rattle.zed_types.specs.Stamp.{same_stamp}
 use Rattle.zed_types.specs.Names.{same_text}
 use Rattle.zed_world.specs.declared.stat.Code.TheVariants as code
 use Rattle.zed_world.specs.declared.stat.StatData.{StatData}
+use Rattle.zed_types.specs.declared.names.Name.{Name}
+use Rattle.zed_types.proofs.StampOrder.{same_name-true}
 use Rattle.zed_world.specs.Writing.{code_text}
 use Rattle.zed_world.specs.Normal.{IsNormalCode}
 use Rattle.zed_edit.specs.declared.plain.Plain.{Plain}
@@ -17,13 +19,8 @@ use Rattle.zed_export.proofs.Searching.{found_in_more, get_last}
 
 same_names : (a b : TextId) → same_text a b ≡ true → a ≡ b
 same_names a b h =
-    let h0 = and_parts (same_stamp a.stamp b.stamp) (a.index == b.index) h in
-    let h1 = and_parts (a.stamp.time == b.stamp.time) (a.stamp.replica == b.stamp.replica) h0.0 in
-    let time = eqb-true a.stamp.time b.stamp.time h1.0 in
-    let replica = eqb-true a.stamp.replica b.stamp.replica h1.1 in
-    let index = eqb-true a.index b.index h0.1 in
-    let make : ℕ → ℕ → ℕ → TextId = λ t r i. record { stamp = record { time = t; replica = r }; index = i } in
-    let path : make a.stamp.time a.stamp.replica a.index ≡ make b.stamp.time b.stamp.replica b.index = rw (time, replica, index) refl in
+    let make : Name → TextId = λ n. record { name = n } in
+    let path : make a.name ≡ make b.name = ap make (same_name-true a.name b.name h) in
     path
 
 pub owned_first : (p : Plain) → IsOwned p [] []

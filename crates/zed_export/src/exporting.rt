@@ -2,7 +2,7 @@ ghost use Rattle.std.specs.Prelude.{◌≡◌, ◌≤◌, None, Ok, IfOk, MatchR
 ghost use Rattle.std.specs.List.{AllByRecursion};
 ghost use Rattle.zed_world.specs.Reading.{world_at};
 ghost use Rattle.zed_world.specs.Writing.{world_text};
-ghost use Rattle.zed_world.specs.Normal.{HasNormalParts};
+ghost use Rattle.zed_world.specs.Normal.{IsNormal};
 ghost use Rattle.zed_edit.specs.Numbers.{alive_boards as boards_there, alive_stats as stats_there};
 ghost use Rattle.zed_laws.specs.Regular.{IsRegular};
 ghost use Rattle.zed_laws.specs.NameOrder.{IsOrdered};
@@ -80,7 +80,7 @@ fn file_within(alloc: Global, view: &View, limit: usize) -> Result<Vec<u8>, Expo
 pub fn export(alloc: Global, document: &Document, limit: usize) -> Result<World, ExportError>
     requires { limit ≤ 32767 }
     ensures exact { Answers (λ world. world) (unless_stale document.now (exported limit)) result }
-    ensures normal { IfOk result (λ world. HasNormalParts world) }
+    ensures normal { IfOk result (λ world. IsNormal world) }
 {
     let Ok(view) = document.view() else {
         return Err(ExportError::Stale);
