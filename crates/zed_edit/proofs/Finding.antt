@@ -36,30 +36,30 @@ module _ {X : Type 0} (p : X → Bool) (xs : List X) (i : ℕ) (d : X) (l : i < 
   nth-further : (n : ℕ) → p (get_or xs i d) ≡ true → slice_get (filter p (drop i xs)) (suc n) ≡ slice_get (filter p (drop (i + 1) xs)) n
   nth-further n h = rw (drop-cons xs i d l, add-one) (rw h refl)
 
-abbrev pub live_boards : List Board → List Board
-live_boards bs = filter (λ b. not b.removed) bs
+abbrev pub alive_boards : List Board → List Board
+alive_boards bs = filter (λ b. not b.removed) bs
 
 -- the number of a board among those that are not removed, one board further
-pub board_removed : (bs : List Board) (i : ℕ) (d : Board) (n : ℕ) → i < length bs → (get_or bs i d).removed ≡ true → slice_get (live_boards (drop i bs)) n ≡ slice_get (live_boards (drop (i + 1) bs)) n
+pub board_removed : (bs : List Board) (i : ℕ) (d : Board) (n : ℕ) → i < length bs → (get_or bs i d).removed ≡ true → slice_get (alive_boards (drop i bs)) n ≡ slice_get (alive_boards (drop (i + 1) bs)) n
 board_removed bs i d n l h = nth-skip (λ (b : Board). not b.removed) bs i d l n (rw h refl)
 
-pub board_here : (bs : List Board) (i : ℕ) (d : Board) → i < length bs → (get_or bs i d).removed ≡ false → slice_get (live_boards (drop i bs)) 0 ≡ Some (get_or bs i d)
+pub board_here : (bs : List Board) (i : ℕ) (d : Board) → i < length bs → (get_or bs i d).removed ≡ false → slice_get (alive_boards (drop i bs)) 0 ≡ Some (get_or bs i d)
 board_here bs i d l h = nth-here (λ (b : Board). not b.removed) bs i d l (rw h refl)
 
-pub board_further : (bs : List Board) (i : ℕ) (d : Board) (n : ℕ) → i < length bs → (get_or bs i d).removed ≡ false → 0 < n → slice_get (live_boards (drop i bs)) n ≡ slice_get (live_boards (drop (i + 1) bs)) (n - 1)
+pub board_further : (bs : List Board) (i : ℕ) (d : Board) (n : ℕ) → i < length bs → (get_or bs i d).removed ≡ false → 0 < n → slice_get (alive_boards (drop i bs)) n ≡ slice_get (alive_boards (drop (i + 1) bs)) (n - 1)
 board_further bs i d zero l h m = absurd (omega arith)
 board_further bs i d (suc n) l h m = let e : suc n - 1 ≡ n = omega arith in rw e (nth-further (λ (b : Board). not b.removed) bs i d l n (rw h refl))
 
-abbrev pub live_stats : List Stat → List Stat
-live_stats ss = filter (λ s. not s.removed) ss
+abbrev pub alive_stats : List Stat → List Stat
+alive_stats ss = filter (λ s. not s.removed) ss
 
 -- the number of a stat among those that are not removed, one stat further
-pub stat_removed : (ss : List Stat) (i : ℕ) (d : Stat) (n : ℕ) → i < length ss → (get_or ss i d).removed ≡ true → slice_get (live_stats (drop i ss)) n ≡ slice_get (live_stats (drop (i + 1) ss)) n
+pub stat_removed : (ss : List Stat) (i : ℕ) (d : Stat) (n : ℕ) → i < length ss → (get_or ss i d).removed ≡ true → slice_get (alive_stats (drop i ss)) n ≡ slice_get (alive_stats (drop (i + 1) ss)) n
 stat_removed ss i d n l h = nth-skip (λ (s : Stat). not s.removed) ss i d l n (rw h refl)
 
-pub stat_here : (ss : List Stat) (i : ℕ) (d : Stat) → i < length ss → (get_or ss i d).removed ≡ false → slice_get (live_stats (drop i ss)) 0 ≡ Some (get_or ss i d)
+pub stat_here : (ss : List Stat) (i : ℕ) (d : Stat) → i < length ss → (get_or ss i d).removed ≡ false → slice_get (alive_stats (drop i ss)) 0 ≡ Some (get_or ss i d)
 stat_here ss i d l h = nth-here (λ (s : Stat). not s.removed) ss i d l (rw h refl)
 
-pub stat_further : (ss : List Stat) (i : ℕ) (d : Stat) (n : ℕ) → i < length ss → (get_or ss i d).removed ≡ false → 0 < n → slice_get (live_stats (drop i ss)) n ≡ slice_get (live_stats (drop (i + 1) ss)) (n - 1)
+pub stat_further : (ss : List Stat) (i : ℕ) (d : Stat) (n : ℕ) → i < length ss → (get_or ss i d).removed ≡ false → 0 < n → slice_get (alive_stats (drop i ss)) n ≡ slice_get (alive_stats (drop (i + 1) ss)) (n - 1)
 stat_further ss i d zero l h m = absurd (omega arith)
 stat_further ss i d (suc n) l h m = let e : suc n - 1 ≡ n = omega arith in rw e (nth-further (λ (s : Stat). not s.removed) ss i d l n (rw h refl))

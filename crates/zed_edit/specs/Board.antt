@@ -1,18 +1,11 @@
 -- A board, and what edits do to it.
-use Rattle.std.specs.Prelude.{ℕ, pos, Bool, true, false, if◌then◌else◌, List, [], ◌∷◌, ◌++◌, replicate, Option, None}
+use Rattle.std.specs.Prelude.{ℕ, pos, Bool, true, false, if◌then◌else◌, List, [], ◌∷◌, ◌++◌, replicate, slice_set, None}
 use Rattle.zed_types.specs.declared.names.BoardId.{BoardId}
 use Rattle.zed_types.specs.declared.names.StatId.{StatId}
 use Rattle.zed_types.specs.declared.tile.Tile.{Tile}
 use Rattle.zed_types.specs.declared.tile.Rectangle.{Rectangle}
 use Rattle.zed_types.specs.declared.tile.TheConstants.{TILES}
-use Rattle.zed_types.specs.declared.property.Side.{Side}
-use Rattle.zed_types.specs.declared.property.Side.TheVariants.{North, South, West, East}
-use Rattle.zed_types.specs.declared.property.BoardByte.{BoardByte}
-use Rattle.zed_types.specs.declared.property.BoardByte.TheVariants.{MaxShots, StartX, StartY}
-use Rattle.zed_types.specs.declared.property.BoardFlag.{BoardFlag}
-use Rattle.zed_types.specs.declared.property.BoardFlag.TheVariants.{Dark, ReEnter}
-use Rattle.zed_types.specs.declared.property.BoardText.{BoardText}
-use Rattle.zed_types.specs.declared.property.BoardText.TheVariants.{Name, Message}
+use Rattle.zed_types.specs.Board.{board_byte_index, board_flag_index, side_index, board_text_index}
 use Rattle.zed_types.specs.declared.property.BoardSetting.{BoardSetting}
 use Rattle.zed_types.specs.declared.property.BoardSetting.TheVariants.{Byte, Flag, TimeLimit, Exit, Text}
 use Rattle.zed_types.specs.Table.{is_inside, place_at, map_from}
@@ -21,44 +14,27 @@ use Rattle.zed_edit.specs.declared.plain.Stat.{Stat}
 use Rattle.zed_edit.specs.declared.plain.Board.{Board}
 use Rattle.zed_edit.specs.Stat.{new_stat, player_fields}
 
-abbrev pub with_byte : BoardByte → ℕ → Properties → Properties
-with_byte MaxShots n p = record p { max_shots = n }
-with_byte StartX n p = record p { start_x = n }
-with_byte StartY n p = record p { start_y = n }
-
-abbrev pub with_flag : BoardFlag → Bool → Properties → Properties
-with_flag Dark b p = record p { dark = b }
-with_flag ReEnter b p = record p { re_enter = b }
-
-abbrev pub with_exit : Side → Option BoardId → Properties → Properties
-with_exit North b p = record p { north = b }
-with_exit South b p = record p { south = b }
-with_exit West b p = record p { west = b }
-with_exit East b p = record p { east = b }
-
-abbrev pub with_text : BoardText → List ℕ → Properties → Properties
-with_text Name s p = record p { name = s }
-with_text Message s p = record p { message = s }
-
 -- the register of a setting is overwritten
 abbrev pub set_property : BoardSetting → Properties → Properties
-set_property (Byte f n) p = with_byte f n p
-set_property (Flag f b) p = with_flag f b p
+set_property (Byte f n) p = record p { bytes = slice_set p.bytes (board_byte_index f) n }
+set_property (Flag f b) p = record p { flags = slice_set p.flags (board_flag_index f) b }
 set_property (TimeLimit n) p = record p { time_limit = n }
-set_property (Exit f b) p = with_exit f b p
-set_property (Text f s) p = with_text f s p
+set_property (Exit f b) p = record p { exits = slice_set p.exits (side_index f) b }
+set_property (Text f s) p = record p { texts = slice_set p.texts (board_text_index f) s }
 
 -- each cell of a rectangle is overwritten
 abbrev pub set_cells : Rectangle → Tile → List Tile → List Tile
 set_cells r tile tiles = map_from (λ i old. if is_inside r (place_at i) then tile else old) 0 tiles
 
--- a rectangle of one tile in a table of another
+-- a tile of nothing
 abbrev pub empty_tile : Tile
 empty_tile = record { element = 0; colour = 0 }
 
+-- a normal wall in yellow
 abbrev pub wall_tile : Tile
 wall_tile = record { element = 22; colour = 0x0e }
 
+-- the player's own tile
 abbrev pub player_tile : Tile
 player_tile = record { element = 4; colour = 0x1f }
 
@@ -68,20 +44,14 @@ new_table =
     set_cells (record { left = 30; top = 12; right = 30; bottom = 12 }) player_tile
     (set_cells (record { left = 2; top = 2; right = 59; bottom = 24 }) empty_tile (replicate TILES wall_tile))
 
+-- the registers of a new board: 255 shots, the start at column 30 and row 12, no exit and no message
 abbrev pub new_properties : List ℕ → Properties
 new_properties name = record {
-  name = name;
-  max_shots = 255;
-  dark = false;
-  north = None;
-  south = None;
-  west = None;
-  east = None;
-  re_enter = false;
-  message = [];
-  start_x = 30;
-  start_y = 12;
+  bytes = 255 ∷ 30 ∷ 12 ∷ [];
+  flags = replicate 2 false;
   time_limit = pos 0;
+  exits = replicate 4 None;
+  texts = name ∷ [] ∷ [];
 }
 
 -- a new board, which has its player alone
@@ -94,9 +64,11 @@ new_board id player name = record {
   removed = false;
 }
 
+-- a register of a board is overwritten
 abbrev pub set_board_property : BoardSetting → Board → Board
 set_board_property setting b = record b { properties = set_property setting b.properties }
 
+-- cells of a board are overwritten
 abbrev pub set_board_cells : Rectangle → Tile → Board → Board
 set_board_cells r tile b = record b { tiles = set_cells r tile b.tiles }
 

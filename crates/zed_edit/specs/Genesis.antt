@@ -1,5 +1,6 @@
 -- What the edit that makes the world makes of a world file: boards, stats and texts are each numbered from 0, in the order of the file over the whole world.
-use Rattle.std.specs.Prelude.{ℕ, zero, suc, ◌+◌, false, ◌==◌, if◌then◌else◌, List, [], ◌∷◌, length, take, count_by, filter_map, flat_map, is_some, Option, Some, None, option_map}
+use Rattle.std.specs.Prelude.{ℕ, zero, suc, ◌<◌, ◌^◌, IfSome, ◌+◌, false, ◌==◌, if◌then◌else◌, List, [], ◌∷◌, length, take, count_by, filter_map, flat_map, is_some, Option, Some, None, option_map}
+use Rattle.std.specs.List.{AllByRecursion}
 use Rattle.zed_types.specs.declared.stamp.Stamp.{Stamp}
 use Rattle.zed_types.specs.declared.names.BoardId.{BoardId}
 use Rattle.zed_types.specs.declared.stat_field.ThirdParameter.{ThirdParameter}
@@ -25,17 +26,12 @@ abbrev pub exit_of : Stamp → ℕ → Option BoardId
 exit_of s zero = None
 exit_of s (suc n) = Some (board_of s (suc n))
 
+-- the header of a file
 abbrev pub header_of : Stamp → world_header.Header → Header
 header_of s h = record {
-  ammo = h.ammo;
-  gems = h.gems;
-  health = h.health;
-  torches = h.torches;
-  torch_ticks = h.torch_ticks;
-  energizer_ticks = h.energizer_ticks;
-  score = h.score;
-  time_passed = h.time_passed;
-  hundredths = h.hundredths;
+  numbers =
+      h.ammo ∷ h.gems ∷ h.health ∷ h.torches ∷ h.torch_ticks
+      ∷ h.energizer_ticks ∷ h.score ∷ h.time_passed ∷ h.hundredths ∷ [];
   keys = h.keys;
   saved = h.saved;
   current_board = board_of s h.current_board;
@@ -43,25 +39,27 @@ header_of s h = record {
   flags = h.flags;
 }
 
+-- the properties of a board of the file, and its name
 abbrev pub properties_of : Stamp → List ℕ → world_properties.Properties → Properties
 properties_of s name p = record {
-  name = name;
-  max_shots = p.max_shots;
-  dark = p.dark;
-  north = exit_of s p.north;
-  south = exit_of s p.south;
-  west = exit_of s p.west;
-  east = exit_of s p.east;
-  re_enter = p.re_enter;
-  message = p.message;
-  start_x = p.start_x;
-  start_y = p.start_y;
+  bytes = p.max_shots ∷ p.start_x ∷ p.start_y ∷ [];
+  flags = p.dark ∷ p.re_enter ∷ [];
   time_limit = p.time_limit;
+  exits = exit_of s p.north ∷ exit_of s p.south ∷ exit_of s p.west ∷ exit_of s p.east ∷ [];
+  texts = name ∷ p.message ∷ [];
 }
 
 -- a program that stands with its stat
 abbrev pub own_program : StatData → Option (List ℕ)
 own_program s = elim s.code [ code.None ↦ None | code.Own bytes ↦ Some bytes | code.Same n ↦ None ]
+
+-- the program of a stat has fewer than 32,768 bytes
+abbrev pub HasShortProgram : StatData → Type 0
+HasShortProgram s = IfSome (own_program s) (λ program. length program < 2 ^ 15)
+
+-- and so has each of these stats
+abbrev pub HaveShortPrograms : List StatData → Type 0
+HaveShortPrograms ss = AllByRecursion HasShortProgram ss
 
 -- the programs of a file in its order: each is a text
 abbrev pub programs_of : List BoardData → List (List ℕ)
@@ -87,15 +85,9 @@ opened_stat s m t b j x = record {
   id = stat_of s (m + j);
   is_player = j == 0;
   fields = record {
-    x = x.x;
-    y = x.y;
-    step_x = x.step_x;
-    step_y = x.step_y;
-    cycle = x.cycle;
-    p1 = x.p1;
-    p2 = x.p2;
+    bytes = x.x ∷ x.y ∷ x.p1 ∷ x.p2 ∷ x.under.element ∷ x.under.colour ∷ [];
+    numbers = x.step_x ∷ x.step_y ∷ x.cycle ∷ [];
     p3 = parameter_of s b x;
-    under = x.under;
     text = option_map (text_of s) (text_number t b.stats j x.code);
   };
   position = x.position;
@@ -104,13 +96,17 @@ opened_stat s m t b j x = record {
   removed = false;
 }
 
+-- the stats of a board of the file, numbered from m, and its texts from t
+abbrev pub opened_stats : Stamp → ℕ → ℕ → BoardData → List Stat
+opened_stats s m t b = map_from (opened_stat s m t b) 0 b.stats
+
 -- board n of the file, whose stats are numbered from m, and its texts from t
 abbrev pub opened_board : Stamp → ℕ → ℕ → ℕ → BoardData → Board
 opened_board s n m t b = record {
   id = board_of s n;
   tiles = b.tiles;
   properties = properties_of s b.name b.properties;
-  stats = map_from (opened_stat s m t b) 0 b.stats;
+  stats = opened_stats s m t b;
   removed = false;
 }
 
@@ -121,6 +117,7 @@ opened_boards_from s n m t (b ∷ bs) =
     opened_board s n m t b
     ∷ opened_boards_from s (n + 1) (m + length b.stats) (t + programs_before (length b.stats) b.stats) bs
 
+-- the boards of a file
 abbrev pub opened_boards : Stamp → List BoardData → List Board
 opened_boards s bs = opened_boards_from s 0 0 0 bs
 
@@ -128,5 +125,10 @@ opened_boards s bs = opened_boards_from s 0 0 0 bs
 abbrev pub opened_text : Stamp → ℕ → List ℕ → Text
 opened_text s n bytes = record { id = text_of s n; elements = run_from s 0 bytes }
 
+-- texts with these programs, numbered from t
+abbrev pub texts_from : Stamp → ℕ → List (List ℕ) → List Text
+texts_from s t programs = map_from (opened_text s) t programs
+
+-- the texts of a file
 abbrev pub opened_texts : Stamp → List BoardData → List Text
-opened_texts s bs = map_from (opened_text s) 0 (programs_of bs)
+opened_texts s bs = texts_from s 0 (programs_of bs)

@@ -1,5 +1,5 @@
 -- What an edit does, and the replay of edits in rising stamp order by one author.
-use Rattle.std.specs.Prelude.{Bool, false, if◌then◌else◌, List, [], ◌∷◌, ◌++◌, Result, Ok, Err}
+use Rattle.std.specs.Prelude.{◌≡◌, ◌⊎◌, Bool, true, false, if◌then◌else◌, List, [], ◌∷◌, ◌++◌, Result, Ok, Err}
 use Rattle.std.specs.List.{list_all}
 use Rattle.zed_types.specs.declared.stamp.Stamp.{Stamp}
 use Rattle.zed_types.specs.Text.{run_from, put_after, kill}
@@ -17,6 +17,7 @@ use Rattle.zed_edit.specs.Stat.{set_stat, new_stat, remove_stat}
 use Rattle.zed_edit.specs.Document.{empty_document, change_board, change_stat, change_text, has}
 use Rattle.zed_types.specs.Names.{board_of, stat_of, text_of}
 use Rattle.zed_edit.specs.Genesis.{header_of, opened_boards, opened_texts}
+use Rattle.zed_op.specs.Growth.{may_grow}
 use Rattle.zed_op.specs.Names.{names_of}
 
 -- whether all of these things were made
@@ -51,16 +52,21 @@ do_op s TextAdd p = record p { texts = p.texts ++ record { id = text_of s 0; ele
 do_op s (TextInsert t after bytes) p = change_text t (put_after after (run_from s 0 bytes)) p
 do_op s (TextDelete t r) p = change_text t (kill r) p
 
+-- what an edit does that can be done
 abbrev pub do_edit : Plain → Edit → Plain
 do_edit p e = do_op e.stamp e.op p
 
--- an edit that can't be done is remembered by its stamp and changes nothing else
-abbrev pub pass_over : Plain → Edit → Plain
-pass_over p e = record p { passed_over = p.passed_over ++ e.stamp ∷ [] }
+-- an edit that can't be done is held: it leaves its stamp, and changes nothing else
+abbrev pub hold : Plain → Edit → Plain
+hold p e = record p { held = p.held ++ e.stamp ∷ [] }
 
--- one edit of the replay: done where it can be, else passed over
+-- a step may need memory: the document may grow by the edit, or the edit is held
+abbrev pub MayGrow : Plain → Edit → Type 0
+MayGrow p e = (may_grow e.op ≡ true) ⊎ (can p e ≡ false)
+
+-- one edit of the replay: done where it can be, else held
 abbrev pub step : Plain → Edit → Plain
-step p e = if can p e then do_edit p e else pass_over p e
+step p e = if can p e then do_edit p e else hold p e
 
 -- what edits, in rising stamp order, make of a document
 abbrev pub replay_on : Plain → List Edit → Plain
@@ -76,13 +82,15 @@ abbrev pub taken_on : Plain → List Edit → List Edit
 taken_on p [] = []
 taken_on p (e ∷ es) = if can p e then e ∷ taken_on (step p e) es else taken_on (step p e) es
 
+-- the edits that the replay of a document from the start does
 abbrev pub taken : List Edit → List Edit
 taken es = taken_on empty_document es
 
--- the edits that the replay passes over
+-- the edits that the replay holds
 abbrev pub held_on : Plain → List Edit → List Edit
 held_on p [] = []
 held_on p (e ∷ es) = if can p e then held_on (step p e) es else e ∷ held_on (step p e) es
 
+-- the edits that the replay of a document from the start holds
 abbrev pub held : List Edit → List Edit
 held es = held_on empty_document es

@@ -1,34 +1,22 @@
 -- A stat, and what edits do to it.
-use Rattle.std.specs.Prelude.{ℕ, ℤ, pos, Bool, false, not, None}
+use Rattle.std.specs.Prelude.{ℕ, ℤ, pos, Bool, false, not, [], ◌∷◌, slice_set, Option, Some, None}
 use Rattle.zed_types.specs.declared.names.StatId.{StatId}
 use Rattle.zed_types.specs.declared.stat_field.ThirdParameter.TheVariants as third
 use Rattle.zed_types.specs.declared.stat_field.StatFields.{StatFields}
-use Rattle.zed_types.specs.declared.stat_field.StatByte.{StatByte}
-use Rattle.zed_types.specs.declared.stat_field.StatByte.TheVariants.{X, Y, P1, P2, UnderElement, UnderColour}
-use Rattle.zed_types.specs.declared.stat_field.StatNumber.{StatNumber}
-use Rattle.zed_types.specs.declared.stat_field.StatNumber.TheVariants.{StepX, StepY, Cycle, Position}
+use Rattle.zed_types.specs.Stat.{stat_byte_index, stat_number_index}
 use Rattle.zed_types.specs.declared.stat_field.StatSetting.{StatSetting}
 use Rattle.zed_types.specs.declared.stat_field.StatSetting.TheVariants.{Byte, Number, P3, Follower, Leader, Text}
 use Rattle.zed_edit.specs.declared.plain.Stat.{Stat}
 
-abbrev pub with_byte : StatByte → ℕ → StatFields → StatFields
-with_byte X n f = record f { x = n }
-with_byte Y n f = record f { y = n }
-with_byte P1 n f = record f { p1 = n }
-with_byte P2 n f = record f { p2 = n }
-with_byte UnderElement n f = record f { under = record { element = n; colour = f.under.colour } }
-with_byte UnderColour n f = record f { under = record { element = f.under.element; colour = n } }
-
-abbrev pub with_number : StatNumber → ℤ → Stat → Stat
-with_number StepX n s = record s { fields = record s.fields { step_x = n } }
-with_number StepY n s = record s { fields = record s.fields { step_y = n } }
-with_number Cycle n s = record s { fields = record s.fields { cycle = n } }
-with_number Position n s = record s { position = n }
+-- a number of a stat is overwritten: one that a new stat is given, or its position
+abbrev pub with_number : Option ℕ → ℤ → Stat → Stat
+with_number (Some i) n s = record s { fields = record s.fields { numbers = slice_set s.fields.numbers i n } }
+with_number None n s = record s { position = n }
 
 -- the register of a setting is overwritten
 abbrev pub set_stat : StatSetting → Stat → Stat
-set_stat (Byte f n) s = record s { fields = with_byte f n s.fields }
-set_stat (Number f n) s = with_number f n s
+set_stat (Byte f n) s = record s { fields = record s.fields { bytes = slice_set s.fields.bytes (stat_byte_index f) n } }
+set_stat (Number f n) s = with_number (stat_number_index f) n s
 set_stat (P3 p) s = record s { fields = record s.fields { p3 = p } }
 set_stat (Follower o) s = record s { follower = o }
 set_stat (Leader o) s = record s { leader = o }
@@ -49,15 +37,9 @@ new_stat id is_player fields = record {
 -- the fields of the player of a new board
 abbrev pub player_fields : StatFields
 player_fields = record {
-  x = 30;
-  y = 12;
-  step_x = pos 0;
-  step_y = pos 0;
-  cycle = pos 1;
-  p1 = 0;
-  p2 = 0;
+  bytes = 30 ∷ 12 ∷ 0 ∷ 0 ∷ 0 ∷ 0 ∷ [];
+  numbers = pos 0 ∷ pos 0 ∷ pos 1 ∷ [];
   p3 = third.Byte 0;
-  under = record { element = 0; colour = 0 };
   text = None;
 }
 

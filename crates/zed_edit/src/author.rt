@@ -1,11 +1,12 @@
-// One author, who makes each edit as it comes.
+//! One author, who makes each edit as it comes.
 
-ghost use Rattle.std.specs.Prelude.{◌≡◌, ◌<◌, ◌^◌, IsTrue, length, IfOk, IfErr, OnErr};
+ghost use Rattle.std.specs.Prelude.{◌≡◌, ◌<◌, ◌^◌, IsTrue, true, length, IfOk, IfErr, OnErr};
 ghost use Rattle.zed_op.specs.declared.op.Op.TheVariants.{BoardAdd, StatAdd, TextAdd};
+ghost use Rattle.zed_op.specs.Growth.{may_grow};
 ghost use Rattle.zed_op.specs.Fit.{Fits, is_in_range, is_in_table};
-ghost use Rattle.zed_op.specs.Set.{AllFit};
+ghost use Rattle.zed_op.specs.Set.{AllFit, IsRising, StampsRise, stamps_of};
 ghost use Rattle.zed_edit.specs.Document.{empty_document};
-ghost use Rattle.zed_edit.specs.Replay.{do_op, do_edit as done, pass_over, step as stepped, replay_on as replayed_on, replay as replayed};
+ghost use Rattle.zed_edit.specs.Replay.{MayGrow, do_op, do_edit as done, held as held_of, hold as held_back, step as stepped, replay_on as replayed_on, replay as replayed};
 
 use crate::board::{
     add_to_boards, fill_boards, new_board, remove_boards, remove_stats_on, set_boards, set_stats_on,
@@ -23,7 +24,7 @@ use zed_types::{BoardId, Bytes, Seq, Stamp, StatFields, StatId, TextId};
 fn add_board(alloc: Global, plain: &mut Plain, stamp: Stamp, name: &Bytes) -> Result<(), EditError>
     ensures added { IfOk result (λ _. plain.new ≡ do_op stamp (BoardAdd name.now) plain.old) }
     ensures memory { IfErr result (λ e. e ≡ EditError.Memory) }
-    ensures kept { plain.new.passed_over ≡ plain.old.passed_over }
+    ensures kept { plain.new.held ≡ plain.old.held }
 {
     let id = BoardId::new(stamp, 0);
     let player = StatId::new(stamp, 0);
@@ -39,7 +40,7 @@ fn add_stat(
 ) -> Result<(), EditError>
     ensures added { IfOk result (λ _. plain.new ≡ do_op stamp (StatAdd b fields) plain.old) }
     ensures memory { IfErr result (λ e. e ≡ EditError.Memory) }
-    ensures kept { plain.new.passed_over ≡ plain.old.passed_over }
+    ensures kept { plain.new.held ≡ plain.old.held }
 {
     let stat = new_stat(StatId::new(stamp, 0), false, fields);
     add_to_boards(plain.boards.as_mut_slice(), b, stat)
@@ -48,7 +49,7 @@ fn add_stat(
 fn add_text(alloc: Global, plain: &mut Plain, stamp: Stamp) -> Result<(), EditError>
     ensures added { IfOk result (λ _. plain.new ≡ do_op stamp TextAdd plain.old) }
     ensures memory { IfErr result (λ e. e ≡ EditError.Memory) }
-    ensures kept { plain.new.passed_over ≡ plain.old.passed_over }
+    ensures kept { plain.new.held ≡ plain.old.held }
 {
     let text = Text {
         id: TextId::new(stamp, 0),
@@ -62,7 +63,8 @@ fn do_edit(alloc: Global, plain: &mut Plain, edit: &Edit) -> Result<(), EditErro
     requires { IsTrue (is_in_range edit.now.op) }
     ensures made { IfOk result (λ _. plain.new ≡ done plain.old edit.now) }
     ensures memory { IfErr result (λ e. e ≡ EditError.Memory) }
-    ensures kept { plain.new.passed_over ≡ plain.old.passed_over }
+    ensures memory_only_when { IfErr result (λ e. may_grow edit.now.op ≡ true) }
+    ensures kept { plain.new.held ≡ plain.old.held }
 {
     let stamp = edit.stamp;
     match &edit.op {
@@ -85,38 +87,37 @@ fn do_edit(alloc: Global, plain: &mut Plain, edit: &Edit) -> Result<(), EditErro
     Ok(())
 }
 
-fn remember(plain: &mut Plain, edit: &Edit) -> Result<(), EditError>
-    ensures passed { IfOk result (λ _. plain.new ≡ pass_over plain.old edit.now) }
+fn hold(plain: &mut Plain, edit: &Edit) -> Result<(), EditError>
+    ensures result { IfOk result (λ _. plain.new ≡ held_back plain.old edit.now) }
     ensures memory { IfErr result (λ e. e ≡ EditError.Memory) }
-    ensures kept { OnErr result (plain.new.passed_over ≡ plain.old.passed_over) }
+    ensures kept { OnErr result (plain.new.held ≡ plain.old.held) }
 {
-    plain
-        .passed_over
-        .push(edit.stamp)
-        .map_err(EditError::of_growth)
+    plain.held.push(edit.stamp).map_err(EditError::of_growth)
 }
 
-/// Replays one edit more, which comes after those that the document has: does it where all that it names was made, and else remembers its stamp.
+/// Replays one edit more, which comes after those that the document has: does it where all that it names was made, and else keeps its stamp as that of a held edit.
 ///
-/// The caller gives an edit that fits. After `Memory` the document may be changed in part, so it is to be made again; only what it
-/// remembers of the edits passed over is as before.
+/// The caller gives an edit that fits. After `Memory` the document may be changed in part, so it is to be made again; only the
+/// stamps of the edits held are as before. It comes only from an edit that may let the document grow, or that is held.
 pub fn step(alloc: Global, plain: &mut Plain, edit: &Edit) -> Result<(), EditError>
     requires { Fits edit.now }
-    ensures stepped { IfOk result (λ _. plain.new ≡ stepped plain.old edit.now) }
+    ensures result { IfOk result (λ _. plain.new ≡ stepped plain.old edit.now) }
     ensures memory { IfErr result (λ e. e ≡ EditError.Memory) }
-    ensures kept { OnErr result (plain.new.passed_over ≡ plain.old.passed_over) }
+    ensures memory_only_when { IfErr result (λ e. MayGrow plain.old edit.now) }
+    ensures kept { OnErr result (plain.new.held ≡ plain.old.held) }
 {
     if can(alloc, plain, edit) {
         do_edit(alloc, plain, edit)
     } else {
-        remember(plain, edit)
+        hold(plain, edit)
     }
 }
 
 fn replay_on(alloc: Global, plain: &mut Plain, edits: &[Edit]) -> Result<(), EditError>
     requires { AllFit edits.now }
-    ensures replayed { IfOk result (λ _. plain.new ≡ replayed_on plain.old edits.now) }
+    ensures result { IfOk result (λ _. plain.new ≡ replayed_on plain.old edits.now) }
     ensures memory { IfErr result (λ e. e ≡ EditError.Memory) }
+    ensures memory_only_when { IfErr result (λ e. 0 < length edits.now) }
 {
     for edit in edits {
         step(alloc, plain, edit)?;
@@ -127,11 +128,14 @@ fn replay_on(alloc: Global, plain: &mut Plain, edits: &[Edit]) -> Result<(), Edi
 /// The document of one author who made these edits, one after the other.
 ///
 /// The caller gives edits that fit. In rising stamp order they are what the union of all authors' edits means. An edit that names a
-/// thing which isn't made yet is passed over, and told by `held`. `Memory` is the one refusal.
+/// thing which isn't made yet is held, and told by `held`. `Memory` is the one refusal, and none where there is no edit.
 pub fn replay(alloc: Global, edits: &[Edit]) -> Result<Plain, EditError>
     requires { AllFit edits.now }
-    ensures replayed { IfOk result (λ p. p ≡ replayed edits.now) }
+    ensures result { IfOk result (λ p. p ≡ replayed edits.now) }
+    ensures held { IfOk result (λ p. p.held ≡ stamps_of (held_of edits.now)) }
+    ensures sound { IfOk result (λ p. IsRising edits.now → StampsRise p.held) }
     ensures memory { IfErr result (λ e. e ≡ EditError.Memory) }
+    ensures memory_only_when { IfErr result (λ e. 0 < length edits.now) }
 {
     let mut plain = Plain::empty(alloc);
     replay_on(alloc, &mut plain, edits)?;

@@ -1,11 +1,11 @@
-// What edits do to the boards of a document.
+//! What edits do to the boards of a document.
 
-ghost use Rattle.std.specs.Prelude.{◌≡◌, ◌++◌, ◌∷◌, [], IsTrue, map, if◌then◌else◌, IfOk, IfErr};
-ghost use Rattle.zed_types.specs.Names.{same_board, same_stat};
+ghost use Rattle.std.specs.Prelude.{◌≡◌, ◌++◌, ◌∷◌, [], IsTrue, true, map, IfOk, IfErr};
 ghost use Rattle.zed_op.specs.Fit.{is_in_table};
-ghost use Rattle.zed_edit.specs.Board.{set_board_property, set_board_cells, remove_board, change_stats, add_stat, new_properties as properties_of_new, new_board as board_of_new};
+ghost use Rattle.zed_op.specs.Growth.{board_has_string};
+ghost use Rattle.zed_edit.specs.Board.{set_board_property, set_board_cells, remove_board, add_stat, new_properties as properties_of_new, new_board as board_of_new};
 ghost use Rattle.zed_edit.specs.Stat.{set_stat as stat_with, remove_stat};
-ghost use Rattle.zed_edit.specs.Document.{change_such};
+ghost use Rattle.zed_edit.specs.Document.{board_if, change_boards, change_stats_of};
 
 use crate::cells::{new_table, set_cells};
 use crate::plain::{Board, Properties, Stat};
@@ -16,8 +16,9 @@ use zed_op::EditError;
 use zed_types::{BoardId, BoardSetting, Bytes, Rectangle, Seq, StatId, StatSetting, Tile};
 
 fn set_if(board: &mut Board, b: BoardId, setting: &BoardSetting) -> Result<(), EditError>
-    ensures set { IfOk result (λ _. board.new ≡ (if same_board board.old.id b then set_board_property setting.now board.old else board.old)) }
+    ensures set { IfOk result (λ _. board.new ≡ board_if b (set_board_property setting.now) board.old) }
     ensures memory { IfErr result (λ e. e ≡ EditError.Memory) }
+    ensures memory_only_when { IfErr result (λ e. board_has_string setting.now ≡ true) }
 {
     if board.id == b {
         set_property(&mut board.properties, setting)?;
@@ -31,8 +32,9 @@ pub(crate) fn set_boards(
     b: BoardId,
     setting: &BoardSetting,
 ) -> Result<(), EditError>
-    ensures set { IfOk result (λ _. boards.new ≡ change_such (λ x. same_board x.id b) (set_board_property setting.now) boards.old) }
+    ensures set { IfOk result (λ _. boards.new ≡ change_boards b (set_board_property setting.now) boards.old) }
     ensures memory { IfErr result (λ e. e ≡ EditError.Memory) }
+    ensures memory_only_when { IfErr result (λ e. board_has_string setting.now ≡ true) }
 {
     for x in boards.iter_mut() {
         set_if(x, b, setting)?;
@@ -42,7 +44,7 @@ pub(crate) fn set_boards(
 
 fn fill_if(board: &mut Board, b: BoardId, r: Rectangle, tile: Tile)
     requires { IsTrue (is_in_table r) }
-    ensures { board.new ≡ (if same_board board.old.id b then set_board_cells r tile board.old else board.old) }
+    ensures { board.new ≡ board_if b (set_board_cells r tile) board.old }
 {
     if board.id == b {
         set_cells(&mut board.tiles, r, tile);
@@ -52,7 +54,7 @@ fn fill_if(board: &mut Board, b: BoardId, r: Rectangle, tile: Tile)
 /// Overwrites cells of the board of a name.
 pub(crate) fn fill_boards(boards: &mut [Board], b: BoardId, r: Rectangle, tile: Tile)
     requires { IsTrue (is_in_table r) }
-    ensures { boards.new ≡ change_such (λ x. same_board x.id b) (set_board_cells r tile) boards.old }
+    ensures { boards.new ≡ change_boards b (set_board_cells r tile) boards.old }
 {
     for x in boards.iter_mut() {
         fill_if(x, b, r, tile);
@@ -60,7 +62,7 @@ pub(crate) fn fill_boards(boards: &mut [Board], b: BoardId, r: Rectangle, tile: 
 }
 
 fn remove_if(board: &mut Board, b: BoardId)
-    ensures { board.new ≡ (if same_board board.old.id b then remove_board board.old else board.old) }
+    ensures { board.new ≡ board_if b remove_board board.old }
 {
     if board.id == b {
         board.removed = true;
@@ -69,7 +71,7 @@ fn remove_if(board: &mut Board, b: BoardId)
 
 /// Marks the board of a name removed.
 pub(crate) fn remove_boards(boards: &mut [Board], b: BoardId)
-    ensures { boards.new ≡ change_such (λ x. same_board x.id b) remove_board boards.old }
+    ensures { boards.new ≡ change_boards b remove_board boards.old }
 {
     for x in boards.iter_mut() {
         remove_if(x, b);
@@ -81,18 +83,14 @@ fn new_properties(alloc: Global, name: &Bytes) -> Result<Properties, EditError>
     ensures memory { IfErr result (λ e. e ≡ EditError.Memory) }
 {
     Ok(Properties {
-        name: name.copy().map_err(EditError::of_growth)?,
-        max_shots: 255,
-        dark: false,
-        north: None,
-        south: None,
-        west: None,
-        east: None,
-        re_enter: false,
-        message: Bytes::new(Vec::new(alloc)),
-        start_x: 30,
-        start_y: 12,
+        bytes: [255, 30, 12],
+        flags: [false; 2],
         time_limit: 0,
+        exits: [None; 4],
+        texts: [
+            name.copy().map_err(EditError::of_growth)?,
+            Bytes::new(Vec::new(alloc)),
+        ],
     })
 }
 
@@ -121,7 +119,7 @@ pub(crate) fn new_board(
 }
 
 fn add_if(board: &mut Board, b: BoardId, stat: Stat) -> Result<(), EditError>
-    ensures added { IfOk result (λ _. board.new ≡ (if same_board board.old.id b then add_stat stat board.old else board.old)) }
+    ensures added { IfOk result (λ _. board.new ≡ board_if b (add_stat stat) board.old) }
     ensures memory { IfErr result (λ e. e ≡ EditError.Memory) }
 {
     if board.id == b {
@@ -132,7 +130,7 @@ fn add_if(board: &mut Board, b: BoardId, stat: Stat) -> Result<(), EditError>
 
 /// Adds a stat to the board of a name.
 pub(crate) fn add_to_boards(boards: &mut [Board], b: BoardId, stat: Stat) -> Result<(), EditError>
-    ensures added { IfOk result (λ _. boards.new ≡ change_such (λ x. same_board x.id b) (add_stat stat) boards.old) }
+    ensures added { IfOk result (λ _. boards.new ≡ change_boards b (add_stat stat) boards.old) }
     ensures memory { IfErr result (λ e. e ≡ EditError.Memory) }
 {
     for x in boards.iter_mut() {
@@ -142,14 +140,14 @@ pub(crate) fn add_to_boards(boards: &mut [Board], b: BoardId, stat: Stat) -> Res
 }
 
 fn set_stats_of(board: &mut Board, s: StatId, setting: StatSetting)
-    ensures { board.new ≡ change_stats (change_such (λ x. same_stat x.id s) (stat_with setting)) board.old }
+    ensures { board.new ≡ change_stats_of s (stat_with setting) board.old }
 {
     set_stats(board.stats.as_mut_slice(), s, setting);
 }
 
 /// Overwrites a register of the stat of a name, whichever board it is on.
 pub(crate) fn set_stats_on(boards: &mut [Board], s: StatId, setting: StatSetting)
-    ensures { boards.new ≡ map (change_stats (change_such (λ x. same_stat x.id s) (stat_with setting))) boards.old }
+    ensures { boards.new ≡ map (change_stats_of s (stat_with setting)) boards.old }
 {
     for x in boards.iter_mut() {
         set_stats_of(x, s, setting);
@@ -157,14 +155,14 @@ pub(crate) fn set_stats_on(boards: &mut [Board], s: StatId, setting: StatSetting
 }
 
 fn remove_stats_of(board: &mut Board, s: StatId)
-    ensures { board.new ≡ change_stats (change_such (λ x. same_stat x.id s) remove_stat) board.old }
+    ensures { board.new ≡ change_stats_of s remove_stat board.old }
 {
     remove_stats(board.stats.as_mut_slice(), s);
 }
 
 /// Marks the stat of a name removed, whichever board it is on, but for a player.
 pub(crate) fn remove_stats_on(boards: &mut [Board], s: StatId)
-    ensures { boards.new ≡ map (change_stats (change_such (λ x. same_stat x.id s) remove_stat)) boards.old }
+    ensures { boards.new ≡ map (change_stats_of s remove_stat) boards.old }
 {
     for x in boards.iter_mut() {
         remove_stats_of(x, s);

@@ -1,4 +1,4 @@
-// The tiles of a board.
+//! The tiles of a board.
 
 ghost use Rattle.std.specs.Prelude.{◌≡◌, ◌≤◌, ◌-◌, ◌++◌, IsTrue, take, drop, replicate, length};
 ghost use Rattle.zed_types.specs.declared.tile.TheConstants.{TILES};

@@ -1,10 +1,9 @@
-// What the edit that makes the world does.
+//! What the edit that makes the world does.
 
-ghost use Rattle.std.specs.Prelude.{◌≡◌, ◌+◌, ◌<◌, ◌≤◌, ◌^◌, ◌++◌, length, option_to_list, Ok, IfOk, IfErr, IfSome};
+ghost use Rattle.std.specs.Prelude.{◌≡◌, ◌+◌, ◌<◌, ◌≤◌, ◌^◌, ◌++◌, length, option_to_list, Ok, IfOk, IfErr};
 ghost use Rattle.std.specs.List.{AllByRecursion, filter_map};
-ghost use Rattle.zed_types.specs.Table.{map_from};
 ghost use Rattle.zed_world.specs.Reading.{world_at};
-ghost use Rattle.zed_edit.specs.Genesis.{own_program, opened_boards, opened_text, opened_texts};
+ghost use Rattle.zed_edit.specs.Genesis.{HasShortProgram, HaveShortPrograms, own_program, opened_boards, texts_from, opened_texts};
 ghost use Rattle.zed_edit.specs.Replay.{open_world as world_opened};
 
 use crate::opened::{header_of, opened_board, programs_before};
@@ -47,8 +46,8 @@ fn open_text(
     stat: &StatData,
 ) -> Result<usize, EditError>
     requires few { t < 2 ^ 31 }
-    requires short { IfSome (own_program stat.now) (λ program. length program < 2 ^ 15) }
-    ensures added { IfOk result (λ _. texts.new ≡ texts.old ++ map_from (opened_text stamp) t (option_to_list (own_program stat.now))) }
+    requires short { HasShortProgram stat.now }
+    ensures added { IfOk result (λ _. texts.new ≡ texts.old ++ texts_from stamp t (option_to_list (own_program stat.now))) }
     ensures number { IfOk result (λ u. u ≡ t + length (option_to_list (own_program stat.now))) }
     ensures memory { IfErr result (λ e. e ≡ EditError.Memory) }
 {
@@ -74,8 +73,8 @@ fn open_texts_of(
 ) -> Result<usize, EditError>
     requires few { t < 2 ^ 30 }
     requires stats { length stats.now ≤ 151 }
-    requires short { AllByRecursion (λ s. IfSome (own_program s) (λ program. length program < 2 ^ 15)) stats.now }
-    ensures added { IfOk result (λ _. texts.new ≡ texts.old ++ map_from (opened_text stamp) t (filter_map own_program stats.now)) }
+    requires short { HaveShortPrograms stats.now }
+    ensures added { IfOk result (λ _. texts.new ≡ texts.old ++ texts_from stamp t (filter_map own_program stats.now)) }
     ensures number { IfOk result (λ u. u ≡ t + length (filter_map own_program stats.now)) }
     ensures few { IfOk result (λ u. u ≤ t + 151) }
     ensures memory { IfErr result (λ e. e ≡ EditError.Memory) }
@@ -96,7 +95,7 @@ fn open_texts(
 ) -> Result<(), EditError>
     requires few { length boards.now ≤ 101 }
     requires stats { AllByRecursion (λ b. length b.stats ≤ 151) boards.now }
-    requires short { AllByRecursion (λ b. AllByRecursion (λ s. IfSome (own_program s) (λ program. length program < 2 ^ 15)) b.stats) boards.now }
+    requires short { AllByRecursion (λ b. HaveShortPrograms b.stats) boards.now }
     ensures added { IfOk result (λ _. texts.new ≡ texts.old ++ opened_texts stamp boards.now) }
     ensures memory { IfErr result (λ e. e ≡ EditError.Memory) }
 {
@@ -115,7 +114,7 @@ fn open_contents(
 ) -> Result<(), EditError>
     ensures opened { IfOk result (λ _. plain.new ≡ world_opened stamp (Ok world.now) plain.old) }
     ensures memory { IfErr result (λ e. e ≡ EditError.Memory) }
-    ensures kept { plain.new.passed_over ≡ plain.old.passed_over }
+    ensures kept { plain.new.held ≡ plain.old.held }
 {
     let header = world.header();
     let boards = world.boards();
@@ -133,7 +132,7 @@ pub(crate) fn open_world(
 ) -> Result<(), EditError>
     ensures opened { IfOk result (λ _. plain.new ≡ world_opened stamp (world_at bytes.now) plain.old) }
     ensures memory { IfErr result (λ e. e ≡ EditError.Memory) }
-    ensures kept { plain.new.passed_over ≡ plain.old.passed_over }
+    ensures kept { plain.new.held ≡ plain.old.held }
 {
     match read_world(alloc, bytes) {
         Ok(world) => open_contents(alloc, plain, stamp, &world),

@@ -1,4 +1,4 @@
-// What was made in a document.
+//! What was made in a document.
 
 ghost use Rattle.std.specs.Prelude.{◌≡◌};
 ghost use Rattle.std.specs.List.{list_any};

@@ -1,12 +1,13 @@
-// What a setting does to the header.
+//! What a setting does to the header.
 
-ghost use Rattle.std.specs.Prelude.{◌≡◌, ◌<◌, [], replicate, IfOk, IfErr};
-ghost use Rattle.zed_edit.specs.Header.{with_number, empty_header as header_of_empty, set_header as header_with};
+ghost use Rattle.std.specs.Prelude.{◌≡◌, ◌<◌, [], replicate, true, IfOk, IfErr};
+ghost use Rattle.zed_op.specs.Growth.{header_has_string};
+ghost use Rattle.zed_edit.specs.Header.{empty_header as header_of_empty, set_header as header_with};
 
 use crate::plain::Header;
 use std::alloc::Global;
 use zed_op::EditError;
-use zed_types::{BoardId, Bytes, HeaderNumber, HeaderSetting};
+use zed_types::{BoardId, Bytes, HeaderSetting};
 
 fn no_bytes(alloc: Global) -> Bytes
     ensures { result ≡ [] }
@@ -36,15 +37,7 @@ pub(crate) fn empty_header(alloc: Global) -> Header
     ensures { result ≡ header_of_empty }
 {
     Header {
-        ammo: 0,
-        gems: 0,
-        health: 0,
-        torches: 0,
-        torch_ticks: 0,
-        energizer_ticks: 0,
-        score: 0,
-        time_passed: 0,
-        hundredths: 0,
+        numbers: [0; 9],
         keys: [false; 7],
         saved: false,
         current_board: BoardId::TITLE,
@@ -53,29 +46,14 @@ pub(crate) fn empty_header(alloc: Global) -> Header
     }
 }
 
-fn set_number(header: &mut Header, field: HeaderNumber, n: i16)
-    ensures { header.new ≡ with_number field n header.old }
-{
-    match field {
-        HeaderNumber::Ammo => header.ammo = n,
-        HeaderNumber::Gems => header.gems = n,
-        HeaderNumber::Health => header.health = n,
-        HeaderNumber::Torches => header.torches = n,
-        HeaderNumber::TorchTicks => header.torch_ticks = n,
-        HeaderNumber::EnergizerTicks => header.energizer_ticks = n,
-        HeaderNumber::Score => header.score = n,
-        HeaderNumber::TimePassed => header.time_passed = n,
-        HeaderNumber::Hundredths => header.hundredths = n,
-    }
-}
-
 /// Overwrites the register of a setting.
 pub(crate) fn set_header(header: &mut Header, setting: &HeaderSetting) -> Result<(), EditError>
     ensures set { IfOk result (λ _. header.new ≡ header_with setting.now header.old) }
     ensures memory { IfErr result (λ e. e ≡ EditError.Memory) }
+    ensures memory_only_when { IfErr result (λ e. header_has_string setting.now ≡ true) }
 {
     match setting {
-        HeaderSetting::Number(field, n) => set_number(header, *field, *n),
+        HeaderSetting::Number(field, n) => header.numbers[usize::from(field.index())] = *n,
         HeaderSetting::Key(key, held) => header.keys[usize::from(key.index())] = *held,
         HeaderSetting::Saved(saved) => header.saved = *saved,
         HeaderSetting::CurrentBoard(b) => header.current_board = *b,

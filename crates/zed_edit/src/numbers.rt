@@ -1,4 +1,4 @@
-// The numbers of boards and stats.
+//! The numbers of boards and stats.
 
 ghost use Rattle.std.specs.Prelude.{◌≡◌, not, find, filter, slice_get};
 ghost use Rattle.zed_types.specs.Names.{same_board};
@@ -16,7 +16,7 @@ fn board_named(plain: &Plain, b: BoardId) -> Option<&Board>
 
 /// Board `n` of those that are not removed.
 #[tactic(auto, using(crate::proofs::Finding::board_removed, crate::proofs::Finding::board_here, crate::proofs::Finding::board_further))]
-fn live_board(boards: &[Board], n: usize) -> Option<&Board>
+fn alive_board(boards: &[Board], n: usize) -> Option<&Board>
     ensures { lent result ≡ slice_get (filter (λ b. not b.removed) boards.now) n }
 {
     let mut left = n;
@@ -33,7 +33,7 @@ fn live_board(boards: &[Board], n: usize) -> Option<&Board>
 
 /// Stat `n` of those that are not removed.
 #[tactic(auto, using(crate::proofs::Finding::stat_removed, crate::proofs::Finding::stat_here, crate::proofs::Finding::stat_further))]
-fn live_stat(stats: &[Stat], n: usize) -> Option<&Stat>
+fn alive_stat(stats: &[Stat], n: usize) -> Option<&Stat>
     ensures { lent result ≡ slice_get (filter (λ s. not s.removed) stats.now) n }
 {
     let mut left = n;
@@ -53,7 +53,7 @@ impl Plain {
     pub fn board_numbered(&self, n: usize) -> Option<BoardId>
         ensures { result ≡ board_of_number self.now n }
     {
-        match live_board(self.boards.as_slice(), n) {
+        match alive_board(self.boards.as_slice(), n) {
             Some(b) => Some(b.id),
             None => None,
         }
@@ -68,7 +68,7 @@ impl Plain {
             Some(b) => b.stats.as_slice(),
             None => return None,
         };
-        match live_stat(stats, n) {
+        match alive_stat(stats, n) {
             Some(s) => Some(s.id),
             None => None,
         }

@@ -1,9 +1,8 @@
-// What stands in a world file, as it is in a document.
+//! What stands in a world file, as it is in a document.
 
 ghost use Rattle.std.specs.Prelude.{◌≡◌, ◌+◌, ◌<◌, ◌≤◌, ◌^◌, length, is_some, option_map, IfOk, IfErr};
-ghost use Rattle.zed_types.specs.Table.{map_from};
 ghost use Rattle.zed_types.specs.Names.{stat_of, text_of as name_of_text};
-ghost use Rattle.zed_edit.specs.Genesis.{exit_of as exit_to, header_of as header_in, properties_of as properties_in, own_program, programs_before as programs_below, text_number, parameter_of as parameter_in, opened_stat as stat_opened, opened_board as board_opened};
+ghost use Rattle.zed_edit.specs.Genesis.{exit_of as exit_to, header_of as header_in, properties_of as properties_in, own_program, programs_before as programs_below, text_number, parameter_of as parameter_in, opened_stat as stat_opened, opened_stats as stats_opened, opened_board as board_opened};
 
 use crate::plain::{Board, Header, Properties, Stat};
 use std::alloc::Global;
@@ -58,15 +57,17 @@ pub(crate) fn header_of(stamp: Stamp, header: &zed_world::Header) -> Result<Head
 {
     let flags = flags_of(header.flags.as_slice())?;
     Ok(Header {
-        ammo: header.ammo,
-        gems: header.gems,
-        health: header.health,
-        torches: header.torches,
-        torch_ticks: header.torch_ticks,
-        energizer_ticks: header.energizer_ticks,
-        score: header.score,
-        time_passed: header.time_passed,
-        hundredths: header.hundredths,
+        numbers: [
+            header.ammo,
+            header.gems,
+            header.health,
+            header.torches,
+            header.torch_ticks,
+            header.energizer_ticks,
+            header.score,
+            header.time_passed,
+            header.hundredths,
+        ],
         keys: header.keys,
         saved: header.saved,
         current_board: BoardId::new(stamp, u32::from(header.current_board)),
@@ -84,18 +85,16 @@ fn properties_of(
     ensures memory { IfErr result (λ e. e ≡ EditError.Memory) }
 {
     Ok(Properties {
-        name: copy_of(name)?,
-        max_shots: properties.max_shots,
-        dark: properties.dark,
-        north: exit_of(stamp, properties.north),
-        south: exit_of(stamp, properties.south),
-        west: exit_of(stamp, properties.west),
-        east: exit_of(stamp, properties.east),
-        re_enter: properties.re_enter,
-        message: copy_of(&properties.message)?,
-        start_x: properties.start_x,
-        start_y: properties.start_y,
+        bytes: [properties.max_shots, properties.start_x, properties.start_y],
+        flags: [properties.dark, properties.re_enter],
         time_limit: properties.time_limit,
+        exits: [
+            exit_of(stamp, properties.north),
+            exit_of(stamp, properties.south),
+            exit_of(stamp, properties.west),
+            exit_of(stamp, properties.east),
+        ],
+        texts: [copy_of(name)?, copy_of(&properties.message)?],
     })
 }
 
@@ -159,15 +158,9 @@ fn opened_stat(stamp: Stamp, m: usize, t: usize, board: &BoardData, j: usize, x:
         id: StatId::new(stamp, (m + j) as u32),
         is_player: j == 0,
         fields: StatFields {
-            x: x.x,
-            y: x.y,
-            step_x: x.step_x,
-            step_y: x.step_y,
-            cycle: x.cycle,
-            p1: x.p1,
-            p2: x.p2,
+            bytes: [x.x, x.y, x.p1, x.p2, x.under.element, x.under.colour],
+            numbers: [x.step_x, x.step_y, x.cycle],
             p3: parameter_of(stamp, board, x),
-            under: x.under,
             text: text_of(stamp, t, board.stats.as_slice(), j, &x.code),
         },
         position: x.position,
@@ -187,7 +180,7 @@ fn opened_stats(
     requires few { length board.now.stats ≤ 151 }
     requires stats { m < 2 ^ 31 }
     requires texts { t < 2 ^ 31 }
-    ensures are { IfOk result (λ ss. ss ≡ map_from (stat_opened stamp m t board.now) 0 board.now.stats) }
+    ensures are { IfOk result (λ ss. ss ≡ stats_opened stamp m t board.now) }
     ensures memory { IfErr result (λ e. e ≡ EditError.Memory) }
 {
     let mut opened = Seq::new(alloc);

@@ -1,3 +1,5 @@
+//! The document of one author.
+
 ghost use Rattle.std.specs.Prelude.{◌≡◌};
 ghost use Rattle.zed_edit.specs.Document.{empty_document};
 
@@ -8,37 +10,29 @@ use zed_types::{BoardId, Bytes, Seq, Stamp, StatFields, StatId, TILES, TextByte,
 /// The header registers.
 #[derive(Drop)]
 pub struct Header {
-    pub ammo: i16,
-    pub gems: i16,
-    pub health: i16,
-    pub torches: i16,
-    pub torch_ticks: i16,
-    pub energizer_ticks: i16,
-    pub score: i16,
-    pub time_passed: i16,
-    pub hundredths: i16,
+    /// By `HeaderNumber::index`.
+    pub numbers: [i16; 9],
+    /// By `KeyColour::index`.
     pub keys: [bool; 7],
     pub saved: bool,
     pub current_board: BoardId,
     pub world_name: Bytes,
+    /// By `FlagSlot::index`.
     pub flags: [Bytes; 10],
 }
 
 /// The registers of a board, its cells aside.
 #[derive(Drop)]
 pub struct Properties {
-    pub name: Bytes,
-    pub max_shots: u8,
-    pub dark: bool,
-    pub north: Option<BoardId>,
-    pub south: Option<BoardId>,
-    pub west: Option<BoardId>,
-    pub east: Option<BoardId>,
-    pub re_enter: bool,
-    pub message: Bytes,
-    pub start_x: u8,
-    pub start_y: u8,
+    /// By `BoardByte::index`.
+    pub bytes: [u8; 3],
+    /// By `BoardFlag::index`.
+    pub flags: [bool; 2],
     pub time_limit: i16,
+    /// By `Side::index`.
+    pub exits: [Option<BoardId>; 4],
+    /// By `BoardText::index`.
+    pub texts: [Bytes; 2],
 }
 
 /// A stat: its registers, whether it is the player of its board, and whether it is marked removed.
@@ -72,13 +66,13 @@ pub struct Text {
 }
 
 /// The document of one author. Boards, the stats of each, and texts stand in the order in which they were made, removed ones too,
-/// which is the order of their names. The edits that were passed over are told by their stamps.
+/// which is the order of their names. The edits that are held are told by their stamps.
 #[derive(Drop)]
 pub struct Plain {
     pub header: Header,
     pub boards: Seq<Board>,
     pub texts: Seq<Text>,
-    pub passed_over: Seq<Stamp>,
+    pub held: Seq<Stamp>,
 }
 
 impl Plain {
@@ -90,14 +84,14 @@ impl Plain {
             header: empty_header(alloc),
             boards: Seq::new(alloc),
             texts: Seq::new(alloc),
-            passed_over: Seq::new(alloc),
+            held: Seq::new(alloc),
         }
     }
 
-    /// The stamps of the edits that were passed over, rising.
+    /// The stamps of the edits that are held. After a replay in rising stamp order they rise.
     pub fn held(&self) -> &[Stamp]
-        ensures { result.now ≡ self.now.passed_over }
+        ensures { result.now ≡ self.now.held }
     {
-        self.passed_over.as_slice()
+        self.held.as_slice()
     }
 }

@@ -1,6 +1,6 @@
-// What a document shows of its texts.
+//! What a document shows of its texts.
 
-ghost use Rattle.std.specs.Prelude.{◌≡◌, ◌+◌, ◌++◌, length, map, option_map, IfOk, IfErr, Some, None};
+ghost use Rattle.std.specs.Prelude.{◌≡◌, ◌<◌, ◌+◌, ◌++◌, length, map, option_map, IfOk, IfErr, Some, None};
 ghost use Rattle.std.specs.List.{find, flat_map};
 ghost use Rattle.zed_types.specs.Names.{same_stat};
 ghost use Rattle.zed_types.specs.Text.{alive_bytes as bytes_alive};
@@ -32,7 +32,8 @@ fn stat_among(boards: &[Board], s: StatId) -> Option<&Stat>
 }
 
 fn alive_bytes(alloc: Global, elements: &[TextByte]) -> Result<Vec<u8>, AllocError>
-    ensures { IfOk result (λ v. v.items ≡ bytes_alive elements.now) }
+    ensures is { IfOk result (λ v. v.items ≡ bytes_alive elements.now) }
+    ensures memory_only_when { IfErr result (λ e. 0 < length (bytes_alive elements.now)) }
 {
     let mut bytes = Vec::new(alloc);
     for x in elements {
@@ -71,10 +72,11 @@ impl Plain {
         }
     }
 
-    /// The alive bytes of a text. A text that was not made has none. `Memory` is the one refusal.
+    /// The alive bytes of a text. A text that was not made has none. `Memory` is the one refusal, and none where there is no alive byte.
     pub fn text(&self, alloc: Global, t: TextId) -> Result<Vec<u8>, EditError>
         ensures is { IfOk result (λ v. v.items ≡ text_shown self.now t) }
         ensures memory { IfErr result (λ e. e ≡ EditError.Memory) }
+        ensures memory_only_when { IfErr result (λ e. 0 < length (text_shown self.now t)) }
     {
         match text_named(self, t) {
             Some(x) => alive_bytes(alloc, x.elements.as_slice()).map_err(EditError::of_growth),

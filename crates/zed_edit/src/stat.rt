@@ -1,34 +1,20 @@
-// What edits do to a stat.
+//! What edits do to a stat.
 
-ghost use Rattle.std.specs.Prelude.{◌≡◌, if◌then◌else◌};
+ghost use Rattle.std.specs.Prelude.{◌≡◌};
 ghost use Rattle.zed_types.specs.Names.{same_stat};
-ghost use Rattle.zed_edit.specs.Document.{change_such};
-ghost use Rattle.zed_edit.specs.Stat.{with_byte, with_number, set_stat as stat_with, player_fields as fields_of_player, remove_stat, new_stat as stat_of_new};
+ghost use Rattle.zed_types.specs.Stat.{stat_number_index};
+ghost use Rattle.zed_edit.specs.Document.{change_such, stat_if};
+ghost use Rattle.zed_edit.specs.Stat.{with_number, set_stat as stat_with, player_fields as fields_of_player, remove_stat, new_stat as stat_of_new};
 
 use crate::plain::Stat;
-use zed_types::{StatByte, StatFields, StatId, StatNumber, StatSetting, ThirdParameter, Tile};
-
-fn set_byte(fields: &mut StatFields, field: StatByte, n: u8)
-    ensures { fields.new ≡ with_byte field n fields.old }
-{
-    match field {
-        StatByte::X => fields.x = n,
-        StatByte::Y => fields.y = n,
-        StatByte::P1 => fields.p1 = n,
-        StatByte::P2 => fields.p2 = n,
-        StatByte::UnderElement => fields.under.element = n,
-        StatByte::UnderColour => fields.under.colour = n,
-    }
-}
+use zed_types::{StatFields, StatId, StatNumber, StatSetting, ThirdParameter};
 
 fn set_number(stat: &mut Stat, field: StatNumber, n: i16)
-    ensures { stat.new ≡ with_number field n stat.old }
+    ensures { stat.new ≡ with_number (stat_number_index field) n stat.old }
 {
-    match field {
-        StatNumber::StepX => stat.fields.step_x = n,
-        StatNumber::StepY => stat.fields.step_y = n,
-        StatNumber::Cycle => stat.fields.cycle = n,
-        StatNumber::Position => stat.position = n,
+    match field.index() {
+        Some(i) => stat.fields.numbers[usize::from(i)] = n,
+        None => stat.position = n,
     }
 }
 
@@ -37,7 +23,7 @@ pub(crate) fn set_stat(stat: &mut Stat, setting: StatSetting)
     ensures { stat.new ≡ stat_with setting stat.old }
 {
     match setting {
-        StatSetting::Byte(field, n) => set_byte(&mut stat.fields, field, n),
+        StatSetting::Byte(field, n) => stat.fields.bytes[usize::from(field.index())] = n,
         StatSetting::Number(field, n) => set_number(stat, field, n),
         StatSetting::P3(target) => stat.fields.p3 = target,
         StatSetting::Follower(follower) => stat.follower = follower,
@@ -51,21 +37,15 @@ pub(crate) fn player_fields() -> StatFields
     ensures { result ≡ fields_of_player }
 {
     StatFields {
-        x: 30,
-        y: 12,
-        step_x: 0,
-        step_y: 0,
-        cycle: 1,
-        p1: 0,
-        p2: 0,
+        bytes: [30, 12, 0, 0, 0, 0],
+        numbers: [0, 0, 1],
         p3: ThirdParameter::Byte(0),
-        under: Tile::EMPTY,
         text: None,
     }
 }
 
 fn set_if(stat: &mut Stat, s: StatId, setting: StatSetting)
-    ensures { stat.new ≡ (if same_stat stat.old.id s then stat_with setting stat.old else stat.old) }
+    ensures { stat.new ≡ stat_if s (stat_with setting) stat.old }
 {
     if stat.id == s {
         set_stat(stat, setting);
@@ -82,7 +62,7 @@ pub(crate) fn set_stats(stats: &mut [Stat], s: StatId, setting: StatSetting)
 }
 
 fn remove_if(stat: &mut Stat, s: StatId)
-    ensures { stat.new ≡ (if same_stat stat.old.id s then remove_stat stat.old else stat.old) }
+    ensures { stat.new ≡ stat_if s remove_stat stat.old }
 {
     if stat.id == s {
         stat.removed = !stat.is_player;

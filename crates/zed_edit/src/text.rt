@@ -1,10 +1,10 @@
-// What edits do to a text.
+//! What edits do to a text.
 
-ghost use Rattle.std.specs.Prelude.{◌≡◌, ◌≤◌, ◌<◌, ◌^◌, ◌++◌, ◌-◌, ◌∷◌, [], take, drop, length, if◌then◌else◌, IfOk, IfErr, IfSome};
+ghost use Rattle.std.specs.Prelude.{◌≡◌, ◌≤◌, ◌<◌, ◌^◌, ◌++◌, ◌-◌, ◌∷◌, [], take, drop, length, IfOk, IfErr, IfSome};
 ghost use Rattle.std.specs.List.{position};
-ghost use Rattle.zed_types.specs.Names.{same_text, same_element};
+ghost use Rattle.zed_types.specs.Names.{same_element};
 ghost use Rattle.zed_types.specs.Text.{run_from, put_after, kill, kill_within, is_within as is_in_range};
-ghost use Rattle.zed_edit.specs.Document.{change_such, change_elements};
+ghost use Rattle.zed_edit.specs.Document.{text_if, change_texts};
 
 use crate::plain::Text;
 use std::alloc::{AllocError, Global};
@@ -62,7 +62,7 @@ fn insert_if(
     bytes: &[u8],
 ) -> Result<(), EditError>
     requires { length bytes.now < 2 ^ 32 }
-    ensures put { IfOk result (λ _. text.new ≡ (if same_text text.old.id t then change_elements (put_after after (run_from stamp 0 bytes.now)) text.old else text.old)) }
+    ensures put { IfOk result (λ _. text.new ≡ text_if t (put_after after (run_from stamp 0 bytes.now)) text.old) }
     ensures memory { IfErr result (λ e. e ≡ EditError.Memory) }
 {
     if text.id == t {
@@ -82,7 +82,7 @@ pub(crate) fn insert_bytes(
     bytes: &[u8],
 ) -> Result<(), EditError>
     requires { length bytes.now < 2 ^ 32 }
-    ensures put { IfOk result (λ _. texts.new ≡ change_such (λ x. same_text x.id t) (change_elements (put_after after (run_from stamp 0 bytes.now))) texts.old) }
+    ensures put { IfOk result (λ _. texts.new ≡ change_texts t (put_after after (run_from stamp 0 bytes.now)) texts.old) }
     ensures memory { IfErr result (λ e. e ≡ EditError.Memory) }
 {
     for x in texts.iter_mut() {
@@ -114,7 +114,7 @@ fn kill_bytes(elements: &mut [TextByte], range: ByteRange)
 }
 
 fn delete_if(text: &mut Text, t: TextId, range: ByteRange)
-    ensures { text.new ≡ (if same_text text.old.id t then change_elements (kill range) text.old else text.old) }
+    ensures { text.new ≡ text_if t (kill range) text.old }
 {
     if text.id == t {
         kill_bytes(text.elements.as_mut_slice(), range);
@@ -123,7 +123,7 @@ fn delete_if(text: &mut Text, t: TextId, range: ByteRange)
 
 /// Marks bytes of the text of a name dead.
 pub(crate) fn delete_bytes(texts: &mut [Text], t: TextId, range: ByteRange)
-    ensures { texts.new ≡ change_such (λ x. same_text x.id t) (change_elements (kill range)) texts.old }
+    ensures { texts.new ≡ change_texts t (kill range) texts.old }
 {
     for x in texts.iter_mut() {
         delete_if(x, t, range);

@@ -20,7 +20,7 @@ use Rattle.zed_edit.specs.Board.{new_board, set_board_property, set_board_cells,
 use Rattle.zed_edit.specs.Stat.{set_stat, new_stat, remove_stat}
 use Rattle.zed_edit.specs.Document.{change_such}
 use Rattle.zed_edit.specs.Genesis.{opened_boards}
-use Rattle.zed_edit.specs.Replay.{open_world, can, do_op, do_edit, pass_over}
+use Rattle.zed_edit.specs.Replay.{open_world, can, do_op, do_edit, hold}
 use Rattle.zed_laws.specs.Registers.{overwritten, tile_in, tile_of, tile_of_op, CellsAreRegisters}
 use Rattle.zed_types.proofs.StampOrder.{same_board-true, same_board-apart}
 use Rattle.zed_laws.proofs.ChangedTexts.{map_option, find-change_same, find-change_apart}
@@ -109,7 +109,7 @@ still_there b i o _ h = h
 pub cells_are_registers : CellsAreRegisters
 cells_are_registers b i p e h = go (can p e)
   where
-    go : (v : Bool) → (tile_of b i (cond v (do_edit p e) (pass_over p e)) ≡ overwritten (tile_of b i p) (cond v (tile_of_op b i e.op) None)) × (is_some (tile_of b i (cond v (do_edit p e) (pass_over p e))) ≡ true)
+    go : (v : Bool) → (tile_of b i (cond v (do_edit p e) (hold p e)) ≡ overwritten (tile_of b i p) (cond v (tile_of_op b i e.op) None)) × (is_some (tile_of b i (cond v (do_edit p e) (hold p e))) ≡ true)
     go true =
         let k = tile-op b i e.stamp e.op p h in
         (k, ap is_some k ∙ still_there b i (tile_of b i p) e.op h)

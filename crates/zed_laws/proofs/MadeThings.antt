@@ -1,5 +1,5 @@
 -- What is there after an edit: what was there, and what the edit makes.
-use Rattle.std.proofs.Common.{◌≡◌, Bool, true, false, cond, ◌&&◌, ◌||◌, List, [], ◌∷◌, ◌++◌, map, Option, Some, None, Result, Ok, Err, refl, ap, ◌∙◌}
+use Rattle.std.proofs.Common.{◌≡◌, ℕ, Bool, true, false, cond, ◌&&◌, ◌||◌, List, [], ◌∷◌, ◌++◌, map, Option, Some, None, Result, Ok, Err, refl, ap, ◌∙◌}
 use Rattle.std.specs.List.{list_any, find}
 use Rattle.std.specs.Option.{option_or, is_some}
 use Rattle.std.proofs.lemmas.Bool.{and_parts}
@@ -11,7 +11,7 @@ use Rattle.zed_types.specs.declared.names.TextId.{TextId}
 use Rattle.zed_types.specs.declared.names.ElemId.{ElemId}
 use Rattle.zed_types.specs.declared.stat_field.StatSetting.{StatSetting}
 use Rattle.zed_types.specs.declared.stat_field.StatSetting.TheVariants.{Byte, Number}
-use Rattle.zed_types.specs.declared.stat_field.StatNumber.TheVariants.{StepX}
+use Rattle.zed_types.specs.Stat.{stat_number_index}
 use Rattle.zed_types.specs.declared.text.TextByte.{TextByte}
 use Rattle.zed_types.specs.declared.text.ByteRange.{ByteRange}
 use Rattle.zed_types.specs.Names.{board_of, stat_of, text_of, same_board, same_stat, same_text, same_element}
@@ -28,7 +28,7 @@ use Rattle.zed_edit.specs.declared.plain.Plain.{Plain as Document}
 use Rattle.zed_op.specs.declared.thing.Thing.{Thing}
 use Rattle.zed_op.specs.declared.thing.Thing.TheVariants.{Board as board, Stat as stat, Text as text, Element as element}
 use Rattle.zed_edit.specs.Board.{new_board, set_board_property, set_board_cells, add_stat, change_stats, remove_board}
-use Rattle.zed_edit.specs.Stat.{set_stat, new_stat, remove_stat}
+use Rattle.zed_edit.specs.Stat.{with_number, set_stat, new_stat, remove_stat}
 use Rattle.zed_edit.specs.Document.{change_such, change_elements, elements_in, find_text, has}
 use Rattle.zed_edit.specs.Genesis.{opened_boards, opened_texts}
 use Rattle.zed_op.specs.Names.{element_named, target_named, text_named, names_of}
@@ -126,8 +126,11 @@ list_any-add_stat s n b (c ∷ cs) = go (same_board c.id b) (list_any-add_stat s
 
 set_stat-id : (b : StatId) (setting : StatSetting) (x : Stat) → same_stat (set_stat setting x).id b ≡ same_stat x.id b
 set_stat-id b (Byte f n) x = refl
-set_stat-id b (Number StepX n) x = refl
-set_stat-id b (Number _ n) x = refl
+set_stat-id b (Number f n) x = with_number-id (stat_number_index f)
+  where
+    with_number-id : (o : Option ℕ) → same_stat (with_number o n x).id b ≡ same_stat x.id b
+    with_number-id (Some i) = refl
+    with_number-id None = refl
 set_stat-id b _ x = refl
 
 change_stats-any : (s y : StatId) (f : Stat → Stat) → ((x : Stat) → same_stat (f x).id s ≡ same_stat x.id s) → (bs : List Board) → list_any (any_stat s) (map (change_stats (change_such (λ x. same_stat x.id y) f)) bs) ≡ list_any (any_stat s) bs

@@ -1,5 +1,5 @@
 -- What is made stands in the order of its names.
-use Rattle.std.proofs.Common.{◌≡◌, ℕ, ◌+◌, ◌<◌, Bool, true, false, cond, ltb, List, [], ◌∷◌, ◌++◌, length, map, refl, arith, Result, Ok, Err}
+use Rattle.std.proofs.Common.{◌≡◌, ℕ, ℤ, ◌+◌, ◌<◌, Bool, true, false, cond, ltb, List, [], ◌∷◌, ◌++◌, length, map, refl, arith, Option, Some, None, Result, Ok, Err}
 use Rattle.std.specs.List.{AllByRecursion}
 use Rattle.std.proofs.lemmas.Bool.{lt-ltb}
 use Rattle.zed_types.specs.declared.stamp.Stamp.{Stamp}
@@ -9,8 +9,8 @@ use Rattle.zed_types.specs.declared.names.TextId.{TextId}
 use Rattle.zed_types.specs.declared.text.TextByte.{TextByte}
 use Rattle.zed_types.specs.declared.stat_field.StatSetting.{StatSetting}
 use Rattle.zed_types.specs.declared.stat_field.StatSetting.TheVariants as stat
-use Rattle.zed_types.specs.declared.stat_field.StatNumber.TheVariants.{StepX, StepY, Cycle, Position}
 use Rattle.zed_types.specs.Stamp.{before}
+use Rattle.zed_types.specs.Stat.{stat_number_index}
 use Rattle.zed_types.specs.Names.{name_of, board_of, stat_of, text_of, same_board, same_stat, same_text}
 use Rattle.zed_types.specs.Table.{map_from}
 use Rattle.zed_types.specs.Text.{run_from, put_after, kill}
@@ -29,7 +29,7 @@ use Rattle.zed_edit.specs.declared.plain.Stat.{Stat}
 use Rattle.zed_edit.specs.declared.plain.Text.{Text}
 use Rattle.zed_edit.specs.declared.plain.Plain.{Plain}
 use Rattle.zed_edit.specs.Board.{new_board, set_board_property, set_board_cells, add_stat, change_stats, remove_board}
-use Rattle.zed_edit.specs.Stat.{set_stat, new_stat, remove_stat}
+use Rattle.zed_edit.specs.Stat.{with_number, set_stat, new_stat, remove_stat}
 use Rattle.zed_edit.specs.Document.{empty_document, change_such, change_elements}
 use Rattle.zed_edit.specs.Genesis.{programs_of, programs_before, opened_stat, opened_boards, opened_boards_from, opened_text, opened_texts}
 use Rattle.zed_edit.specs.Replay.{can, do_op, open_world, step, replay_on}
@@ -105,12 +105,13 @@ pass-map stamp test f xs keeps h = All-map (λ x. test (stamp x) ≡ true) (λ x
 
 -- ---- what edits make
 
+with_number-id : (o : Option ℕ) (n : ℤ) (x : Stat) → (with_number o n x).id ≡ x.id
+with_number-id (Some i) n x = refl
+with_number-id None n x = refl
+
 set_stat-stamp : (setting : StatSetting) (x : Stat) → (set_stat setting x).id ≡ x.id
 set_stat-stamp (stat.Byte f n) x = refl
-set_stat-stamp (stat.Number StepX n) x = refl
-set_stat-stamp (stat.Number StepY n) x = refl
-set_stat-stamp (stat.Number Cycle n) x = refl
-set_stat-stamp (stat.Number Position n) x = refl
+set_stat-stamp (stat.Number f n) x = with_number-id (stat_number_index f) n x
 set_stat-stamp (stat.P3 o) x = refl
 set_stat-stamp (stat.Follower o) x = refl
 set_stat-stamp (stat.Leader o) x = refl

@@ -1,15 +1,15 @@
 -- Removing a thing and setting its registers: in either order.
-use Rattle.std.proofs.Common.{◌≡◌, Bool, true, false, cond, List, [], ◌∷◌, map, refl, ap, ◌∙◌}
+use Rattle.std.proofs.Common.{◌≡◌, ℕ, Bool, true, false, cond, List, [], ◌∷◌, map, Option, Some, None, refl, ap, ◌∙◌}
 use Rattle.zed_types.specs.declared.names.StatId.{StatId}
 use Rattle.zed_types.specs.declared.stat_field.StatSetting.{StatSetting}
 use Rattle.zed_types.specs.declared.stat_field.StatSetting.TheVariants.{Byte, Number}
-use Rattle.zed_types.specs.declared.stat_field.StatNumber.TheVariants.{StepX}
+use Rattle.zed_types.specs.Stat.{stat_number_index}
 use Rattle.zed_types.specs.Names.{same_board, same_stat}
 use Rattle.zed_edit.specs.declared.plain.Board.{Board}
 use Rattle.zed_edit.specs.declared.plain.Stat.{Stat}
 use Rattle.zed_edit.specs.declared.plain.Plain.{Plain as Document}
 use Rattle.zed_edit.specs.Board.{set_board_property, set_board_cells, change_stats, remove_board}
-use Rattle.zed_edit.specs.Stat.{set_stat, remove_stat}
+use Rattle.zed_edit.specs.Stat.{with_number, set_stat, remove_stat}
 use Rattle.zed_edit.specs.Document.{change_such}
 use Rattle.zed_laws.specs.Laws.{RemovedBoardIsSet, RemovedBoardIsDrawn, RemovedStatIsSet}
 
@@ -49,14 +49,20 @@ removed_board_is_drawn p r s b c cells tile =
 
 set_stat-id : (b : StatId) (setting : StatSetting) (x : Stat) → same_stat (set_stat setting x).id b ≡ same_stat x.id b
 set_stat-id b (Byte f n) x = refl
-set_stat-id b (Number StepX n) x = refl
-set_stat-id b (Number _ n) x = refl
+set_stat-id b (Number f n) x = with_number-id (stat_number_index f)
+  where
+    with_number-id : (o : Option ℕ) → same_stat (with_number o n x).id b ≡ same_stat x.id b
+    with_number-id (Some i) = refl
+    with_number-id None = refl
 set_stat-id b _ x = refl
 
 set_stat-removed : (setting : StatSetting) (x : Stat) → set_stat setting (remove_stat x) ≡ remove_stat (set_stat setting x)
 set_stat-removed (Byte f n) x = refl
-set_stat-removed (Number StepX n) x = refl
-set_stat-removed (Number _ n) x = refl
+set_stat-removed (Number f n) x = with_number-removed (stat_number_index f)
+  where
+    with_number-removed : (o : Option ℕ) → with_number o n (remove_stat x) ≡ remove_stat (with_number o n x)
+    with_number-removed (Some i) = refl
+    with_number-removed None = refl
 set_stat-removed _ x = refl
 
 abbrev with_stats : Board → List Stat → Board

@@ -9,8 +9,9 @@ use Rattle.zed_op.specs.declared.op.Op.TheVariants.{Genesis}
 use Rattle.zed_op.specs.declared.op.Edit.{Edit}
 use Rattle.zed_edit.specs.declared.plain.Plain.{Plain as Document}
 use Rattle.zed_edit.specs.Document.{empty_document}
-use Rattle.zed_edit.specs.Replay.{can, open_world, do_op, do_edit, pass_over, step, replay_on, replay, taken_on, taken, held_on, held}
-use Rattle.zed_laws.specs.Laws.{OneMoreIsOneStep, ReplayGoesOn, OneMoreIsTaken, OneMoreIsHeld, HeldArePassedOver}
+use Rattle.zed_edit.specs.Replay.{can, open_world, do_op, do_edit, hold, step, replay_on, replay, taken_on, taken, held_on, held}
+use Rattle.zed_edit.proofs.Held.{held-stamps}
+use Rattle.zed_laws.specs.Laws.{OneMoreIsOneStep, ReplayGoesOn, OneMoreIsTaken, OneMoreIsHeld, HeldAreRemembered}
 
 pub replay_on-append : (p : Document) (es fs : List Edit) → replay_on p (es ++ fs) ≡ replay_on (replay_on p es) fs
 replay_on-append p [] fs = refl
@@ -52,22 +53,5 @@ one_more_is_held es e = held_on-append empty_document es (e ∷ []) ∙ go (can 
     go true = append-nil (held es)
     go false = refl
 
--- what is done passes nothing over
-opened-passed_over : (s : Stamp) (r : Result Contents WorldError) (p : Document) → (open_world s r p).passed_over ≡ p.passed_over
-opened-passed_over s (Ok w) p = refl
-opened-passed_over s (Err e) p = refl
-
-pub do_op-passed_over : (s : Stamp) (op : Op) (p : Document) → (do_op s op p).passed_over ≡ p.passed_over
-do_op-passed_over s (Genesis bytes) p = opened-passed_over s (world_at bytes) p
-do_op-passed_over s _ p = refl
-
-passed_over-held : (p : Document) (es : List Edit) → (replay_on p es).passed_over ≡ p.passed_over ++ map (λ e. e.stamp) (held_on p es)
-passed_over-held p [] = sym (append-nil p.passed_over)
-passed_over-held p (e ∷ es) = go (can p e) (passed_over-held (do_edit p e) es) (passed_over-held (pass_over p e) es)
-  where
-    go : (b : Bool) → (replay_on (do_edit p e) es).passed_over ≡ (do_edit p e).passed_over ++ map (λ f. f.stamp) (held_on (do_edit p e) es) → (replay_on (pass_over p e) es).passed_over ≡ (p.passed_over ++ e.stamp ∷ []) ++ map (λ f. f.stamp) (held_on (pass_over p e) es) → (replay_on (cond b (do_edit p e) (pass_over p e)) es).passed_over ≡ p.passed_over ++ map (λ f. f.stamp) (cond b (held_on (cond b (do_edit p e) (pass_over p e)) es) (e ∷ held_on (cond b (do_edit p e) (pass_over p e)) es))
-    go true done passed = done ∙ ap (λ stamps. stamps ++ map (λ f. f.stamp) (held_on (do_edit p e) es)) (do_op-passed_over e.stamp e.op p)
-    go false done passed = passed ∙ append_assoc p.passed_over (e.stamp ∷ []) (map (λ f. f.stamp) (held_on (pass_over p e) es))
-
-pub held_are_passed_over : HeldArePassedOver
-held_are_passed_over es = sym (passed_over-held empty_document es)
+pub held_are_remembered : HeldAreRemembered
+held_are_remembered es = sym (held-stamps empty_document es)

@@ -19,15 +19,15 @@ use Rattle.zed_op.specs.declared.thing.Thing.{Thing}
 use Rattle.zed_op.specs.declared.thing.Thing.TheVariants.{Board as board, Stat as stat, Text as text, Element as element}
 use Rattle.zed_edit.specs.Document.{find_text, has}
 use Rattle.zed_op.specs.Names.{names_of}
-use Rattle.zed_edit.specs.Replay.{can, do_edit, pass_over, step, taken_on, held_on}
+use Rattle.zed_edit.specs.Replay.{can, do_edit, hold, step, taken_on, held_on}
 use Rattle.zed_laws.specs.Laws.{MadeStaysMade, MadeOutlastsEdits, MadeTheSame, TakenByWhatIsMade, HeldByWhatIsMade, MadeByWhatIsMade}
 use Rattle.zed_laws.proofs.MadeThings.{find-any, has_in, makes, opened, grown, has-do_op}
 
-pub has-pass_over : (p : Document) (e : Edit) (x : Thing) → has (pass_over p e) x ≡ has p x
-has-pass_over p e (board b) = refl
-has-pass_over p e (stat s) = refl
-has-pass_over p e (text t) = refl
-has-pass_over p e (element t a) = refl
+pub has-hold : (p : Document) (e : Edit) (x : Thing) → has (hold p e) x ≡ has p x
+has-hold p e (board b) = refl
+has-hold p e (stat s) = refl
+has-hold p e (text t) = refl
+has-hold p e (element t a) = refl
 
 -- a byte that is there is in a text that is there
 text_of_byte : (p : Document) (t : TextId) (a : ElemId) → has p (element t a) ≡ true → has p (text t) ≡ true
@@ -55,9 +55,9 @@ grown-keeps p s op x h = ap (λ b. makes s op x || b) h ∙ or_kept_right (makes
 pub made_stays_made : MadeStaysMade
 made_stays_made p e x h = go (can p e) refl
   where
-    go : (b : Bool) → can p e ≡ b → has (cond b (do_edit p e) (pass_over p e)) x ≡ true
+    go : (b : Bool) → can p e ≡ b → has (cond b (do_edit p e) (hold p e)) x ≡ true
     go true c = has-do_op e.stamp e.op p x c ∙ grown-keeps p e.stamp e.op x h
-    go false c = has-pass_over p e x ∙ h
+    go false c = has-hold p e x ∙ h
 
 pub made_outlasts_edits : MadeOutlastsEdits
 made_outlasts_edits p [] x h = h
@@ -70,11 +70,11 @@ can-same p q e h = ap (λ made. list_all made (names_of e.op)) (fun_ext h)
 step-same : (p q : Document) (e : Edit) → MadeTheSame p q → MadeTheSame (step p e) (step q e)
 step-same p q e h x = go (can p e) refl (can q e) refl
   where
-    go : (b : Bool) → can p e ≡ b → (c : Bool) → can q e ≡ c → has (cond b (do_edit p e) (pass_over p e)) x ≡ has (cond c (do_edit q e) (pass_over q e)) x
+    go : (b : Bool) → can p e ≡ b → (c : Bool) → can q e ≡ c → has (cond b (do_edit p e) (hold p e)) x ≡ has (cond c (do_edit q e) (hold q e)) x
     go true b true c = has-do_op e.stamp e.op p x b ∙ ap (λ made. grown made e.stamp e.op x) (fun_ext h) ∙ sym (has-do_op e.stamp e.op q x c)
     go true b false c = let k = can-same p q e h in absurd (cc)
     go false b true c = let k = can-same p q e h in absurd (cc)
-    go false b false c = has-pass_over p e x ∙ h x ∙ sym (has-pass_over q e x)
+    go false b false c = has-hold p e x ∙ h x ∙ sym (has-hold q e x)
 
 pub made_by_what_is_made : MadeByWhatIsMade
 made_by_what_is_made p q [] h = h

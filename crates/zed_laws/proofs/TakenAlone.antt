@@ -19,20 +19,20 @@ use Rattle.zed_edit.specs.Document.{empty_document, has}
 use Rattle.zed_op.specs.Names.{names_of, stamp_of}
 use Rattle.zed_op.specs.Fit.{Fits, genesis_stamp, is_author_stamp, is_stamp, is_own_stamp}
 use Rattle.zed_op.specs.Set.{AllFit}
-use Rattle.zed_edit.specs.Replay.{can, open_world, do_op, do_edit, pass_over, step, replay_on, replay, taken_on, taken, held_on, held}
+use Rattle.zed_edit.specs.Replay.{can, open_world, do_op, do_edit, hold, step, replay_on, replay, taken_on, taken, held_on, held}
 use Rattle.zed_laws.specs.Laws.{TakenMakeAll, LateEditHoldsNone, LateEditHoldsNoOther}
 use Rattle.zed_types.proofs.StampOrder.{same_stamp-true}
-use Rattle.zed_laws.proofs.ReplaySteps.{held_on-append, held_are_passed_over}
+use Rattle.zed_laws.proofs.ReplaySteps.{held_on-append, held_are_remembered}
 use Rattle.zed_laws.proofs.MadeThings.{makes, grown, has-do_op}
 use Rattle.zed_op.proofs.Sets.{Member, Member-from, Member-to}
-use Rattle.zed_laws.proofs.SameThings.{has-pass_over, made_stays_made}
+use Rattle.zed_laws.proofs.SameThings.{has-hold, made_stays_made}
 use Rattle.zed_op.proofs.FitParts.{fit_is_each_part}
 use Rattle.zed_laws.proofs.LateInsertion.{rising-high}
 use Rattle.zed_laws.proofs.DoneEdits.{all_done, AllCan, AllCan-none_held, AllCan-tail, replay_on-all_done}
 
 -- a document that remembers other stamps
 abbrev remembering : Document → List Stamp → Document
-remembering p stamps = record p { passed_over = stamps }
+remembering p stamps = record p { held = stamps }
 
 has-remembering : (p : Document) (stamps : List Stamp) (x : Thing) → has (remembering p stamps) x ≡ has p x
 has-remembering p stamps (board b) = refl
@@ -53,9 +53,9 @@ do_op-remembering s _ p stamps = refl
 
 taken_make : (p : Document) (stamps : List Stamp) (es : List Edit) → replay_on (remembering p stamps) (taken_on p es) ≡ remembering (replay_on p es) stamps
 taken_make p stamps [] = refl
-taken_make p stamps (e ∷ es) = go (can p e) refl (taken_make (do_edit p e) stamps es) (taken_make (pass_over p e) stamps es)
+taken_make p stamps (e ∷ es) = go (can p e) refl (taken_make (do_edit p e) stamps es) (taken_make (hold p e) stamps es)
   where
-    go : (b : Bool) → can p e ≡ b → replay_on (remembering (do_edit p e) stamps) (taken_on (do_edit p e) es) ≡ remembering (replay_on (do_edit p e) es) stamps → replay_on (remembering (pass_over p e) stamps) (taken_on (pass_over p e) es) ≡ remembering (replay_on (pass_over p e) es) stamps → replay_on (remembering p stamps) (cond b (e ∷ taken_on (cond b (do_edit p e) (pass_over p e)) es) (taken_on (cond b (do_edit p e) (pass_over p e)) es)) ≡ remembering (replay_on (cond b (do_edit p e) (pass_over p e)) es) stamps
+    go : (b : Bool) → can p e ≡ b → replay_on (remembering (do_edit p e) stamps) (taken_on (do_edit p e) es) ≡ remembering (replay_on (do_edit p e) es) stamps → replay_on (remembering (hold p e) stamps) (taken_on (hold p e) es) ≡ remembering (replay_on (hold p e) es) stamps → replay_on (remembering p stamps) (cond b (e ∷ taken_on (cond b (do_edit p e) (hold p e)) es) (taken_on (cond b (do_edit p e) (hold p e)) es)) ≡ remembering (replay_on (cond b (do_edit p e) (hold p e)) es) stamps
     go true c done passed =
         let k = can-remembering p stamps e ∙ c in
         let l : step (remembering p stamps) e ≡ remembering (do_edit p e) stamps = rw k (do_op-remembering e.stamp e.op p stamps) in
@@ -67,7 +67,7 @@ no_stamps [] h = refl
 no_stamps (e ∷ es) h = absurd (cc)
 
 pub taken_make_all : TakenMakeAll
-taken_make_all es = (same, no_stamps (held (taken es)) (held_are_passed_over (taken es) ∙ ap (λ p. p.passed_over) same))
+taken_make_all es = (same, no_stamps (held (taken es)) (held_are_remembered (taken es) ∙ ap (λ p. p.held) same))
   where
     same : replay (taken es) ≡ remembering (replay es) []
     same = taken_make empty_document [] es
@@ -160,16 +160,16 @@ held_fewer : (p q : Document) (es : List Edit) → AllByRecursion (λ e. OpensNo
 held_fewer p q [] o m f h = h
 held_fewer p q (e ∷ es) o m f h =
     go (can p e) refl (can q e) refl (λ c d k. held_fewer (do_edit p e) (do_edit q e) es o.1 (do_edit_more p q e o.0 m c d) f k)
-    (λ d k. held_fewer (pass_over p e) (do_edit q e) es o.1 (done d) f k)
-    (λ k. held_fewer (pass_over p e) (pass_over q e) es o.1 passed f k)
+    (λ d k. held_fewer (hold p e) (do_edit q e) es o.1 (done d) f k)
+    (λ k. held_fewer (hold p e) (hold q e) es o.1 passed f k)
   where
-    passed : HasMore (pass_over p e) (pass_over q e)
-    passed x k = has-pass_over q e x ∙ m x (sym (has-pass_over p e x) ∙ k)
+    passed : HasMore (hold p e) (hold q e)
+    passed x k = has-hold q e x ∙ m x (sym (has-hold p e x) ∙ k)
 
-    done : can q e ≡ true → HasMore (pass_over p e) (do_edit q e)
-    done d x k = done_more q e d x (m x (sym (has-pass_over p e x) ∙ k))
+    done : can q e ≡ true → HasMore (hold p e) (do_edit q e)
+    done d x k = done_more q e d x (m x (sym (has-hold p e x) ∙ k))
 
-    go : (b : Bool) → can p e ≡ b → (c : Bool) → can q e ≡ c → (can p e ≡ true → can q e ≡ true → Member f (held_on (do_edit q e) es) → Member f (held_on (do_edit p e) es)) → (can q e ≡ true → Member f (held_on (do_edit q e) es) → Member f (held_on (pass_over p e) es)) → (Member f (held_on (pass_over q e) es) → Member f (held_on (pass_over p e) es)) → Member f (held_on p (e ∷ es))
+    go : (b : Bool) → can p e ≡ b → (c : Bool) → can q e ≡ c → (can p e ≡ true → can q e ≡ true → Member f (held_on (do_edit q e) es) → Member f (held_on (do_edit p e) es)) → (can q e ≡ true → Member f (held_on (do_edit q e) es) → Member f (held_on (hold p e) es)) → (Member f (held_on (hold q e) es) → Member f (held_on (hold p e) es)) → Member f (held_on p (e ∷ es))
     go true b true c both right none = let k = rw c at h in rw b (both b c k)
     go true b false c both right none = let d = all_more (has p) (has q) m (names_of e.op) b in absurd (cc)
     go false b true c both right none = let k = rw c at h in rw b (inr (right c k))
@@ -198,7 +198,7 @@ held_with p e f high o h = go (can p e) refl
         let k = rw b at h in
         elim k [
           | inl i ↦ inl (sym i)
-          | inr l ↦ inr (held_fewer p (pass_over p e) high o (λ x n. has-pass_over p e x ∙ n) f l)
+          | inr l ↦ inr (held_fewer p (hold p e) high o (λ x n. has-hold p e x ∙ n) f l)
         ]
 
 pub late_edit_holds_no_other : LateEditHoldsNoOther

@@ -36,8 +36,8 @@ abbrev pub OneMoreIsHeld : Type 0
 OneMoreIsHeld = (es : List Edit) (e : Edit) → held (es ++ e ∷ []) ≡ (if can (replay es) e then held es else held es ++ e ∷ [])
 
 -- a document remembers just the stamps of the edits that are held
-abbrev pub HeldArePassedOver : Type 0
-HeldArePassedOver = (es : List Edit) → map (λ e. e.stamp) (held es) ≡ (replay es).passed_over
+abbrev pub HeldAreRemembered : Type 0
+HeldAreRemembered = (es : List Edit) → map (λ e. e.stamp) (held es) ≡ (replay es).held
 
 -- what is made stays made, whatever edit comes
 abbrev pub MadeStaysMade : Type 0
@@ -91,7 +91,7 @@ deletion s t range = record { stamp = s; op = TextDelete t range }
 
 -- the edits taken make by themselves all that the replay shows but the stamps of those held, and none of them is held
 abbrev pub TakenMakeAll : Type 0
-TakenMakeAll = (es : List Edit) → (replay (taken es) ≡ record (replay es) { passed_over = [] }) × (held (taken es) ≡ [])
+TakenMakeAll = (es : List Edit) → (replay (taken es) ≡ record (replay es) { held = [] }) × (held (taken es) ≡ [])
 
 -- a late edit that can be done at its place leaves no edit held that was not
 abbrev pub LateEditHoldsNone : Type 0

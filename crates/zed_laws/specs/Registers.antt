@@ -1,5 +1,5 @@
 -- Registers of a document: the greatest stamp wins.
-use Rattle.std.specs.Prelude.{◌≡◌, ℕ, ℤ, Bool, true, ◌&&◌, if◌then◌else◌, List, ◌∷◌, ◌++◌, filter_map, find, slice_get, is_some, Option, Some, None, option_map, Result, Ok, Err}
+use Rattle.std.specs.Prelude.{◌≡◌, ℕ, ℤ, Bool, true, ◌&&◌, ◌==◌, if◌then◌else◌, List, ◌∷◌, ◌++◌, filter_map, find, slice_get, is_some, Option, Some, None, option_map, Result, Ok, Err}
 use Rattle.zed_types.specs.declared.stamp.Stamp.{Stamp}
 use Rattle.zed_types.specs.declared.written.Written.{Written}
 use Rattle.zed_types.specs.declared.names.BoardId.{BoardId}
@@ -8,7 +8,7 @@ use Rattle.zed_types.specs.Names.{same_board}
 use Rattle.zed_types.specs.Table.{is_inside, place_at}
 use Rattle.zed_types.specs.Register.{keep_later, latest_of, value_or}
 use Rattle.zed_types.specs.declared.header.HeaderNumber.{HeaderNumber}
-use Rattle.zed_types.specs.declared.header.HeaderNumber.TheVariants.{Ammo, Gems, Health, Torches, TorchTicks, EnergizerTicks, Score, TimePassed, Hundredths}
+use Rattle.zed_types.specs.Header.{header_number_index}
 use Rattle.zed_types.specs.declared.header.HeaderSetting.{HeaderSetting}
 use Rattle.zed_types.specs.declared.header.HeaderSetting.TheVariants.{Number}
 use Rattle.zed_world.specs.Contents.{Contents}
@@ -65,45 +65,29 @@ LateWriteIsCompared V =
     → IsRising (low ++ e ∷ high)
     → latest_of None (writes_of writes (low ++ e ∷ high)) ≡ kept_after e.stamp (latest_of None (writes_of writes (low ++ high))) (writes e)
 
--- a number of the header
-abbrev pub number : HeaderNumber → Header → ℤ
-number Ammo h = h.ammo
-number Gems h = h.gems
-number Health h = h.health
-number Torches h = h.torches
-number TorchTicks h = h.torch_ticks
-number EnergizerTicks h = h.energizer_ticks
-number Score h = h.score
-number TimePassed h = h.time_passed
-number Hundredths h = h.hundredths
+-- a number of the header, if it is there
+abbrev pub number : HeaderNumber → Header → Option ℤ
+number f h = slice_get h.numbers (header_number_index f)
 
 -- the number that a setting gives, if it is of this field
-abbrev pub number_set : HeaderNumber → HeaderSetting → Option ℤ
-number_set Ammo (Number Ammo n) = Some n
-number_set Gems (Number Gems n) = Some n
-number_set Health (Number Health n) = Some n
-number_set Torches (Number Torches n) = Some n
-number_set TorchTicks (Number TorchTicks n) = Some n
-number_set EnergizerTicks (Number EnergizerTicks n) = Some n
-number_set Score (Number Score n) = Some n
-number_set TimePassed (Number TimePassed n) = Some n
-number_set Hundredths (Number Hundredths n) = Some n
-number_set _ _ = None
+abbrev pub number_set : HeaderNumber → HeaderSetting → Option (Option ℤ)
+number_set f (Number g n) = if header_number_index g == header_number_index f then Some (Some n) else None
+number_set f _ = None
 
 -- the number that a world file gives, if it is one
-abbrev pub number_read : HeaderNumber → Stamp → Result Contents WorldError → Option ℤ
+abbrev pub number_read : HeaderNumber → Stamp → Result Contents WorldError → Option (Option ℤ)
 number_read f s (Ok w) = Some (number f (header_of s w.header))
 number_read f s (Err e) = None
 
 -- what an edit writes into a number of the header
-abbrev pub number_of_op : HeaderNumber → Stamp → Op → Option ℤ
+abbrev pub number_of_op : HeaderNumber → Stamp → Op → Option (Option ℤ)
 number_of_op f s (Genesis bytes) = number_read f s (world_at bytes)
 number_of_op f s (SetHeader setting) = number_set f setting
 number_of_op f s _ = None
 
 -- each number of the header is a register of every document
 abbrev pub HeaderNumbersAreRegisters : Type 0
-HeaderNumbersAreRegisters = (f : HeaderNumber) → IsRegister (λ p. true) (λ p. number f p.header) (λ e. number_of_op f e.stamp e.op)
+HeaderNumbersAreRegisters = (f : HeaderNumber) → IsRegister (λ p. is_some (number f p.header)) (λ p. number f p.header) (λ e. number_of_op f e.stamp e.op)
 
 -- tile i of the table of a board, if there is one
 abbrev pub tile_in : ℕ → Option Board → Option Tile

@@ -1,5 +1,5 @@
 -- What holds of every document that edits that fit make: but for the limits on what a world file can hold, it can stand in one.
-use Rattle.std.specs.Prelude.{◌≡◌, ◌≤◌, true, false, List, [], ◌∷◌, length}
+use Rattle.std.specs.Prelude.{◌≡◌, ◌≤◌, ℕ, true, false, List, [], ◌∷◌, length}
 use Rattle.std.specs.List.{AllByRecursion}
 use Rattle.zed_types.specs.declared.tile.TheConstants.{TILES}
 use Rattle.zed_types.specs.Names.{same_board}
@@ -12,8 +12,9 @@ use Rattle.zed_types.specs.Names.{title}
 use Rattle.zed_op.specs.Set.{AllFit}
 use Rattle.zed_edit.specs.Replay.{replay}
 
--- seven keys, ten flags, and strings of at most 20 bytes
+-- nine numbers, seven keys, ten flags, and strings of at most 20 bytes
 pub record IsRegularHeader (h : Header) : Type 0 where
+  pub numbers : length h.numbers ≡ 9
   pub keys : length h.keys ≡ 7
   pub world_name : length h.world_name ≤ 20
   pub flags : length h.flags ≡ 10
@@ -24,14 +25,21 @@ abbrev pub HasPlayer : List Stat → Type 0
 HasPlayer [] = ⊥
 HasPlayer (s ∷ ss) = (s.is_player ≡ true) × (s.removed ≡ false)
 
+-- a name of at most 50 bytes, and a message of at most 58
+abbrev pub AreTexts : List (List ℕ) → Type 0
+AreTexts [] = ⊥
+AreTexts (name ∷ []) = ⊥
+AreTexts (name ∷ message ∷ []) = (length name ≤ 50) × (length message ≤ 58)
+AreTexts (name ∷ message ∷ more ∷ texts) = ⊥
+
 -- a whole table, strings that a file has room for, and a player; the title isn't removed
 pub record IsRegularBoard (b : Board) : Type 0 where
-  pub name : length b.properties.name ≤ 50
-  pub message : length b.properties.message ≤ 58
+  pub texts : AreTexts b.properties.texts
   pub tiles : length b.tiles ≡ TILES
   pub player : HasPlayer b.stats
   pub title_stays : same_board b.id title ≡ true → b.removed ≡ false
 
+-- the header and each board are regular
 pub record IsRegular (p : Plain) : Type 0 where
   pub header : IsRegularHeader p.header
   pub boards : AllByRecursion IsRegularBoard p.boards

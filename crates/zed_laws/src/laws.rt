@@ -1,4 +1,4 @@
-ghost use Rattle.zed_laws.specs.Laws.{OneMoreIsOneStep, ReplayGoesOn, OneMoreIsTaken, OneMoreIsHeld, HeldArePassedOver, MadeStaysMade, MadeOutlastsEdits, TakenByWhatIsMade, HeldByWhatIsMade, MadeByWhatIsMade, RemovedBoardIsSet, RemovedBoardIsDrawn, RemovedStatIsSet, TakenMakeAll, LateEditHoldsNone, LateEditHoldsNoOther, LateInsertion, LateDeletion};
+ghost use Rattle.zed_laws.specs.Laws.{OneMoreIsOneStep, ReplayGoesOn, OneMoreIsTaken, OneMoreIsHeld, HeldAreRemembered, MadeStaysMade, MadeOutlastsEdits, TakenByWhatIsMade, HeldByWhatIsMade, MadeByWhatIsMade, RemovedBoardIsSet, RemovedBoardIsDrawn, RemovedStatIsSet, TakenMakeAll, LateEditHoldsNone, LateEditHoldsNoOther, LateInsertion, LateDeletion};
 ghost use Rattle.zed_laws.specs.Registers.{GreatestStampWins, LateWriteIsCompared, HeaderNumbersAreRegisters, CellsAreRegisters};
 
 /// What one more edit at the end makes of a replay, of the edits taken and of those held.
@@ -11,7 +11,7 @@ pub fn replay_goes_edit_by_edit()
 
 /// The stamps that a document keeps are those of the edits that are held.
 pub fn held_edits_are_remembered()
-    ensures { HeldArePassedOver }
+    ensures { HeldAreRemembered }
 {}
 
 /// What is made stays made, removed or not, whatever edits come.

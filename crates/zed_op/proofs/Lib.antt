@@ -1,3 +1,4 @@
 pub mod FitParts
+pub mod RealSizes
 pub mod SetLaws
 pub mod Sets

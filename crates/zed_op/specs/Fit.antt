@@ -53,6 +53,7 @@ is_at_most n s = nat_le (length s) n
 abbrev pub is_in_table : Rectangle → Bool
 is_in_table r = (nat_le 1 r.left && nat_le r.left r.right && nat_le r.right 60) && (nat_le 1 r.top && nat_le r.top r.bottom && nat_le r.bottom 25)
 
+-- the string of a header register is short enough
 abbrev pub is_header_in_range : HeaderSetting → Bool
 is_header_in_range (WorldName s) = is_at_most 20 s
 is_header_in_range (FlagSetting k s) = is_at_most 20 s
@@ -63,6 +64,7 @@ abbrev pub most_of : BoardText → ℕ
 most_of Name = 50
 most_of Message = 58
 
+-- the string of a board's register is short enough
 abbrev pub is_property_in_range : BoardSetting → Bool
 is_property_in_range (TextProperty f s) = is_at_most (most_of f) s
 is_property_in_range _ = true
@@ -82,10 +84,12 @@ is_in_range _ = true
 abbrev pub names_earlier : Edit → Bool
 names_earlier e = list_all (λ x. before (stamp_of x) e.stamp) (names_of e.op)
 
+-- what was written is just these bytes
 abbrev pub is_text_of : List ℕ → Result (List ℕ) WorldError → Bool
 is_text_of bytes (Ok text) = bytes_eq bytes text
 is_text_of bytes (Err e) = false
 
+-- what was read is written again as just these bytes
 abbrev pub is_rewritten : List ℕ → Result Contents WorldError → Bool
 is_rewritten bytes (Ok w) = is_text_of bytes (written 32767 w)
 is_rewritten bytes (Err e) = false
@@ -94,6 +98,7 @@ is_rewritten bytes (Err e) = false
 unfoldable pub is_canonical : List ℕ → Bool
 is_canonical bytes = is_rewritten bytes (world_at bytes)
 
+-- the bytes of a Genesis are a world file as this editor writes it
 abbrev pub has_good_world : Op → Bool
 has_good_world (Genesis bytes) = is_canonical bytes
 has_good_world _ = true

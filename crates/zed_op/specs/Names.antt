@@ -19,34 +19,42 @@ use Rattle.zed_op.specs.declared.op.Op.TheVariants.{Genesis, SetHeader, BoardAdd
 use Rattle.zed_op.specs.declared.thing.Thing.{Thing}
 use Rattle.zed_op.specs.declared.thing.Thing.TheVariants.{Board as board, Stat as stat, Text as text, Element as element}
 
+-- the board that may be named
 abbrev pub board_named : Option BoardId → List Thing
 board_named None = []
 board_named (Some b) = board b ∷ []
 
+-- the stat that may be named
 abbrev pub stat_named : Option StatId → List Thing
 stat_named None = []
 stat_named (Some s) = stat s ∷ []
 
+-- the text that may be named
 abbrev pub text_named : Option TextId → List Thing
 text_named None = []
 text_named (Some t) = text t ∷ []
 
+-- the byte of a text that may be named
 abbrev pub element_named : TextId → Option ElemId → List Thing
 element_named t None = []
 element_named t (Some a) = element t a ∷ []
 
+-- the board that a third parameter may name
 abbrev pub target_named : ThirdParameter → List Thing
 target_named (third.Byte n) = []
 target_named (third.Board b) = board b ∷ []
 
+-- what the value of a header register names
 abbrev pub header_names : HeaderSetting → List Thing
 header_names (CurrentBoard b) = board b ∷ []
 header_names _ = []
 
+-- what the value of a board's register names
 abbrev pub board_names : BoardSetting → List Thing
 board_names (Exit side b) = board_named b
 board_names _ = []
 
+-- what the value of a stat's register names
 abbrev pub stat_names : StatSetting → List Thing
 stat_names (P3 target) = target_named target
 stat_names (Follower s) = stat_named s

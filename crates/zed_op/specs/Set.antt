@@ -1,6 +1,7 @@
 -- Sets of edits. A set that agrees is its list in rising stamp order.
-use Rattle.std.specs.Prelude.{◌≡◌, true, if◌then◌else◌, List, [], ◌∷◌, Contains}
+use Rattle.std.specs.Prelude.{◌≡◌, true, if◌then◌else◌, List, [], ◌∷◌, map, Contains}
 use Rattle.std.specs.List.{AllByRecursion}
+use Rattle.zed_types.specs.declared.stamp.Stamp.{Stamp}
 use Rattle.zed_types.specs.Stamp.{before, same_stamp}
 use Rattle.zed_op.specs.declared.op.Edit.{Edit}
 use Rattle.zed_op.specs.Fit.{Fits}
@@ -13,6 +14,15 @@ Agrees es = (e f : Edit) → Contains es e → Contains es f → e.stamp ≡ f.s
 abbrev pub IsRising : List Edit → Type 0
 IsRising [] = Unit {0}
 IsRising (e ∷ es) = AllByRecursion (λ f. before e.stamp f.stamp ≡ true) es × IsRising es
+
+-- each stamp is later than those before it
+abbrev pub StampsRise : List Stamp → Type 0
+StampsRise [] = Unit {0}
+StampsRise (s ∷ ss) = AllByRecursion (λ r. before s r ≡ true) ss × StampsRise ss
+
+-- the stamps of edits
+abbrev pub stamps_of : List Edit → List Stamp
+stamps_of es = map (λ e. e.stamp) es
 
 -- every edit fits
 abbrev pub AllFit : List Edit → Type 0

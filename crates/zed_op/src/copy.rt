@@ -1,4 +1,7 @@
-ghost use Rattle.std.specs.Prelude.{◌≡◌, IfOk, IfErr};
+//! Equal edits.
+
+ghost use Rattle.std.specs.Prelude.{◌≡◌, IfOk, IfErr, true};
+ghost use Rattle.zed_op.specs.Growth.{header_has_string, board_has_string, has_string};
 ghost use Rattle.zed_op.specs.declared.cause.EditError.TheVariants.{Memory};
 
 use crate::cause::EditError;
@@ -15,6 +18,7 @@ fn copy_bytes(bytes: &Bytes) -> Result<Bytes, EditError>
 fn copy_header_setting(setting: &HeaderSetting) -> Result<HeaderSetting, EditError>
     ensures ok { IfOk result (λ s. s ≡ setting.now) }
     ensures err { IfErr result (λ e. e ≡ Memory) }
+    ensures memory_only_when { IfErr result (λ e. header_has_string setting.now ≡ true) }
 {
     Ok(match setting {
         HeaderSetting::Number(field, value) => HeaderSetting::Number(*field, *value),
@@ -29,6 +33,7 @@ fn copy_header_setting(setting: &HeaderSetting) -> Result<HeaderSetting, EditErr
 fn copy_board_setting(setting: &BoardSetting) -> Result<BoardSetting, EditError>
     ensures ok { IfOk result (λ s. s ≡ setting.now) }
     ensures err { IfErr result (λ e. e ≡ Memory) }
+    ensures memory_only_when { IfErr result (λ e. board_has_string setting.now ≡ true) }
 {
     Ok(match setting {
         BoardSetting::Byte(field, value) => BoardSetting::Byte(*field, *value),
@@ -43,6 +48,7 @@ impl Op {
     fn copy(&self) -> Result<Op, EditError>
         ensures ok { IfOk result (λ op. op ≡ self.now) }
         ensures err { IfErr result (λ e. e ≡ Memory) }
+        ensures memory_only_when { IfErr result (λ e. has_string self.now ≡ true) }
     {
         Ok(match self {
             Op::Genesis(bytes) => Op::Genesis(copy_bytes(bytes)?),
@@ -64,10 +70,11 @@ impl Op {
 }
 
 impl Edit {
-    /// An equal edit. The only refusal is want of memory, for an edit that holds a string.
+    /// An equal edit. The only refusal is want of memory, for an edit that has a string or bytes.
     pub fn copy(&self) -> Result<Edit, EditError>
         ensures ok { IfOk result (λ e. e ≡ self.now) }
         ensures err { IfErr result (λ e. e ≡ Memory) }
+        ensures memory_only_when { IfErr result (λ e. has_string self.now.op ≡ true) }
     {
         Ok(Edit {
             stamp: self.stamp,

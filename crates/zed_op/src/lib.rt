@@ -8,6 +8,7 @@ mod laws;
 mod naming;
 mod op;
 mod same;
+mod sizes;
 mod thing;
 
 pub use cause::{Cause, EditError};
@@ -18,4 +19,5 @@ pub use laws::{
 };
 pub use naming::names;
 pub use op::{Edit, Op};
+pub use sizes::{edit_has_sizes, edits_have_sizes};
 pub use thing::Thing;

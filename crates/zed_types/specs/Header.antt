@@ -1,5 +1,7 @@
--- The places of keys and flags in a header.
-use Rattle.std.specs.Prelude.{ℕ}
+-- The registers of a header: the place of each among those of its kind, and its number in an edit file.
+use Rattle.std.specs.Prelude.{ℕ, ◌==◌, if◌then◌else◌, Option, Some, None}
+use Rattle.zed_types.specs.declared.header.HeaderNumber.{HeaderNumber}
+use Rattle.zed_types.specs.declared.header.HeaderNumber.TheVariants.{Ammo, Gems, Health, Torches, TorchTicks, EnergizerTicks, Score, TimePassed, Hundredths}
 use Rattle.zed_types.specs.declared.header.KeyColour.{KeyColour}
 use Rattle.zed_types.specs.declared.header.KeyColour.TheVariants.{Blue, Green, Cyan, Red, Purple, Yellow, White}
 use Rattle.zed_types.specs.declared.header.FlagSlot.{FlagSlot}
@@ -27,3 +29,29 @@ flag_index Seventh = 6
 flag_index Eighth = 7
 flag_index Ninth = 8
 flag_index Tenth = 9
+
+-- the place of a number of a header among the numbers of a header, which is its number in an edit file
+abbrev pub header_number_index : HeaderNumber → ℕ
+header_number_index Ammo = 0
+header_number_index Gems = 1
+header_number_index Health = 2
+header_number_index Torches = 3
+header_number_index TorchTicks = 4
+header_number_index EnergizerTicks = 5
+header_number_index Score = 6
+header_number_index TimePassed = 7
+header_number_index Hundredths = 8
+
+-- the number of a header with a number in an edit file
+abbrev pub header_number_of_field : ℕ → Option HeaderNumber
+header_number_of_field n =
+    if n == 0 then Some Ammo else
+    if n == 1 then Some Gems else
+    if n == 2 then Some Health else
+    if n == 3 then Some Torches else
+    if n == 4 then Some TorchTicks else
+    if n == 5 then Some EnergizerTicks else
+    if n == 6 then Some Score else
+    if n == 7 then Some TimePassed else
+    if n == 8 then Some Hundredths else
+    None

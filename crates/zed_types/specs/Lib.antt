@@ -1,8 +1,10 @@
+pub mod Board
 pub mod Elements
 pub mod Header
 pub mod Lending
 pub mod Names
 pub mod Register
 pub mod Stamp
+pub mod Stat
 pub mod Table
 pub mod Text

@@ -1,5 +1,7 @@
+//! The registers of a world's header.
+
 ghost use Rattle.std.specs.Prelude.{◌≡◌, ◌<◌};
-ghost use Rattle.zed_types.specs.Header.{flag_index, key_index};
+ghost use Rattle.zed_types.specs.Header.{flag_index, header_number_index, header_number_of_field, key_index};
 
 use crate::bytes::Bytes;
 use crate::names::BoardId;
@@ -16,6 +18,44 @@ pub enum HeaderNumber {
     Score,
     TimePassed,
     Hundredths,
+}
+
+impl HeaderNumber {
+    /// Its place among the numbers of a header, from 0.
+    pub fn index(self) -> u8
+        ensures is { result ≡ header_number_index self }
+        ensures within { result < 9 }
+    {
+        match self {
+            HeaderNumber::Ammo => 0,
+            HeaderNumber::Gems => 1,
+            HeaderNumber::Health => 2,
+            HeaderNumber::Torches => 3,
+            HeaderNumber::TorchTicks => 4,
+            HeaderNumber::EnergizerTicks => 5,
+            HeaderNumber::Score => 6,
+            HeaderNumber::TimePassed => 7,
+            HeaderNumber::Hundredths => 8,
+        }
+    }
+
+    /// The number of a header with this number in an edit file, if there is one.
+    pub fn of_field(field: u8) -> Option<HeaderNumber>
+        ensures { result ≡ header_number_of_field field }
+    {
+        match field {
+            0 => Some(HeaderNumber::Ammo),
+            1 => Some(HeaderNumber::Gems),
+            2 => Some(HeaderNumber::Health),
+            3 => Some(HeaderNumber::Torches),
+            4 => Some(HeaderNumber::TorchTicks),
+            5 => Some(HeaderNumber::EnergizerTicks),
+            6 => Some(HeaderNumber::Score),
+            7 => Some(HeaderNumber::TimePassed),
+            8 => Some(HeaderNumber::Hundredths),
+            _ => None,
+        }
+    }
 }
 
 /// The colours of the seven keys, in the order in which the header has them.
