@@ -21,7 +21,7 @@ use Rattle.zed_world.specs.declared.error.WorldError.{WorldError}
 use Rattle.zed_world.specs.declared.board.BoardData.{BoardData}
 use Rattle.zed_world.specs.declared.stat.StatData.{StatData}
 use Rattle.zed_world.specs.Reading.{world_at}
-use Rattle.zed_world.specs.Normal.{IsInteger, IsNormal, IsNormalBoard, AreNormalStats}
+use Rattle.zed_world.specs.Normal.{IsInteger, HasNormalParts, IsNormalBoard, AreNormalStats}
 use Rattle.zed_op.specs.declared.op.Op.{Op}
 use Rattle.zed_op.specs.declared.op.Op.TheVariants.{Genesis, SetHeader, BoardAdd, BoardRemove, SetBoard, SetCells, StatAdd, StatRemove, SetStat, TextAdd, TextInsert, TextDelete}
 use Rattle.zed_op.specs.declared.op.Edit.{Edit}
@@ -101,7 +101,7 @@ all_opened s n m t boards [] h = tt
 all_opened s n m t boards (b ∷ bs) h =
     (record { time_limit = h.0.properties.time_limit; stats = opened_stats s m t b boards (length b.stats) b.tiles 0 [] b.stats h.0.stats }, all_opened s (n + 1) (m + length b.stats) (t + programs_before (length b.stats) b.stats) boards bs h.1)
 
-world_kept : (s : Stamp) (r : Result Contents WorldError) (p : Plain) → ((w : Contents) → r ≡ Ok w → IsNormal w) → HasIntegers p → HasIntegers (open_world s r p)
+world_kept : (s : Stamp) (r : Result Contents WorldError) (p : Plain) → ((w : Contents) → r ≡ Ok w → HasNormalParts w) → HasIntegers p → HasIntegers (open_world s r p)
 world_kept s (Err e) p normal h = h
 world_kept s (Ok w) p normal h =
     let n = normal w refl in

@@ -24,7 +24,7 @@ use Rattle.zed_world.specs.declared.error.WorldError.{WorldError}
 use Rattle.zed_world.specs.declared.board.BoardData.{BoardData}
 use Rattle.zed_world.specs.declared.stat.StatData.{StatData}
 use Rattle.zed_world.specs.Reading.{world_at}
-use Rattle.zed_world.specs.Normal.{IsNormal, IsNormalBoard}
+use Rattle.zed_world.specs.Normal.{HasNormalParts, IsNormalBoard}
 use Rattle.zed_op.specs.declared.cause.Cause.TheVariants as cause
 use Rattle.zed_op.specs.declared.op.Op.{Op}
 use Rattle.zed_op.specs.declared.op.Op.TheVariants.{Genesis, SetHeader, BoardAdd, BoardRemove, SetBoard, SetCells, StatAdd, StatRemove, SetStat, TextAdd, TextInsert, TextDelete}
@@ -155,9 +155,9 @@ all_opened s n m t boards (b ∷ bs) h = (opened_regular s n m t boards b h.0, a
 
 -- what is read from a file is normal
 abbrev pub ReadIsNormal : Type 0
-ReadIsNormal = (bytes : List ℕ) (w : Contents) → world_at bytes ≡ Ok w → IsNormal w
+ReadIsNormal = (bytes : List ℕ) (w : Contents) → world_at bytes ≡ Ok w → HasNormalParts w
 
-world_regular : (s : Stamp) (r : Result Contents WorldError) (p : Plain) → ((w : Contents) → r ≡ Ok w → IsNormal w) → IsRegular p → IsRegular (open_world s r p)
+world_regular : (s : Stamp) (r : Result Contents WorldError) (p : Plain) → ((w : Contents) → r ≡ Ok w → HasNormalParts w) → IsRegular p → IsRegular (open_world s r p)
 world_regular s (Err e) p normal h = h
 world_regular s (Ok w) p normal h =
     let n = normal w refl in
