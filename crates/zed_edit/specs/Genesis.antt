@@ -30,8 +30,8 @@ exit_of s (suc n) = Some (board_of s (suc n))
 abbrev pub header_of : Stamp → world_header.Header → Header
 header_of s h = record {
   numbers =
-    h.ammo ∷ h.gems ∷ h.health ∷ h.torches ∷ h.torch_ticks
-    ∷ h.energizer_ticks ∷ h.score ∷ h.time_passed ∷ h.hundredths ∷ [];
+      h.ammo ∷ h.gems ∷ h.health ∷ h.torches ∷ h.torch_ticks
+      ∷ h.energizer_ticks ∷ h.score ∷ h.time_passed ∷ h.hundredths ∷ [];
   keys = h.keys;
   saved = h.saved;
   current_board = board_of s h.current_board;

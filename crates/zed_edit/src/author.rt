@@ -92,10 +92,7 @@ fn hold(plain: &mut Plain, edit: &Edit) -> Result<(), EditError>
     ensures memory { IfErr result (λ e. e ≡ EditError.Memory) }
     ensures kept { OnErr result (plain.new.held ≡ plain.old.held) }
 {
-    plain
-        .held
-        .push(edit.stamp)
-        .map_err(EditError::of_growth)
+    plain.held.push(edit.stamp).map_err(EditError::of_growth)
 }
 
 /// Replays one edit more, which comes after those that the document has: does it where all that it names was made, and else keeps its stamp as that of a held edit.

@@ -23,7 +23,9 @@ pub(crate) fn set_property(
         BoardSetting::TimeLimit(n) => properties.time_limit = *n,
         BoardSetting::Exit(side, board) => properties.exits[usize::from(side.index())] = *board,
         BoardSetting::Text(field, text) => {
-            properties.texts[usize::from(field.index())] = text.copy().map_err(EditError::of_growth)?
+            properties.texts[usize::from(field.index())] = text
+                .copy()
+                .map_err(EditError::of_growth)?
         }
     }
     Ok(())

@@ -12,11 +12,7 @@ use zed_op::EditError;
 use zed_types::{ByteRange, ElemId, Seq, Stamp, TextByte, TextId};
 
 /// The bytes of an insertion under their names.
-pub(crate) fn run_of(
-    alloc: Global,
-    stamp: Stamp,
-    bytes: &[u8],
-) -> Result<Vec<TextByte>, AllocError>
+pub(crate) fn run_of(alloc: Global, stamp: Stamp, bytes: &[u8]) -> Result<Vec<TextByte>, AllocError>
     requires { length bytes.now < 2 ^ 32 }
     ensures { IfOk result (λ run. run.items ≡ run_from stamp 0 bytes.now) }
 {

@@ -8,7 +8,7 @@ use Rattle.zed_op.specs.declared.op.Op.TheVariants.{Genesis, SetHeader, BoardAdd
 use Rattle.zed_editfile.specs.declared.error.EditFileError.TheVariants.{BadEdit}
 use Rattle.zed_editfile.specs.Spelling.{stamp, number, board_name, stat_name, text_name, element_name, optional, tile, rectangle, board_setting, stat_setting, stat_fields, op_text}
 use Rattle.zed_editfile.specs.Reading.{◌>>=◌, Field, mapped, byte_at, string_at, board_name_at, stat_name_at, header_setting_at, set_board_at, set_cells_at, stat_add_at, set_stat_at, text_insert_at, text_delete_at, op_at}
-use Rattle.zed_editfile.specs.Sizes.{IsOp}
+use Rattle.zed_op.specs.Sizes.{IsOp}
 use Rattle.zed_editfile.proofs.Numbers.{IsBytes}
 use Rattle.zed_editfile.proofs.Codec.{IsField, Completes, ok_is, takes_then, takes_end, takes_mapped, takes_choice, takes_none, again_then, string_field, tile_field, rectangle_field}
 use Rattle.zed_editfile.proofs.Names.{board_name_field, stat_name_field, text_name_field, element_name_field, optional_field, range_field, range_text}

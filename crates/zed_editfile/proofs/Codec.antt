@@ -1,5 +1,5 @@
 -- A field that is read is spelled so, and a field that is spelled is read again, whatever follows it.
-use Rattle.std.proofs.Common.{◌≡◌, ℕ, ℤ, suc, ◌^◌, ◌<◌, ◌≤◌, Bool, true, false, cond, ltb, eqb, List, [], ◌∷◌, ◌++◌, length, take, drop, Result, Ok, Err, SFits, w16, pos, negsuc, ◌-◌, refl, sym, ap, subst, ◌∙◌, append_assoc, arith, ◌⊎◌, inl, inr}
+use Rattle.std.proofs.Common.{◌≡◌, ℕ, ℤ, suc, ◌^◌, ◌<◌, ◌≤◌, Bool, true, false, cond, ltb, eqb, Option, Some, None, List, [], ◌∷◌, ◌++◌, length, take, drop, Result, Ok, Err, SFits, w16, pos, negsuc, ◌-◌, refl, sym, ap, subst, ◌∙◌, append_assoc, arith, ◌⊎◌, inl, inr}
 use Rattle.std.specs.Int.{cast_signed, cast_unsigned}
 use Rattle.std.proofs.lemmas.Bool.{ltb-true, ltb-false, le-ltb, eqb-true}
 use Rattle.std.proofs.lemmas.Int.{to_z-of_z}
@@ -10,8 +10,8 @@ use Rattle.zed_op.specs.declared.cause.Cause.TheVariants.{Short, Tag}
 use Rattle.zed_editfile.specs.declared.error.EditFileError.{EditFileError}
 use Rattle.zed_editfile.specs.declared.error.EditFileError.TheVariants.{BadEdit}
 use Rattle.zed_editfile.specs.Spelling.{number, integer, boolean, string, stamp, tile, rectangle}
-use Rattle.zed_editfile.specs.Reading.{◌>>=◌, Field, mapped, byte_at, number_at, integer_at, boolean_at, string_at, stamp_at, tile_at, rectangle_at}
-use Rattle.zed_editfile.specs.Sizes.{IsString, IsStamp, IsTile, IsRectangle}
+use Rattle.zed_editfile.specs.Reading.{◌>>=◌, Field, mapped, by_kind, byte_at, number_at, integer_at, boolean_at, string_at, stamp_at, tile_at, rectangle_at}
+use Rattle.zed_op.specs.Sizes.{IsString, IsStamp, IsTile, IsRectangle}
 use Rattle.zed_editfile.proofs.Numbers.{IsBytes, IsBytes-drop, IsBytes-rest, length_number, number_is, number_below, number_back}
 
 -- the value of a step that did not fail
@@ -77,6 +77,17 @@ pub takes_choice : {C : Type 0} (good : C → Type 0) (spell : C → List ℕ) (
     → (b ≡ true → Completes good spell front r) → (b ≡ false → Completes good spell front s) → Completes good spell front (λ bytes. cond b (r bytes) (s bytes))
 takes_choice good spell front true r s g h = g refl
 takes_choice good spell front false r s g h = h refl
+
+-- a register of a kind, if the number is of that kind
+pub takes_kind : {A C : Type 0} (good : C → Type 0) (spell : C → List ℕ) (front : List ℕ → List ℕ) (o : Option A) (r : A → List ℕ → Field C) (s : List ℕ → Field C)
+    → ((a : A) → o ≡ Some a → Completes good spell front (r a)) → (o ≡ None → Completes good spell front s) → Completes good spell front (λ bytes. by_kind o (λ a. r a bytes) (s bytes))
+takes_kind good spell front None r s g h = h refl
+takes_kind good spell front (Some a) r s g h = g a refl
+
+-- a value that is found where a test holds, or else elsewhere
+pub some_if : {A : Type 0} (P : A → Type 0) (b : Bool) (x y : A) (o : Option A) → (b ≡ true → P x) → (o ≡ Some y → P y) → cond b (Some x) o ≡ Some y → P y
+some_if P true x y o g h e = let same : x ≡ y = cc in subst P same (g refl)
+some_if P false x y o g h e = h e
 
 pub takes_none : {C : Type 0} (good : C → Type 0) (spell : C → List ℕ) (front : List ℕ → List ℕ) (d : EditFileError) → Completes good spell front (λ bytes. Err d)
 takes_none good spell front d = record { takes = λ bytes x fits e. absurd cc }

@@ -1,5 +1,5 @@
 -- How long the body of a fitting edit is.
-use Rattle.std.proofs.Common.{◌≡◌, ℕ, leb, ℤ, ◌+◌, ◌*◌, ◌≤◌, true, Option, Some, None, List, ◌∷◌, ◌++◌, length, Result, Ok, Err, refl, ap, sym, ◌∙◌, length-append, arith}
+use Rattle.std.proofs.Common.{◌≡◌, ℕ, leb, ℤ, ◌+◌, ◌*◌, ◌≤◌, true, Option, Some, None, List, [], ◌∷◌, ◌++◌, length, take, drop, length-take, length-drop, Result, Ok, Err, refl, ap, sym, ◌∙◌, length-append, arith}
 use Rattle.std.proofs.lemmas.Bool.{leb-true, le-leb, and_parts}
 use Rattle.std.proofs.lemmas.Slice.Eq.{bytes_eq-Decides}
 use Rattle.zed_types.specs.declared.stamp.Stamp.{Stamp}
@@ -27,6 +27,8 @@ use Rattle.zed_op.specs.declared.op.Op.{Op}
 use Rattle.zed_op.specs.declared.op.Op.TheVariants.{Genesis, SetHeader, BoardAdd, BoardRemove, SetBoard, SetCells, StatAdd, StatRemove, SetStat, TextAdd, TextInsert, TextDelete}
 use Rattle.zed_op.specs.declared.op.Edit.{Edit}
 use Rattle.zed_op.specs.Fit.{is_header_in_range, is_property_in_range, is_in_range, is_text_of, is_rewritten, is_canonical, has_good_world}
+use Rattle.std.specs.List.{flat_map}
+use Rattle.zed_op.specs.Sizes.{IsStatFields, IsOp}
 use Rattle.zed_editfile.specs.Stream.{is_length}
 use Rattle.zed_editfile.specs.Spelling.{integer, stamp, name, optional, board_name, stat_name, text_name, element_name, third_parameter, header_setting, board_setting, stat_setting, stat_fields, op_text, spelling}
 use Rattle.zed_editfile.proofs.Numbers.{length_number}
@@ -105,8 +107,14 @@ length_register (stat.Follower s) = omega (arith, length_optional stat_name 12 l
 length_register (stat.Leader s) = omega (arith, length_optional stat_name 12 length_stat s)
 length_register (stat.Text t) = omega (arith, length_optional text_name 12 length_text t)
 
-length_fields : (f : StatFields) → length (stat_fields f) ≤ 38
-length_fields f = simp (length-append, length_number) (omega (arith, length_target f.p3, length_optional text_name 12 length_text f.text))
+length_integers : (ns : List ℤ) → length (flat_map integer ns) ≡ 2 * length ns
+length_integers [] = refl
+length_integers (n ∷ ns) = omega (arith, length-append (integer n) (flat_map integer ns), length_integer n, length_integers ns)
+
+length_fields : (f : StatFields) → IsStatFields f → length (stat_fields f) ≤ 38
+length_fields f g =
+    simp length-append
+    (omega (arith, length-take 2 f.bytes, length-take 2 (drop 2 f.bytes), length-drop 2 f.bytes, length-drop 2 (drop 2 f.bytes), length_integers f.numbers, g.all_bytes, g.all_numbers, length_target f.p3, length_optional text_name 12 length_text f.text))
 
 -- ---- edits
 
@@ -114,26 +122,26 @@ length_stamp : (s : Stamp) → length (stamp s) ≡ 8
 length_stamp s = simp (length-append, length_number) refl
 
 -- one byte for the number of the op, and what follows it
-length_op : AreShort → (op : Op) → is_in_range op ≡ true → has_good_world op ≡ true → (1 ≤ length (op_text op)) × (length (op_text op) ≤ 3310182)
-length_op law (Genesis bytes) h k = let short = law bytes (canonical bytes k) in (omega arith, omega arith)
-length_op law (SetHeader setting) h k = let most = length_header setting h in (omega arith, omega arith)
-length_op law (BoardAdd s) h k = let most = leb-true (length s) 50 h in (omega arith, omega arith)
-length_op law (BoardRemove b) h k = let name = length_board b in (omega arith, omega arith)
-length_op law (SetBoard b setting) h k = (omega arith, simp length-append (omega (arith, length_board b, length_property setting h)))
-length_op law (SetCells b r t) h k = (omega arith, simp length-append (omega (arith, length_board b)))
-length_op law (StatAdd b f) h k = (omega arith, omega (arith, length-append (7 ∷ board_name b) (stat_fields f), length_board b, length_fields f))
-length_op law (StatRemove s) h k = let name = length_stat s in (omega arith, omega arith)
-length_op law (SetStat s setting) h k = (omega arith, simp length-append (omega (arith, length_stat s, length_register setting)))
-length_op law TextAdd h k = (omega arith, omega arith)
-length_op law (TextInsert t after bytes) h k =
+length_op : AreShort → (op : Op) → is_in_range op ≡ true → has_good_world op ≡ true → IsOp op → (1 ≤ length (op_text op)) × (length (op_text op) ≤ 3310182)
+length_op law (Genesis bytes) h k g = let short = law bytes (canonical bytes k) in (omega arith, omega arith)
+length_op law (SetHeader setting) h k g = let most = length_header setting h in (omega arith, omega arith)
+length_op law (BoardAdd s) h k g = let most = leb-true (length s) 50 h in (omega arith, omega arith)
+length_op law (BoardRemove b) h k g = let name = length_board b in (omega arith, omega arith)
+length_op law (SetBoard b setting) h k g = (omega arith, simp length-append (omega (arith, length_board b, length_property setting h)))
+length_op law (SetCells b r t) h k g = (omega arith, simp length-append (omega (arith, length_board b)))
+length_op law (StatAdd b f) h k g = (omega arith, omega (arith, length-append (7 ∷ board_name b) (stat_fields f), length_board b, length_fields f g.1))
+length_op law (StatRemove s) h k g = let name = length_stat s in (omega arith, omega arith)
+length_op law (SetStat s setting) h k g = (omega arith, simp length-append (omega (arith, length_stat s, length_register setting)))
+length_op law TextAdd h k g = (omega arith, omega arith)
+length_op law (TextInsert t after bytes) h k g =
     let most : length bytes ≤ 32767 = leb-true (length bytes) 32767 (and_parts (leb 1 (length bytes)) (leb (length bytes) 32767) h).1 in
     (omega arith, simp length-append (omega (arith, length_text t, length_optional element_name 12 length_element after)))
-length_op law (TextDelete t r) h k = (omega arith, simp (length-append, length_number) (omega (arith, length_text t)))
+length_op law (TextDelete t r) h k g = (omega arith, simp (length-append, length_number) (omega (arith, length_text t)))
 
-pub body_is_short : AreShort → (e : Edit) → is_in_range e.op ≡ true → has_good_world e.op ≡ true → is_length (length (spelling e)) ≡ true
+pub body_is_short : AreShort → (e : Edit) → is_in_range e.op ≡ true → has_good_world e.op ≡ true → IsOp e.op → is_length (length (spelling e)) ≡ true
 unfolding spelling
-body_is_short law e h k =
-    let op = length_op law e.op h k in
+body_is_short law e h k g =
+    let op = length_op law e.op h k g in
     let whole = length-append (stamp e.stamp) (op_text e.op) in
     let low : 9 ≤ length (stamp e.stamp ++ op_text e.op) = omega (arith, whole, length_stamp e.stamp, op.0) in
     let high : length (stamp e.stamp ++ op_text e.op) ≤ 4194304 = omega (arith, whole, length_stamp e.stamp, op.1) in

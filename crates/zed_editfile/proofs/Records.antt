@@ -1,15 +1,10 @@
 -- An edit that fits is a record.
 use Rattle.std.proofs.Common.{◌≡◌, ℕ, ◌+◌, ◌^◌, ◌<◌, ◌≤◌, Bool, true, false, ◌||◌, Some, None, List, [], ◌∷◌, ◌++◌, length, take, get_or, refl, ap, sym, subst, ◌∙◌}
 use Rattle.std.specs.List.{AllByRecursion}
-use Rattle.std.proofs.lemmas.Bool.{and_parts}
 use Rattle.std.proofs.lemmas.List.{take_more, take_all}
-use Rattle.zed_types.specs.declared.stamp.Stamp.{Stamp}
-use Rattle.zed_op.specs.declared.op.Op.{Op}
-use Rattle.zed_op.specs.declared.op.Op.TheVariants.{Genesis, SetHeader, BoardAdd, BoardRemove, SetBoard, SetCells, StatAdd, StatRemove, SetStat, TextAdd, TextInsert, TextDelete}
 use Rattle.zed_op.specs.declared.op.Edit.{Edit}
-use Rattle.zed_op.specs.Names.{names_of}
-use Rattle.zed_op.specs.Fit.{is_author_stamp, is_stamp, is_own_stamp, is_in_range, Fits}
-use Rattle.zed_editfile.specs.Sizes.{AreStamped, IsStamp, IsOp}
+use Rattle.zed_op.specs.Fit.{Fits}
+use Rattle.zed_op.specs.Sizes.{HasSizes}
 use Rattle.zed_op.specs.Set.{AllFit}
 use Rattle.zed_editfile.specs.declared.error.EditFileError.TheVariants.{Memory}
 use Rattle.zed_editfile.specs.Spelling.{file_text}
@@ -18,33 +13,9 @@ use Rattle.zed_editfile.proofs.Fitting.{passes}
 use Rattle.zed_editfile.proofs.Once.{one_reading, file_reads}
 use Rattle.zed_editfile.proofs.Lengths.{AreShort, body_is_short}
 
-either_of : (a b : Bool) → b ≡ true → (a || b) ≡ true
-either_of true b h = refl
-either_of false b h = h
-
-of_author : (s : Stamp) → is_author_stamp s ≡ true → is_stamp s ≡ true
-of_author s h = either_of _ _ h
-
-own_stamp : (op : Op) (s : Stamp) → is_own_stamp op s ≡ true → is_stamp s ≡ true
-own_stamp (Genesis bytes) s h = rw h refl
-own_stamp (SetHeader setting) s h = of_author s h
-own_stamp (BoardAdd name) s h = of_author s h
-own_stamp (BoardRemove b) s h = of_author s h
-own_stamp (SetBoard b setting) s h = of_author s h
-own_stamp (SetCells b r t) s h = of_author s h
-own_stamp (StatAdd b f) s h = of_author s h
-own_stamp (StatRemove t) s h = of_author s h
-own_stamp (SetStat t setting) s h = of_author s h
-own_stamp TextAdd s h = of_author s h
-own_stamp (TextInsert t after bytes) s h = of_author s h
-own_stamp (TextDelete t r) s h = of_author s h
-
--- by the facts on real edits: canonical files are short, and the stamp and the op have room
-pub is_record : AreShort → (e : Edit) → (is_stamp e.stamp ≡ true → IsStamp e.stamp) → (AreStamped (names_of e.op) → is_in_range e.op ≡ true → IsOp e.op) → Fits e → IsRecord e
-is_record law e stamp op fits =
-    let p = passes e fits in
-    let stamps = and_parts _ _ p.stamps in
-    (fits, (stamp (own_stamp e.op e.stamp stamps.0), op stamps.1 p.range), body_is_short law e p.range p.world)
+-- by the facts on real edits: canonical files are short, and what fits has the sizes of its fields
+pub is_record : AreShort → (e : Edit) → (Fits e → HasSizes e) → Fits e → IsRecord e
+is_record law e sizes fits = let p = passes e fits in let has = sizes fits in (fits, has, body_is_short law e p.range p.world has.1)
 
 -- ---- lists
 

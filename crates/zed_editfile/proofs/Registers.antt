@@ -1,5 +1,5 @@
 -- Registers under their numbers: what is read is spelled so, and what is spelled is read again.
-use Rattle.std.proofs.Common.{◌≡◌, ℕ, zero, suc, ◌+◌, ◌-◌, ◌<◌, ◌≤◌, false, cond, ltb, eqb, List, [], ◌∷◌, ◌++◌, Ok, Err, refl, sym, ap, ◌∙◌, append_assoc, arith}
+use Rattle.std.proofs.Common.{Option, Some, None, ℤ, length, subst, append-nil, ◌≡◌, ℕ, zero, suc, ◌+◌, ◌-◌, ◌<◌, ◌≤◌, false, cond, ltb, eqb, List, [], ◌∷◌, ◌++◌, Ok, Err, refl, sym, ap, ◌∙◌, append_assoc, arith}
 use Rattle.std.proofs.lemmas.Bool.{ltb-true, ltb-false, eqb-true, eqb-false}
 use Rattle.zed_types.specs.declared.header.HeaderNumber.TheVariants.{Ammo, Gems, Health, Torches, TorchTicks, EnergizerTicks, Score, TimePassed, Hundredths}
 use Rattle.zed_types.specs.declared.header.KeyColour.TheVariants.{Blue, Green, Cyan, Red, Purple, Yellow, White}
@@ -18,25 +18,44 @@ use Rattle.zed_types.specs.declared.stat_field.StatSetting.{StatSetting}
 use Rattle.zed_types.specs.declared.stat_field.StatSetting.TheVariants as stat
 use Rattle.zed_types.specs.declared.stat_field.StatFields.{StatFields}
 use Rattle.zed_op.specs.declared.cause.Cause.TheVariants.{Tag}
-use Rattle.zed_types.specs.Header.{key_index, flag_index}
+use Rattle.zed_types.specs.Header.{key_index, flag_index, header_number_index, header_number_of_field}
+use Rattle.zed_types.specs.Board.{board_byte_field, board_byte_of_field, board_flag_field, board_flag_of_field, side_field, side_of_field, board_text_field, board_text_of_field}
+use Rattle.zed_types.specs.Stat.{stat_byte_field, stat_byte_of_field, stat_number_field, stat_number_of_field}
+use Rattle.zed_types.specs.declared.header.HeaderNumber.{HeaderNumber}
+use Rattle.zed_types.specs.declared.property.Side.{Side}
+use Rattle.zed_types.specs.declared.property.BoardByte.{BoardByte}
+use Rattle.zed_types.specs.declared.property.BoardFlag.{BoardFlag}
+use Rattle.zed_types.specs.declared.property.BoardText.{BoardText}
+use Rattle.zed_types.specs.declared.stat_field.StatByte.{StatByte}
+use Rattle.zed_types.specs.declared.stat_field.StatNumber.{StatNumber}
+use Rattle.zed_types.specs.declared.stat_field.ThirdParameter.{ThirdParameter}
+use Rattle.zed_types.specs.declared.names.TextId.{TextId}
+use Rattle.zed_types.specs.declared.tile.Tile.{Tile}
 use Rattle.zed_editfile.specs.declared.error.EditFileError.TheVariants.{BadEdit}
-use Rattle.zed_editfile.specs.Spelling.{integer, boolean, string, board_name, stat_name, text_name, optional, tile, third_parameter, header_number, header_setting, side, board_setting, stat_number, stat_setting, stat_fields}
-use Rattle.zed_editfile.specs.Reading.{Field, mapped, byte_at, integer_at, boolean_at, string_at, board_name_at, stat_name_at, text_name_at, optional_at, third_parameter_at, header_number_of, key_of, flag_of, header_value_at, header_setting_at, side_of, board_value_at, board_setting_at, stat_number_of, stat_value_at, stat_setting_at, stat_fields_at}
-use Rattle.zed_editfile.specs.Sizes.{IsHeaderSetting, IsBoardSetting, IsStatSetting, IsStatFields}
-use Rattle.zed_editfile.proofs.Codec.{IsField, Completes, takes_then, takes_end, takes_all, takes_mapped, takes_choice, takes_none, again_then, again_mapped, byte_field, integer_field, boolean_field, string_field, tile_field}
+use Rattle.zed_editfile.specs.Spelling.{integer, boolean, string, board_name, stat_name, text_name, optional, tile, third_parameter, header_setting, board_setting, stat_setting, stat_fields}
+use Rattle.zed_editfile.specs.Reading.{Field, mapped, byte_at, integer_at, boolean_at, string_at, board_name_at, stat_name_at, text_name_at, optional_at, third_parameter_at, by_kind, fields_of, key_of, flag_of, header_value_at, header_setting_at, board_value_at, board_setting_at, stat_value_at, stat_setting_at, stat_fields_at}
+use Rattle.zed_op.specs.Sizes.{IsHeaderSetting, IsBoardSetting, IsStatSetting, IsStatFields}
+use Rattle.zed_editfile.proofs.Codec.{IsField, Completes, takes_then, takes_end, takes_all, takes_mapped, takes_choice, takes_kind, takes_none, some_if, again_then, again_mapped, byte_field, integer_field, boolean_field, string_field, tile_field}
 use Rattle.zed_editfile.proofs.Names.{board_name_field, stat_name_field, text_name_field, optional_field, third_parameter_field}
 
-number_named : (f : ℕ) → 0 ≤ f → f < 9 → f ≡ header_number (header_number_of f)
-number_named zero le lt = refl
-number_named (suc zero) le lt = refl
-number_named (suc (suc zero)) le lt = refl
-number_named (suc (suc (suc zero))) le lt = refl
-number_named (suc (suc (suc (suc zero)))) le lt = refl
-number_named (suc (suc (suc (suc (suc zero))))) le lt = refl
-number_named (suc (suc (suc (suc (suc (suc zero)))))) le lt = refl
-number_named (suc (suc (suc (suc (suc (suc (suc zero))))))) le lt = refl
-number_named (suc (suc (suc (suc (suc (suc (suc (suc zero)))))))) le lt = refl
-number_named (suc (suc (suc (suc (suc (suc (suc (suc (suc n))))))))) le lt = absurd (omega arith)
+-- ---- a register that is found under a number has that number
+
+number_named : (f : ℕ) (k : HeaderNumber) → header_number_of_field f ≡ Some k → f ≡ header_number_index k
+number_named f k =
+    let P : HeaderNumber → Type 0 = λ x. f ≡ header_number_index x in
+    some_if P (eqb f 0) Ammo k _ (eqb-true f 0) (some_if P (eqb f 1) Gems k _ (eqb-true f 1) (some_if P (eqb f 2) Health k _ (eqb-true f 2) (some_if P (eqb f 3) Torches k _ (eqb-true f 3) (some_if P (eqb f 4) TorchTicks k _ (eqb-true f 4) (some_if P (eqb f 5) EnergizerTicks k _ (eqb-true f 5) (some_if P (eqb f 6) Score k _ (eqb-true f 6) (some_if P (eqb f 7) TimePassed k _ (eqb-true f 7) (some_if P (eqb f 8) Hundredths k _ (eqb-true f 8) (λ e. absurd cc)))))))))
+
+past_numbers : (f : ℕ) → header_number_of_field f ≡ None → 9 ≤ f
+past_numbers zero h = absurd cc
+past_numbers (suc zero) h = absurd cc
+past_numbers (suc (suc zero)) h = absurd cc
+past_numbers (suc (suc (suc zero))) h = absurd cc
+past_numbers (suc (suc (suc (suc zero)))) h = absurd cc
+past_numbers (suc (suc (suc (suc (suc zero))))) h = absurd cc
+past_numbers (suc (suc (suc (suc (suc (suc zero)))))) h = absurd cc
+past_numbers (suc (suc (suc (suc (suc (suc (suc zero))))))) h = absurd cc
+past_numbers (suc (suc (suc (suc (suc (suc (suc (suc zero)))))))) h = absurd cc
+past_numbers (suc (suc (suc (suc (suc (suc (suc (suc (suc n))))))))) h = omega arith
 
 key_named : (f : ℕ) → 9 ≤ f → f < 16 → f ≡ 9 + key_index (key_of (f - 9))
 key_named zero le lt = absurd (omega arith)
@@ -89,27 +108,35 @@ flag_named (suc (suc (suc (suc (suc (suc (suc (suc (suc (suc (suc (suc (suc (suc
 flag_named (suc (suc (suc (suc (suc (suc (suc (suc (suc (suc (suc (suc (suc (suc (suc (suc (suc (suc (suc (suc (suc (suc (suc (suc (suc (suc (suc (suc zero)))))))))))))))))))))))))))) le lt = refl
 flag_named (suc (suc (suc (suc (suc (suc (suc (suc (suc (suc (suc (suc (suc (suc (suc (suc (suc (suc (suc (suc (suc (suc (suc (suc (suc (suc (suc (suc (suc n))))))))))))))))))))))))))))) le lt = absurd (omega arith)
 
-side_named : (f : ℕ) → 6 ≤ f → f < 10 → f ≡ side (side_of f)
-side_named zero le lt = absurd (omega arith)
-side_named (suc zero) le lt = absurd (omega arith)
-side_named (suc (suc zero)) le lt = absurd (omega arith)
-side_named (suc (suc (suc zero))) le lt = absurd (omega arith)
-side_named (suc (suc (suc (suc zero)))) le lt = absurd (omega arith)
-side_named (suc (suc (suc (suc (suc zero))))) le lt = absurd (omega arith)
-side_named (suc (suc (suc (suc (suc (suc zero)))))) le lt = refl
-side_named (suc (suc (suc (suc (suc (suc (suc zero))))))) le lt = refl
-side_named (suc (suc (suc (suc (suc (suc (suc (suc zero)))))))) le lt = refl
-side_named (suc (suc (suc (suc (suc (suc (suc (suc (suc zero))))))))) le lt = refl
-side_named (suc (suc (suc (suc (suc (suc (suc (suc (suc (suc n)))))))))) le lt = absurd (omega arith)
+board_byte_named : (f : ℕ) (k : BoardByte) → board_byte_of_field f ≡ Some k → f ≡ board_byte_field k
+board_byte_named f k =
+    let P : BoardByte → Type 0 = λ x. f ≡ board_byte_field x in
+    some_if P (eqb f 0) MaxShots k _ (eqb-true f 0) (some_if P (eqb f 3) StartX k _ (eqb-true f 3) (some_if P (eqb f 4) StartY k _ (eqb-true f 4) (λ e. absurd cc)))
 
-stat_number_named : (f : ℕ) → 2 ≤ f → f < 6 → f ≡ stat_number (stat_number_of f)
-stat_number_named zero le lt = absurd (omega arith)
-stat_number_named (suc zero) le lt = absurd (omega arith)
-stat_number_named (suc (suc zero)) le lt = refl
-stat_number_named (suc (suc (suc zero))) le lt = refl
-stat_number_named (suc (suc (suc (suc zero)))) le lt = refl
-stat_number_named (suc (suc (suc (suc (suc zero))))) le lt = refl
-stat_number_named (suc (suc (suc (suc (suc (suc n)))))) le lt = absurd (omega arith)
+board_flag_named : (f : ℕ) (k : BoardFlag) → board_flag_of_field f ≡ Some k → f ≡ board_flag_field k
+board_flag_named f k =
+    let P : BoardFlag → Type 0 = λ x. f ≡ board_flag_field x in
+    some_if P (eqb f 1) Dark k _ (eqb-true f 1) (some_if P (eqb f 2) ReEnter k _ (eqb-true f 2) (λ e. absurd cc))
+
+side_named : (f : ℕ) (k : Side) → side_of_field f ≡ Some k → f ≡ side_field k
+side_named f k =
+    let P : Side → Type 0 = λ x. f ≡ side_field x in
+    some_if P (eqb f 6) North k _ (eqb-true f 6) (some_if P (eqb f 7) South k _ (eqb-true f 7) (some_if P (eqb f 8) West k _ (eqb-true f 8) (some_if P (eqb f 9) East k _ (eqb-true f 9) (λ e. absurd cc))))
+
+board_text_named : (f : ℕ) (k : BoardText) → board_text_of_field f ≡ Some k → f ≡ board_text_field k
+board_text_named f k =
+    let P : BoardText → Type 0 = λ x. f ≡ board_text_field x in
+    some_if P (eqb f 10) Name k _ (eqb-true f 10) (some_if P (eqb f 11) Message k _ (eqb-true f 11) (λ e. absurd cc))
+
+stat_byte_named : (f : ℕ) (k : StatByte) → stat_byte_of_field f ≡ Some k → f ≡ stat_byte_field k
+stat_byte_named f k =
+    let P : StatByte → Type 0 = λ x. f ≡ stat_byte_field x in
+    some_if P (eqb f 0) X k _ (eqb-true f 0) (some_if P (eqb f 1) Y k _ (eqb-true f 1) (some_if P (eqb f 6) P1 k _ (eqb-true f 6) (some_if P (eqb f 7) P2 k _ (eqb-true f 7) (some_if P (eqb f 11) UnderElement k _ (eqb-true f 11) (some_if P (eqb f 12) UnderColour k _ (eqb-true f 12) (λ e. absurd cc))))))
+
+stat_number_named : (f : ℕ) (k : StatNumber) → stat_number_of_field f ≡ Some k → f ≡ stat_number_field k
+stat_number_named f k =
+    let P : StatNumber → Type 0 = λ x. f ≡ stat_number_field x in
+    some_if P (eqb f 2) StepX k _ (eqb-true f 2) (some_if P (eqb f 3) StepY k _ (eqb-true f 3) (some_if P (eqb f 4) Cycle k _ (eqb-true f 4) (some_if P (eqb f 5) Position k _ (eqb-true f 5) (λ e. absurd cc))))
 
 past_18 : (f : ℕ) → ltb f 16 ≡ false → eqb f 16 ≡ false → eqb f 17 ≡ false → eqb f 18 ≡ false → 19 ≤ f
 past_18 f a b c d =
@@ -119,29 +146,13 @@ past_18 f a b c d =
     let s = eqb-false f 18 d in
     omega arith
 
-past_5 : (f : ℕ) → eqb f 0 ≡ false → eqb f 1 ≡ false → eqb f 2 ≡ false → eqb f 3 ≡ false → eqb f 4 ≡ false → eqb f 5 ≡ false → 6 ≤ f
-past_5 f a b c d e g =
-    let p = eqb-false f 0 a in
-    let q = eqb-false f 1 b in
-    let r = eqb-false f 2 c in
-    let s = eqb-false f 3 d in
-    let t = eqb-false f 4 e in
-    let u = eqb-false f 5 g in
-    omega arith
-
-past_1 : (f : ℕ) → eqb f 0 ≡ false → eqb f 1 ≡ false → 2 ≤ f
-past_1 f a b =
-    let p = eqb-false f 0 a in
-    let q = eqb-false f 1 b in
-    omega arith
-
 header_value : (f : ℕ) → Completes IsHeaderSetting header_setting (λ t. f ∷ t) (header_value_at f)
 unfolding header_value_at
 header_value f =
-    takes_choice IsHeaderSetting header_setting (λ t. f ∷ t) (ltb f 9) (λ t. mapped (header.Number (header_number_of f)) (integer_at t)) (λ t. cond (ltb f 16) (mapped (header.Key (key_of (f - 9))) (boolean_at t)) (cond (eqb f 16) (mapped header.Saved (boolean_at t)) (cond (eqb f 17) (mapped header.CurrentBoard (board_name_at t)) (cond (eqb f 18) (mapped header.WorldName (string_at t)) (cond (ltb f 29) (mapped (header.Flag (flag_of (f - 19))) (string_at t)) (Err (BadEdit Tag)))))))
-    (λ e0. takes_mapped integer_field IsHeaderSetting header_setting (λ t. f ∷ t) (header.Number (header_number_of f)) (λ a g. g) (λ a t. ap (λ (n : ℕ). n ∷ (integer a ++ t)) (number_named f (omega arith) (ltb-true f 9 e0))))
+    takes_kind IsHeaderSetting header_setting (λ t. f ∷ t) (header_number_of_field f) (λ k t. mapped (header.Number k) (integer_at t)) (λ t. cond (ltb f 16) (mapped (header.Key (key_of (f - 9))) (boolean_at t)) (cond (eqb f 16) (mapped header.Saved (boolean_at t)) (cond (eqb f 17) (mapped header.CurrentBoard (board_name_at t)) (cond (eqb f 18) (mapped header.WorldName (string_at t)) (cond (ltb f 29) (mapped (header.Flag (flag_of (f - 19))) (string_at t)) (Err (BadEdit Tag)))))))
+    (λ k e0. takes_mapped integer_field IsHeaderSetting header_setting (λ t. f ∷ t) (header.Number k) (λ a g. g) (λ a t. ap (λ (n : ℕ). n ∷ (integer a ++ t)) (number_named f k e0)))
     (λ n0. takes_choice IsHeaderSetting header_setting (λ t. f ∷ t) (ltb f 16) (λ t. mapped (header.Key (key_of (f - 9))) (boolean_at t)) (λ t. cond (eqb f 16) (mapped header.Saved (boolean_at t)) (cond (eqb f 17) (mapped header.CurrentBoard (board_name_at t)) (cond (eqb f 18) (mapped header.WorldName (string_at t)) (cond (ltb f 29) (mapped (header.Flag (flag_of (f - 19))) (string_at t)) (Err (BadEdit Tag))))))
-    (λ e1. takes_mapped boolean_field IsHeaderSetting header_setting (λ t. f ∷ t) (header.Key (key_of (f - 9))) (λ a g. g) (λ a t. ap (λ (n : ℕ). n ∷ (boolean a ++ t)) (key_named f (ltb-false f 9 n0) (ltb-true f 16 e1))))
+    (λ e1. takes_mapped boolean_field IsHeaderSetting header_setting (λ t. f ∷ t) (header.Key (key_of (f - 9))) (λ a g. g) (λ a t. ap (λ (n : ℕ). n ∷ (boolean a ++ t)) (key_named f (past_numbers f n0) (ltb-true f 16 e1))))
     (λ n1. takes_choice IsHeaderSetting header_setting (λ t. f ∷ t) (eqb f 16) (λ t. mapped header.Saved (boolean_at t)) (λ t. cond (eqb f 17) (mapped header.CurrentBoard (board_name_at t)) (cond (eqb f 18) (mapped header.WorldName (string_at t)) (cond (ltb f 29) (mapped (header.Flag (flag_of (f - 19))) (string_at t)) (Err (BadEdit Tag)))))
     (λ e2. takes_mapped boolean_field IsHeaderSetting header_setting (λ t. f ∷ t) header.Saved (λ a g. g) (λ a t. ap (λ (n : ℕ). n ∷ (boolean a ++ t)) (eqb-true f 16 e2)))
     (λ n2. takes_choice IsHeaderSetting header_setting (λ t. f ∷ t) (eqb f 17) (λ t. mapped header.CurrentBoard (board_name_at t)) (λ t. cond (eqb f 18) (mapped header.WorldName (string_at t)) (cond (ltb f 29) (mapped (header.Flag (flag_of (f - 19))) (string_at t)) (Err (BadEdit Tag))))
@@ -155,52 +166,34 @@ header_value f =
 board_value : (f : ℕ) → Completes IsBoardSetting board_setting (λ t. f ∷ t) (board_value_at f)
 unfolding board_value_at
 board_value f =
-    takes_choice IsBoardSetting board_setting (λ t. f ∷ t) (eqb f 0) (λ t. mapped (board.Byte MaxShots) (byte_at t)) (λ t. cond (eqb f 1) (mapped (board.Flag Dark) (boolean_at t)) (cond (eqb f 2) (mapped (board.Flag ReEnter) (boolean_at t)) (cond (eqb f 3) (mapped (board.Byte StartX) (byte_at t)) (cond (eqb f 4) (mapped (board.Byte StartY) (byte_at t)) (cond (eqb f 5) (mapped board.TimeLimit (integer_at t)) (cond (ltb f 10) (mapped (board.Exit (side_of f)) (optional_at board_name_at t)) (cond (eqb f 10) (mapped (board.Text Name) (string_at t)) (cond (eqb f 11) (mapped (board.Text Message) (string_at t)) (Err (BadEdit Tag))))))))))
-    (λ e0. takes_mapped byte_field IsBoardSetting board_setting (λ t. f ∷ t) (board.Byte MaxShots) (λ a g. g) (λ a t. ap (λ (n : ℕ). n ∷ ((a ∷ []) ++ t)) (eqb-true f 0 e0)))
-    (λ n0. takes_choice IsBoardSetting board_setting (λ t. f ∷ t) (eqb f 1) (λ t. mapped (board.Flag Dark) (boolean_at t)) (λ t. cond (eqb f 2) (mapped (board.Flag ReEnter) (boolean_at t)) (cond (eqb f 3) (mapped (board.Byte StartX) (byte_at t)) (cond (eqb f 4) (mapped (board.Byte StartY) (byte_at t)) (cond (eqb f 5) (mapped board.TimeLimit (integer_at t)) (cond (ltb f 10) (mapped (board.Exit (side_of f)) (optional_at board_name_at t)) (cond (eqb f 10) (mapped (board.Text Name) (string_at t)) (cond (eqb f 11) (mapped (board.Text Message) (string_at t)) (Err (BadEdit Tag)))))))))
-    (λ e1. takes_mapped boolean_field IsBoardSetting board_setting (λ t. f ∷ t) (board.Flag Dark) (λ a g. g) (λ a t. ap (λ (n : ℕ). n ∷ (boolean a ++ t)) (eqb-true f 1 e1)))
-    (λ n1. takes_choice IsBoardSetting board_setting (λ t. f ∷ t) (eqb f 2) (λ t. mapped (board.Flag ReEnter) (boolean_at t)) (λ t. cond (eqb f 3) (mapped (board.Byte StartX) (byte_at t)) (cond (eqb f 4) (mapped (board.Byte StartY) (byte_at t)) (cond (eqb f 5) (mapped board.TimeLimit (integer_at t)) (cond (ltb f 10) (mapped (board.Exit (side_of f)) (optional_at board_name_at t)) (cond (eqb f 10) (mapped (board.Text Name) (string_at t)) (cond (eqb f 11) (mapped (board.Text Message) (string_at t)) (Err (BadEdit Tag))))))))
-    (λ e2. takes_mapped boolean_field IsBoardSetting board_setting (λ t. f ∷ t) (board.Flag ReEnter) (λ a g. g) (λ a t. ap (λ (n : ℕ). n ∷ (boolean a ++ t)) (eqb-true f 2 e2)))
-    (λ n2. takes_choice IsBoardSetting board_setting (λ t. f ∷ t) (eqb f 3) (λ t. mapped (board.Byte StartX) (byte_at t)) (λ t. cond (eqb f 4) (mapped (board.Byte StartY) (byte_at t)) (cond (eqb f 5) (mapped board.TimeLimit (integer_at t)) (cond (ltb f 10) (mapped (board.Exit (side_of f)) (optional_at board_name_at t)) (cond (eqb f 10) (mapped (board.Text Name) (string_at t)) (cond (eqb f 11) (mapped (board.Text Message) (string_at t)) (Err (BadEdit Tag)))))))
-    (λ e3. takes_mapped byte_field IsBoardSetting board_setting (λ t. f ∷ t) (board.Byte StartX) (λ a g. g) (λ a t. ap (λ (n : ℕ). n ∷ ((a ∷ []) ++ t)) (eqb-true f 3 e3)))
-    (λ n3. takes_choice IsBoardSetting board_setting (λ t. f ∷ t) (eqb f 4) (λ t. mapped (board.Byte StartY) (byte_at t)) (λ t. cond (eqb f 5) (mapped board.TimeLimit (integer_at t)) (cond (ltb f 10) (mapped (board.Exit (side_of f)) (optional_at board_name_at t)) (cond (eqb f 10) (mapped (board.Text Name) (string_at t)) (cond (eqb f 11) (mapped (board.Text Message) (string_at t)) (Err (BadEdit Tag))))))
-    (λ e4. takes_mapped byte_field IsBoardSetting board_setting (λ t. f ∷ t) (board.Byte StartY) (λ a g. g) (λ a t. ap (λ (n : ℕ). n ∷ ((a ∷ []) ++ t)) (eqb-true f 4 e4)))
-    (λ n4. takes_choice IsBoardSetting board_setting (λ t. f ∷ t) (eqb f 5) (λ t. mapped board.TimeLimit (integer_at t)) (λ t. cond (ltb f 10) (mapped (board.Exit (side_of f)) (optional_at board_name_at t)) (cond (eqb f 10) (mapped (board.Text Name) (string_at t)) (cond (eqb f 11) (mapped (board.Text Message) (string_at t)) (Err (BadEdit Tag)))))
-    (λ e5. takes_mapped integer_field IsBoardSetting board_setting (λ t. f ∷ t) board.TimeLimit (λ a g. g) (λ a t. ap (λ (n : ℕ). n ∷ (integer a ++ t)) (eqb-true f 5 e5)))
-    (λ n5. takes_choice IsBoardSetting board_setting (λ t. f ∷ t) (ltb f 10) (λ t. mapped (board.Exit (side_of f)) (optional_at board_name_at t)) (λ t. cond (eqb f 10) (mapped (board.Text Name) (string_at t)) (cond (eqb f 11) (mapped (board.Text Message) (string_at t)) (Err (BadEdit Tag))))
-    (λ e6. takes_mapped (optional_field board_name_field) IsBoardSetting board_setting (λ t. f ∷ t) (board.Exit (side_of f)) (λ a g. g) (λ a t. ap (λ (n : ℕ). n ∷ (optional board_name a ++ t)) (side_named f (past_5 f n0 n1 n2 n3 n4 n5) (ltb-true f 10 e6))))
-    (λ n6. takes_choice IsBoardSetting board_setting (λ t. f ∷ t) (eqb f 10) (λ t. mapped (board.Text Name) (string_at t)) (λ t. cond (eqb f 11) (mapped (board.Text Message) (string_at t)) (Err (BadEdit Tag)))
-    (λ e7. takes_mapped string_field IsBoardSetting board_setting (λ t. f ∷ t) (board.Text Name) (λ a g. g) (λ a t. ap (λ (n : ℕ). n ∷ (string a ++ t)) (eqb-true f 10 e7)))
-    (λ n7. takes_choice IsBoardSetting board_setting (λ t. f ∷ t) (eqb f 11) (λ t. mapped (board.Text Message) (string_at t)) (λ t. Err (BadEdit Tag))
-    (λ e8. takes_mapped string_field IsBoardSetting board_setting (λ t. f ∷ t) (board.Text Message) (λ a g. g) (λ a t. ap (λ (n : ℕ). n ∷ (string a ++ t)) (eqb-true f 11 e8)))
-    (λ n8. takes_none IsBoardSetting board_setting (λ t. f ∷ t) (BadEdit Tag))))))))))
+    takes_kind IsBoardSetting board_setting (λ t. f ∷ t) (board_byte_of_field f) (λ k t. mapped (board.Byte k) (byte_at t)) (λ t. by_kind (board_flag_of_field f) (λ k. mapped (board.Flag k) (boolean_at t)) (by_kind (side_of_field f) (λ k. mapped (board.Exit k) (optional_at board_name_at t)) (by_kind (board_text_of_field f) (λ k. mapped (board.Text k) (string_at t)) (cond (eqb f 5) (mapped board.TimeLimit (integer_at t)) (Err (BadEdit Tag))))))
+    (λ k e0. takes_mapped byte_field IsBoardSetting board_setting (λ t. f ∷ t) (board.Byte k) (λ a g. g) (λ a t. ap (λ (n : ℕ). n ∷ ((a ∷ []) ++ t)) (board_byte_named f k e0)))
+    (λ n0. takes_kind IsBoardSetting board_setting (λ t. f ∷ t) (board_flag_of_field f) (λ k t. mapped (board.Flag k) (boolean_at t)) (λ t. by_kind (side_of_field f) (λ k. mapped (board.Exit k) (optional_at board_name_at t)) (by_kind (board_text_of_field f) (λ k. mapped (board.Text k) (string_at t)) (cond (eqb f 5) (mapped board.TimeLimit (integer_at t)) (Err (BadEdit Tag)))))
+    (λ k e1. takes_mapped boolean_field IsBoardSetting board_setting (λ t. f ∷ t) (board.Flag k) (λ a g. g) (λ a t. ap (λ (n : ℕ). n ∷ (boolean a ++ t)) (board_flag_named f k e1)))
+    (λ n1. takes_kind IsBoardSetting board_setting (λ t. f ∷ t) (side_of_field f) (λ k t. mapped (board.Exit k) (optional_at board_name_at t)) (λ t. by_kind (board_text_of_field f) (λ k. mapped (board.Text k) (string_at t)) (cond (eqb f 5) (mapped board.TimeLimit (integer_at t)) (Err (BadEdit Tag))))
+    (λ k e2. takes_mapped (optional_field board_name_field) IsBoardSetting board_setting (λ t. f ∷ t) (board.Exit k) (λ a g. g) (λ a t. ap (λ (n : ℕ). n ∷ (optional board_name a ++ t)) (side_named f k e2)))
+    (λ n2. takes_kind IsBoardSetting board_setting (λ t. f ∷ t) (board_text_of_field f) (λ k t. mapped (board.Text k) (string_at t)) (λ t. cond (eqb f 5) (mapped board.TimeLimit (integer_at t)) (Err (BadEdit Tag)))
+    (λ k e3. takes_mapped string_field IsBoardSetting board_setting (λ t. f ∷ t) (board.Text k) (λ a g. g) (λ a t. ap (λ (n : ℕ). n ∷ (string a ++ t)) (board_text_named f k e3)))
+    (λ n3. takes_choice IsBoardSetting board_setting (λ t. f ∷ t) (eqb f 5) (λ t. mapped board.TimeLimit (integer_at t)) (λ t. Err (BadEdit Tag))
+    (λ e4. takes_mapped integer_field IsBoardSetting board_setting (λ t. f ∷ t) board.TimeLimit (λ a g. g) (λ a t. ap (λ (n : ℕ). n ∷ (integer a ++ t)) (eqb-true f 5 e4)))
+    (λ n4. takes_none IsBoardSetting board_setting (λ t. f ∷ t) (BadEdit Tag))))))
 
 stat_value : (f : ℕ) → Completes IsStatSetting stat_setting (λ t. f ∷ t) (stat_value_at f)
 unfolding stat_value_at
 stat_value f =
-    takes_choice IsStatSetting stat_setting (λ t. f ∷ t) (eqb f 0) (λ t. mapped (stat.Byte X) (byte_at t)) (λ t. cond (eqb f 1) (mapped (stat.Byte Y) (byte_at t)) (cond (ltb f 6) (mapped (stat.Number (stat_number_of f)) (integer_at t)) (cond (eqb f 6) (mapped (stat.Byte P1) (byte_at t)) (cond (eqb f 7) (mapped (stat.Byte P2) (byte_at t)) (cond (eqb f 8) (mapped stat.P3 (third_parameter_at t)) (cond (eqb f 9) (mapped stat.Follower (optional_at stat_name_at t)) (cond (eqb f 10) (mapped stat.Leader (optional_at stat_name_at t)) (cond (eqb f 11) (mapped (stat.Byte UnderElement) (byte_at t)) (cond (eqb f 12) (mapped (stat.Byte UnderColour) (byte_at t)) (cond (eqb f 13) (mapped stat.Text (optional_at text_name_at t)) (Err (BadEdit Tag))))))))))))
-    (λ e0. takes_mapped byte_field IsStatSetting stat_setting (λ t. f ∷ t) (stat.Byte X) (λ a g. g) (λ a t. ap (λ (n : ℕ). n ∷ ((a ∷ []) ++ t)) (eqb-true f 0 e0)))
-    (λ n0. takes_choice IsStatSetting stat_setting (λ t. f ∷ t) (eqb f 1) (λ t. mapped (stat.Byte Y) (byte_at t)) (λ t. cond (ltb f 6) (mapped (stat.Number (stat_number_of f)) (integer_at t)) (cond (eqb f 6) (mapped (stat.Byte P1) (byte_at t)) (cond (eqb f 7) (mapped (stat.Byte P2) (byte_at t)) (cond (eqb f 8) (mapped stat.P3 (third_parameter_at t)) (cond (eqb f 9) (mapped stat.Follower (optional_at stat_name_at t)) (cond (eqb f 10) (mapped stat.Leader (optional_at stat_name_at t)) (cond (eqb f 11) (mapped (stat.Byte UnderElement) (byte_at t)) (cond (eqb f 12) (mapped (stat.Byte UnderColour) (byte_at t)) (cond (eqb f 13) (mapped stat.Text (optional_at text_name_at t)) (Err (BadEdit Tag)))))))))))
-    (λ e1. takes_mapped byte_field IsStatSetting stat_setting (λ t. f ∷ t) (stat.Byte Y) (λ a g. g) (λ a t. ap (λ (n : ℕ). n ∷ ((a ∷ []) ++ t)) (eqb-true f 1 e1)))
-    (λ n1. takes_choice IsStatSetting stat_setting (λ t. f ∷ t) (ltb f 6) (λ t. mapped (stat.Number (stat_number_of f)) (integer_at t)) (λ t. cond (eqb f 6) (mapped (stat.Byte P1) (byte_at t)) (cond (eqb f 7) (mapped (stat.Byte P2) (byte_at t)) (cond (eqb f 8) (mapped stat.P3 (third_parameter_at t)) (cond (eqb f 9) (mapped stat.Follower (optional_at stat_name_at t)) (cond (eqb f 10) (mapped stat.Leader (optional_at stat_name_at t)) (cond (eqb f 11) (mapped (stat.Byte UnderElement) (byte_at t)) (cond (eqb f 12) (mapped (stat.Byte UnderColour) (byte_at t)) (cond (eqb f 13) (mapped stat.Text (optional_at text_name_at t)) (Err (BadEdit Tag))))))))))
-    (λ e2. takes_mapped integer_field IsStatSetting stat_setting (λ t. f ∷ t) (stat.Number (stat_number_of f)) (λ a g. g) (λ a t. ap (λ (n : ℕ). n ∷ (integer a ++ t)) (stat_number_named f (past_1 f n0 n1) (ltb-true f 6 e2))))
-    (λ n2. takes_choice IsStatSetting stat_setting (λ t. f ∷ t) (eqb f 6) (λ t. mapped (stat.Byte P1) (byte_at t)) (λ t. cond (eqb f 7) (mapped (stat.Byte P2) (byte_at t)) (cond (eqb f 8) (mapped stat.P3 (third_parameter_at t)) (cond (eqb f 9) (mapped stat.Follower (optional_at stat_name_at t)) (cond (eqb f 10) (mapped stat.Leader (optional_at stat_name_at t)) (cond (eqb f 11) (mapped (stat.Byte UnderElement) (byte_at t)) (cond (eqb f 12) (mapped (stat.Byte UnderColour) (byte_at t)) (cond (eqb f 13) (mapped stat.Text (optional_at text_name_at t)) (Err (BadEdit Tag)))))))))
-    (λ e3. takes_mapped byte_field IsStatSetting stat_setting (λ t. f ∷ t) (stat.Byte P1) (λ a g. g) (λ a t. ap (λ (n : ℕ). n ∷ ((a ∷ []) ++ t)) (eqb-true f 6 e3)))
-    (λ n3. takes_choice IsStatSetting stat_setting (λ t. f ∷ t) (eqb f 7) (λ t. mapped (stat.Byte P2) (byte_at t)) (λ t. cond (eqb f 8) (mapped stat.P3 (third_parameter_at t)) (cond (eqb f 9) (mapped stat.Follower (optional_at stat_name_at t)) (cond (eqb f 10) (mapped stat.Leader (optional_at stat_name_at t)) (cond (eqb f 11) (mapped (stat.Byte UnderElement) (byte_at t)) (cond (eqb f 12) (mapped (stat.Byte UnderColour) (byte_at t)) (cond (eqb f 13) (mapped stat.Text (optional_at text_name_at t)) (Err (BadEdit Tag))))))))
-    (λ e4. takes_mapped byte_field IsStatSetting stat_setting (λ t. f ∷ t) (stat.Byte P2) (λ a g. g) (λ a t. ap (λ (n : ℕ). n ∷ ((a ∷ []) ++ t)) (eqb-true f 7 e4)))
-    (λ n4. takes_choice IsStatSetting stat_setting (λ t. f ∷ t) (eqb f 8) (λ t. mapped stat.P3 (third_parameter_at t)) (λ t. cond (eqb f 9) (mapped stat.Follower (optional_at stat_name_at t)) (cond (eqb f 10) (mapped stat.Leader (optional_at stat_name_at t)) (cond (eqb f 11) (mapped (stat.Byte UnderElement) (byte_at t)) (cond (eqb f 12) (mapped (stat.Byte UnderColour) (byte_at t)) (cond (eqb f 13) (mapped stat.Text (optional_at text_name_at t)) (Err (BadEdit Tag)))))))
-    (λ e5. takes_mapped third_parameter_field IsStatSetting stat_setting (λ t. f ∷ t) stat.P3 (λ a g. g) (λ a t. ap (λ (n : ℕ). n ∷ (third_parameter a ++ t)) (eqb-true f 8 e5)))
-    (λ n5. takes_choice IsStatSetting stat_setting (λ t. f ∷ t) (eqb f 9) (λ t. mapped stat.Follower (optional_at stat_name_at t)) (λ t. cond (eqb f 10) (mapped stat.Leader (optional_at stat_name_at t)) (cond (eqb f 11) (mapped (stat.Byte UnderElement) (byte_at t)) (cond (eqb f 12) (mapped (stat.Byte UnderColour) (byte_at t)) (cond (eqb f 13) (mapped stat.Text (optional_at text_name_at t)) (Err (BadEdit Tag))))))
-    (λ e6. takes_mapped (optional_field stat_name_field) IsStatSetting stat_setting (λ t. f ∷ t) stat.Follower (λ a g. g) (λ a t. ap (λ (n : ℕ). n ∷ (optional stat_name a ++ t)) (eqb-true f 9 e6)))
-    (λ n6. takes_choice IsStatSetting stat_setting (λ t. f ∷ t) (eqb f 10) (λ t. mapped stat.Leader (optional_at stat_name_at t)) (λ t. cond (eqb f 11) (mapped (stat.Byte UnderElement) (byte_at t)) (cond (eqb f 12) (mapped (stat.Byte UnderColour) (byte_at t)) (cond (eqb f 13) (mapped stat.Text (optional_at text_name_at t)) (Err (BadEdit Tag)))))
-    (λ e7. takes_mapped (optional_field stat_name_field) IsStatSetting stat_setting (λ t. f ∷ t) stat.Leader (λ a g. g) (λ a t. ap (λ (n : ℕ). n ∷ (optional stat_name a ++ t)) (eqb-true f 10 e7)))
-    (λ n7. takes_choice IsStatSetting stat_setting (λ t. f ∷ t) (eqb f 11) (λ t. mapped (stat.Byte UnderElement) (byte_at t)) (λ t. cond (eqb f 12) (mapped (stat.Byte UnderColour) (byte_at t)) (cond (eqb f 13) (mapped stat.Text (optional_at text_name_at t)) (Err (BadEdit Tag))))
-    (λ e8. takes_mapped byte_field IsStatSetting stat_setting (λ t. f ∷ t) (stat.Byte UnderElement) (λ a g. g) (λ a t. ap (λ (n : ℕ). n ∷ ((a ∷ []) ++ t)) (eqb-true f 11 e8)))
-    (λ n8. takes_choice IsStatSetting stat_setting (λ t. f ∷ t) (eqb f 12) (λ t. mapped (stat.Byte UnderColour) (byte_at t)) (λ t. cond (eqb f 13) (mapped stat.Text (optional_at text_name_at t)) (Err (BadEdit Tag)))
-    (λ e9. takes_mapped byte_field IsStatSetting stat_setting (λ t. f ∷ t) (stat.Byte UnderColour) (λ a g. g) (λ a t. ap (λ (n : ℕ). n ∷ ((a ∷ []) ++ t)) (eqb-true f 12 e9)))
-    (λ n9. takes_choice IsStatSetting stat_setting (λ t. f ∷ t) (eqb f 13) (λ t. mapped stat.Text (optional_at text_name_at t)) (λ t. Err (BadEdit Tag))
-    (λ e10. takes_mapped (optional_field text_name_field) IsStatSetting stat_setting (λ t. f ∷ t) stat.Text (λ a g. g) (λ a t. ap (λ (n : ℕ). n ∷ (optional text_name a ++ t)) (eqb-true f 13 e10)))
-    (λ n10. takes_none IsStatSetting stat_setting (λ t. f ∷ t) (BadEdit Tag))))))))))))
+    takes_kind IsStatSetting stat_setting (λ t. f ∷ t) (stat_byte_of_field f) (λ k t. mapped (stat.Byte k) (byte_at t)) (λ t. by_kind (stat_number_of_field f) (λ k. mapped (stat.Number k) (integer_at t)) (cond (eqb f 8) (mapped stat.P3 (third_parameter_at t)) (cond (eqb f 9) (mapped stat.Follower (optional_at stat_name_at t)) (cond (eqb f 10) (mapped stat.Leader (optional_at stat_name_at t)) (cond (eqb f 13) (mapped stat.Text (optional_at text_name_at t)) (Err (BadEdit Tag)))))))
+    (λ k e0. takes_mapped byte_field IsStatSetting stat_setting (λ t. f ∷ t) (stat.Byte k) (λ a g. g) (λ a t. ap (λ (n : ℕ). n ∷ ((a ∷ []) ++ t)) (stat_byte_named f k e0)))
+    (λ n0. takes_kind IsStatSetting stat_setting (λ t. f ∷ t) (stat_number_of_field f) (λ k t. mapped (stat.Number k) (integer_at t)) (λ t. cond (eqb f 8) (mapped stat.P3 (third_parameter_at t)) (cond (eqb f 9) (mapped stat.Follower (optional_at stat_name_at t)) (cond (eqb f 10) (mapped stat.Leader (optional_at stat_name_at t)) (cond (eqb f 13) (mapped stat.Text (optional_at text_name_at t)) (Err (BadEdit Tag))))))
+    (λ k e1. takes_mapped integer_field IsStatSetting stat_setting (λ t. f ∷ t) (stat.Number k) (λ a g. g) (λ a t. ap (λ (n : ℕ). n ∷ (integer a ++ t)) (stat_number_named f k e1)))
+    (λ n1. takes_choice IsStatSetting stat_setting (λ t. f ∷ t) (eqb f 8) (λ t. mapped stat.P3 (third_parameter_at t)) (λ t. cond (eqb f 9) (mapped stat.Follower (optional_at stat_name_at t)) (cond (eqb f 10) (mapped stat.Leader (optional_at stat_name_at t)) (cond (eqb f 13) (mapped stat.Text (optional_at text_name_at t)) (Err (BadEdit Tag)))))
+    (λ e2. takes_mapped third_parameter_field IsStatSetting stat_setting (λ t. f ∷ t) stat.P3 (λ a g. g) (λ a t. ap (λ (n : ℕ). n ∷ (third_parameter a ++ t)) (eqb-true f 8 e2)))
+    (λ n2. takes_choice IsStatSetting stat_setting (λ t. f ∷ t) (eqb f 9) (λ t. mapped stat.Follower (optional_at stat_name_at t)) (λ t. cond (eqb f 10) (mapped stat.Leader (optional_at stat_name_at t)) (cond (eqb f 13) (mapped stat.Text (optional_at text_name_at t)) (Err (BadEdit Tag))))
+    (λ e3. takes_mapped (optional_field stat_name_field) IsStatSetting stat_setting (λ t. f ∷ t) stat.Follower (λ a g. g) (λ a t. ap (λ (n : ℕ). n ∷ (optional stat_name a ++ t)) (eqb-true f 9 e3)))
+    (λ n3. takes_choice IsStatSetting stat_setting (λ t. f ∷ t) (eqb f 10) (λ t. mapped stat.Leader (optional_at stat_name_at t)) (λ t. cond (eqb f 13) (mapped stat.Text (optional_at text_name_at t)) (Err (BadEdit Tag)))
+    (λ e4. takes_mapped (optional_field stat_name_field) IsStatSetting stat_setting (λ t. f ∷ t) stat.Leader (λ a g. g) (λ a t. ap (λ (n : ℕ). n ∷ (optional stat_name a ++ t)) (eqb-true f 10 e4)))
+    (λ n4. takes_choice IsStatSetting stat_setting (λ t. f ∷ t) (eqb f 13) (λ t. mapped stat.Text (optional_at text_name_at t)) (λ t. Err (BadEdit Tag))
+    (λ e5. takes_mapped (optional_field text_name_field) IsStatSetting stat_setting (λ t. f ∷ t) stat.Text (λ a g. g) (λ a t. ap (λ (n : ℕ). n ∷ (optional text_name a ++ t)) (eqb-true f 13 e5)))
+    (λ n5. takes_none IsStatSetting stat_setting (λ t. f ∷ t) (BadEdit Tag)))))))
 
 header_completes : Completes IsHeaderSetting header_setting (λ t. t) header_setting_at
 unfolding header_setting_at
@@ -289,17 +282,18 @@ stat_setting_field = record { again = stat_again; takes = takes_all IsStatSettin
 
 -- ---- what a new stat is given
 
-regroup : (a b c d e f g t : List ℕ) → ((((((a ++ b) ++ c) ++ d) ++ e) ++ f) ++ g) ++ t ≡ a ++ (b ++ (c ++ (d ++ (e ++ (f ++ (g ++ t))))))
-regroup a b c d e f g t =
-    append_assoc (((((a ++ b) ++ c) ++ d) ++ e) ++ f) g t ∙ append_assoc ((((a ++ b) ++ c) ++ d) ++ e) f (g ++ t) ∙ append_assoc (((a ++ b) ++ c) ++ d) e (f ++ (g ++ t)) ∙ append_assoc ((a ++ b) ++ c) d (e ++ (f ++ (g ++ t)))
-    ∙ append_assoc (a ++ b) c (d ++ (e ++ (f ++ (g ++ t)))) ∙ append_assoc a b (c ++ (d ++ (e ++ (f ++ (g ++ t)))))
+-- the fields of a new stat in the order in which they stand, with something behind them
+abbrev behind_fields : ℕ → ℕ → ℤ → ℤ → ℤ → ℕ → ℕ → ThirdParameter → Tile → Option TextId → List ℕ → List ℕ
+behind_fields x y a b c p q r u o t = x ∷ y ∷ (integer a ++ (integer b ++ (integer c ++ (p ∷ q ∷ (third_parameter r ++ (u.element ∷ u.colour ∷ (optional text_name o ++ t)))))))
 
-abbrev behind_fields : StatFields → List ℕ → List ℕ
-behind_fields f t = f.x ∷ f.y ∷ (integer f.step_x ++ (integer f.step_y ++ (integer f.cycle ++ (f.p1 ∷ f.p2 ∷ (third_parameter f.p3 ++ (f.under.element ∷ f.under.colour ∷ (optional text_name f.text ++ t)))))))
+abbrev made : ℕ → ℕ → ℤ → ℤ → ℤ → ℕ → ℕ → ThirdParameter → Tile → Option TextId → StatFields
+made x y a b c p q r u o = fields_of (x ∷ y ∷ p ∷ q ∷ []) u (a ∷ b ∷ c ∷ []) r o
 
-fields_are : (f : StatFields) (t : List ℕ) → stat_fields f ++ t ≡ behind_fields f t
-fields_are f t =
-    ap (λ (r : List ℕ). f.x ∷ f.y ∷ r) (regroup (integer f.step_x) (integer f.step_y) (integer f.cycle) (f.p1 ∷ f.p2 ∷ []) (third_parameter f.p3) (tile f.under) (optional text_name f.text) t)
+regroup : (a b c d e f g h t : List ℕ) → (((((a ++ (b ++ (c ++ (d ++ [])))) ++ e) ++ f) ++ g) ++ h) ++ t ≡ a ++ (b ++ (c ++ (d ++ (e ++ (f ++ (g ++ (h ++ t)))))))
+regroup a b c d e f g h t = simp (append_assoc, append-nil) refl
+
+fields_are : (x y : ℕ) (a b c : ℤ) (p q : ℕ) (r : ThirdParameter) (u : Tile) (o : Option TextId) (t : List ℕ) → stat_fields (made x y a b c p q r u o) ++ t ≡ behind_fields x y a b c p q r u o t
+fields_are x y a b c p q r u o t = regroup (x ∷ y ∷ []) (integer a) (integer b) (integer c) (p ∷ q ∷ []) (third_parameter r) (u.element ∷ u.colour ∷ []) (optional text_name o) t
 
 fields_complete : Completes IsStatFields stat_fields (λ t. t) stat_fields_at
 unfolding stat_fields_at
@@ -314,18 +308,63 @@ fields_complete =
     (λ q gq. takes_then third_parameter_field IsStatFields stat_fields (λ t. x ∷ y ∷ (integer a ++ (integer b ++ (integer c ++ (p ∷ q ∷ t))))) _
     (λ r gr. takes_then tile_field IsStatFields stat_fields (λ t. x ∷ y ∷ (integer a ++ (integer b ++ (integer c ++ (p ∷ q ∷ (third_parameter r ++ t)))))) _
     (λ u gu. takes_then (optional_field text_name_field) IsStatFields stat_fields (λ t. x ∷ y ∷ (integer a ++ (integer b ++ (integer c ++ (p ∷ q ∷ (third_parameter r ++ (u.element ∷ u.colour ∷ t))))))) _
-    (λ o go. takes_end IsStatFields stat_fields (λ t. x ∷ y ∷ (integer a ++ (integer b ++ (integer c ++ (p ∷ q ∷ (third_parameter r ++ (u.element ∷ u.colour ∷ (optional text_name o ++ t))))))))
-    (record { x = x; y = y; step_x = a; step_y = b; cycle = c; p1 = p; p2 = q; p3 = r; under = u; text = o })
-    (record { x = gx; y = gy; step_x = ga; step_y = gb; cycle = gc; p1 = gp; p2 = gq; p3 = gr; under = gu; text = go })
-    (λ t. sym (fields_are (record { x = x; y = y; step_x = a; step_y = b; cycle = c; p1 = p; p2 = q; p3 = r; under = u; text = o }) t))))))))))))
+    (λ o go. takes_end IsStatFields stat_fields (λ t. behind_fields x y a b c p q r u o t) (made x y a b c p q r u o)
+    (record { all_bytes = refl; bytes = (gx, (gy, (gp, (gq, (gu.0, (gu.1, tt)))))); all_numbers = refl; numbers = (ga, (gb, (gc, tt))); p3 = gr; text = go })
+    (λ t. sym (fields_are x y a b c p q r u o t))))))))))))
+
+-- a list of so many and one more begins with one
+uncons : {A : Type 0} (n : ℕ) (xs : List A) → length xs ≡ suc n → (x : A) × (ys : List A) × (xs ≡ x ∷ ys) × (length ys ≡ n)
+uncons n [] e = absurd (omega arith)
+uncons n (x ∷ ys) e = (x, ys, refl, omega arith)
+
+empty : {A : Type 0} (xs : List A) → length xs ≡ 0 → xs ≡ []
+empty [] e = refl
+empty (x ∷ xs) e = absurd (omega arith)
+
+six : (bs : List ℕ) → length bs ≡ 6 → (x y p q e k : ℕ) × (bs ≡ x ∷ y ∷ p ∷ q ∷ e ∷ k ∷ [])
+six bs h =
+    let a = uncons 5 bs h in
+    let b = uncons 4 a.1 a.3 in
+    let c = uncons 3 b.1 b.3 in
+    let d = uncons 2 c.1 c.3 in
+    let e = uncons 1 d.1 d.3 in
+    let g = uncons 0 e.1 e.3 in
+    let none : g.1 ≡ [] = empty g.1 g.3 in
+    (a.0, b.0, c.0, d.0, e.0, g.0, cc (a.2, b.2, c.2, d.2, e.2, g.2, none))
+
+three : (ns : List ℤ) → length ns ≡ 3 → (x y z : ℤ) × (ns ≡ x ∷ y ∷ z ∷ [])
+three ns h =
+    let a = uncons 2 ns h in
+    let b = uncons 1 a.1 a.3 in
+    let c = uncons 0 b.1 b.3 in
+    let none : c.1 ≡ [] = empty c.1 c.3 in
+    (a.0, b.0, c.0, cc (a.2, b.2, c.2, none))
+
+made_again : (x y : ℕ) (a b c : ℤ) (p q : ℕ) (r : ThirdParameter) (u : Tile) (o : Option TextId) (rest : List ℕ) → IsStatFields (made x y a b c p q r u o) → stat_fields_at (stat_fields (made x y a b c p q r u o) ++ rest) ≡ Ok (made x y a b c p q r u o, rest)
+unfolding stat_fields_at
+made_again x y a b c p q r u o rest g =
+    let f : Field StatFields = Ok (made x y a b c p q r u o, rest) in
+    let h = g.bytes in
+    let n = g.numbers in
+    ap stat_fields_at (fields_are x y a b c p q r u o rest)
+    ∙ again_then byte_field _ _ f x h.0 (again_then byte_field _ _ f y h.1.0 (again_then integer_field _ _ f a n.0 (again_then integer_field _ _ f b n.1.0 (again_then integer_field _ _ f c n.1.1.0
+    (again_then byte_field _ _ f p h.1.1.0 (again_then byte_field _ _ f q h.1.1.1.0 (again_then third_parameter_field _ _ f r g.p3 (again_then tile_field _ _ f u (h.1.1.1.1.0, h.1.1.1.1.1.0) (again_then (optional_field text_name_field) _ rest f o g.text refl)))))))))
+
+-- what a new stat is given, of all its parts
+abbrev whole : List ℕ → List ℤ → ThirdParameter → Option TextId → StatFields
+whole bytes numbers p3 text = record { bytes = bytes; numbers = numbers; p3 = p3; text = text }
+
+same_whole : (bs cs : List ℕ) (ns ms : List ℤ) (r : ThirdParameter) (o : Option TextId) → bs ≡ cs → ns ≡ ms → whole cs ms r o ≡ whole bs ns r o
+same_whole bs cs ns ms r o e h = rw (e, h) refl
 
 fields_again : (f : StatFields) (rest : List ℕ) → IsStatFields f → stat_fields_at (stat_fields f ++ rest) ≡ Ok (f, rest)
-unfolding stat_fields_at
 fields_again f rest g =
-    let r : Field StatFields = Ok (f, rest) in
-    ap stat_fields_at (fields_are f rest)
-    ∙ again_then byte_field _ _ r f.x g.x (again_then byte_field _ _ r f.y g.y (again_then integer_field _ _ r f.step_x g.step_x (again_then integer_field _ _ r f.step_y g.step_y (again_then integer_field _ _ r f.cycle g.cycle
-    (again_then byte_field _ _ r f.p1 g.p1 (again_then byte_field _ _ r f.p2 g.p2 (again_then third_parameter_field _ _ r f.p3 g.p3 (again_then tile_field _ _ r f.under g.under (again_then (optional_field text_name_field) _ rest r f.text g.text refl)))))))))
+    let b = six f.bytes g.all_bytes in
+    let n = three f.numbers g.all_numbers in
+    let u : Tile = record { element = b.4; colour = b.5 } in
+    let same = same_whole f.bytes (b.0 ∷ b.1 ∷ b.2 ∷ b.3 ∷ b.4 ∷ b.5 ∷ []) f.numbers (n.0 ∷ n.1 ∷ n.2 ∷ []) f.p3 f.text b.6 n.3 in
+    let P : StatFields → Type 0 = λ x. IsStatFields x → stat_fields_at (stat_fields x ++ rest) ≡ Ok (x, rest) in
+    subst P same (made_again b.0 b.1 n.0 n.1 n.2 b.2 b.3 f.p3 u f.text rest) g
 
 pub stat_fields_field : IsField IsStatFields stat_fields stat_fields_at
 stat_fields_field = record { again = fields_again; takes = takes_all IsStatFields stat_fields stat_fields_at fields_complete }

@@ -4,7 +4,7 @@ use Rattle.zed_op.specs.declared.op.Edit.{Edit}
 use Rattle.zed_op.specs.Fit.{Fits}
 use Rattle.zed_editfile.specs.declared.error.EditFileError.TheVariants.{Memory}
 use Rattle.zed_editfile.specs.Reading.{edit_at}
-use Rattle.zed_editfile.specs.Sizes.{HasRoom}
+use Rattle.zed_op.specs.Sizes.{HasSizes}
 use Rattle.zed_editfile.specs.Spelling.{spelling, record_text, file_text}
 use Rattle.zed_editfile.specs.Stream.{is_other, IsRecord, AreRecords, Progress, Reads}
 
@@ -14,7 +14,7 @@ IsReadBack e = edit_at (spelling e) ≡ Ok e
 
 -- an edit that the bytes spell fits, has the sizes of its fields, and has no other spelling
 abbrev pub IsSpelledOnce : List ℕ → Type 0
-IsSpelledOnce bytes = (e : Edit) → edit_at bytes ≡ Ok e → (bytes ≡ spelling e) × HasRoom e × Fits e
+IsSpelledOnce bytes = (e : Edit) → edit_at bytes ≡ Ok e → (bytes ≡ spelling e) × HasSizes e × Fits e
 
 -- the record of the one edit doesn't begin that of the other, unless they are one edit
 abbrev pub DiffersFrom : Edit → Edit → Type 0

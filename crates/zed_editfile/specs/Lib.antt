@@ -1,5 +1,4 @@
 pub mod Reading
-pub mod Sizes
 pub mod Spelling
 pub mod Stream
 pub mod Laws

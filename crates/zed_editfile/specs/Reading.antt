@@ -1,5 +1,5 @@
 -- What the body of a record says: from left to right, with the first fault that is met.
-use Rattle.std.specs.Prelude.{◌≡◌, ◌⊎◌, ℕ, ℤ, ◌-◌, Bool, true, false, ◌==◌, nat_lt, if◌then◌else◌, List, [], ◌∷◌, length, take, drop, Option, Some, None, Result, Ok, Err}
+use Rattle.std.specs.Prelude.{◌≡◌, ◌⊎◌, ℕ, ℤ, ◌-◌, Bool, true, false, ◌==◌, nat_lt, if◌then◌else◌, List, [], ◌∷◌, ◌++◌, length, take, drop, Option, Some, None, Result, Ok, Err}
 use Rattle.std.specs.Int.{w16, cast_signed}
 use Rattle.byteorder.specs.Endian.{little_number}
 use Rattle.zed_types.specs.declared.stamp.Stamp.{Stamp}
@@ -11,29 +11,22 @@ use Rattle.zed_types.specs.declared.names.ElemId.{ElemId}
 use Rattle.zed_types.specs.declared.tile.Tile.{Tile}
 use Rattle.zed_types.specs.declared.tile.Rectangle.{Rectangle}
 use Rattle.zed_types.specs.declared.text.ByteRange.{ByteRange}
-use Rattle.zed_types.specs.declared.header.HeaderNumber.{HeaderNumber}
-use Rattle.zed_types.specs.declared.header.HeaderNumber.TheVariants.{Ammo, Gems, Health, Torches, TorchTicks, EnergizerTicks, Score, TimePassed, Hundredths}
 use Rattle.zed_types.specs.declared.header.KeyColour.{KeyColour}
 use Rattle.zed_types.specs.declared.header.KeyColour.TheVariants.{Blue, Green, Cyan, Red, Purple, Yellow, White}
 use Rattle.zed_types.specs.declared.header.FlagSlot.{FlagSlot}
 use Rattle.zed_types.specs.declared.header.FlagSlot.TheVariants.{First, Second, Third, Fourth, Fifth, Sixth, Seventh, Eighth, Ninth, Tenth}
 use Rattle.zed_types.specs.declared.header.HeaderSetting.{HeaderSetting}
 use Rattle.zed_types.specs.declared.header.HeaderSetting.TheVariants as header
-use Rattle.zed_types.specs.declared.property.Side.{Side}
-use Rattle.zed_types.specs.declared.property.Side.TheVariants.{North, South, West, East}
-use Rattle.zed_types.specs.declared.property.BoardByte.TheVariants.{MaxShots, StartX, StartY}
-use Rattle.zed_types.specs.declared.property.BoardFlag.TheVariants.{Dark, ReEnter}
-use Rattle.zed_types.specs.declared.property.BoardText.TheVariants.{Name, Message}
 use Rattle.zed_types.specs.declared.property.BoardSetting.{BoardSetting}
 use Rattle.zed_types.specs.declared.property.BoardSetting.TheVariants as board
-use Rattle.zed_types.specs.declared.stat_field.StatByte.TheVariants.{X, Y, P1, P2, UnderElement, UnderColour}
-use Rattle.zed_types.specs.declared.stat_field.StatNumber.{StatNumber}
-use Rattle.zed_types.specs.declared.stat_field.StatNumber.TheVariants.{StepX, StepY, Cycle, Position}
 use Rattle.zed_types.specs.declared.stat_field.ThirdParameter.{ThirdParameter}
 use Rattle.zed_types.specs.declared.stat_field.ThirdParameter.TheVariants as third
 use Rattle.zed_types.specs.declared.stat_field.StatSetting.{StatSetting}
 use Rattle.zed_types.specs.declared.stat_field.StatSetting.TheVariants as stat
 use Rattle.zed_types.specs.declared.stat_field.StatFields.{StatFields}
+use Rattle.zed_types.specs.Header.{header_number_of_field}
+use Rattle.zed_types.specs.Board.{board_byte_of_field, board_flag_of_field, side_of_field, board_text_of_field}
+use Rattle.zed_types.specs.Stat.{stat_byte_of_field, stat_number_of_field}
 use Rattle.zed_op.specs.declared.cause.Cause.{Cause}
 use Rattle.zed_op.specs.declared.cause.Cause.TheVariants.{Short, Op as BadOp, Tag, Long}
 use Rattle.zed_op.specs.declared.op.Op.{Op}
@@ -44,6 +37,7 @@ use Rattle.zed_editfile.specs.declared.error.EditFileError.{EditFileError}
 use Rattle.zed_editfile.specs.declared.error.EditFileError.TheVariants.{Memory, BadEdit}
 
 infixl 10 ◌>>=◌
+-- what is found first, and then what follows from it; or the first fault
 abbrev pub ◌>>=◌ : {A B : Type 0} → Result A EditFileError → (A → Result B EditFileError) → Result B EditFileError
 (Ok x) >>= f = f x
 (Err e) >>= f = Err e
@@ -63,6 +57,7 @@ mapped f read = read >>= λ x. Ok (f x.0, x.1)
 
 -- ---- kinds of fields
 
+-- a byte
 unfoldable pub byte_at : List ℕ → Field ℕ
 byte_at [] = Err (BadEdit Short)
 byte_at (b ∷ rest) = Ok (b, rest)
@@ -71,21 +66,25 @@ byte_at (b ∷ rest) = Ok (b, rest)
 unfoldable pub number_at : ℕ → List ℕ → Field ℕ
 number_at n bytes = if nat_lt (length bytes) n then Err (BadEdit Short) else Ok (little_number n bytes, drop n bytes)
 
+-- a number of 16 bits with a sign
 unfoldable pub integer_at : List ℕ → Field ℤ
 integer_at bytes = do
   n ← number_at 2 bytes
   Ok (cast_signed w16 n.0, n.1)
 
+-- a byte 0 or 1; any other is a fault
 unfoldable pub boolean_at : List ℕ → Field Bool
 boolean_at bytes = do
   b ← byte_at bytes
   if b.0 == 0 then Ok (false, b.1) else if b.0 == 1 then Ok (true, b.1) else Err (BadEdit Tag)
 
+-- a length byte, and so many bytes
 unfoldable pub string_at : List ℕ → Field (List ℕ)
 string_at bytes = do
   n ← byte_at bytes
   if nat_lt (length n.1) n.0 then Err (BadEdit Short) else Ok (take n.0 n.1, drop n.0 n.1)
 
+-- a time in six bytes and a replica in two
 unfoldable pub stamp_at : List ℕ → Field Stamp
 stamp_at bytes = do
   time ← number_at 6 bytes
@@ -137,12 +136,14 @@ optional_at name_at bytes = do
   tag ← boolean_at bytes
   if tag.0 then mapped Some (name_at tag.1) else Ok (None, tag.1)
 
+-- an element and a colour
 unfoldable pub tile_at : List ℕ → Field Tile
 tile_at bytes = do
   element ← byte_at bytes
   colour ← byte_at element.1
   Ok (record { element = element.0; colour = colour.0 }, colour.1)
 
+-- four bytes
 unfoldable pub rectangle_at : List ℕ → Field Rectangle
 rectangle_at bytes = do
   left ← byte_at bytes
@@ -159,15 +160,16 @@ third_parameter_at bytes = do
 
 -- ---- registers, by their numbers
 
--- numbers that aren't listed don't matter here
-abbrev pub header_number_of : ℕ → HeaderNumber
-header_number_of n =
-    if n == 0 then Ammo else if n == 1 then Gems else if n == 2 then Health else if n == 3 then Torches else if n == 4 then TorchTicks else if n == 5 then EnergizerTicks else if n == 6 then Score else
-    if n == 7 then TimePassed else Hundredths
+-- what is read of a register of a kind, if the number is of that kind
+abbrev pub by_kind : {A C : Type 0} → Option A → (A → Field C) → Field C → Field C
+by_kind None read other = other
+by_kind (Some kind) read other = read kind
 
+-- the key of a number below 7
 abbrev pub key_of : ℕ → KeyColour
 key_of n = if n == 0 then Blue else if n == 1 then Green else if n == 2 then Cyan else if n == 3 then Red else if n == 4 then Purple else if n == 5 then Yellow else White
 
+-- the flag of a number below 10
 abbrev pub flag_of : ℕ → FlagSlot
 flag_of n =
     if n == 0 then First else if n == 1 then Second else if n == 2 then Third else if n == 3 then Fourth else if n == 4 then Fifth else if n == 5 then Sixth else if n == 6 then Seventh else
@@ -176,61 +178,53 @@ flag_of n =
 -- the value of header field f
 unfoldable pub header_value_at : ℕ → List ℕ → Field HeaderSetting
 header_value_at f bytes =
-    if nat_lt f 9 then mapped (header.Number (header_number_of f)) (integer_at bytes) else
+    by_kind (header_number_of_field f) (λ k. mapped (header.Number k) (integer_at bytes)) (
     if nat_lt f 16 then mapped (header.Key (key_of (f - 9))) (boolean_at bytes) else
     if f == 16 then mapped header.Saved (boolean_at bytes) else
     if f == 17 then mapped header.CurrentBoard (board_name_at bytes) else
     if f == 18 then mapped header.WorldName (string_at bytes) else
-    if nat_lt f 29 then mapped (header.Flag (flag_of (f - 19))) (string_at bytes) else Err (BadEdit Tag)
+    if nat_lt f 29 then mapped (header.Flag (flag_of (f - 19))) (string_at bytes) else Err (BadEdit Tag))
 
+-- a register of a header, under its number
 unfoldable pub header_setting_at : List ℕ → Field HeaderSetting
 header_setting_at bytes = do
   f ← byte_at bytes
   header_value_at f.0 f.1
 
-abbrev pub side_of : ℕ → Side
-side_of n = if n == 6 then North else if n == 7 then South else if n == 8 then West else East
-
 -- the value of board property f
 unfoldable pub board_value_at : ℕ → List ℕ → Field BoardSetting
 board_value_at f bytes =
-    if f == 0 then mapped (board.Byte MaxShots) (byte_at bytes) else
-    if f == 1 then mapped (board.Flag Dark) (boolean_at bytes) else
-    if f == 2 then mapped (board.Flag ReEnter) (boolean_at bytes) else
-    if f == 3 then mapped (board.Byte StartX) (byte_at bytes) else
-    if f == 4 then mapped (board.Byte StartY) (byte_at bytes) else
-    if f == 5 then mapped board.TimeLimit (integer_at bytes) else
-    if nat_lt f 10 then mapped (board.Exit (side_of f)) (optional_at board_name_at bytes) else
-    if f == 10 then mapped (board.Text Name) (string_at bytes) else
-    if f == 11 then mapped (board.Text Message) (string_at bytes) else Err (BadEdit Tag)
+    by_kind (board_byte_of_field f) (λ k. mapped (board.Byte k) (byte_at bytes)) (
+    by_kind (board_flag_of_field f) (λ k. mapped (board.Flag k) (boolean_at bytes)) (
+    by_kind (side_of_field f) (λ k. mapped (board.Exit k) (optional_at board_name_at bytes)) (
+    by_kind (board_text_of_field f) (λ k. mapped (board.Text k) (string_at bytes)) (
+    if f == 5 then mapped board.TimeLimit (integer_at bytes) else Err (BadEdit Tag)))))
 
+-- a register of a board, under its number
 unfoldable pub board_setting_at : List ℕ → Field BoardSetting
 board_setting_at bytes = do
   f ← byte_at bytes
   board_value_at f.0 f.1
 
-abbrev pub stat_number_of : ℕ → StatNumber
-stat_number_of n = if n == 2 then StepX else if n == 3 then StepY else if n == 4 then Cycle else Position
-
 -- the value of stat field f
 unfoldable pub stat_value_at : ℕ → List ℕ → Field StatSetting
 stat_value_at f bytes =
-    if f == 0 then mapped (stat.Byte X) (byte_at bytes) else
-    if f == 1 then mapped (stat.Byte Y) (byte_at bytes) else
-    if nat_lt f 6 then mapped (stat.Number (stat_number_of f)) (integer_at bytes) else
-    if f == 6 then mapped (stat.Byte P1) (byte_at bytes) else
-    if f == 7 then mapped (stat.Byte P2) (byte_at bytes) else
+    by_kind (stat_byte_of_field f) (λ k. mapped (stat.Byte k) (byte_at bytes)) (
+    by_kind (stat_number_of_field f) (λ k. mapped (stat.Number k) (integer_at bytes)) (
     if f == 8 then mapped stat.P3 (third_parameter_at bytes) else
     if f == 9 then mapped stat.Follower (optional_at stat_name_at bytes) else
     if f == 10 then mapped stat.Leader (optional_at stat_name_at bytes) else
-    if f == 11 then mapped (stat.Byte UnderElement) (byte_at bytes) else
-    if f == 12 then mapped (stat.Byte UnderColour) (byte_at bytes) else
-    if f == 13 then mapped stat.Text (optional_at text_name_at bytes) else Err (BadEdit Tag)
+    if f == 13 then mapped stat.Text (optional_at text_name_at bytes) else Err (BadEdit Tag)))
 
+-- a register of a stat, under its number
 unfoldable pub stat_setting_at : List ℕ → Field StatSetting
 stat_setting_at bytes = do
   f ← byte_at bytes
   stat_value_at f.0 f.1
+
+-- what a new stat is given, from its bytes but the tile underneath, that tile, its numbers, and the rest
+abbrev pub fields_of : List ℕ → Tile → List ℤ → ThirdParameter → Option TextId → StatFields
+fields_of bytes under numbers p3 text = record { bytes = bytes ++ under.element ∷ under.colour ∷ []; numbers = numbers; p3 = p3; text = text }
 
 -- what a new stat is given
 unfoldable pub stat_fields_at : List ℕ → Field StatFields
@@ -245,16 +239,18 @@ stat_fields_at bytes = do
   p3 ← third_parameter_at p2.1
   under ← tile_at p3.1
   text ← optional_at text_name_at under.1
-  Ok (record { x = x.0; y = y.0; step_x = step_x.0; step_y = step_y.0; cycle = cycle.0; p1 = p1.0; p2 = p2.0; p3 = p3.0; under = under.0; text = text.0 }, text.1)
+  Ok (fields_of (x.0 ∷ y.0 ∷ p1.0 ∷ p2.0 ∷ []) under.0 (step_x.0 ∷ step_y.0 ∷ cycle.0 ∷ []) p3.0 text.0, text.1)
 
 -- ---- ops
 
+-- a board, and a register of it
 unfoldable pub set_board_at : List ℕ → Field Op
 set_board_at bytes = do
   b ← board_name_at bytes
   setting ← board_setting_at b.1
   Ok (SetBoard b.0 setting.0, setting.1)
 
+-- a board, a rectangle and a tile
 unfoldable pub set_cells_at : List ℕ → Field Op
 set_cells_at bytes = do
   b ← board_name_at bytes
@@ -262,12 +258,14 @@ set_cells_at bytes = do
   t ← tile_at r.1
   Ok (SetCells b.0 r.0 t.0, t.1)
 
+-- a board, and what a new stat is given
 unfoldable pub stat_add_at : List ℕ → Field Op
 stat_add_at bytes = do
   b ← board_name_at bytes
   fields ← stat_fields_at b.1
   Ok (StatAdd b.0 fields.0, fields.1)
 
+-- a stat, and a register of it
 unfoldable pub set_stat_at : List ℕ → Field Op
 set_stat_at bytes = do
   s ← stat_name_at bytes
@@ -281,6 +279,7 @@ text_insert_at bytes = do
   after ← optional_at element_name_at t.1
   Ok (TextInsert t.0 after.0 after.1, [])
 
+-- a stamp, and the numbers of the first and the last byte
 unfoldable pub range_at : List ℕ → Field ByteRange
 range_at bytes = do
   made ← stamp_at bytes
@@ -288,6 +287,7 @@ range_at bytes = do
   last ← number_at 4 first.1
   Ok (record { stamp = made.0; first = first.0; last = last.0 }, last.1)
 
+-- a text, and a range of bytes
 unfoldable pub text_delete_at : List ℕ → Field Op
 text_delete_at bytes = do
   t ← text_name_at bytes
@@ -320,6 +320,7 @@ fields_at bytes = do
   op ← op_at number.0 number.1
   if length op.1 == 0 then Ok (record { stamp = made.0; op = op.0 }) else Err (BadEdit Long)
 
+-- the edit, if nothing is wrong with it
 abbrev pub unless_faulty : Option Cause → Edit → Result Edit EditFileError
 unless_faulty None e = Ok e
 unless_faulty (Some c) e = Err (BadEdit c)

@@ -1,5 +1,5 @@
 -- The one spelling of an edit, field by field, and of a file of edits. Numbers stand with their lowest byte first.
-use Rattle.std.specs.Prelude.{ℕ, ℤ, ◌+◌, Bool, if◌then◌else◌, List, [], ◌∷◌, ◌++◌, length, Option, Some, None}
+use Rattle.std.specs.Prelude.{ℕ, ℤ, ◌+◌, Bool, if◌then◌else◌, List, [], ◌∷◌, ◌++◌, length, take, drop, Option, Some, None}
 use Rattle.std.specs.Int.{w16, cast_unsigned}
 use Rattle.std.specs.List.{flat_map}
 use Rattle.byteorder.specs.Endian.{little_bytes}
@@ -11,30 +11,18 @@ use Rattle.zed_types.specs.declared.names.TextId.{TextId}
 use Rattle.zed_types.specs.declared.names.ElemId.{ElemId}
 use Rattle.zed_types.specs.declared.tile.Tile.{Tile}
 use Rattle.zed_types.specs.declared.tile.Rectangle.{Rectangle}
-use Rattle.zed_types.specs.declared.header.HeaderNumber.{HeaderNumber}
-use Rattle.zed_types.specs.declared.header.HeaderNumber.TheVariants.{Ammo, Gems, Health, Torches, TorchTicks, EnergizerTicks, Score, TimePassed, Hundredths}
 use Rattle.zed_types.specs.declared.header.HeaderSetting.{HeaderSetting}
 use Rattle.zed_types.specs.declared.header.HeaderSetting.TheVariants as header
-use Rattle.zed_types.specs.declared.property.Side.{Side}
-use Rattle.zed_types.specs.declared.property.Side.TheVariants.{North, South, West, East}
-use Rattle.zed_types.specs.declared.property.BoardByte.{BoardByte}
-use Rattle.zed_types.specs.declared.property.BoardByte.TheVariants.{MaxShots, StartX, StartY}
-use Rattle.zed_types.specs.declared.property.BoardFlag.{BoardFlag}
-use Rattle.zed_types.specs.declared.property.BoardFlag.TheVariants.{Dark, ReEnter}
-use Rattle.zed_types.specs.declared.property.BoardText.{BoardText}
-use Rattle.zed_types.specs.declared.property.BoardText.TheVariants.{Name, Message}
 use Rattle.zed_types.specs.declared.property.BoardSetting.{BoardSetting}
 use Rattle.zed_types.specs.declared.property.BoardSetting.TheVariants as board
-use Rattle.zed_types.specs.declared.stat_field.StatByte.{StatByte}
-use Rattle.zed_types.specs.declared.stat_field.StatByte.TheVariants.{X, Y, P1, P2, UnderElement, UnderColour}
-use Rattle.zed_types.specs.declared.stat_field.StatNumber.{StatNumber}
-use Rattle.zed_types.specs.declared.stat_field.StatNumber.TheVariants.{StepX, StepY, Cycle, Position}
 use Rattle.zed_types.specs.declared.stat_field.ThirdParameter.{ThirdParameter}
 use Rattle.zed_types.specs.declared.stat_field.ThirdParameter.TheVariants as third
 use Rattle.zed_types.specs.declared.stat_field.StatSetting.{StatSetting}
 use Rattle.zed_types.specs.declared.stat_field.StatSetting.TheVariants as stat
 use Rattle.zed_types.specs.declared.stat_field.StatFields.{StatFields}
-use Rattle.zed_types.specs.Header.{key_index, flag_index}
+use Rattle.zed_types.specs.Header.{key_index, flag_index, header_number_index}
+use Rattle.zed_types.specs.Board.{board_byte_field, board_flag_field, side_field, board_text_field}
+use Rattle.zed_types.specs.Stat.{stat_byte_field, stat_number_field}
 use Rattle.zed_op.specs.declared.op.Op.{Op}
 use Rattle.zed_op.specs.declared.op.Op.TheVariants.{Genesis, SetHeader, BoardAdd, BoardRemove, SetBoard, SetCells, StatAdd, StatRemove, SetStat, TextAdd, TextInsert, TextDelete}
 use Rattle.zed_op.specs.declared.op.Edit.{Edit}
@@ -49,6 +37,7 @@ number n x = little_bytes n x
 abbrev pub integer : ℤ → List ℕ
 integer z = number 2 (cast_unsigned w16 z)
 
+-- a byte 0 or 1
 abbrev pub boolean : Bool → List ℕ
 boolean b = (if b then 1 else 0) ∷ []
 
@@ -56,6 +45,7 @@ boolean b = (if b then 1 else 0) ∷ []
 abbrev pub string : List ℕ → List ℕ
 string s = length s ∷ s
 
+-- a time in six bytes and a replica in two
 abbrev pub stamp : Stamp → List ℕ
 stamp s = number 6 s.time ++ number 2 s.replica
 
@@ -84,9 +74,11 @@ abbrev pub optional : {A : Type 0} → (A → List ℕ) → Option A → List �
 optional spell None = 0 ∷ []
 optional spell (Some x) = 1 ∷ spell x
 
+-- an element and a colour
 abbrev pub tile : Tile → List ℕ
 tile t = t.element ∷ t.colour ∷ []
 
+-- four bytes
 abbrev pub rectangle : Rectangle → List ℕ
 rectangle r = r.left ∷ r.top ∷ r.right ∷ r.bottom ∷ []
 
@@ -97,68 +89,27 @@ third_parameter (third.Board b) = 1 ∷ board_name b
 
 -- ---- registers, each under its number
 
-abbrev pub header_number : HeaderNumber → ℕ
-header_number Ammo = 0
-header_number Gems = 1
-header_number Health = 2
-header_number Torches = 3
-header_number TorchTicks = 4
-header_number EnergizerTicks = 5
-header_number Score = 6
-header_number TimePassed = 7
-header_number Hundredths = 8
-
+-- a register of a header
 abbrev pub header_setting : HeaderSetting → List ℕ
-header_setting (header.Number f n) = header_number f ∷ integer n
+header_setting (header.Number f n) = header_number_index f ∷ integer n
 header_setting (header.Key k b) = (9 + key_index k) ∷ boolean b
 header_setting (header.Saved b) = 16 ∷ boolean b
 header_setting (header.CurrentBoard b) = 17 ∷ board_name b
 header_setting (header.WorldName s) = 18 ∷ string s
 header_setting (header.Flag k s) = (19 + flag_index k) ∷ string s
 
-abbrev pub board_byte : BoardByte → ℕ
-board_byte MaxShots = 0
-board_byte StartX = 3
-board_byte StartY = 4
-
-abbrev pub board_flag : BoardFlag → ℕ
-board_flag Dark = 1
-board_flag ReEnter = 2
-
-abbrev pub side : Side → ℕ
-side North = 6
-side South = 7
-side West = 8
-side East = 9
-
-abbrev pub board_text : BoardText → ℕ
-board_text Name = 10
-board_text Message = 11
-
+-- a register of a board
 abbrev pub board_setting : BoardSetting → List ℕ
-board_setting (board.Byte f n) = board_byte f ∷ n ∷ []
-board_setting (board.Flag f b) = board_flag f ∷ boolean b
+board_setting (board.Byte f n) = board_byte_field f ∷ n ∷ []
+board_setting (board.Flag f b) = board_flag_field f ∷ boolean b
 board_setting (board.TimeLimit n) = 5 ∷ integer n
-board_setting (board.Exit d b) = side d ∷ optional board_name b
-board_setting (board.Text f s) = board_text f ∷ string s
+board_setting (board.Exit d b) = side_field d ∷ optional board_name b
+board_setting (board.Text f s) = board_text_field f ∷ string s
 
-abbrev pub stat_byte : StatByte → ℕ
-stat_byte X = 0
-stat_byte Y = 1
-stat_byte P1 = 6
-stat_byte P2 = 7
-stat_byte UnderElement = 11
-stat_byte UnderColour = 12
-
-abbrev pub stat_number : StatNumber → ℕ
-stat_number StepX = 2
-stat_number StepY = 3
-stat_number Cycle = 4
-stat_number Position = 5
-
+-- a register of a stat
 abbrev pub stat_setting : StatSetting → List ℕ
-stat_setting (stat.Byte f n) = stat_byte f ∷ n ∷ []
-stat_setting (stat.Number f n) = stat_number f ∷ integer n
+stat_setting (stat.Byte f n) = stat_byte_field f ∷ n ∷ []
+stat_setting (stat.Number f n) = stat_number_field f ∷ integer n
 stat_setting (stat.P3 target) = 8 ∷ third_parameter target
 stat_setting (stat.Follower s) = 9 ∷ optional stat_name s
 stat_setting (stat.Leader s) = 10 ∷ optional stat_name s
@@ -167,7 +118,7 @@ stat_setting (stat.Text t) = 13 ∷ optional text_name t
 -- what a new stat is given
 abbrev pub stat_fields : StatFields → List ℕ
 stat_fields f =
-    (f.x ∷ f.y ∷ []) ++ integer f.step_x ++ integer f.step_y ++ integer f.cycle ++ (f.p1 ∷ f.p2 ∷ []) ++ third_parameter f.p3 ++ tile f.under ++ optional text_name f.text
+    take 2 f.bytes ++ flat_map integer f.numbers ++ take 2 (drop 2 f.bytes) ++ third_parameter f.p3 ++ drop 2 (drop 2 f.bytes) ++ optional text_name f.text
 
 -- ---- edits
 
@@ -198,5 +149,6 @@ record_text e = number 4 (length (spelling e)) ++ spelling e
 unfoldable pub head_text : ℕ → List ℕ
 head_text world = (90 ∷ 69 ∷ 68 ∷ 1 ∷ []) ++ number 8 world
 
+-- a head, and a record for each edit
 abbrev pub file_text : ℕ → List Edit → List ℕ
 file_text world es = head_text world ++ flat_map record_text es

@@ -7,7 +7,7 @@ use Rattle.zed_op.specs.Fit.{Fits}
 use Rattle.zed_editfile.specs.declared.error.EditFileError.{EditFileError}
 use Rattle.zed_editfile.specs.declared.error.EditFileError.TheVariants.{Memory, Magic, NewVersion, OtherWorld, RecordLength, CutShort}
 use Rattle.zed_editfile.specs.Reading.{edit_at}
-use Rattle.zed_editfile.specs.Sizes.{HasRoom}
+use Rattle.zed_op.specs.Sizes.{HasSizes}
 use Rattle.zed_editfile.specs.Spelling.{number, spelling, record_text, head_text, file_text}
 
 -- ---- where reading stops
@@ -17,9 +17,11 @@ pub record Stop : Type 0 where
   pub rest : List ℕ
   pub fault : Option EditFileError
 
+-- these bytes are kept until more come
 abbrev pub waits : List ℕ → Option Stop
 waits bytes = Some (record { rest = bytes; fault = None })
 
+-- a fault, after which no bytes are kept
 abbrev pub fails : EditFileError → Option Stop
 fails e = Some (record { rest = []; fault = Some e })
 
@@ -47,11 +49,13 @@ is_length n = nat_le 9 n && nat_le n 4194304
 
 -- an edit that can stand in a record: it fits, each value has room in its field, and the body has one of the lengths
 abbrev pub IsRecord : Edit → Type 0
-IsRecord e = Fits e × HasRoom e × (is_length (length (spelling e)) ≡ true)
+IsRecord e = Fits e × HasSizes e × (is_length (length (spelling e)) ≡ true)
 
+-- each of these edits can stand in a record
 abbrev pub AreRecords : List Edit → Type 0
 AreRecords es = AllByRecursion IsRecord es
 
+-- nowhere, where an edit was read; else its fault
 abbrev pub fault_of : Result Edit EditFileError → Option Stop
 fault_of (Ok e) = None
 fault_of (Err f) = fails f
@@ -88,6 +92,7 @@ pub record Progress : Type 0 where
   pub rest : List ℕ
   pub fault : Option EditFileError
 
+-- where a reader is
 abbrev pub stop_of : Progress → Stop
 stop_of p = record { rest = p.rest; fault = p.fault }
 
@@ -124,6 +129,7 @@ pub record Feeds (piece : List ℕ) (before after : List Edit) (p q : Progress) 
   pub good : AreRecords edits
   pub reads : (bytes : List ℕ) (found : List Edit) → Reads bytes found p → Reads (bytes ++ piece) (found ++ edits) q
 
+-- the fault; or that a head or a record is cut, where bytes are left or no world was told
 abbrev pub ending_by : Option EditFileError → Option ℕ → List ℕ → Option EditFileError
 ending_by (Some e) world rest = Some e
 ending_by None None rest = Some CutShort
@@ -134,6 +140,7 @@ ending_by None (Some n) (b ∷ rest) = Some CutShort
 abbrev pub ending : Progress → Option EditFileError
 ending p = ending_by p.fault p.world p.rest
 
+-- Ok, where there is no fault
 abbrev pub verdict_of : Option EditFileError → Result (Unit {0}) EditFileError
 verdict_of None = Ok tt
 verdict_of (Some e) = Err e
@@ -145,6 +152,7 @@ abbrev pub IsWaiting : Option ℕ → Option ℕ → List ℕ → Type 0
 IsWaiting asked None rest = head_stop asked rest ≡ waits rest
 IsWaiting asked (Some n) rest = record_stop rest ≡ waits rest
 
+-- a reader without a fault keeps less than a head or a record
 abbrev pub KeepsWaiting : Progress → Type 0
 KeepsWaiting p = p.fault ≡ None → IsWaiting p.asked p.world p.rest
 
@@ -153,6 +161,7 @@ abbrev pub end_of : Result (Unit {0}) EditFileError → List ℕ → Stop
 end_of (Ok u) kept = record { rest = kept; fault = None }
 end_of (Err e) kept = record { rest = []; fault = Some e }
 
+-- the step ends where reading stops, or its memory ran out
 abbrev pub EndsAt : Stop → Option Stop → Type 0
 EndsAt s stop = (s.fault ≡ Some Memory) ⊎ (stop ≡ Some s)
 

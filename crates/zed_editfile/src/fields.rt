@@ -1,3 +1,4 @@
+//! Reading the kinds of fields: numbers, strings, stamps, names and what is made of them.
 ghost use Rattle.std.specs.Prelude.{◌≡◌, ◌+◌, ◌<◌, ◌≤◌, length};
 ghost use Rattle.zed_editfile.specs.Reading.{Gives, byte_at, number_at, integer_at, boolean_at, string_at, stamp_at, name_at, board_name_at, stat_name_at, text_name_at, element_name_at, optional_at, tile_at, rectangle_at, third_parameter_at, range_at};
 

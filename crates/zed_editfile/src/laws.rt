@@ -5,8 +5,7 @@ ghost use Rattle.zed_op.specs.Set.{AllFit};
 ghost use Rattle.zed_editfile.specs.Laws.{IsReadBack, IsSpelledOnce, DiffersFrom, BeginsNoOther, HasOneText, HasNoOtherText, IsReadWhole, ReadsOneWay, TextsAreRead};
 ghost use Rattle.zed_editfile.specs.Stream.{AreRecords, IsRecord};
 
-use crate::room::{op_has_room, stamp_has_room};
-use zed_op::Edit;
+use zed_op::{Edit, edit_has_sizes};
 use zed_world::canonical_files_are_short;
 
 /// An edit that fits is read from its spelling, and bytes that spell an edit are the one spelling of it.
@@ -47,8 +46,7 @@ pub fn fitting_edits_are_records(edit: &Edit)
     ensures alone { Fits edit.now → BeginsNoOther edit.now }
 {
     canonical_files_are_short();
-    stamp_has_room(edit.stamp);
-    op_has_room(&edit.op);
+    edit_has_sizes(edit);
 }
 
 /// Edits that fit make a file: no other edits have its text, and whoever reads the whole of it, in any pieces and with no want

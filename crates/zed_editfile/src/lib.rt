@@ -9,7 +9,6 @@ mod put;
 mod put_op;
 mod reader;
 mod reading;
-mod room;
 mod settings;
 mod stream;
 mod writing;

@@ -1,3 +1,4 @@
+//! Reading ops.
 ghost use Rattle.std.specs.Prelude.{◌≡◌};
 ghost use Rattle.zed_editfile.specs.Reading.{Gives, set_board_at, set_cells_at, stat_add_at, set_stat_at, text_insert_at, text_delete_at, op_at, fields_at};
 

@@ -1,3 +1,4 @@
+//! Writing the kinds of fields.
 ghost use Rattle.std.specs.Prelude.{◌≡◌, ◌<◌, ◌++◌, length, OnOk};
 ghost use Rattle.zed_editfile.specs.Spelling.{number, integer, boolean, string, stamp, name, optional, tile, rectangle, third_parameter};
 

@@ -1,6 +1,8 @@
+//! Writing an op: its number and its fields.
 ghost use Rattle.std.specs.Prelude.{◌≡◌, ◌+◌, ◌++◌, OnOk, true};
+ghost use Rattle.std.specs.List.{flat_map};
 ghost use Rattle.zed_op.specs.Fit.{is_header_in_range, is_property_in_range, is_in_range};
-ghost use Rattle.zed_editfile.specs.Spelling.{header_number, header_setting, board_byte, board_flag, side, board_text, board_setting, stat_byte, stat_number, stat_setting, stat_fields, op_text};
+ghost use Rattle.zed_editfile.specs.Spelling.{integer, header_setting, board_setting, stat_setting, stat_fields, op_text};
 
 use crate::put::{
     put_boolean, put_integer, put_name, put_optional, put_rectangle, put_stamp, put_string,
@@ -8,26 +10,7 @@ use crate::put::{
 };
 use std::alloc::AllocError;
 use zed_op::Op;
-use zed_types::{
-    BoardByte, BoardFlag, BoardSetting, BoardText, HeaderNumber, HeaderSetting, Side, StatByte,
-    StatFields, StatNumber, StatSetting,
-};
-
-fn header_number(number: HeaderNumber) -> u8
-    ensures { result ≡ header_number number }
-{
-    match number {
-        HeaderNumber::Ammo => 0,
-        HeaderNumber::Gems => 1,
-        HeaderNumber::Health => 2,
-        HeaderNumber::Torches => 3,
-        HeaderNumber::TorchTicks => 4,
-        HeaderNumber::EnergizerTicks => 5,
-        HeaderNumber::Score => 6,
-        HeaderNumber::TimePassed => 7,
-        HeaderNumber::Hundredths => 8,
-    }
-}
+use zed_types::{BoardSetting, HeaderSetting, StatFields, StatSetting};
 
 /// The header fields of the first key and of the first flag.
 const FIRST_KEY: u8 = 9;
@@ -40,7 +23,7 @@ fn put_header_setting(out: &mut Vec<u8>, setting: &HeaderSetting) -> Result<(), 
 {
     match setting {
         HeaderSetting::Number(number, value) => {
-            out.push(header_number(*number))?;
+            out.push(number.index())?;
             put_integer(out, *value)
         }
         HeaderSetting::Key(key, has) => {
@@ -66,93 +49,28 @@ fn put_header_setting(out: &mut Vec<u8>, setting: &HeaderSetting) -> Result<(), 
     }
 }
 
-fn board_byte(property: BoardByte) -> u8
-    ensures { result ≡ board_byte property }
-{
-    match property {
-        BoardByte::MaxShots => 0,
-        BoardByte::StartX => 3,
-        BoardByte::StartY => 4,
-    }
-}
-
-fn board_flag(property: BoardFlag) -> u8
-    ensures { result ≡ board_flag property }
-{
-    match property {
-        BoardFlag::Dark => 1,
-        BoardFlag::ReEnter => 2,
-    }
-}
-
-fn side(of: Side) -> u8
-    ensures { result ≡ side of }
-{
-    match of {
-        Side::North => 6,
-        Side::South => 7,
-        Side::West => 8,
-        Side::East => 9,
-    }
-}
-
-fn board_text(property: BoardText) -> u8
-    ensures { result ≡ board_text property }
-{
-    match property {
-        BoardText::Name => 10,
-        BoardText::Message => 11,
-    }
-}
-
 fn put_board_setting(out: &mut Vec<u8>, setting: &BoardSetting) -> Result<(), AllocError>
     requires { is_property_in_range setting.now ≡ true }
     ensures { OnOk result (out.new.items ≡ out.old.items ++ board_setting setting.now) }
 {
     match setting {
-        BoardSetting::Byte(property, byte) => {
-            out.extend_from_slice(&[board_byte(*property), *byte])
-        }
+        BoardSetting::Byte(property, byte) => { out.extend_from_slice(&[property.field(), *byte]) }
         BoardSetting::Flag(property, set) => {
-            out.push(board_flag(*property))?;
+            out.push(property.field())?;
             put_boolean(out, *set)
         }
         BoardSetting::TimeLimit(limit) => {
             out.push(5)?;
             put_integer(out, *limit)
         }
-        BoardSetting::Exit(of, board) => {
-            out.push(side(*of))?;
+        BoardSetting::Exit(side, board) => {
+            out.push(side.field())?;
             put_optional(out, board.map(|x| x.name))
         }
         BoardSetting::Text(property, text) => {
-            out.push(board_text(*property))?;
+            out.push(property.field())?;
             put_string(out, text)
         }
-    }
-}
-
-fn stat_byte(field: StatByte) -> u8
-    ensures { result ≡ stat_byte field }
-{
-    match field {
-        StatByte::X => 0,
-        StatByte::Y => 1,
-        StatByte::P1 => 6,
-        StatByte::P2 => 7,
-        StatByte::UnderElement => 11,
-        StatByte::UnderColour => 12,
-    }
-}
-
-fn stat_number(field: StatNumber) -> u8
-    ensures { result ≡ stat_number field }
-{
-    match field {
-        StatNumber::StepX => 2,
-        StatNumber::StepY => 3,
-        StatNumber::Cycle => 4,
-        StatNumber::Position => 5,
     }
 }
 
@@ -160,9 +78,9 @@ fn put_stat_setting(out: &mut Vec<u8>, setting: &StatSetting) -> Result<(), Allo
     ensures { OnOk result (out.new.items ≡ out.old.items ++ stat_setting setting.now) }
 {
     match setting {
-        StatSetting::Byte(field, byte) => out.extend_from_slice(&[stat_byte(*field), *byte]),
+        StatSetting::Byte(field, byte) => out.extend_from_slice(&[field.field(), *byte]),
         StatSetting::Number(field, number) => {
-            out.push(stat_number(*field))?;
+            out.push(field.field())?;
             put_integer(out, *number)
         }
         StatSetting::P3(parameter) => {
@@ -184,17 +102,26 @@ fn put_stat_setting(out: &mut Vec<u8>, setting: &StatSetting) -> Result<(), Allo
     }
 }
 
+fn put_integers(out: &mut Vec<u8>, numbers: &[i16]) -> Result<(), AllocError>
+    ensures { OnOk result (out.new.items ≡ out.old.items ++ flat_map integer numbers.now) }
+{
+    for number in numbers {
+        put_integer(out, *number)?;
+    }
+    Ok(())
+}
+
 /// Appends what a new stat is given.
 fn put_stat_fields(out: &mut Vec<u8>, fields: &StatFields) -> Result<(), AllocError>
     ensures { OnOk result (out.new.items ≡ out.old.items ++ stat_fields fields.now) }
 {
-    out.extend_from_slice(&[fields.x, fields.y])?;
-    put_integer(out, fields.step_x)?;
-    put_integer(out, fields.step_y)?;
-    put_integer(out, fields.cycle)?;
-    out.extend_from_slice(&[fields.p1, fields.p2])?;
+    let (place, rest) = fields.bytes.split_at(2);
+    let (parameters, under) = rest.split_at(2);
+    out.extend_from_slice(place)?;
+    put_integers(out, &fields.numbers)?;
+    out.extend_from_slice(parameters)?;
     put_third_parameter(out, fields.p3)?;
-    put_tile(out, fields.under)?;
+    out.extend_from_slice(under)?;
     put_optional(out, fields.text.map(|x| x.name))
 }
 

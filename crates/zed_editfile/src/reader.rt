@@ -1,3 +1,4 @@
+//! The reader of an edit file.
 ghost use Rattle.std.specs.Prelude.{◌≡◌, ℕ, List, [], Option, Some, None, IfSome, IsOk, OnOk, IfErr, Err, ◌++◌};
 ghost use Rattle.zed_op.specs.declared.op.Edit.{Edit};
 ghost use Rattle.zed_editfile.specs.Spelling.{file_text};

@@ -1,3 +1,4 @@
+//! Reading whole records.
 ghost use Rattle.std.specs.Prelude.{◌≡◌, ◌⊎◌, ◌++◌, ◌<◌, ◌≤◌, ℕ, List, length, drop, IfOk, IfErr, IfSome, IfNone, true, false};
 ghost use Rattle.byteorder.specs.Endian.{little_number};
 ghost use Rattle.zed_op.specs.Fit.{fault};

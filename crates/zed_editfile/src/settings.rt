@@ -1,5 +1,6 @@
+//! Reading registers, each under its number.
 ghost use Rattle.std.specs.Prelude.{◌≡◌};
-ghost use Rattle.zed_editfile.specs.Reading.{Gives, mapped, byte_at, boolean_at, string_at, header_number_of, key_of, flag_of, side_of, stat_number_of, header_value_at, header_setting_at, board_value_at, board_setting_at, stat_value_at, stat_setting_at, stat_fields_at};
+ghost use Rattle.zed_editfile.specs.Reading.{Gives, mapped, byte_at, boolean_at, string_at, key_of, flag_of, header_value_at, header_setting_at, board_value_at, board_setting_at, stat_value_at, stat_setting_at, stat_fields_at};
 
 use crate::error::EditFileError;
 use crate::fields::{
@@ -12,23 +13,6 @@ use zed_types::{
     BoardByte, BoardFlag, BoardSetting, BoardText, FlagSlot, HeaderNumber, HeaderSetting,
     KeyColour, Side, StatByte, StatFields, StatNumber, StatSetting,
 };
-
-/// The header number of a field below 9.
-fn header_number_of(field: u8) -> HeaderNumber
-    ensures { result ≡ header_number_of field }
-{
-    match field {
-        0 => HeaderNumber::Ammo,
-        1 => HeaderNumber::Gems,
-        2 => HeaderNumber::Health,
-        3 => HeaderNumber::Torches,
-        4 => HeaderNumber::TorchTicks,
-        5 => HeaderNumber::EnergizerTicks,
-        6 => HeaderNumber::Score,
-        7 => HeaderNumber::TimePassed,
-        _ => HeaderNumber::Hundredths,
-    }
-}
 
 /// The colour of a key below 7.
 fn key_of(key: u8) -> KeyColour
@@ -71,9 +55,9 @@ fn header_value_of(
 ) -> Result<(HeaderSetting, &[u8]), EditFileError>
     ensures { Gives (λ x. (x.0, x.1.now)) result (header_value_at field bytes.now) }
 {
-    if field < 9 {
-        let (number, rest) = integer_of(bytes)?;
-        return Ok((HeaderSetting::Number(header_number_of(field), number), rest));
+    if let Some(number) = HeaderNumber::of_field(field) {
+        let (value, rest) = integer_of(bytes)?;
+        return Ok((HeaderSetting::Number(number, value), rest));
     }
     if field < 16 {
         let (has, rest) = boolean_of(bytes)?;
@@ -109,18 +93,6 @@ pub(crate) fn header_setting_of(
     header_value_of(alloc, field, rest)
 }
 
-/// The side of an exit, whose property is 6 to 9.
-fn side_of(property: u8) -> Side
-    ensures { result ≡ side_of property }
-{
-    match property {
-        6 => Side::North,
-        7 => Side::South,
-        8 => Side::West,
-        _ => Side::East,
-    }
-}
-
 fn board_byte_of(property: BoardByte, bytes: &[u8]) -> Result<(BoardSetting, &[u8]), EditFileError>
     ensures { Gives (λ x. (x.0, x.1.now)) result (mapped (BoardSetting.Byte property) (byte_at bytes.now)) }
 {
@@ -149,29 +121,29 @@ fn board_text_of(
 #[tactic(auto, unfolding(crate::specs::Reading::board_value_at))]
 fn board_value_of(
     alloc: Global,
-    property: u8,
+    field: u8,
     bytes: &[u8],
 ) -> Result<(BoardSetting, &[u8]), EditFileError>
-    ensures { Gives (λ x. (x.0, x.1.now)) result (board_value_at property bytes.now) }
+    ensures { Gives (λ x. (x.0, x.1.now)) result (board_value_at field bytes.now) }
 {
-    match property {
-        0 => board_byte_of(BoardByte::MaxShots, bytes),
-        1 => board_flag_of(BoardFlag::Dark, bytes),
-        2 => board_flag_of(BoardFlag::ReEnter, bytes),
-        3 => board_byte_of(BoardByte::StartX, bytes),
-        4 => board_byte_of(BoardByte::StartY, bytes),
-        5 => {
-            let (limit, rest) = integer_of(bytes)?;
-            Ok((BoardSetting::TimeLimit(limit), rest))
-        }
-        6..=9 => {
-            let (board, rest) = optional_board_of(bytes)?;
-            Ok((BoardSetting::Exit(side_of(property), board), rest))
-        }
-        10 => board_text_of(alloc, BoardText::Name, bytes),
-        11 => board_text_of(alloc, BoardText::Message, bytes),
-        _ => Err(EditFileError::BadEdit(Cause::Tag)),
+    if let Some(property) = BoardByte::of_field(field) {
+        return board_byte_of(property, bytes);
     }
+    if let Some(property) = BoardFlag::of_field(field) {
+        return board_flag_of(property, bytes);
+    }
+    if let Some(side) = Side::of_field(field) {
+        let (board, rest) = optional_board_of(bytes)?;
+        return Ok((BoardSetting::Exit(side, board), rest));
+    }
+    if let Some(property) = BoardText::of_field(field) {
+        return board_text_of(alloc, property, bytes);
+    }
+    if field == 5 {
+        let (limit, rest) = integer_of(bytes)?;
+        return Ok((BoardSetting::TimeLimit(limit), rest));
+    }
+    Err(EditFileError::BadEdit(Cause::Tag))
 }
 
 #[tactic(auto, unfolding(crate::specs::Reading::board_setting_at))]
@@ -185,18 +157,6 @@ pub(crate) fn board_setting_of(
     board_value_of(alloc, property, rest)
 }
 
-/// The stat number of a field 2 to 5.
-fn stat_number_of(field: u8) -> StatNumber
-    ensures { result ≡ stat_number_of field }
-{
-    match field {
-        2 => StatNumber::StepX,
-        3 => StatNumber::StepY,
-        4 => StatNumber::Cycle,
-        _ => StatNumber::Position,
-    }
-}
-
 fn stat_byte_of(field: StatByte, bytes: &[u8]) -> Result<(StatSetting, &[u8]), EditFileError>
     ensures { Gives (λ x. (x.0, x.1.now)) result (mapped (StatSetting.Byte field) (byte_at bytes.now)) }
 {
@@ -208,15 +168,14 @@ fn stat_byte_of(field: StatByte, bytes: &[u8]) -> Result<(StatSetting, &[u8]), E
 fn stat_value_of(field: u8, bytes: &[u8]) -> Result<(StatSetting, &[u8]), EditFileError>
     ensures { Gives (λ x. (x.0, x.1.now)) result (stat_value_at field bytes.now) }
 {
+    if let Some(kind) = StatByte::of_field(field) {
+        return stat_byte_of(kind, bytes);
+    }
+    if let Some(kind) = StatNumber::of_field(field) {
+        let (number, rest) = integer_of(bytes)?;
+        return Ok((StatSetting::Number(kind, number), rest));
+    }
     match field {
-        0 => stat_byte_of(StatByte::X, bytes),
-        1 => stat_byte_of(StatByte::Y, bytes),
-        2..=5 => {
-            let (number, rest) = integer_of(bytes)?;
-            Ok((StatSetting::Number(stat_number_of(field), number), rest))
-        }
-        6 => stat_byte_of(StatByte::P1, bytes),
-        7 => stat_byte_of(StatByte::P2, bytes),
         8 => {
             let (parameter, rest) = third_parameter_of(bytes)?;
             Ok((StatSetting::P3(parameter), rest))
@@ -229,8 +188,6 @@ fn stat_value_of(field: u8, bytes: &[u8]) -> Result<(StatSetting, &[u8]), EditFi
             let (stat, rest) = optional_stat_of(bytes)?;
             Ok((StatSetting::Leader(stat), rest))
         }
-        11 => stat_byte_of(StatByte::UnderElement, bytes),
-        12 => stat_byte_of(StatByte::UnderColour, bytes),
         13 => {
             let (text, rest) = optional_text_of(bytes)?;
             Ok((StatSetting::Text(text), rest))
@@ -263,15 +220,9 @@ pub(crate) fn stat_fields_of(bytes: &[u8]) -> Result<(StatFields, &[u8]), EditFi
     let (under, rest) = tile_of(rest)?;
     let (text, rest) = optional_text_of(rest)?;
     let fields = StatFields {
-        x,
-        y,
-        step_x,
-        step_y,
-        cycle,
-        p1,
-        p2,
+        bytes: [x, y, p1, p2, under.element, under.colour],
+        numbers: [step_x, step_y, cycle],
         p3,
-        under,
         text,
     };
     Ok((fields, rest))

@@ -1,3 +1,4 @@
+//! One step of a reader: a piece of a head, or of records.
 ghost use Rattle.std.specs.Prelude.{◌≡◌, ◌⊎◌, ◌++◌, ◌<◌, ◌≤◌, ◌^◌, ℕ, List, [], length, drop, slice_index, Some, None, OnOk, IfOk, IfErr, IfSome, IfNone, false};
 ghost use Rattle.byteorder.specs.Endian.{little_number};
 ghost use Rattle.zed_editfile.specs.Spelling.{head_text};

@@ -1,3 +1,4 @@
+//! Worked files, and growths refused.
 use super::*;
 use std::alloc::Global;
 use std::test::*;

@@ -1,3 +1,4 @@
+//! The least and the greatest values of each field come back.
 use super::*;
 use std::alloc::Global;
 use std::test::*;
@@ -128,31 +129,16 @@ fn board_ops_come_back(rt: HostRuntime) -> Result<(), Fail> {
 fn stat_ops_come_back(rt: HostRuntime) -> Result<(), Fail> {
     let alloc = rt.alloc();
     let least = StatFields {
-        x: 0,
-        y: 0,
-        step_x: -32_768,
-        step_y: -32_768,
-        cycle: -32_768,
-        p1: 0,
-        p2: 0,
+        bytes: [0; 6],
+        numbers: [-32_768; 3],
         p3: ThirdParameter::Byte(0),
-        under: Tile::EMPTY,
         text: None,
     };
     assert!(rt; comes_back(alloc, Op::StatAdd(BOARD, least))?);
     let greatest = StatFields {
-        x: 255,
-        y: 255,
-        step_x: 32_767,
-        step_y: 32_767,
-        cycle: 32_767,
-        p1: 255,
-        p2: 255,
+        bytes: [255; 6],
+        numbers: [32_767; 3],
         p3: ThirdParameter::Board(BOARD),
-        under: Tile {
-            element: 255,
-            colour: 255,
-        },
         text: Some(TEXT),
     };
     assert!(rt; comes_back(alloc, Op::StatAdd(BOARD, greatest))?);

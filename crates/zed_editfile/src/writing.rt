@@ -1,3 +1,4 @@
+//! Writing heads and records.
 ghost use Rattle.std.specs.Prelude.{◌≡◌, ◌++◌, IfOk, IfErr, OnOk, OnErr};
 ghost use Rattle.zed_op.specs.Fit.{Fits};
 ghost use Rattle.zed_editfile.specs.Spelling.{number, spelling, record_text, head_text};

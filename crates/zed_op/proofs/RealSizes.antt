@@ -1,13 +1,12 @@
 -- An edit that fits has the sizes of its fields.
-use Rattle.std.proofs.Common.{◌≡◌, ℕ, ◌+◌, ◌<◌, Bool, true, false, ◌||◌, List, length, take, get_or, refl}
-use Rattle.std.specs.Prelude.{◌↔◌}
+use Rattle.std.proofs.Common.{◌≡◌, Bool, true, false, ◌||◌, refl}
 use Rattle.std.proofs.lemmas.Bool.{and_parts}
 use Rattle.zed_types.specs.declared.stamp.Stamp.{Stamp}
 use Rattle.zed_op.specs.declared.op.Op.{Op}
 use Rattle.zed_op.specs.declared.op.Op.TheVariants.{Genesis}
 use Rattle.zed_op.specs.declared.op.Edit.{Edit}
 use Rattle.zed_op.specs.Names.{names_of}
-use Rattle.zed_op.specs.Fit.{is_author_stamp, is_stamp, is_own_stamp, is_in_range, Fits}
+use Rattle.zed_op.specs.Fit.{is_stamp, is_own_stamp, is_in_range, Fits}
 use Rattle.zed_op.specs.Sizes.{AreStamped, IsStamp, IsOp, HasSizes}
 use Rattle.zed_op.specs.Verdict.{FitIsEachPart}
 

@@ -11,8 +11,8 @@ ghost use Rattle.zed_op.specs.Sizes.{AreStamped, IsByte, IsNumber, IsStamp, IsNa
 use crate::laws::fit_is_of_parts;
 use crate::op::{Edit, Op};
 use zed_types::{
-    BoardSetting, ByteRange, HeaderSetting, Name, Rectangle, Stamp, StatFields, StatSetting, ThirdParameter,
-    Tile,
+    BoardSetting, ByteRange, HeaderSetting, Name, Rectangle, Stamp, StatFields, StatSetting,
+    ThirdParameter, Tile,
 };
 
 fn stamp_has_size(stamp: Stamp)

@@ -4,7 +4,7 @@ use Rattle.zed_editfile.proofs.Records.{is_record}
 use Rattle.zed_editfile.proofs.laws.fitting_edits_are_records.Goals as goal
 
 pub returns-clause-record : goal.returns-clause-record
-returns-clause-record c = is_record c.canonical_files_are_short.ensures c.args.edit.now c.stamp_has_room.ensures c.op_has_room.ensures
+returns-clause-record c = is_record c.canonical_files_are_short.ensures c.args.edit.now c.edit_has_sizes.ensures
 
 pub returns-clause-back : goal.returns-clause-back
 returns-clause-back c = λ fits. edit_again c.args.edit.now (returns-clause-record c fits).1 fits
