@@ -1,17 +1,22 @@
 -- The edit that makes a world, and the world of a new edit file.
-use Rattle.std.proofs.Common.{◌≡◌, ◌∙◌, ◌+◌, ◌++◌, add-one, ℕ, zero, suc, arith, rules, true, List, [], ◌∷◌, length, refl, ap, sym, subst}
+use Rattle.std.proofs.Common.{◌≡◌, ◌∙◌, ◌+◌, ◌*◌, ◌≤◌, ◌++◌, add-one, ℕ, zero, suc, arith, rules, true, List, [], ◌∷◌, length, refl, ap, sym, subst}
 use Rattle.std.specs.Prelude.{replicate}
 use Rattle.std.specs.Str.{bytes_eq}
 use Rattle.std.proofs.lemmas.Slice.Eq.{bytes_eq-Decides}
-use Rattle.std.proofs.lemmas.List.{length-take}
+use Rattle.std.proofs.lemmas.List.{length-take, append-nil}
 use Rattle.zed_edit.specs.Board.{new_table}
 use Rattle.zed_op.specs.Fit.{Fits, is_canonical, is_rewritten, is_text_of}
 use Rattle.zed_world.specs.declared.header.Header.{Header}
 use Rattle.zed_world.specs.declared.board.BoardData.{BoardData}
 use Rattle.zed_world.specs.Contents.{Contents}
 use Rattle.zed_world.specs.Canonical.{IsCanonical}
-use Rattle.zed_world.specs.Normal.{HasNormalParts}
-use Rattle.zed_program.specs.Fresh.{fresh_header, fresh_world, genesis_of, title_of}
+use Rattle.std.specs.List.{AllByRecursion, flat_map}
+use Rattle.zed_runs.specs.Runs.{greedy}
+use Rattle.zed_runs.proofs.Greedy.{greedy_short}
+use Rattle.zed_world.specs.Normal.{HasNormalParts, HasShortBody}
+use Rattle.zed_world.specs.Writing.{body_text, stat_text}
+use Rattle.zed_world.proofs.Sizes.{length_body, length_stat}
+use Rattle.zed_program.specs.Fresh.{fresh_header, fresh_player, fresh_world, genesis_of, title_of}
 
 bytes_same : (bytes : List ℕ) → bytes_eq bytes bytes ≡ true
 bytes_same bytes = (bytes_eq-Decides bytes bytes).1 refl
@@ -75,3 +80,23 @@ made_is_normal name h bs b is boards title =
     let make : Header → List BoardData → Contents = λ h bs. record { header = h; boards = bs } in
     let path : make h bs ≡ make (fresh_header name) (title_of new_table ∷ []) = rw (is, boards, title) refl in
     subst HasNormalParts (sym path) (fresh_is_normal name)
+
+player_text : length (flat_map stat_text (fresh_player ∷ [])) ≡ 33
+player_text = ap length (append-nil (stat_text fresh_player)) ∙ length_stat fresh_player
+
+-- the body of a new title is short
+title_is_short : HasShortBody (title_of new_table)
+title_is_short =
+    let title = title_of new_table in
+    let body : length (body_text title) ≡ 139 + length (greedy new_table) + length (flat_map stat_text (fresh_player ∷ []))
+    = length_body title (search rules) (search rules) in
+    let runs : length (greedy new_table) ≤ 3 * length new_table = greedy_short new_table in
+    let tiles : length new_table ≡ 1500 = table_is_long in
+    let player : length (flat_map stat_text (fresh_player ∷ [])) ≡ 33 = player_text in
+    omega arith
+
+-- so are the bodies of a world that is made of it
+pub made_is_short : (bs : List BoardData) (b : BoardData) → bs ≡ [] ++ b ∷ [] → b ≡ title_of new_table → AllByRecursion HasShortBody bs
+made_is_short bs b boards title =
+    let path : bs ≡ title_of new_table ∷ [] = rw (boards, title) refl in
+    subst (AllByRecursion HasShortBody) (sym path) (title_is_short, tt)
