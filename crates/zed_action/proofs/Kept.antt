@@ -1,6 +1,6 @@
 -- What a refused action leaves.
 use Rattle.std.proofs.Common.{◌≡◌, ◌∙◌, ℕ, List, [], ◌∷◌, ◌++◌, Option, Some, None, Result, Ok, Err, refl, ap}
-use mathlib.Core.Logic.{◌⊎◌, inl, inr}
+use mathlib.Core.Logic.{inl, inr}
 use Rattle.zed_types.specs.declared.names.TextId.{TextId}
 use Rattle.zed_op.specs.declared.op.Op.{Op}
 use Rattle.zed_op.specs.declared.op.Op.TheVariants as op
@@ -14,7 +14,7 @@ use Rattle.zed_action.specs.declared.action.Action.{Action}
 use Rattle.zed_action.specs.declared.deed.Deed.{Deed}
 use Rattle.zed_action.specs.declared.deed.Deed.TheVariants.{Make, Insert, Start, Delete}
 use Rattle.zed_action.specs.declared.error.ActionError.{ActionError}
-use Rattle.zed_action.specs.Deeds.{Authors, Inserts, Leaves, LeavesAction, LeavesDeed, LeavesStart, Made, deed_of, first_bytes, next_text, refusal_of, told, with_text}
+use Rattle.zed_action.specs.Deeds.{Authors, Inserts, Leaves, LeavesAction, LeavesDeed, LeavesStart, Made, deed_of, next_text, refusal_of, told, with_text}
 
 untouched_deed : (d : Replica) (replica : ℕ) (deed : Deed) (e : ActionError) → Leaves d replica deed e d.edits
 untouched_deed d replica (Make o) e = refl

@@ -1,7 +1,7 @@
 -- What replicas that accepted the same edits answer.
 use Rattle.std.proofs.Common.{◌≡◌, ◌∙◌, ℕ, Bool, true, false, List, ◌++◌, Option, Some, None, Result, Ok, Err, refl, sym, ap, subst, inl, inr}
 use Rattle.std.specs.Global.{Vec}
-use Rattle.std.specs.Prelude.{◌↔◌, Contains, IfErr, IfOk, IsOkAnd, IsTrue, MatchResult}
+use Rattle.std.specs.Prelude.{◌↔◌, Contains, IfErr, IfOk, IsOkAnd, IsTrue}
 use Rattle.std.proofs.lemmas.List.Elements.{Contains-append_left, Contains-append_right, Contains-append_cases}
 use Rattle.zed_world.specs.Contents.{Contents}
 use Rattle.zed_world.specs.Reading.{world_at}
@@ -18,8 +18,7 @@ use Rattle.zed_document.specs.Reading.{AnswersSame}
 use Rattle.zed_document.specs.Replica.{Replica}
 use Rattle.zed_document.specs.Same.{AreSame}
 use Rattle.zed_export.specs.declared.error.ExportError.{ExportError}
-use Rattle.zed_export.specs.declared.error.ExportError.TheVariants.{Memory}
-use Rattle.zed_export.specs.Headline.{AreAlike, HaveAcceptedTheSame, HoldsOneAuthors, IsMergeOf, IsOneAuthors, MergingAssociates, MergingCommutes, MergingItself, MergingRepeats}
+use Rattle.zed_export.specs.Headline.{AreAlike, HaveAcceptedTheSame, HoldsOneAuthors, IsOneAuthors, MergingAssociates, MergingCommutes, MergingItself, MergingRepeats}
 use Rattle.zed_export.specs.Limits.{Answers, exported, refusal_of, unless_over, unless_stale}
 use Rattle.zed_export.specs.World.{world_of}
 

@@ -12,7 +12,8 @@ use Rattle.zed_editfile.specs.declared.error.EditFileError.TheVariants as file
 use Rattle.zed_editfile.specs.Spelling.{file_text}
 use Rattle.zed_editfile.specs.Stream.{AreRecords, Progress, Reads, ending, is_other}
 use Rattle.zed_program.specs.declared.refusal.Refusal.{Refusal}
-use Rattle.zed_program.specs.Collected.{IsCollected, IsFirstClash}
+use Rattle.zed_document.specs.Delivery.{IsFirstClash}
+use Rattle.zed_program.specs.Collected.{IsCollected}
 use Rattle.zed_program.specs.Files.{IsFile, IsStream, Stream, edits_then, end_by, joined, stream_after, texts_of_lists}
 use Rattle.zed_program.specs.Outcome.{EndsRun, HasStatus, IsDone, file_of, made_of, unless_over, with_world, written_to}
 use Rattle.zed_program.specs.Told.{Told, file_in}

@@ -5,10 +5,9 @@ pub mod Parsing
 pub mod PlainWords
 pub mod SaveWords
 pub mod Entries
-pub mod Clashes
+pub mod Deliveries
 pub mod Endings
 pub mod FileEnds
 pub mod FileTexts
-pub mod Stamped
 pub mod Streams
 pub mod Worlds

@@ -1,42 +1,36 @@
 -- What an edit file comes to when it is opened for an action.
-use Rattle.std.proofs.Common.{◌≡◌, ◌∙◌, ◌≢◌, ℕ, zero, suc, Bool, false, List, Some, None, Result, Ok, Err, refl, ap}
+use Rattle.std.proofs.Common.{◌≡◌, ◌∙◌, ◌≢◌, ℕ, zero, suc, false, List, Some, None, Result, Ok, Err, refl, ap}
 use Rattle.std.specs.Prelude.{MatchResult}
 use mathlib.Core.Logic.{◌⊎◌, inl, inr}
 use Rattle.zed_types.specs.declared.stamp.Stamp.{Stamp}
 use Rattle.zed_op.specs.declared.op.Edit.{Edit}
 use Rattle.zed_op.specs.Set.{Agrees, set_of}
 use Rattle.zed_editfile.specs.declared.error.EditFileError.{EditFileError}
-use Rattle.zed_document.specs.Laws.{document_of}
 use Rattle.zed_document.specs.Replica.{Replica}
 use Rattle.zed_action.specs.declared.error.ActionError.{ActionError}
 use Rattle.zed_action.specs.declared.error.ActionError.TheVariants as action
 use Rattle.zed_action.specs.Deeds.{Acts}
 use Rattle.zed_program.specs.declared.refusal.Refusal.{Refusal}
 use Rattle.zed_program.specs.declared.refusal.Refusal.TheVariants.{Memory, Clash}
-use Rattle.zed_program.specs.Collected.{IsFirstClash}
-use Rattle.zed_program.specs.Edited.{FileEdits, IsActed, IsEdited, IsOpened}
+use Rattle.zed_document.specs.Delivery.{IsFirstClash}
+use Rattle.zed_program.specs.Edited.{FileEdits, HasEdits, IsActed, IsEdited, IsOpened}
 use Rattle.zed_program.specs.Files.{IsFile}
 use Rattle.zed_program.specs.Outcome.{with_edits}
 use Rattle.zed_program.specs.Refusals.{action_refusal, file_refusal}
 use Rattle.zed_program.specs.Told.{Told, file_in}
 
--- a document is its world, its edits, and that it isn't stale
-pub document_is : (d : Replica) (world : ℕ) (es : List Edit) → d.world ≡ world → d.edits ≡ set_of es → d.is_stale ≡ false → d ≡ document_of world es
-document_is d world es w e s =
-    let make : ℕ → List Edit → Bool → Replica = λ w e s. record { world = w; edits = e; is_stale = s } in
-    let path : make d.world d.edits d.is_stale ≡ make world (set_of es) false = rw (w, e, s) refl in
-    path
-
 -- what the edits of a file come to
 abbrev pub IsCollected : List Edit → ℕ → Result Replica Refusal → Type 0
 IsCollected es world result = MatchResult result
-    (λ d. Agrees es × (d ≡ document_of world es))
+    (λ d. Agrees es × HasEdits d world (set_of es))
     (λ e. (e ≡ Memory) ⊎ ((s : Stamp) × IsFirstClash es s × (e ≡ Clash s)))
 
 -- the file was read to its end
 pub opened_whole : (bytes : List ℕ) (es : List Edit) (world : ℕ) (result : Result Replica Refusal) → IsFile None bytes es (Ok world) → IsCollected es world result
-    → MatchResult result (λ d. IsOpened (Some bytes) (Ok d)) (λ e. (e ≡ Memory) ⊎ IsOpened (Some bytes) (Err e))
-opened_whole bytes es world (Ok d) file all = (es, Ok world, file, inr (all.0, ap (λ x. Ok x) all.1))
+    → MatchResult result (λ d. IsOpened (Some bytes) (Ok (d.world, d.edits))) (λ e. (e ≡ Memory) ⊎ IsOpened (Some bytes) (Err e))
+opened_whole bytes es world (Ok d) file all =
+    let answer : ℕ → List Edit → Result FileEdits Refusal = λ w xs. Ok (w, xs) in
+    (es, Ok world, file, inr (all.0, ap (λ w. answer w d.edits) all.1.world_is ∙ ap (answer world) all.1.edits_are))
 opened_whole bytes es world (Err e) file why =
     elim why [
       | inl memory ↦ inl memory
@@ -57,25 +51,28 @@ pub opened_fault : (bytes : List ℕ) (es : List Edit) (error : EditFileError) (
     → IsOpened (Some bytes) (Err e)
 opened_fault bytes es error e file agrees is = (es, Err error, file, inr (agrees, ap (λ x. Err x) is))
 
+has_own : (d : Replica) → d.is_stale ≡ false → HasEdits d d.world d.edits
+has_own d sound = record { world_is = refl; edits_are = refl; sound = sound }
+
 -- a replica's number that isn't 0
-edited_by : (t : Told) (file : List ℕ) (replica : ℕ) (words : List (List ℕ)) (r : Result FileEdits Refusal) (opened : Result Replica Refusal)
+edited_by : (t : Told) (file : List ℕ) (replica : ℕ) (words : List (List ℕ)) (r opened : Result FileEdits Refusal)
     → replica ≢ 0 → IsOpened (file_in t file) opened → IsActed replica words opened r → IsEdited t file replica words r
 edited_by t file zero words r opened some is acts = absurd (some refl)
 edited_by t file (suc n) words r opened some is acts = (opened, is, acts)
 
 -- the action was done
-pub edited_done : (t : Told) (file : List ℕ) (replica : ℕ) (words : List (List ℕ)) (d new : Replica) → replica ≢ 0 → IsOpened (file_in t file) (Ok d)
+pub edited_done : (t : Told) (file : List ℕ) (replica : ℕ) (words : List (List ℕ)) (d new : Replica) → replica ≢ 0 → d.is_stale ≡ false → IsOpened (file_in t file) (Ok (d.world, d.edits))
     → new.world ≡ d.world → Acts d replica words (Ok new.edits) → IsEdited t file replica words (Ok (new.world, new.edits))
-edited_done t file replica words d new some is world acts =
-    edited_by t file replica words (Ok (new.world, new.edits)) (Ok d) some is (Ok new.edits, acts, ap (λ w. Ok (w, new.edits)) world)
+edited_done t file replica words d new some sound is world acts =
+    edited_by t file replica words (Ok (new.world, new.edits)) (Ok (d.world, d.edits)) some is (d, has_own d sound, (Ok new.edits, acts, ap (λ w. Ok (w, new.edits)) world))
 
 -- the action was refused
-pub edited_refused : (t : Told) (file : List ℕ) (replica : ℕ) (words : List (List ℕ)) (d : Replica) (e : ActionError) (told : Refusal) → replica ≢ 0 → IsOpened (file_in t file) (Ok d)
+pub edited_refused : (t : Told) (file : List ℕ) (replica : ℕ) (words : List (List ℕ)) (d : Replica) (e : ActionError) (told : Refusal) → replica ≢ 0 → d.is_stale ≡ false → IsOpened (file_in t file) (Ok (d.world, d.edits))
     → told ≡ action_refusal e → (e ≡ action.Memory) ⊎ Acts d replica words (Err e) → (told ≡ Memory) ⊎ IsEdited t file replica words (Err told)
-edited_refused t file replica words d e told some is said why =
+edited_refused t file replica words d e told some sound is said why =
     elim why [
       | inl memory ↦ inl (said ∙ ap action_refusal memory)
-      | inr acts ↦ inr (edited_by t file replica words (Err told) (Ok d) some is (Err e, acts, ap (λ x. Err x) said))
+      | inr acts ↦ inr (edited_by t file replica words (Err told) (Ok (d.world, d.edits)) some is (d, has_own d sound, (Err e, acts, ap (λ x. Err x) said)))
     ]
 
 -- the file was refused

@@ -5,7 +5,8 @@ use Rattle.zed_program.specs.declared.refusal.Refusal.{Refusal}
 use Rattle.zed_program.specs.Outcome.{Collects, IsStreamIn, texts_of}
 use Rattle.zed_program.specs.Told.{Told, file_in}
 use Rattle.zed_types.specs.declared.stamp.Stamp.{Stamp}
-use Rattle.zed_program.specs.Collected.{IsFirstClash, set_unless}
+use Rattle.zed_document.specs.Delivery.{IsFirstClash}
+use Rattle.zed_program.specs.Collected.{set_unless}
 use Rattle.zed_program.specs.declared.refusal.Refusal.TheVariants.{Memory, Clash}
 use mathlib.Core.Logic.{◌⊎◌, inl, inr}
 use Rattle.zed_op.specs.declared.op.Edit.{Edit}

@@ -1,29 +1,12 @@
 -- The set of edits that files come to, or the first refusal.
-use Rattle.std.specs.Prelude.{◌≡◌, ◌≢◌, ◌⊎◌, List, ◌∷◌, ◌++◌, Option, Some, None, Result, Ok, Err, Contains, map}
+use Rattle.std.specs.Prelude.{◌≡◌, ◌⊎◌, List, Option, Some, None, Result, Ok, Err}
 use Rattle.zed_types.specs.declared.stamp.Stamp.{Stamp}
 use Rattle.zed_op.specs.declared.op.Edit.{Edit}
 use Rattle.zed_op.specs.Set.{Agrees, set_of}
+use Rattle.zed_document.specs.Delivery.{IsFirstClash}
 use Rattle.zed_program.specs.declared.refusal.Refusal.{Refusal}
 use Rattle.zed_program.specs.declared.refusal.Refusal.TheVariants.{Clash}
 use Rattle.zed_program.specs.Files.{Stream}
-
--- edits, each under its stamp
-abbrev pub stamped : List Edit → List (Stamp × Edit)
-stamped es = map (λ e. (e.stamp, e)) es
-
--- another edit of the list has the stamp of this one
-abbrev pub ClashesWith : List Edit → Edit → Type 0
-ClashesWith es f = (e : Edit) × Contains es e × (e.stamp ≡ f.stamp) × (e ≢ f)
-
--- of the edits of a list, the first that clashes with one before it has this stamp
-pub record IsFirstClash (es : List Edit) (s : Stamp) : Type 0 where
-  pub before : List Edit
-  pub edit : Edit
-  pub after : List Edit
-  pub whole : es ≡ before ++ edit ∷ after
-  pub agrees : Agrees before
-  pub clashes : ClashesWith before edit
-  pub stamp : edit.stamp ≡ s
 
 -- the set of edits, unless a file was refused
 abbrev pub set_unless : Option Refusal → List Edit → Result (List Edit) Refusal

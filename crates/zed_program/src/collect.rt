@@ -1,13 +1,9 @@
 //! Edit files, read into a document.
-ghost use Rattle.std.specs.Prelude.{◌≡◌, ◌≢◌, ◌≤◌, ◌⊎◌, IfErr, IfOk, IsSomeAnd, MatchOption, MatchResult, OnOk, Some, None, Ok, Err, [], ◌++◌, false, List, map};
-ghost use Rattle.std.specs.BTreeMap.{get, insert_entry};
-ghost use Rattle.zed_types.specs.Stamp.{stamp_cmp};
+ghost use Rattle.std.specs.Prelude.{◌≡◌, ◌≤◌, ◌⊎◌, IfErr, IfOk, MatchResult, OnOk, Some, Ok, Err, [], ◌++◌, false, List};
 ghost use Rattle.zed_types.specs.declared.stamp.Stamp.{Stamp as TheStamp};
 ghost use Rattle.zed_op.specs.declared.op.Edit.{Edit as TheEdit};
-ghost use Rattle.zed_op.specs.Fit.{Fits};
-ghost use Rattle.zed_op.specs.Set.{Agrees, AllFit, set_of, with_edit};
-ghost use Rattle.zed_document.specs.Delivery.{edit_with};
-ghost use Rattle.zed_program.specs.Collected.{IsCollected, IsFirstClash, stamped};
+ghost use Rattle.zed_op.specs.Set.{Agrees, AllFit, set_of};
+ghost use Rattle.zed_document.specs.Delivery.{IsFirstClash};
 ghost use Rattle.zed_program.specs.Files.{IsFile, edits_then, end_of as no_world};
 ghost use Rattle.zed_program.specs.Outcome.{Collects, IsStreamIn, texts_of};
 ghost use Rattle.zed_program.specs.Refusals.{is_file_refusal};
@@ -16,12 +12,9 @@ ghost use Rattle.zed_program.specs.Told.{Counts, IsCalm, Told, file_in};
 use crate::host::{Host, ReadError};
 use crate::refusal::{Refusal, of_document, of_file};
 use std::alloc::Global;
-use std::collections::BTreeMap;
-use zed_document::Document;
+use zed_document::{Document, deliveries_come_to_sets};
 use zed_edit::Edit;
 use zed_editfile::{EditFileError, EditReader};
-use zed_op::{edit_joins_a_set, rising_lists_are_sets, set_is_its_edits, sets_rise, sets_stay_fit};
-use zed_types::{Stamp, one_order};
 
 /// Edits in the order in which files spell them, up to the first refusal of a file.
 #[derive(Drop)]
@@ -68,57 +61,7 @@ pub(crate) fn read_file(
     }
 }
 
-// Puts an edit under its stamp. The same edit there stays, and another one clashes.
-fn put_edit(set: &mut BTreeMap<Stamp, Edit>, edit: Edit) -> Result<(), Refusal>
-    ensures ok { OnOk result (MatchOption (get stamp_cmp set.old edit.stamp)
-        (set.new.entries ≡ insert_entry stamp_cmp set.old.entries edit.stamp edit)
-        (λ f. (f ≡ edit) × (set.new.entries ≡ set.old.entries))) }
-    ensures err { IfErr result (λ e. (e ≡ Refusal.Memory)
-        ⊎ ((e ≡ Refusal.Clash edit.stamp) × IsSomeAnd (get stamp_cmp set.old edit.stamp) (λ f. f ≢ edit))) }
-{
-    let stamp = edit.stamp;
-    match set.get(&stamp) {
-        Some(there) if there.is_same(&edit) => Ok(()),
-        Some(_) => Err(Refusal::Clash(stamp)),
-        None => match set.insert(stamp, edit) {
-            Ok(_) => Ok(()),
-            Err(_) => Err(Refusal::Memory),
-        },
-    }
-}
-
-// The set of edits, which come in any order. The first to come that clashes with one before it is told.
-fn set_from(alloc: Global, edits: Vec<Edit>) -> Result<BTreeMap<Stamp, Edit>, Refusal>
-    ensures { MatchResult result
-        (λ set. Agrees edits.items × (set.entries ≡ stamped (set_of edits.items)))
-        (λ e. (e ≡ Refusal.Memory) ⊎ ((s : TheStamp) × IsFirstClash edits.items s × (e ≡ Refusal.Clash s))) }
-{
-    one_order();
-    set_is_its_edits();
-    sets_rise();
-    edit_joins_a_set();
-    let mut set = BTreeMap::new(alloc);
-    for edit in edits {
-        put_edit(&mut set, edit)?;
-    }
-    Ok(set)
-}
-
-// Delivers one edit to a document.
-fn deliver_one(document: &mut Document, edit: Edit) -> Result<(), Refusal>
-    requires sound { document.old.is_stale ≡ false }
-    requires fits { Fits edit }
-    ensures sound { OnOk result (document.new.is_stale ≡ false) }
-    ensures ok { OnOk result (document.new.edits ≡ with_edit edit document.old.edits) }
-    ensures world { document.new.world ≡ document.old.world }
-    ensures err { IfErr result (λ e. (e ≡ Refusal.Memory) ⊎ ((e ≡ Refusal.Clash edit.stamp)
-        × ((f : TheEdit) × (edit_with edit.stamp document.old.edits ≡ Some f) × (f ≢ edit)))) }
-{
-    document.deliver(edit).map_err(of_document)?;
-    Ok(())
-}
-
-// Delivers edits, which come in any order, to a document that has none: in stamp order, so that each is one step of the replay.
+// Delivers edits, in the order in which they came, to a document that has none.
 pub(crate) fn deliver_all(document: &mut Document, edits: Vec<Edit>) -> Result<(), Refusal>
     requires sound { document.old.is_stale ≡ false }
     requires empty { document.old.edits ≡ [] }
@@ -130,17 +73,11 @@ pub(crate) fn deliver_all(document: &mut Document, edits: Vec<Edit>) -> Result<(
     ensures err { IfErr result (λ e. (e ≡ Refusal.Memory)
         ⊎ ((s : TheStamp) × IsFirstClash edits.items s × (e ≡ Refusal.Clash s))) }
 {
-    one_order();
-    set_is_its_edits();
-    sets_rise();
-    sets_stay_fit();
-    rising_lists_are_sets();
-    let alloc = *edits.allocator();
-    let set = set_from(alloc, edits)?;
-    for edit in set.into_values() {
-        deliver_one(document, edit)?;
+    deliveries_come_to_sets();
+    match document.deliver_all(edits) {
+        Ok(()) => Ok(()),
+        Err(error) => Err(of_document(error)),
     }
-    Ok(())
 }
 
 // Without a file there is no world.

@@ -1,12 +1,11 @@
 //! An action of an author on an edit file.
 ghost use Rattle.std.specs.Prelude.{◌≡◌, ◌≤◌, ◌⊎◌, Err, IfErr, IfOk, MatchResult, Ok, Some, OnOk, ◌++◌, false};
 ghost use Rattle.std.specs.List.{flat_map};
-ghost use Rattle.zed_op.specs.Set.{Agrees, AllFit};
+ghost use Rattle.zed_op.specs.Set.{Agrees, AllFit, set_of};
 ghost use Rattle.zed_types.specs.declared.stamp.Stamp.{Stamp as TheStamp};
-ghost use Rattle.zed_document.specs.Laws.{document_of};
-ghost use Rattle.zed_program.specs.Collected.{IsFirstClash};
+ghost use Rattle.zed_document.specs.Delivery.{IsFirstClash};
 ghost use Rattle.zed_editfile.specs.Spelling.{file_text, record_text};
-ghost use Rattle.zed_program.specs.Edited.{IsEdited, IsOpened};
+ghost use Rattle.zed_program.specs.Edited.{HasEdits, IsEdited, IsOpened};
 ghost use Rattle.zed_program.specs.Outcome.{Ends, texts_of};
 ghost use Rattle.zed_program.specs.Told.{IsCalm, Told, file_in};
 ghost use Rattle.zed_program.specs.Wanted.{Edit as EditFile};
@@ -25,7 +24,7 @@ use zed_editfile::{EditFileError, write_edit, write_head};
 fn collected(alloc: Global, world: u64, edits: Vec<Edit>) -> Result<Document, Refusal>
     requires { AllFit edits.items }
     ensures { MatchResult result
-        (λ d. Agrees edits.items × (d ≡ document_of world edits.items))
+        (λ d. Agrees edits.items × HasEdits d world (set_of edits.items))
         (λ e. (e ≡ Refusal.Memory) ⊎ ((s : TheStamp) × IsFirstClash edits.items s × (e ≡ Refusal.Clash s))) }
 {
     let mut document = Document::new(alloc, world);
@@ -36,7 +35,7 @@ fn collected(alloc: Global, world: u64, edits: Vec<Edit>) -> Result<Document, Re
 // The document of a file.
 fn opened(alloc: Global, bytes: &[u8]) -> Result<Document, Refusal>
     ensures opened { MatchResult result
-        (λ d. IsOpened (Some bytes.now) (Ok d))
+        (λ d. IsOpened (Some bytes.now) (Ok (d.world, d.edits)))
         (λ e. (e ≡ Refusal.Memory) ⊎ IsOpened (Some bytes.now) (Err e)) }
     ensures sound { IfOk result (λ d. d.is_stale ≡ false) }
 {
@@ -55,7 +54,7 @@ fn opened(alloc: Global, bytes: &[u8]) -> Result<Document, Refusal>
 fn open<H: Host>(alloc: Global, host: &mut H, file: &str) -> Result<Document, Refusal>
     ensures opened { (t : Told) → H.told host.old ≡ Some t → IsCalm (H.failed host.old) (H.failed host.new)
         → MatchResult result
-        (λ d. IsOpened (file_in t file.now) (Ok d))
+        (λ d. IsOpened (file_in t file.now) (Ok (d.world, d.edits)))
         (λ e. (e ≡ Refusal.Memory) ⊎ IsOpened (file_in t file.now) (Err e)) }
     ensures sound { IfOk result (λ d. d.is_stale ≡ false) }
     ensures kept { H.told host.new ≡ H.told host.old }

@@ -1,4 +1,4 @@
-use Rattle.std.proofs.Common.{◌≡◌, ap, refl, sym}
+use Rattle.std.proofs.Common.{ap, refl, sym}
 use Rattle.zed_edit.specs.Replay.{held}
 use Rattle.zed_export.specs.Limits.{exported, saved}
 use Rattle.zed_export.proofs.Accepted.{answers_alike, holds_one_authors, read_back, same_answer, same_edits, shows_one_authors}
