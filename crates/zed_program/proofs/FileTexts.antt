@@ -28,8 +28,7 @@ use Rattle.zed_world.specs.Writing.{world_text}
 use Rattle.zed_op.specs.declared.op.Op.{Op}
 use Rattle.zed_op.specs.declared.op.Op.TheVariants.{Genesis, SetHeader, BoardAdd, BoardRemove, SetBoard, SetCells, StatAdd, StatRemove, SetStat, TextAdd, TextInsert, TextDelete}
 use Rattle.zed_edit.specs.Replay.{replay}
-use Rattle.zed_laws.specs.Integers.{HasOpIntegers, HaveIntegers}
-use Rattle.zed_editfile.specs.Sizes.{IsOp}
+use Rattle.zed_op.specs.Sizes.{HaveSizes}
 use Rattle.zed_export.specs.declared.error.ExportError.{ExportError}
 use Rattle.zed_export.specs.World.{world_of}
 use Rattle.zed_export.specs.Limits as limit
@@ -132,41 +131,13 @@ run_of_texts law words t out n lists status new asks ended =
 
 -- ---- what is saved is read
 
-has_integers : (op : Op) → IsOp op → HasOpIntegers op
-has_integers (Genesis bytes) h = tt
-has_integers (SetHeader (header.Number f n)) h = h
-has_integers (SetHeader (header.Key k b)) h = tt
-has_integers (SetHeader (header.Saved b)) h = tt
-has_integers (SetHeader (header.CurrentBoard b)) h = tt
-has_integers (SetHeader (header.WorldName s)) h = tt
-has_integers (SetHeader (header.Flag k s)) h = tt
-has_integers (BoardAdd s) h = tt
-has_integers (BoardRemove b) h = tt
-has_integers (SetBoard b (board.Byte f n)) h = tt
-has_integers (SetBoard b (board.Flag f n)) h = tt
-has_integers (SetBoard b (board.TimeLimit n)) h = h.1
-has_integers (SetBoard b (board.Exit d o)) h = tt
-has_integers (SetBoard b (board.Text f s)) h = tt
-has_integers (SetCells b r tile) h = tt
-has_integers (StatAdd b f) h = (h.1.step_x, h.1.step_y, h.1.cycle)
-has_integers (StatRemove s) h = tt
-has_integers (SetStat s (stat.Byte f n)) h = tt
-has_integers (SetStat s (stat.Number f n)) h = h.1
-has_integers (SetStat s (stat.P3 target)) h = tt
-has_integers (SetStat s (stat.Follower o)) h = tt
-has_integers (SetStat s (stat.Leader o)) h = tt
-has_integers (SetStat s (stat.Text o)) h = tt
-has_integers TextAdd h = tt
-has_integers (TextInsert t after bytes) h = tt
-has_integers (TextDelete t r) h = tt
-
 records_fit : (es : List Edit) → AreRecords es → AllFit es
 records_fit [] h = tt
 records_fit (e ∷ es) h = (h.0.0, records_fit es h.1)
 
-records_have_integers : (es : List Edit) → AreRecords es → HaveIntegers es
-records_have_integers [] h = tt
-records_have_integers (e ∷ es) h = (has_integers e.op h.0.1.1, records_have_integers es h.1)
+records_have_sizes : (es : List Edit) → AreRecords es → HaveSizes es
+records_have_sizes [] h = tt
+records_have_sizes (e ∷ es) h = (h.0.1.0, records_have_sizes es h.1)
 
 saved_at : (es : List Edit) (bytes : List ℕ) → file_of es ≡ Ok bytes → saved 20000 (replay es) ≡ Ok bytes
 saved_at es bytes is = go (refusal_of 20000 (replay es)) is
@@ -191,7 +162,7 @@ reads_back law words t out n lists status new asks saves well =
     es = joined lists
 
     authored : AreAuthored es
-    authored = record { fit = records_fit es asks.records; integers = records_have_integers es asks.records; agree = asks.agree }
+    authored = record { fit = records_fit es asks.records; sizes = records_have_sizes es asks.records; agree = asks.agree }
 
     go : (f : Result (List ℕ) Refusal) → file_of (set_of es) ≡ f → HasStatus (with_world out t f) t status new
         → (bytes : List ℕ) × (new ≡ Some (written_to out bytes (bytes_line (length bytes)) t)) × (world_at bytes ≡ Ok (world_of (replay (set_of es))))
