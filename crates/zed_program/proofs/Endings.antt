@@ -1,78 +1,215 @@
--- How an action ends where the host doesn't fail.
-use Rattle.std.proofs.Common.{◌≡◌, ◌≤◌, ℕ, Bool, true, false, List, arith, Option, Some, Result, Ok, Err, OnOk, is_err, MatchResult, None, ap, ◌∙◌, refl, sym}
-use mathlib.Core.Logic.{◌⊎◌, inl, inr}
+-- How a command ends.
+use Rattle.std.proofs.Common.{◌≡◌, ◌≤◌, ◌∙◌, ℕ, Bool, true, false, List, [], ◌∷◌, arith, Option, Some, None, Result, Ok, Err, MatchResult, OnErr, OnOk, ap, codes, is_err, map, refl, sym, zero, suc}
+use Rattle.std.specs.Prelude.{⊤, IfSome}
+use Rattle.std.specs.Str.{bytes_eq}
 use Rattle.std.specs.Global.{Vec}
+use Rattle.std.proofs.lemmas.Bool.{cases_lt}
+use mathlib.Core.Logic.{◌⊎◌, inl, inr}
 use Rattle.zed_op.specs.declared.op.Edit.{Edit}
-use Rattle.zed_program.specs.declared.refusal.Refusal.TheVariants.{Memory}
-use Rattle.zed_program.specs.declared.refusal.Refusal.{Refusal}
-use Rattle.zed_program.specs.Outcome.{Collects, Ends, EndsRun, IsDone, IsMade, file_of, report_on, with_report, with_world}
-use Rattle.zed_program.specs.Wanted.{Wanted}
-use Rattle.std.specs.Prelude.{⊤}
 use Rattle.zed_program.specs.declared.host.WriteError.{WriteError}
-use Rattle.zed_program.specs.Told.{Counts, IsCalm, Told, with_complaint}
+use Rattle.zed_program.specs.declared.refusal.Refusal.{Refusal}
+use Rattle.zed_program.specs.declared.refusal.Refusal.TheVariants.{File, Memory}
+use Rattle.zed_program.specs.Commands.{Command, Save, Check, New, Edit as EditFile}
+use Rattle.zed_program.specs.Edited.{FileEdits, IsEdited}
+use Rattle.zed_program.specs.HostContents.{AreRead, Counts, HalfComplained, HalfPrinted, HalfWritten, HostContents, IsRead, NothingFailed, Rose, StillTells, file_in, most_counted, with_complaint, with_file}
+use Rattle.zed_program.specs.Fresh.{refused_as, rewritten}
+use Rattle.zed_world.specs.Reading.{world_at}
 use Rattle.zed_program.specs.Lines.{line_of}
+use Rattle.zed_program.specs.Outcome.{Collects, ComesTo, Effect, Ends, EndsCalmly, EndsRun, HalfDone, HasStatus, IsComplained, IsFirstWorld, IsMade, IsRefused, IsTold, RefusedRun, Writes, after, file_of, report_on}
 
--- a line was written, and nothing failed
-pub complaint_told : (result : Result ⊤ WriteError) (old new : ℕ) (u : Told) (told : Option Told)
-    → OnOk result (told ≡ Some u) → Counts (is_err result) old new → IsCalm old new → told ≡ Some u
-complaint_told (Ok x) old new u told wrote count calm = wrote
-complaint_told (Err f) old new u told wrote count calm = let rose = count.1 calm.1 in let same = calm.0 in absurd (omega arith)
+-- ---- the count of faults
 
-pub calm_from : (old middle new : ℕ) → middle ≡ old → IsCalm old new → IsCalm middle new
-calm_from old middle new same calm = let first = calm.0 in let below = calm.1 in (omega arith, omega arith)
+-- a rise that comes later
+pub rose_later : (old middle now : ℕ) → old ≤ middle → Rose middle now → Rose old now
+rose_later old middle now up rose =
+    let more = rose.0 in (
+      omega arith,
+      λ low. elim (cases_lt middle most_counted) [
+        | inl below ↦ (let rises = rose.1 below in omega arith)
+        | inr above ↦ omega arith
+      ],
+    )
 
--- a call that doesn't lower the count, and then one that counts
-pub calm_parts : (old middle new : ℕ) (failed : Bool) → old ≤ middle → Counts failed middle new → IsCalm old new → IsCalm old middle × IsCalm middle new
-calm_parts old middle new false up count calm = let first = calm.0 in let below = calm.1 in ((omega arith, omega arith), (omega arith, omega arith))
-calm_parts old middle new true up count calm =
-    let first = calm.0 in let below = calm.1 in let more = count.0 in
-    ((omega arith, omega arith), (omega arith, omega arith))
+-- a rise that came before
+pub rose_before : (old middle now : ℕ) → middle ≤ now → Rose old middle → Rose old now
+rose_before old middle now up rose = let more = rose.0 in (omega arith, λ low. let rises = rose.1 low in omega arith)
 
--- a file was written, and nothing failed
-pub written_ends : (result : Result ⊤ Refusal) (old new : ℕ) (t u : Told) (wanted : Wanted) (told : Option Told)
-    → IsDone wanted t (Ok u) → OnOk result (told ≡ Some u) → Counts (is_err result) old new → IsCalm old new → Ends wanted t result told
-written_ends (Ok x) old new t u wanted told done wrote count calm = (u, done, wrote)
-written_ends (Err f) old new t u wanted told done wrote count calm = let rose = count.1 calm.1 in let same = calm.0 in absurd (omega arith)
+-- where nothing failed, nothing rose
+pub no_rise : (old middle now : ℕ) → middle ≤ now → NothingFailed old now → Rose old middle → ⊥
+no_rise old middle now up calm rose = let rises = rose.1 calm.1 in let same = calm.0 in omega arith
 
--- where there is no set of edits, nothing is made of it
-pub not_made : (t : Told) (names : List (List ℕ)) (make : List Edit → Result (List ℕ) Refusal) (e : Refusal)
-    → (e ≡ Memory) ⊎ Collects t names (Err e) → (e ≡ Memory) ⊎ IsMade t names make (Err e)
-not_made t names make e why = elim why [ inl memory ↦ inl memory | inr first ↦ inr (Err e, first, refl) ]
+-- ---- what holds where the host failed holds where it may have failed
 
--- what a function made of the set
-pub made_result : (result : Result (Vec ℕ) Refusal) (t : Told) (names : List (List ℕ)) (make : List Edit → Result (List ℕ) Refusal) (es : List Edit) → Collects t names (Ok es)
-    → MatchResult result (λ bytes. make es ≡ Ok bytes.items) (λ e. (e ≡ Memory) ⊎ (make es ≡ Err e))
-    → MatchResult result (λ bytes. IsMade t names make (Ok bytes.items)) (λ e. (e ≡ Memory) ⊎ IsMade t names make (Err e))
-made_result (Ok bytes) t names make es all is = (Ok es, all, sym is)
-made_result (Err e) t names make es all why = elim why [ inl memory ↦ inl memory | inr limit ↦ inr (Ok es, all, sym limit) ]
+pub read_so : (p q : Type 0) (t : HostContents) (name : List ℕ) (read : Option (List ℕ)) → (p → q) → IsRead p t name read → IsRead q t name read
+read_so p q t name read so is = elim is [ inl held ↦ inl held | inr failed ↦ inr (so failed.0, failed.1) ]
 
--- where no file was made, none is written
-pub not_saved : (names : List (List ℕ)) (out : List ℕ) (t : Told) (e : Refusal)
-    → (e ≡ Memory) ⊎ IsMade t names file_of (Err e) → (e ≡ Memory) ⊎ ((m : Result (List ℕ) Refusal) × IsMade t names file_of m × (Err e ≡ with_world out t m))
-not_saved names out t e why = elim why [ inl memory ↦ inl memory | inr made ↦ inr (Err e, made, refl) ]
+pub reads_so : (p q : Type 0) (t : HostContents) (names : List (List ℕ)) (reads : List (Option (List ℕ))) → (p → q) → AreRead p t names reads → AreRead q t names reads
+reads_so p q t [] reads so are = are
+reads_so p q t (name ∷ names) reads so are = (are.0, are.1, read_so p q t name are.0 so are.2, reads_so p q t names are.1 so are.3, are.4)
 
--- and no report printed
-pub not_reported : (names : List (List ℕ)) (t : Told) (e : Refusal)
-    → (e ≡ Memory) ⊎ IsMade t names report_on (Err e) → (e ≡ Memory) ⊎ ((m : Result (List ℕ) Refusal) × IsMade t names report_on m × (Err e ≡ with_report t m))
-not_reported names t e why = elim why [ inl memory ↦ inl memory | inr made ↦ inr (Err e, made, refl) ]
+made_so : (p q : Type 0) (t : HostContents) (names : List (List ℕ)) (make : List Edit → Result (List ℕ) Refusal) (m : Result (List ℕ) Refusal) → (p → q) → IsMade p t names make m → IsMade q t names make m
+made_so p q t names make m so made =
+    let collects = made.1 in
+    let stream = collects.1 in
+    (made.0, (collects.0, (stream.0, reads_so p q t names stream.0 so stream.1, stream.2), collects.2), made.2)
 
--- two calls that don't lower the count
-pub calm_between : (old middle new : ℕ) → old ≤ middle → middle ≤ new → IsCalm old new → IsCalm old middle × IsCalm middle new
-calm_between old middle new one two calm = let first = calm.0 in let below = calm.1 in ((omega arith, omega arith), (omega arith, omega arith))
+first_so : (p q : Type 0) (t : HostContents) (from name : Option (List ℕ)) (m : Result (List ℕ) Refusal) → (p → q) → IsFirstWorld p t from name m → IsFirstWorld q t from name m
+first_so p q t None name m so is = is
+first_so p q t (Some file) name m so is = (is.0, read_so p q t file is.0 so is.1, is.2)
 
--- a refusal and its line, or the line for want of memory
-pub refused_run : (wanted : Wanted) (t : Told) (e : Refusal) (new : Option Told) → (e ≡ Memory) ⊎ IsDone wanted t (Err e)
-    → (new ≡ Some (with_complaint (line_of e) t)) ⊎ (new ≡ Some (with_complaint (line_of Memory) t)) → EndsRun (Some wanted) t 1 new
-refused_run wanted t e new why line =
-    elim line [
-      | inr memory ↦ inr (refl, memory)
-      | inl told ↦ elim why [
-        | inl memory ↦ inr (refl, told ∙ ap (λ f. Some (with_complaint (line_of f) t)) memory)
-        | inr done ↦ inl (Err e, done, (refl, told))
-      ]
+edited_so : (p q : Type 0) (t : HostContents) (file : List ℕ) (replica : ℕ) (words : List (List ℕ)) (r : Result FileEdits Refusal) → (p → q) → IsEdited p t file replica words r → IsEdited q t file replica words r
+edited_so p q t file zero words r so is = is
+edited_so p q t file (suc n) words r so is = let opens = is.1 in (is.0, (opens.0, read_so p q t file opens.0 so opens.1, opens.2), is.2)
+
+pub comes_so : (p q : Type 0) (command : Command) (t : HostContents) (r : Result Effect Refusal) → (p → q) → ComesTo p command t r → ComesTo q command t r
+comes_so p q (Save out files) t r so is = (is.0, made_so p q t files file_of is.0 so is.1, is.2)
+comes_so p q (Check files) t r so is = (is.0, made_so p q t files report_on is.0 so is.1, is.2)
+comes_so p q (New out world from name) t r so is = (is.0, first_so p q t from name is.0 so is.1, is.2)
+comes_so p q (EditFile file replica words) t r so is = (is.0, edited_so p q t file replica words is.0 so is.1, is.2)
+
+-- a host that doesn't fail gives the files that it holds
+pub reads_are : (t : HostContents) (names : List (List ℕ)) (reads : List (Option (List ℕ))) → AreRead ⊥ t names reads → reads ≡ map (file_in t) names
+reads_are t [] reads are = are
+reads_are t (name ∷ names) reads are =
+    elim are.2 [
+      | inl held ↦ are.4 ∙ ap (λ read. read ∷ are.1) held ∙ ap (λ rest. file_in t name ∷ rest) (reads_are t names are.1 are.3)
+      | inr failed ↦ absurd failed.0
     ]
 
+-- ---- the end of a command
+
+-- half of a file
+pub half_file : (out bytes line : List ℕ) (t : HostContents) (middle new : Option HostContents) → middle ≡ Some t
+    → IfSome middle (λ t. StillTells (HalfWritten out bytes t) new) → StillTells (HalfDone (Writes out bytes line) t) new
+half_file out bytes line t middle new at half = let h = rw at at half in (h.0, inl h.1, h.2)
+
+-- the file, and half of the line
+pub half_line : (out bytes line : List ℕ) (t : HostContents) (middle new : Option HostContents) → bytes_eq out (codes "stdout") ≡ false → middle ≡ Some (with_file out bytes t)
+    → IfSome middle (λ t. StillTells (HalfPrinted line t) new) → StillTells (HalfDone (Writes out bytes line) t) new
+half_line out bytes line t middle new other at half = let h = rw at at half in (h.0, inr (other, h.1), h.2)
+
+-- the effect, or the host failed at it
+pub effect_ends : (result : Result ⊤ Refusal) (old middle now : ℕ) (command : Command) (t : HostContents) (x : Effect) (new : Option HostContents)
+    → old ≤ middle → middle ≤ now → ComesTo (Rose old middle) command t (Ok x) → OnOk result (new ≡ Some (after x t)) → OnErr result (StillTells (HalfDone x t) new)
+    → MatchResult result (λ _. ⊤) (λ e. e ≡ File) → Counts (is_err result) middle now → Ends (Rose old now) command t result new
+effect_ends (Ok u) old middle now command t x new up more comes done half file count =
+    (x, comes_so (Rose old middle) (Rose old now) command t (Ok x) (rose_before old middle now more) comes, done)
+effect_ends (Err e) old middle now command t x new up more comes done half file count =
+    (half.0, inr (rose_later old middle now up count, file, (x, comes_so (Rose old middle) (Rose old now) command t (Ok x) (rose_before old middle now more) comes, half.1)), half.2)
+
+pub counted_up : (failed : Bool) (old new : ℕ) → Counts failed old new → old ≤ new
+counted_up true old new count = count.0
+counted_up false old new count = omega (arith, count)
+
+-- refused before it, with what came first
+pub refused_ends : (failed : Type 0) (command : Command) (t : HostContents) (e : Refusal) (new : Option HostContents) → new ≡ Some t
+    → (e ≡ Memory) ⊎ ComesTo failed command t (Err e) → Ends failed command t (Err e) new
+refused_ends failed command t e new at why = (t, inl (refl, why), at)
+
+-- where there is no set of edits, nothing is made of it
+pub not_made : (failed : Type 0) (t : HostContents) (names : List (List ℕ)) (make : List Edit → Result (List ℕ) Refusal) (e : Refusal)
+    → (e ≡ Memory) ⊎ Collects failed t names (Err e) → (e ≡ Memory) ⊎ IsMade failed t names make (Err e)
+not_made failed t names make e why = elim why [ inl memory ↦ inl memory | inr first ↦ inr (Err e, first, refl) ]
+
+-- what a function made of the set
+pub made_result : (failed : Type 0) (result : Result (Vec ℕ) Refusal) (t : HostContents) (names : List (List ℕ)) (make : List Edit → Result (List ℕ) Refusal) (es : List Edit) → Collects failed t names (Ok es)
+    → MatchResult result (λ bytes. make es ≡ Ok bytes.items) (λ e. (e ≡ Memory) ⊎ (make es ≡ Err e))
+    → MatchResult result (λ bytes. IsMade failed t names make (Ok bytes.items)) (λ e. (e ≡ Memory) ⊎ IsMade failed t names make (Err e))
+made_result failed (Ok bytes) t names make es all is = (Ok es, all, sym is)
+made_result failed (Err e) t names make es all why = elim why [ inl memory ↦ inl memory | inr limit ↦ inr (Ok es, all, sym limit) ]
+
+-- where no file was made, none is written
+pub not_saved : (failed : Type 0) (names : List (List ℕ)) (out : List ℕ) (t : HostContents) (e : Refusal)
+    → (e ≡ Memory) ⊎ IsMade failed t names file_of (Err e) → (e ≡ Memory) ⊎ ComesTo failed (Save out names) t (Err e)
+not_saved failed names out t e why = elim why [ inl memory ↦ inl memory | inr made ↦ inr (Err e, made, refl) ]
+
+-- and no report printed
+pub not_reported : (failed : Type 0) (names : List (List ℕ)) (t : HostContents) (e : Refusal)
+    → (e ≡ Memory) ⊎ IsMade failed t names report_on (Err e) → (e ≡ Memory) ⊎ ComesTo failed (Check names) t (Err e)
+not_reported failed names t e why = elim why [ inl memory ↦ inl memory | inr made ↦ inr (Err e, made, refl) ]
+
+-- and no edit file made
+pub not_begun : (failed : Type 0) (out : List ℕ) (world : ℕ) (from name : Option (List ℕ)) (t : HostContents) (e : Refusal)
+    → (e ≡ Memory) ⊎ IsFirstWorld failed t from name (Err e) → (e ≡ Memory) ⊎ ComesTo failed (New out world from name) t (Err e)
+not_begun failed out world from name t e why = elim why [ inl memory ↦ inl memory | inr is ↦ inr (Err e, is, refl) ]
+
+-- ---- the end of a run
+
+-- a text was written to the standard error, or the host failed at it
+pub complained : (result : Result ⊤ WriteError) (old new : ℕ) (text : List ℕ) (t : HostContents) (before after : Option HostContents) → before ≡ Some t
+    → OnOk result (after ≡ Some (with_complaint text t)) → OnErr result (IfSome before (λ t. StillTells (HalfComplained text t) after))
+    → Counts (is_err result) old new → IsComplained (Rose old new) text t after
+complained (Ok u) old new text t before after at told half count = inl told
+complained (Err e) old new text t before after at told half count = inr (count, rw at at half)
+
+-- a refusal, and then its line
+pub refused_run : (command : Command) (t u : HostContents) (e : Refusal) (old middle now : ℕ) (new : Option HostContents) → old ≤ middle → middle ≤ now
+    → IsRefused (Rose old middle) command t e u → IsTold (Rose middle now) e u new → EndsRun (Some command) t old now 1 new
+refused_run command t u e old middle now new up more refused told =
+    inr (refl, record { refusal = e; left = u; middle = middle; refused = refused; told = told; rises = (up, more) })
+
 -- want of memory, whatever was asked for
-pub memory_run : (wanted : Option Wanted) (t : Told) (new : Option Told) → new ≡ Some (with_complaint (line_of Memory) t) → EndsRun wanted t 1 new
-memory_run None t new line = inr (refl, line)
-memory_run (Some wanted) t new line = inr (refl, line)
+pub memory_run : (command : Option Command) (t : HostContents) (old now : ℕ) (new : Option HostContents) → old ≤ now
+    → IsComplained (Rose old now) (line_of Memory) t new → EndsRun command t old now 1 new
+memory_run None t old now new up told = inr (refl, told)
+memory_run (Some command) t old now new up told =
+    inr (
+      refl,
+      record {
+        refusal = Memory;
+        left = t;
+        middle = old;
+        refused = inl (refl, inl refl);
+        told = (line_of Memory, inl refl, told);
+        rises = (omega arith, up);
+      },
+    )
+
+-- ---- where the host doesn't fail
+
+told_calmly : (old now : ℕ) (text : List ℕ) (t : HostContents) (new : Option HostContents) → NothingFailed old now → IsComplained (Rose old now) text t new → new ≡ Some (with_complaint text t)
+told_calmly old now text t new calm told = elim told [ inl is ↦ is | inr failed ↦ absurd (no_rise old now now (omega arith) calm failed.0) ]
+
+refused_calmly : (command : Command) (t : HostContents) (old now : ℕ) (new : Option HostContents) → NothingFailed old now → RefusedRun command t old now new → EndsCalmly command t 1 new
+refused_calmly command t old now new calm run =
+    let first = run.rises.0 in
+    let second = run.rises.1 in
+    let same = calm.0 in
+    let low = calm.1 in
+    let later : NothingFailed run.middle now = (omega arith, omega arith) in
+    let never : Rose old run.middle → ⊥ = no_rise old run.middle now second calm in
+    let told = told_calmly run.middle now run.told.0 run.left new later run.told.2 in
+    elim run.refused [
+      | inr failed ↦ absurd (never failed.0)
+      | inl before ↦ (
+          let at : new ≡ Some (with_complaint run.told.0 t) = told ∙ ap (λ u. Some (with_complaint run.told.0 u)) before.0 in
+          elim run.told.1 [
+            | inr memory ↦ inr (refl, at ∙ ap (λ line. Some (with_complaint line t)) memory.1)
+            | inl line ↦ elim before.1 [
+              | inl memory ↦ inr (refl, at ∙ ap (λ line. Some (with_complaint line t)) (line ∙ ap line_of memory))
+              | inr comes ↦ inl (Err run.refusal, comes_so (Rose old run.middle) ⊥ command t (Err run.refusal) never comes, (refl, at ∙ ap (λ line. Some (with_complaint line t)) line))
+            ]
+          ])
+    ]
+
+pub run_calmly : (command : Command) (t : HostContents) (old now status : ℕ) (new : Option HostContents) → NothingFailed old now
+    → EndsRun (Some command) t old now status new → EndsCalmly command t status new
+run_calmly command t old now status new calm run =
+    elim run [
+      | inl done ↦ inl (Ok done.0, comes_so (Rose old now) ⊥ command t (Ok done.0) (no_rise old now now (omega arith) calm) done.1, (done.2, done.3))
+      | inr refused ↦ elim (refused_calmly command t old now new calm refused.1) [
+        | inl done ↦ inl (done.0, done.1, with_status done.0 refused.0 done.2)
+        | inr memory ↦ inr (refused.0, memory.1)
+      ]
+    ]
+  where
+    with_status : (r : Result Effect Refusal) → status ≡ 1 → HasStatus r t 1 new → HasStatus r t status new
+    with_status (Ok x) is has = (is ∙ has.0, has.1)
+    with_status (Err e) is has = (is ∙ has.0, has.1)
+
+-- the world of a file that was read
+pub read_made : (failed : Type 0) (t : HostContents) (file bytes : List ℕ) (name : Option (List ℕ)) (result : Result (Vec ℕ) Refusal) → file_in t file ≡ Some bytes
+    → MatchResult result (λ text. refused_as (rewritten (world_at bytes)) ≡ Ok text.items) (λ e. (e ≡ Memory) ⊎ (refused_as (rewritten (world_at bytes)) ≡ Err e))
+    → MatchResult result (λ text. IsFirstWorld failed t (Some file) name (Ok text.items)) (λ e. (e ≡ Memory) ⊎ IsFirstWorld failed t (Some file) name (Err e))
+read_made failed t file bytes name (Ok text) held is = (Some bytes, inl (sym held), sym is)
+read_made failed t file bytes name (Err e) held why = elim why [ inl memory ↦ inl memory | inr is ↦ inr (Some bytes, inl (sym held), sym is) ]

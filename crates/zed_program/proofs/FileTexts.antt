@@ -13,12 +13,14 @@ use Rattle.zed_editfile.specs.Spelling.{file_text}
 use Rattle.zed_editfile.specs.Stream.{AreRecords, Progress, Reads, ending, is_other}
 use Rattle.zed_program.specs.declared.refusal.Refusal.{Refusal}
 use Rattle.zed_document.specs.Delivery.{IsFirstClash}
+use Rattle.zed_program.specs.declared.refusal.Refusal.TheVariants.{NoWorld}
 use Rattle.zed_program.specs.Collected.{IsCollected}
 use Rattle.zed_program.specs.Files.{IsFile, IsStream, Stream, edits_then, end_by, joined, stream_after, texts_of_lists}
-use Rattle.zed_program.specs.Outcome.{EndsRun, HasStatus, IsDone, file_of, made_of, unless_over, with_world, written_to}
-use Rattle.zed_program.specs.Told.{Told, file_in}
-use Rattle.zed_program.specs.Wanted.{Save}
+use Rattle.zed_program.specs.Outcome.{ComesTo, Effect, EndsCalmly, HasStatus, file_of, made_of, unless_over, writes_world, written_to}
+use Rattle.zed_program.specs.HostContents.{HostContents, file_in}
+use Rattle.zed_program.specs.Commands.{Save}
 use Rattle.zed_program.specs.Lines.{bytes_line}
+use Rattle.zed_program.proofs.Endings.{reads_are}
 use Rattle.zed_program.specs.Saving.{AsksToSave, SavedReadsBack, SavesSet}
 use Rattle.zed_types.specs.declared.header.HeaderSetting.TheVariants as header
 use Rattle.zed_types.specs.declared.property.BoardSetting.TheVariants as board
@@ -106,25 +108,44 @@ set_is s all set is agrees collected =
       | inr whole ↦ whole.1
     ]
 
+-- no file comes to no world, as no edit does
+none_saved : (s : Stream) (set : Result (List Edit) Refusal) → s ≡ edits_then [] (Some NoWorld) → IsCollected s set → set ≡ Err NoWorld
+none_saved s set is collected =
+    elim (subst (λ x. IsCollected x set) is collected) [
+      | inl clash ↦ absurd (no_clash [] clash.0 (λ e f m n same. absurd (let none = m.1 in omega arith)) clash.1)
+      | inr whole ↦ whole.1
+    ]
+
+none_made : file_of (set_of []) ≡ Err NoWorld
+none_made = refl
+
 -- so the world file of their set is what `save` writes, or its first limit is told
-saved_set : WrittenIsRead → (t : Told) (out name : List ℕ) (names : List (List ℕ)) (n : ℕ) (lists : List (List Edit)) (r : Result Told Refusal)
-    → map (file_in t) (name ∷ names) ≡ texts_of_lists n lists → n < 2 ^ 64 → AreRecords (joined lists) → Agrees (joined lists)
-    → IsDone (Save out (name ∷ names)) t r → r ≡ with_world out t (file_of (set_of (joined lists)))
-saved_set law t out name names n [] r texts small good agrees done = absurd (cc)
-saved_set law t out name names n (es ∷ lists) r texts small good agrees done =
-    let made = done.1 in
+saved_set : WrittenIsRead → (t : HostContents) (out : List ℕ) (names : List (List ℕ)) (n : ℕ) (lists : List (List Edit)) (r : Result Effect Refusal)
+    → map (file_in t) names ≡ texts_of_lists n lists → n < 2 ^ 64 → AreRecords (joined lists) → Agrees (joined lists)
+    → ComesTo ⊥ (Save out names) t r → r ≡ writes_world out (file_of (set_of (joined lists)))
+saved_set law t out names n [] r texts small good agrees comes =
+    let made = comes.1 in
     let collects = made.1 in
-    let stream = texts_are law n es lists collects.0 small good (subst (λ files. IsStream None files collects.0) texts collects.1) in
-    let set : made.0 ≡ Ok (set_of (joined (es ∷ lists))) = set_is collects.0 (joined (es ∷ lists)) made.0 stream agrees collects.2 in
-    done.2 ∙ ap (with_world out t) (made.2 ∙ ap (made_of file_of) set)
+    let stream = collects.1 in
+    let reads = reads_are t names stream.0 stream.1 ∙ texts in
+    let set = none_saved collects.0 made.0 (subst (λ files. IsStream None files collects.0) reads stream.2) collects.2 in
+    comes.2 ∙ ap (writes_world out) (made.2 ∙ ap (made_of file_of) set ∙ sym none_made)
+saved_set law t out names n (es ∷ lists) r texts small good agrees comes =
+    let made = comes.1 in
+    let collects = made.1 in
+    let stream = collects.1 in
+    let reads = reads_are t names stream.0 stream.1 ∙ texts in
+    let read = texts_are law n es lists collects.0 small good (subst (λ files. IsStream None files collects.0) reads stream.2) in
+    let set : made.0 ≡ Ok (set_of (joined (es ∷ lists))) = set_is collects.0 (joined (es ∷ lists)) made.0 read agrees collects.2 in
+    comes.2 ∙ ap (writes_world out) (made.2 ∙ ap (made_of file_of) set)
 
 -- and `run` ends so
-pub run_of_texts : WrittenIsRead → (words : List (List ℕ)) (t : Told) (out : List ℕ) (n : ℕ) (lists : List (List Edit)) (status : ℕ) (new : Option Told)
-    → (asks : AsksToSave words t out n lists) → EndsRun (Some (Save out (asks.file ∷ asks.files))) t status new → SavesSet out t (joined lists) status new
+pub run_of_texts : WrittenIsRead → (words : List (List ℕ)) (t : HostContents) (out : List ℕ) (n : ℕ) (lists : List (List Edit)) (status : ℕ) (new : Option HostContents)
+    → (asks : AsksToSave words t out n lists) → EndsCalmly (Save out asks.files) t status new → SavesSet out t (joined lists) status new
 run_of_texts law words t out n lists status new asks ended =
     elim ended [
       | inl done ↦ (
-          let is = saved_set law t out asks.file asks.files n lists done.0 asks.spelled asks.is_number asks.records asks.agree done.1 in
+          let is = saved_set law t out asks.files n lists done.0 asks.spelled asks.is_number asks.records asks.agree done.1 in
           inl (subst (λ r. HasStatus r t status new) is done.2))
       | inr memory ↦ inr memory
     ]
@@ -150,7 +171,7 @@ saved_at es bytes is = go (refusal_of 20000 (replay es)) is
     go (Some refusal) e = absurd (cc)
 
 -- where `run` ends well, the file is read as the exported world
-pub reads_back : AuthoredIsRead → (words : List (List ℕ)) (t : Told) (out : List ℕ) (n : ℕ) (lists : List (List Edit)) (status : ℕ) (new : Option Told)
+pub reads_back : AuthoredIsRead → (words : List (List ℕ)) (t : HostContents) (out : List ℕ) (n : ℕ) (lists : List (List Edit)) (status : ℕ) (new : Option HostContents)
     → AsksToSave words t out n lists → SavesSet out t (joined lists) status new → SavedReadsBack out t (joined lists) status new
 reads_back law words t out n lists status new asks saves well =
     elim saves [
@@ -164,7 +185,7 @@ reads_back law words t out n lists status new asks saves well =
     authored : AreAuthored es
     authored = record { fit = records_fit es asks.records; sizes = records_have_sizes es asks.records; agree = asks.agree }
 
-    go : (f : Result (List ℕ) Refusal) → file_of (set_of es) ≡ f → HasStatus (with_world out t f) t status new
+    go : (f : Result (List ℕ) Refusal) → file_of (set_of es) ≡ f → HasStatus (writes_world out f) t status new
         → (bytes : List ℕ) × (new ≡ Some (written_to out bytes (bytes_line (length bytes)) t)) × (world_at bytes ≡ Ok (world_of (replay (set_of es))))
     go (Ok bytes) is done = (bytes, done.1, law 20000 es bytes authored (lit≤ tt) (saved_at (set_of es) bytes is))
     go (Err e) is done = absurd (let bad = done.0 in omega (arith, bad, well))

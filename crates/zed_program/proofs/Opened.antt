@@ -1,5 +1,5 @@
 -- What an edit file comes to when it is opened for an action.
-use Rattle.std.proofs.Common.{◌≡◌, ◌∙◌, ◌≢◌, ℕ, zero, suc, false, List, Some, None, Result, Ok, Err, refl, ap}
+use Rattle.std.proofs.Common.{◌≡◌, ◌∙◌, ◌≢◌, ℕ, zero, suc, false, List, Some, None, Result, Ok, Err, refl, ap, sym}
 use Rattle.std.specs.Prelude.{MatchResult}
 use mathlib.Core.Logic.{◌⊎◌, inl, inr}
 use Rattle.zed_types.specs.declared.stamp.Stamp.{Stamp}
@@ -11,13 +11,14 @@ use Rattle.zed_action.specs.declared.error.ActionError.{ActionError}
 use Rattle.zed_action.specs.declared.error.ActionError.TheVariants as action
 use Rattle.zed_action.specs.Deeds.{Acts}
 use Rattle.zed_program.specs.declared.refusal.Refusal.{Refusal}
-use Rattle.zed_program.specs.declared.refusal.Refusal.TheVariants.{Memory, Clash}
+use Rattle.zed_program.specs.declared.refusal.Refusal.TheVariants.{Memory, Clash, File}
 use Rattle.zed_document.specs.Delivery.{IsFirstClash}
-use Rattle.zed_program.specs.Edited.{FileEdits, HasEdits, IsActed, IsEdited, IsOpened}
+use Rattle.zed_program.specs.Edited.{FileEdits, HasEdits, IsActed, IsEdited, IsOpened, OpensAs}
+use Rattle.zed_program.specs.Commands.{Edit as EditFile}
 use Rattle.zed_program.specs.Files.{IsFile}
-use Rattle.zed_program.specs.Outcome.{with_edits}
+use Rattle.zed_program.specs.Outcome.{ComesTo}
 use Rattle.zed_program.specs.Refusals.{action_refusal, file_refusal}
-use Rattle.zed_program.specs.Told.{Told, file_in}
+use Rattle.zed_program.specs.HostContents.{HostContents, IsRead, file_in}
 
 -- what the edits of a file come to
 abbrev pub IsCollected : List Edit → ℕ → Result Replica Refusal → Type 0
@@ -51,37 +52,50 @@ pub opened_fault : (bytes : List ℕ) (es : List Edit) (error : EditFileError) (
     → IsOpened (Some bytes) (Err e)
 opened_fault bytes es error e file agrees is = (es, Err error, file, inr (agrees, ap (λ x. Err x) is))
 
+-- a file that was read, and opened
+pub read_opens : (failed : Type 0) (t : HostContents) (file bytes : List ℕ) (result : Result Replica Refusal) → file_in t file ≡ Some bytes
+    → MatchResult result (λ d. IsOpened (Some bytes) (Ok (d.world, d.edits))) (λ e. (e ≡ Memory) ⊎ IsOpened (Some bytes) (Err e))
+    → MatchResult result (λ d. OpensAs failed t file (Ok (d.world, d.edits))) (λ e. (e ≡ Memory) ⊎ OpensAs failed t file (Err e))
+read_opens failed t file bytes (Ok d) held opens = (Some bytes, inl (sym held), opens)
+read_opens failed t file bytes (Err e) held opens = elim opens [ inl memory ↦ inl memory | inr is ↦ inr (Some bytes, inl (sym held), is) ]
+
+-- a file that was not read
+pub unread_opens : (failed : Type 0) (t : HostContents) (file : List ℕ) (e : Refusal) → (e ≡ Memory) ⊎ (e ≡ File) → (e ≡ File → IsRead failed t file None)
+    → (e ≡ Memory) ⊎ OpensAs failed t file (Err e)
+unread_opens failed t file e why none =
+    elim why [ inl memory ↦ inl memory | inr is ↦ inr (None, none is, ap (λ x. Err x) is) ]
+
 has_own : (d : Replica) → d.is_stale ≡ false → HasEdits d d.world d.edits
 has_own d sound = record { world_is = refl; edits_are = refl; sound = sound }
 
 -- a replica's number that isn't 0
-edited_by : (t : Told) (file : List ℕ) (replica : ℕ) (words : List (List ℕ)) (r opened : Result FileEdits Refusal)
-    → replica ≢ 0 → IsOpened (file_in t file) opened → IsActed replica words opened r → IsEdited t file replica words r
-edited_by t file zero words r opened some is acts = absurd (some refl)
-edited_by t file (suc n) words r opened some is acts = (opened, is, acts)
+edited_by : (failed : Type 0) (t : HostContents) (file : List ℕ) (replica : ℕ) (words : List (List ℕ)) (r opened : Result FileEdits Refusal)
+    → replica ≢ 0 → OpensAs failed t file opened → IsActed replica words opened r → IsEdited failed t file replica words r
+edited_by failed t file zero words r opened some is acts = absurd (some refl)
+edited_by failed t file (suc n) words r opened some is acts = (opened, is, acts)
 
 -- the action was done
-pub edited_done : (t : Told) (file : List ℕ) (replica : ℕ) (words : List (List ℕ)) (d new : Replica) → replica ≢ 0 → d.is_stale ≡ false → IsOpened (file_in t file) (Ok (d.world, d.edits))
-    → new.world ≡ d.world → Acts d replica words (Ok new.edits) → IsEdited t file replica words (Ok (new.world, new.edits))
-edited_done t file replica words d new some sound is world acts =
-    edited_by t file replica words (Ok (new.world, new.edits)) (Ok (d.world, d.edits)) some is (d, has_own d sound, (Ok new.edits, acts, ap (λ w. Ok (w, new.edits)) world))
+pub edited_done : (failed : Type 0) (t : HostContents) (file : List ℕ) (replica : ℕ) (words : List (List ℕ)) (d new : Replica) → replica ≢ 0 → d.is_stale ≡ false → OpensAs failed t file (Ok (d.world, d.edits))
+    → new.world ≡ d.world → Acts d replica words (Ok new.edits) → IsEdited failed t file replica words (Ok (new.world, new.edits))
+edited_done failed t file replica words d new some sound is world acts =
+    edited_by failed t file replica words (Ok (new.world, new.edits)) (Ok (d.world, d.edits)) some is (d, has_own d sound, (Ok new.edits, acts, ap (λ w. Ok (w, new.edits)) world))
 
 -- the action was refused
-pub edited_refused : (t : Told) (file : List ℕ) (replica : ℕ) (words : List (List ℕ)) (d : Replica) (e : ActionError) (told : Refusal) → replica ≢ 0 → d.is_stale ≡ false → IsOpened (file_in t file) (Ok (d.world, d.edits))
-    → told ≡ action_refusal e → (e ≡ action.Memory) ⊎ Acts d replica words (Err e) → (told ≡ Memory) ⊎ IsEdited t file replica words (Err told)
-edited_refused t file replica words d e told some sound is said why =
+pub edited_refused : (failed : Type 0) (t : HostContents) (file : List ℕ) (replica : ℕ) (words : List (List ℕ)) (d : Replica) (e : ActionError) (told : Refusal) → replica ≢ 0 → d.is_stale ≡ false → OpensAs failed t file (Ok (d.world, d.edits))
+    → told ≡ action_refusal e → (e ≡ action.Memory) ⊎ Acts d replica words (Err e) → (told ≡ Memory) ⊎ IsEdited failed t file replica words (Err told)
+edited_refused failed t file replica words d e told some sound is said why =
     elim why [
       | inl memory ↦ inl (said ∙ ap action_refusal memory)
-      | inr acts ↦ inr (edited_by t file replica words (Err told) (Ok (d.world, d.edits)) some is (d, has_own d sound, (Err e, acts, ap (λ x. Err x) said)))
+      | inr acts ↦ inr (edited_by failed t file replica words (Err told) (Ok (d.world, d.edits)) some is (d, has_own d sound, (Err e, acts, ap (λ x. Err x) said)))
     ]
 
 -- the file was refused
-pub edited_not_opened : (t : Told) (file : List ℕ) (replica : ℕ) (words : List (List ℕ)) (e : Refusal) → replica ≢ 0
-    → (e ≡ Memory) ⊎ IsOpened (file_in t file) (Err e) → (e ≡ Memory) ⊎ IsEdited t file replica words (Err e)
-edited_not_opened t file replica words e some why =
-    elim why [ inl memory ↦ inl memory | inr is ↦ inr (edited_by t file replica words (Err e) (Err e) some is refl) ]
+pub edited_not_opened : (failed : Type 0) (t : HostContents) (file : List ℕ) (replica : ℕ) (words : List (List ℕ)) (e : Refusal) → replica ≢ 0
+    → (e ≡ Memory) ⊎ OpensAs failed t file (Err e) → (e ≡ Memory) ⊎ IsEdited failed t file replica words (Err e)
+edited_not_opened failed t file replica words e some why =
+    elim why [ inl memory ↦ inl memory | inr is ↦ inr (edited_by failed t file replica words (Err e) (Err e) some is refl) ]
 
 -- where there are no edits, none are written
-pub not_edited : (t : Told) (file : List ℕ) (replica : ℕ) (words : List (List ℕ)) (e : Refusal) → (e ≡ Memory) ⊎ IsEdited t file replica words (Err e)
-    → (e ≡ Memory) ⊎ ((m : Result FileEdits Refusal) × IsEdited t file replica words m × (Err e ≡ with_edits file t m))
-not_edited t file replica words e why = elim why [ inl memory ↦ inl memory | inr is ↦ inr (Err e, is, refl) ]
+pub not_edited : (failed : Type 0) (t : HostContents) (file : List ℕ) (replica : ℕ) (words : List (List ℕ)) (e : Refusal) → (e ≡ Memory) ⊎ IsEdited failed t file replica words (Err e)
+    → (e ≡ Memory) ⊎ ComesTo failed (EditFile file replica words) t (Err e)
+not_edited failed t file replica words e why = elim why [ inl memory ↦ inl memory | inr is ↦ inr (Err e, is, refl) ]

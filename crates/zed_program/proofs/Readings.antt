@@ -9,7 +9,7 @@ use Rattle.clap.specs.Matches.{ReadsOne, first_value, matched_of, one_text, raw_
 use Rattle.clap.specs.Walk.{Text, rows_of}
 use Rattle.clap.specs.declared.parser.matches.Found.{Found}
 use Rattle.clap.proofs.WalkLemmas.{both, first_value-rows, one_text-rows, raw_values-rows}
-use Rattle.zed_program.specs.Wanted.{Wanted, Save, Check, New, Edit, check_of, edit_of, new_of, number_of, save_of}
+use Rattle.zed_program.specs.Commands.{Command, Save, Check, New, Edit, check_of, edit_of, new_of, number_of, save_of}
 
 abbrev pub text_in : Option (Bor Text) → Option Text
 text_in = option_map (λ s. s.now)
@@ -17,10 +17,10 @@ text_in = option_map (λ s. s.now)
 abbrev pub texts_in : Option (Bor (List (Bor Text))) → Option (List Text)
 texts_in = option_map (λ s. map (λ v. v.now) s.now)
 
-abbrev pub saved : Option Text → Option (List Text) → Option Wanted
+abbrev pub saved : Option Text → Option (List Text) → Option Command
 saved out files = option_and_then (λ o. option_map (λ fs. Save o fs) files) out
 
-abbrev pub checked : Option (List Text) → Option Wanted
+abbrev pub checked : Option (List Text) → Option Command
 checked files = option_map (λ fs. Check fs) files
 
 pub save_read : (f : Found) (out : Option (Bor Text)) (files : Option (Bor (List (Bor Text))))
@@ -69,7 +69,7 @@ pub number_read : {E : Type 0} (k : ℕ) (o : Option Text) (r : Option ℕ) (G :
 number_read k None r G only none value = none refl
 number_read k (Some t) r G only none value = number_parsed k t r G only (value t refl)
 
-abbrev pub made_new : Option Text → Option ℕ → Option Text → Option Text → Option Wanted
+abbrev pub made_new : Option Text → Option ℕ → Option Text → Option Text → Option Command
 made_new out world from name = option_and_then (λ o. option_map (λ w. New o w from name) world) out
 
 pub new_read : (f : Found) (out : Option (Bor Text)) (world : Option ℕ) (from name : Option (Bor Text))
@@ -79,7 +79,7 @@ pub new_read : (f : Found) (out : Option (Bor Text)) (world : Option ℕ) (from 
 new_read f out world from name a b c d =
     rw (a, b, c, d, first_value-rows f (codes "OUT"), one_text-rows f (codes "WORLD"), first_value-rows f (codes "from"), first_value-rows f (codes "name")) refl
 
-abbrev pub made_edit : Option Text → Option ℕ → Option (List Text) → Option Wanted
+abbrev pub made_edit : Option Text → Option ℕ → Option (List Text) → Option Command
 made_edit file replica words = option_and_then (λ f. option_and_then (λ r. option_map (λ ws. Edit f r ws) words) replica) file
 
 pub edit_read : (f : Found) (file : Option (Bor Text)) (replica : Option ℕ) (words : Option (Bor (List (Bor Text))))

@@ -15,7 +15,7 @@ use Rattle.clap.proofs.FaultLemmas.{stopped_fault}
 use Rattle.clap.proofs.OnLiterals.{clap_on_literals}
 use Rattle.clap.proofs.WalkLemmas.{both, walk_stopped}
 use Rattle.zed_program.specs.Grammar.{save_shape, zzted_app}
-use Rattle.zed_program.specs.Wanted.{Save, Wanted, action_of, is_plain, unless_refused, wanted_of}
+use Rattle.zed_program.specs.Commands.{Save, Command, subcommand_asks, is_plain, unless_refused, command_of}
 use Rattle.zed_program.proofs.PlainWords.{or_nothing, other_passes, other_plain, several_fit, texts_pass}
 
 abbrev top : Shape
@@ -206,11 +206,11 @@ sub_rows rest = ap (λ (w : Walk). entered (built zzted_app) w.stopped) (top_wal
 
 -- `save OUT FILES...`, where no word begins with a hyphen
 pub save_words : (out file : Text) (files : List Text) → list_all is_plain (out ∷ file ∷ files) ≡ true → length (file ∷ files) ≤ usize_max
-    → wanted_of (codes "save" ∷ out ∷ file ∷ files) ≡ Some (Save out (file ∷ files))
-unfolding wanted_of
+    → command_of (codes "save" ∷ out ∷ file ∷ files) ≡ Some (Save out (file ∷ files))
+unfolding command_of
 save_words out file files plain few = ap₂ unless_refused
     (sub_fault (out ∷ file ∷ files) ∙ leaf_level out file files plain few)
-    (ap (option_and_then action_of) (sub_rows (out ∷ file ∷ files)
+    (ap (option_and_then subcommand_asks) (sub_rows (out ∷ file ∷ files)
     ∙ ap (λ (w : Walk). Some (codes "save", finished save_built.rules w.held)) (leaf_walk out file files plain)))
 
 -- ---- a first word that names no subcommand
@@ -224,17 +224,17 @@ unknown_turn : (word : Text) → is_plain word ≡ true → subcommand_met (name
 unknown_turn word plain none = ap₂ or_else (ap (λ o. other_fault top o word nothing_held) none ∙ other_passes top word nothing_held plain)
     (ap (λ (m : Held × Step). step_fault top 1 m.0 m.1) (ap (λ o. subcommand_or_other top.rules o idle 1 word nothing_held) none ∙ other_plain top.rules idle 1 word nothing_held plain refl))
 
-first_fault_wins : (turn rest end : Kinds) (o : Option Wanted) → turn ≡ kind.UnknownArgument ∷ kind.InvalidSubcommand ∷ []
+first_fault_wins : (turn rest end : Kinds) (o : Option Command) → turn ≡ kind.UnknownArgument ∷ kind.InvalidSubcommand ∷ []
     → unless_refused (or_else (or_else turn rest) end) o ≡ None
 first_fault_wins turn rest end o e = ap (λ ks. unless_refused (or_else (or_else ks rest) end) o) e
 
 pub unknown_word : (word : Text) (rest : List Text) → is_plain word ≡ true
     → bytes_eq (codes "save") word ≡ false → bytes_eq (codes "check") word ≡ false → bytes_eq (codes "new") word ≡ false → bytes_eq (codes "edit") word ≡ false
-    → bytes_eq (codes "help") word ≡ false → wanted_of (word ∷ rest) ≡ None
-unfolding wanted_of walk_fault
+    → bytes_eq (codes "help") word ≡ false → command_of (word ∷ rest) ≡ None
+unfolding command_of walk_fault
 unknown_word word rest plain a b c d e =
     first_fault_wins (turn_fault top (names_of (built zzted_app)) (walk_from nothing_held) word)
     (walk_fault top (names_of (built zzted_app)) (walked top.rules (names_of (built zzted_app)) (walk_from nothing_held) word) rest)
     (top_tail (walk top.rules (names_of (built zzted_app)) nothing_held (word ∷ rest)))
-    (option_and_then action_of (subcommand_of zzted_app (word ∷ rest)))
+    (option_and_then subcommand_asks (subcommand_of zzted_app (word ∷ rest)))
     (unknown_turn word plain (unknown_met word a b c d e))

@@ -1,13 +1,13 @@
 -- How files come to a stream of edits.
-use Rattle.std.proofs.Common.{◌≡◌, ◌∙◌, ℕ, List, [], ◌∷◌, ◌++◌, Option, Some, None, Result, Ok, Err, refl, ap, sym, subst, append_assoc, append-nil, add-one, drop, drop-cons, drop_of_length-le, get_or, length, map, suc, ◌+◌, ◌<◌, ◌≤◌}
+use Rattle.std.proofs.Common.{◌≡◌, ◌∙◌, ℕ, List, [], ◌∷◌, ◌++◌, Option, Some, None, Result, Ok, Err, refl, ap, sym, subst, append_assoc, append-nil, add-one, drop, drop-cons, drop_of_length-le, get_or, length, map, ◌+◌, ◌<◌, ◌≤◌}
 use Rattle.std.specs.Borrow.{Bor}
 use Rattle.zed_program.specs.declared.refusal.Refusal.{Refusal}
 use Rattle.zed_program.specs.Outcome.{Collects, IsStreamIn, texts_of}
-use Rattle.zed_program.specs.Told.{Told, file_in}
+use Rattle.zed_program.specs.HostContents.{AreRead, HostContents, IsRead, file_in}
 use Rattle.zed_types.specs.declared.stamp.Stamp.{Stamp}
 use Rattle.zed_document.specs.Delivery.{IsFirstClash}
 use Rattle.zed_program.specs.Collected.{set_unless}
-use Rattle.zed_program.specs.declared.refusal.Refusal.TheVariants.{Memory, Clash}
+use Rattle.zed_program.specs.declared.refusal.Refusal.TheVariants.{Memory, Clash, File}
 use mathlib.Core.Logic.{◌⊎◌, inl, inr}
 use Rattle.zed_op.specs.declared.op.Edit.{Edit}
 use Rattle.zed_op.specs.Set.{Agrees, AllFit, set_of}
@@ -49,16 +49,29 @@ pub fit_append : (es more : List Edit) → AllFit es → AllFit more → AllFit 
 fit_append [] more h k = k
 fit_append (e ∷ es) more h k = (h.0, fit_append es more h.1 k)
 
--- the next of the files
-pub next_of : (t : Told) (names : List (Bor (List ℕ))) (i : ℕ) (d : Bor (List ℕ)) (bytes : List ℕ) → i < length names → file_in t (get_or names i d).now ≡ Some bytes
-    → map (file_in t) (texts_of (drop i names)) ≡ Some bytes ∷ map (file_in t) (texts_of (drop (i + 1) names))
-next_of t names i d bytes lt held = rw add-one (
-    ap (λ ns. map (file_in t) (texts_of ns)) (drop-cons names i d lt)
-    ∙ ap (λ f. f ∷ map (file_in t) (texts_of (drop (suc i) names))) held)
+-- the next of the files was read
+pub next_read : (failed : Type 0) (t : HostContents) (names : List (Bor (List ℕ))) (i : ℕ) (d : Bor (List ℕ)) (read : Option (List ℕ)) (rest : List (Option (List ℕ)))
+    → i < length names → IsRead failed t (get_or names i d).now read → AreRead failed t (texts_of (drop (i + 1) names)) rest
+    → AreRead failed t (texts_of (drop i names)) (read ∷ rest)
+next_read failed t names i d read rest lt one others =
+    subst (λ ns. AreRead failed t (texts_of ns) (read ∷ rest)) (sym (drop-cons names i d lt))
+    (read, rest, one, subst (λ n. AreRead failed t (texts_of (drop n names)) rest) (add-one i) others, refl)
 
 -- no file is left
-pub none_left : (t : Told) (names : List (Bor (List ℕ))) (i : ℕ) → length names ≤ i → map (file_in t) (texts_of (drop i names)) ≡ []
-none_left t names i le = ap (λ ns. map (file_in t) (texts_of ns)) (drop_of_length-le names le)
+pub none_left : (failed : Type 0) (t : HostContents) (names : List (Bor (List ℕ))) (i : ℕ) → length names ≤ i → AreRead failed t (texts_of (drop i names)) []
+none_left failed t names i le = subst (λ ns. AreRead failed t (texts_of ns) []) (sym (drop_of_length-le names le)) refl
+
+-- files may be read as the host holds them
+pub as_held : (failed : Type 0) (t : HostContents) (names : List (List ℕ)) → AreRead failed t names (map (file_in t) names)
+as_held failed t [] = refl
+as_held failed t (name ∷ names) = (file_in t name, map (file_in t) names, inl refl, as_held failed t names, refl)
+
+-- a file was not read
+pub unread_file : (P : Stream → Type 0) (asked : Option ℕ) (rest : List (Option (List ℕ))) (es : List Edit) (refusal : Refusal)
+    → refusal ≡ File → ((s : Stream) → IsStream asked (None ∷ rest) s → P (stream_after es s)) → P (edits_then es (Some refusal))
+unread_file P asked rest es refusal is read =
+    subst (λ e. P (edits_then es (Some e))) (sym is)
+    (subst (λ all. P (edits_then all (Some File))) (append-nil es) (read (edits_then [] (Some File)) refl))
 
 -- the files were all read
 pub all_read : (P : Stream → Type 0) (asked : Option ℕ) (all : List (Option (List ℕ))) (es : List Edit) (refusal : Option Refusal)
@@ -68,20 +81,20 @@ all_read P asked all es refusal none read end =
     subst (λ all. P (edits_then all refusal)) (append-nil es) (read (edits_then [] refusal) here)
 
 -- what comes first is a clash
-pub clash_first : (t : Told) (names : List (List ℕ)) (s : Stream) (e : Refusal) → IsStreamIn t names s
-    → (e ≡ Memory) ⊎ ((c : Stamp) × IsFirstClash s.edits c × (e ≡ Clash c)) → (e ≡ Memory) ⊎ Collects t names (Err e)
-clash_first t names s e reads why =
+pub clash_first : (failed : Type 0) (t : HostContents) (names : List (List ℕ)) (s : Stream) (e : Refusal) → IsStreamIn failed t names s
+    → (e ≡ Memory) ⊎ ((c : Stamp) × IsFirstClash s.edits c × (e ≡ Clash c)) → (e ≡ Memory) ⊎ Collects failed t names (Err e)
+clash_first failed t names s e reads why =
     elim why [
       | inl memory ↦ inl memory
       | inr clash ↦ inr (s, reads, inl (clash.0, clash.1, ap (λ r. Err r) clash.2))
     ]
 
 -- what comes first is the refusal of a file
-pub file_first : (t : Told) (names : List (List ℕ)) (es : List Edit) (refusal : Option Refusal) (e : Refusal) → IsStreamIn t names (edits_then es refusal) → Agrees es
-    → refusal ≡ Some e → Collects t names (Err e)
-file_first t names es refusal e reads agrees is = (edits_then es refusal, reads, inr (agrees, sym (ap (λ r. set_unless r es) is)))
+pub file_first : (failed : Type 0) (t : HostContents) (names : List (List ℕ)) (es : List Edit) (refusal : Option Refusal) (e : Refusal) → IsStreamIn failed t names (edits_then es refusal) → Agrees es
+    → refusal ≡ Some e → Collects failed t names (Err e)
+file_first failed t names es refusal e reads agrees is = (edits_then es refusal, reads, inr (agrees, sym (ap (λ r. set_unless r es) is)))
 
 -- the set of all edits
-pub all_collected : (t : Told) (names : List (List ℕ)) (es set : List Edit) (refusal : Option Refusal) → IsStreamIn t names (edits_then es refusal) → Agrees es
-    → refusal ≡ None → set ≡ set_of es → Collects t names (Ok set)
-all_collected t names es set refusal reads agrees is made = (edits_then es refusal, reads, inr (agrees, ap (λ x. Ok x) made ∙ sym (ap (λ r. set_unless r es) is)))
+pub all_collected : (failed : Type 0) (t : HostContents) (names : List (List ℕ)) (es set : List Edit) (refusal : Option Refusal) → IsStreamIn failed t names (edits_then es refusal) → Agrees es
+    → refusal ≡ None → set ≡ set_of es → Collects failed t names (Ok set)
+all_collected failed t names es set refusal reads agrees is made = (edits_then es refusal, reads, inr (agrees, ap (λ x. Ok x) made ∙ sym (ap (λ r. set_unless r es) is)))

@@ -12,7 +12,7 @@ use Rattle.zed_program.specs.declared.refusal.Refusal.TheVariants.{BadEdit, Clas
 use Rattle.zed_document.specs.Delivery.{IsFirstClash}
 use Rattle.zed_program.specs.Files.{IsFile}
 use Rattle.zed_program.specs.Refusals.{action_refusal, file_refusal}
-use Rattle.zed_program.specs.Told.{Told, file_in}
+use Rattle.zed_program.specs.HostContents.{HostContents, IsRead}
 
 -- the number of a world, and edits of it
 abbrev pub FileEdits : Type 0
@@ -49,7 +49,13 @@ IsActed replica words (Err e) r = r ≡ Err e
 IsActed replica words (Ok (world, es)) r =
     (d : Replica) × HasEdits d world es × ((made : Made) × Acts d replica words made × (r ≡ acted world made))
 
--- what the file has after an action by a replica; 0 is no author's number, whatever else is wrong, and the file's faults come before the action's
-abbrev pub IsEdited : Told → List ℕ → ℕ → List (List ℕ) → Result FileEdits Refusal → Type 0
-IsEdited t file zero words r = r ≡ Err (BadEdit cause.Stamp)
-IsEdited t file (suc n) words r = (opened : Result FileEdits Refusal) × IsOpened (file_in t file) opened × IsActed (suc n) words opened r
+-- what the file of a name comes to
+abbrev pub OpensAs : Type 0 → HostContents → List ℕ → Result FileEdits Refusal → Type 0
+OpensAs failed t file r = (read : Option (List ℕ)) × IsRead failed t file read × IsOpened read r
+
+-- what the file has after an action by a replica; 0 is no author's number, whatever else is wrong,
+-- and the file's faults come before the action's
+abbrev pub IsEdited : Type 0 → HostContents → List ℕ → ℕ → List (List ℕ) → Result FileEdits Refusal → Type 0
+IsEdited failed t file zero words r = r ≡ Err (BadEdit cause.Stamp)
+IsEdited failed t file (suc n) words r =
+    (opened : Result FileEdits Refusal) × OpensAs failed t file opened × IsActed (suc n) words opened r

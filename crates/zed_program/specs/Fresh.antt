@@ -84,10 +84,12 @@ abbrev pub rewritten : Result Contents WorldError → Result (List ℕ) WorldErr
 rewritten (Ok w) = written 32767 w
 rewritten (Err e) = Err e
 
+-- the same, with the refusal of a command
 abbrev pub refused_as : Result (List ℕ) WorldError → Result (List ℕ) Refusal
 refused_as (Ok bytes) = Ok bytes
 refused_as (Err e) = Err (world_refusal e)
 
+-- a name, which is empty where none is given
 abbrev pub name_or_none : Option (List ℕ) → List ℕ
 name_or_none None = []
 name_or_none (Some name) = name

@@ -39,15 +39,19 @@ files_rule = several_rule (codes "FILES")
 abbrev pub shape_with : List ℕ → List Rule → Shape
 shape_with name rules = record (new_shape name) { rules = rules }
 
+-- `save OUT FILES...`
 abbrev pub save_shape : Shape
 save_shape = shape_with (codes "save") (required_rule (codes "OUT") ∷ files_rule ∷ [])
 
+-- `check FILES...`
 abbrev pub check_shape : Shape
 check_shape = shape_with (codes "check") (files_rule ∷ [])
 
+-- `new OUT WORLD [--from FILE] [--name TEXT]`
 abbrev pub create_shape : Shape
 create_shape = shape_with (codes "new") (required_rule (codes "OUT") ∷ world_rule ∷ option_rule (codes "from") ∷ option_rule (codes "name") ∷ [])
 
+-- `edit FILE REPLICA WORDS...`
 abbrev pub edit_shape : Shape
 edit_shape = shape_with (codes "edit") (required_rule (codes "FILE") ∷ replica_rule ∷ words_rule ∷ [])
 

@@ -9,5 +9,5 @@ pub mod Memory
 pub mod Outcome
 pub mod Refusals
 pub mod Saving
-pub mod Told
-pub mod Wanted
+pub mod HostContents
+pub mod Commands

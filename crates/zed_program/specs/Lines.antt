@@ -1,5 +1,5 @@
 -- The lines that the program prints.
-use Rattle.std.specs.Prelude.{ℕ, List, [], ◌∷◌, ◌++◌, codes, length}
+use Rattle.std.specs.Prelude.{ℕ, Bool, true, false, List, [], ◌∷◌, ◌++◌, codes, length}
 use Rattle.std.specs.List.{flat_map}
 use Rattle.std.specs.Fmt.{decimal}
 use Rattle.zed_op.specs.declared.cause.Cause.{Cause}
@@ -23,6 +23,7 @@ ended text = text ++ 10 ∷ []
 abbrev pub pair_of : ℕ → ℕ → List ℕ
 pair_of m n = decimal m ++ 32 ∷ decimal n
 
+-- the name of a cause
 abbrev pub cause_name : Cause → List ℕ
 cause_name cause.Short = codes "Short"
 cause_name cause.Op = codes "Op"
@@ -34,35 +35,43 @@ cause_name cause.Order = codes "Order"
 cause_name cause.Genesis = codes "Genesis"
 
 -- the name of a refusal, with its numbers or its cause
-abbrev pub told_as : Refusal → List ℕ
-told_as Memory = codes "Memory"
-told_as NotZzt = codes "NotZzt"
-told_as TooManyBoards = codes "TooManyBoards"
-told_as Truncated = codes "Truncated"
-told_as BadBoardSize = codes "BadBoardSize"
-told_as TooManyStats = codes "TooManyStats"
-told_as BadShare = codes "BadShare"
-told_as Magic = codes "Magic"
-told_as NewVersion = codes "NewVersion"
-told_as OtherWorld = codes "OtherWorld"
-told_as RecordLength = codes "RecordLength"
-told_as (BadEdit c) = codes "BadEdit " ++ cause_name c
-told_as CutShort = codes "CutShort"
-told_as (Clash s) = codes "Clash " ++ pair_of s.time s.replica
-told_as Stale = codes "Stale"
-told_as ClockSpent = codes "ClockSpent"
-told_as NoSuch = codes "NoSuch"
-told_as OutOfRange = codes "OutOfRange"
-told_as NoWorld = codes "NoWorld"
-told_as (BoardsOver n) = codes "BoardsOver " ++ decimal n
-told_as (StatsOver b n) = codes "StatsOver " ++ pair_of b n
-told_as (BoardOver b n) = codes "BoardOver " ++ pair_of b n
-told_as BadAction = codes "BadAction"
-told_as File = codes "File"
+abbrev pub refusal_name : Refusal → List ℕ
+refusal_name Memory = codes "Memory"
+refusal_name NotZzt = codes "NotZzt"
+refusal_name TooManyBoards = codes "TooManyBoards"
+refusal_name Truncated = codes "Truncated"
+refusal_name BadBoardSize = codes "BadBoardSize"
+refusal_name TooManyStats = codes "TooManyStats"
+refusal_name BadShare = codes "BadShare"
+refusal_name Magic = codes "Magic"
+refusal_name NewVersion = codes "NewVersion"
+refusal_name OtherWorld = codes "OtherWorld"
+refusal_name RecordLength = codes "RecordLength"
+refusal_name (BadEdit c) = codes "BadEdit " ++ cause_name c
+refusal_name CutShort = codes "CutShort"
+refusal_name (Clash s) = codes "Clash " ++ pair_of s.time s.replica
+refusal_name Stale = codes "Stale"
+refusal_name ClockSpent = codes "ClockSpent"
+refusal_name NoSuch = codes "NoSuch"
+refusal_name OutOfRange = codes "OutOfRange"
+refusal_name NoWorld = codes "NoWorld"
+refusal_name (BoardsOver n) = codes "BoardsOver " ++ decimal n
+refusal_name (StatsOver b n) = codes "StatsOver " ++ pair_of b n
+refusal_name (BoardOver b n) = codes "BoardOver " ++ pair_of b n
+refusal_name BadAction = codes "BadAction"
+refusal_name File = codes "File"
+
+-- the refusals that tell numbers
+abbrev pub has_numbers : Refusal → Bool
+has_numbers (Clash s) = true
+has_numbers (BoardsOver n) = true
+has_numbers (StatsOver b n) = true
+has_numbers (BoardOver b n) = true
+has_numbers _ = false
 
 -- the line on the standard error
 abbrev pub line_of : Refusal → List ℕ
-line_of refusal = ended (codes "zzted: " ++ told_as refusal)
+line_of refusal = ended (codes "zzted: " ++ refusal_name refusal)
 
 -- the line that tells how long a world file is
 abbrev pub bytes_line : ℕ → List ℕ

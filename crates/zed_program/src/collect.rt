@@ -1,5 +1,5 @@
 //! Edit files, read into a document.
-ghost use Rattle.std.specs.Prelude.{◌≡◌, ◌≤◌, ◌⊎◌, IfErr, IfOk, MatchResult, OnOk, Some, Ok, Err, [], ◌++◌, false, List};
+ghost use Rattle.std.specs.Prelude.{◌≡◌, ◌≤◌, ◌⊎◌, IfErr, IfOk, MatchResult, OnOk, Some, None, Ok, Err, [], ◌++◌, false, true, is_some, List};
 ghost use Rattle.zed_types.specs.declared.stamp.Stamp.{Stamp as TheStamp};
 ghost use Rattle.zed_op.specs.declared.op.Edit.{Edit as TheEdit};
 ghost use Rattle.zed_op.specs.Set.{Agrees, AllFit, set_of};
@@ -7,7 +7,7 @@ ghost use Rattle.zed_document.specs.Delivery.{IsFirstClash};
 ghost use Rattle.zed_program.specs.Files.{IsFile, edits_then, end_of as no_world};
 ghost use Rattle.zed_program.specs.Outcome.{Collects, IsStreamIn, texts_of};
 ghost use Rattle.zed_program.specs.Refusals.{is_file_refusal};
-ghost use Rattle.zed_program.specs.Told.{Counts, IsCalm, Told, file_in};
+ghost use Rattle.zed_program.specs.HostContents.{Counts, HostContents, IsRead, Rose, file_in};
 
 use crate::host::{Host, ReadError};
 use crate::refusal::{Refusal, of_document, of_file};
@@ -26,16 +26,23 @@ struct Stream {
 }
 
 pub(crate) fn read_one<H: Host>(host: &mut H, name: &str) -> Result<Vec<u8>, Refusal>
-    ensures bytes { (t : Told) → H.told host.old ≡ Some t
+    ensures bytes { (t : HostContents) → H.contents host.old ≡ Some t
         → IfOk result (λ bytes. file_in t name.now ≡ Some bytes.items) }
-    ensures kept { H.told host.new ≡ H.told host.old }
+    ensures none { (t : HostContents) → H.contents host.old ≡ Some t
+        → IfErr result (λ e. e ≡ Refusal.File
+        → IsRead (Rose (H.faults host.old) (H.faults host.new)) t name.now None) }
+    ensures memory_only_when { (t : HostContents) → H.contents host.old ≡ Some t
+        → IfErr result (λ e. e ≡ Refusal.Memory → is_some (file_in t name.now) ≡ true) }
+    ensures kept { H.contents host.new ≡ H.contents host.old }
     ensures err { IfErr result (λ e. (e ≡ Refusal.Memory) ⊎ (e ≡ Refusal.File)) }
-    ensures count { Counts (is_file_refusal result) (H.failed host.old) (H.failed host.new) }
+    ensures failures { Counts (is_file_refusal result) (H.failed host.old) (H.failed host.new) }
+    ensures calm { OnOk result (H.faults host.new ≡ H.faults host.old) }
+    ensures rises { H.faults host.old ≤ H.faults host.new }
 {
     match host.read(name) {
         Ok(bytes) => Ok(bytes),
         Err(ReadError::Memory) => Err(Refusal::Memory),
-        Err(ReadError::File) => Err(Refusal::File),
+        Err(ReadError::NoFile | ReadError::File) => Err(Refusal::File),
     }
 }
 
@@ -92,24 +99,25 @@ fn end_of(asked: Option<u64>) -> Option<Refusal>
 
 /// Reads edit files one after the other. The first one's world is that of all.
 fn read_all<H: Host>(alloc: Global, host: &mut H, names: &[&str]) -> Result<Stream, Refusal>
-    ensures stream { (t : Told) → H.told host.old ≡ Some t → IsCalm (H.failed host.old) (H.failed host.new)
-        → IfOk result (λ s. IsStreamIn t (texts_of names.now) (edits_then s.edits.items s.refusal)) }
+    ensures stream { (t : HostContents) → H.contents host.old ≡ Some t → IfOk result (λ s.
+        IsStreamIn (Rose (H.faults host.old) (H.faults host.new)) t (texts_of names.now)
+        (edits_then s.edits.items s.refusal)) }
     ensures fit { IfOk result (λ s. AllFit s.edits.items) }
-    ensures kept { H.told host.new ≡ H.told host.old }
+    ensures kept { H.contents host.new ≡ H.contents host.old }
     ensures err { IfErr result (λ e. e ≡ Refusal.Memory) }
-    ensures rises { H.failed host.old ≤ H.failed host.new }
+    ensures rises { H.faults host.old ≤ H.faults host.new }
 {
     let mut asked = None;
     let mut edits = Vec::new(alloc);
     for name in names {
         let bytes = match read_one(host, name) {
             Ok(bytes) => bytes,
-            Err(Refusal::Memory) => return Err(Refusal::Memory),
-            Err(refusal) => return Ok(Stream {
+            Err(Refusal::File) => return Ok(Stream {
                 world: asked,
                 edits,
-                refusal: Some(refusal),
+                refusal: Some(Refusal::File),
             }),
+            Err(_) => return Err(Refusal::Memory),
         };
         match read_file(alloc, asked, bytes.as_slice(), &mut edits) {
             Ok(world) => asked = Some(world),
@@ -141,13 +149,13 @@ pub(crate) fn load<H: Host>(
     host: &mut H,
     names: &[&str],
 ) -> Result<Document, Refusal>
-    ensures collected { (t : Told) → H.told host.old ≡ Some t → IsCalm (H.failed host.old) (H.failed host.new)
-        → MatchResult result
-        (λ d. Collects t (texts_of names.now) (Ok d.edits))
-        (λ e. (e ≡ Refusal.Memory) ⊎ Collects t (texts_of names.now) (Err e)) }
+    ensures collected { (t : HostContents) → H.contents host.old ≡ Some t
+        → let failed = Rose (H.faults host.old) (H.faults host.new) in MatchResult result
+        (λ d. Collects failed t (texts_of names.now) (Ok d.edits))
+        (λ e. (e ≡ Refusal.Memory) ⊎ Collects failed t (texts_of names.now) (Err e)) }
     ensures sound { IfOk result (λ d. d.is_stale ≡ false) }
-    ensures kept { H.told host.new ≡ H.told host.old }
-    ensures rises { H.failed host.old ≤ H.failed host.new }
+    ensures kept { H.contents host.new ≡ H.contents host.old }
+    ensures rises { H.faults host.old ≤ H.faults host.new }
 {
     let Stream {
         world,

@@ -5,10 +5,10 @@ ghost use Rattle.zed_op.specs.Set.{Agrees, AllFit, set_of};
 ghost use Rattle.zed_types.specs.declared.stamp.Stamp.{Stamp as TheStamp};
 ghost use Rattle.zed_document.specs.Delivery.{IsFirstClash};
 ghost use Rattle.zed_editfile.specs.Spelling.{file_text, record_text};
-ghost use Rattle.zed_program.specs.Edited.{HasEdits, IsEdited, IsOpened};
+ghost use Rattle.zed_program.specs.Edited.{HasEdits, IsEdited, IsOpened, OpensAs};
 ghost use Rattle.zed_program.specs.Outcome.{Ends, texts_of};
-ghost use Rattle.zed_program.specs.Told.{IsCalm, Told, file_in};
-ghost use Rattle.zed_program.specs.Wanted.{Edit as EditFile};
+ghost use Rattle.zed_program.specs.HostContents.{HostContents, Rose};
+ghost use Rattle.zed_program.specs.Commands.{Edit as EditFile};
 
 use crate::collect::{deliver_all, read_file, read_one};
 use crate::host::Host;
@@ -25,7 +25,8 @@ fn collected(alloc: Global, world: u64, edits: Vec<Edit>) -> Result<Document, Re
     requires { AllFit edits.items }
     ensures { MatchResult result
         (λ d. Agrees edits.items × HasEdits d world (set_of edits.items))
-        (λ e. (e ≡ Refusal.Memory) ⊎ ((s : TheStamp) × IsFirstClash edits.items s × (e ≡ Refusal.Clash s))) }
+        (λ e. (e ≡ Refusal.Memory)
+        ⊎ ((s : TheStamp) × IsFirstClash edits.items s × (e ≡ Refusal.Clash s))) }
 {
     let mut document = Document::new(alloc, world);
     deliver_all(&mut document, edits)?;
@@ -52,13 +53,13 @@ fn opened(alloc: Global, bytes: &[u8]) -> Result<Document, Refusal>
 
 // The document of the file of a name.
 fn open<H: Host>(alloc: Global, host: &mut H, file: &str) -> Result<Document, Refusal>
-    ensures opened { (t : Told) → H.told host.old ≡ Some t → IsCalm (H.failed host.old) (H.failed host.new)
-        → MatchResult result
-        (λ d. IsOpened (file_in t file.now) (Ok (d.world, d.edits)))
-        (λ e. (e ≡ Refusal.Memory) ⊎ IsOpened (file_in t file.now) (Err e)) }
+    ensures opened { (t : HostContents) → H.contents host.old ≡ Some t
+        → let failed = Rose (H.faults host.old) (H.faults host.new) in MatchResult result
+        (λ d. OpensAs failed t file.now (Ok (d.world, d.edits)))
+        (λ e. (e ≡ Refusal.Memory) ⊎ OpensAs failed t file.now (Err e)) }
     ensures sound { IfOk result (λ d. d.is_stale ≡ false) }
-    ensures kept { H.told host.new ≡ H.told host.old }
-    ensures rises { H.failed host.old ≤ H.failed host.new }
+    ensures kept { H.contents host.new ≡ H.contents host.old }
+    ensures rises { H.faults host.old ≤ H.faults host.new }
 {
     let bytes = read_one(host, file)?;
     opened(alloc, bytes.as_slice())
@@ -72,12 +73,13 @@ fn edited<H: Host>(
     replica: u16,
     words: &[&str],
 ) -> Result<Document, Refusal>
-    ensures edited { (t : Told) → H.told host.old ≡ Some t → IsCalm (H.failed host.old) (H.failed host.new)
-        → MatchResult result
-        (λ d. IsEdited t file.now replica (texts_of words.now) (Ok (d.world, d.edits)))
-        (λ e. (e ≡ Refusal.Memory) ⊎ IsEdited t file.now replica (texts_of words.now) (Err e)) }
-    ensures kept { H.told host.new ≡ H.told host.old }
-    ensures rises { H.failed host.old ≤ H.failed host.new }
+    ensures edited { (t : HostContents) → H.contents host.old ≡ Some t
+        → let failed = Rose (H.faults host.old) (H.faults host.new) in MatchResult result
+        (λ d. IsEdited failed t file.now replica (texts_of words.now) (Ok (d.world, d.edits)))
+        (λ e. (e ≡ Refusal.Memory)
+        ⊎ IsEdited failed t file.now replica (texts_of words.now) (Err e)) }
+    ensures kept { H.contents host.new ≡ H.contents host.old }
+    ensures rises { H.faults host.old ≤ H.faults host.new }
 {
     if replica == 0 {
         return Err(Refusal::BadEdit(Cause::Stamp));
@@ -103,7 +105,8 @@ fn put_all(edits: &[Edit], out: &mut Vec<u8>) -> Result<(), Refusal>
 
 /// The edit file of a document.
 fn file_of(alloc: Global, document: &Document) -> Result<Vec<u8>, Refusal>
-    ensures ok { IfOk result (λ file. file.items ≡ file_text document.now.world document.now.edits) }
+    ensures ok { IfOk result (λ file.
+        file.items ≡ file_text document.now.world document.now.edits) }
     ensures err { IfErr result (λ e. e ≡ Refusal.Memory) }
 {
     let mut file = Vec::new(alloc);
@@ -120,10 +123,11 @@ pub(crate) fn edit<H: Host>(
     replica: u16,
     words: &[&str],
 ) -> Result<(), Refusal>
-    ensures ends { (t : Told) → H.told host.old ≡ Some t
-        → IsCalm (H.failed host.old) (H.failed host.new)
-        → Ends (EditFile file.now replica (texts_of words.now)) t result (H.told host.new) }
-    ensures rises { H.failed host.old ≤ H.failed host.new }
+    ensures ends { (t : HostContents) → H.contents host.old ≡ Some t
+        → let failed = Rose (H.faults host.old) (H.faults host.new) in
+        Ends failed (EditFile file.now replica (texts_of words.now)) t
+        result (H.contents host.new) }
+    ensures rises { H.faults host.old ≤ H.faults host.new }
 {
     let document = edited(alloc, host, file, replica, words)?;
     let text = file_of(alloc, &document)?;

@@ -143,6 +143,7 @@ pub(crate) fn zzted_command<'a>(alloc: Global) -> Result<Command<'a>, AllocError
         )
         .no_binary_name(true)
         .subcommand_required(true)
+        .bin_name("zzted")?
         .subcommand(save_command(alloc)?)?
         .subcommand(check_command(alloc)?)?
         .subcommand(new_command(alloc)?)?

@@ -16,5 +16,3 @@ mod words;
 pub use host::{Host, ReadError, WriteError};
 pub use memory::MemoryHost;
 pub use program::run;
-pub use refusal::Refusal;
-pub use words::{Action, ParseError, parse};

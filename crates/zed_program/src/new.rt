@@ -6,9 +6,9 @@ ghost use Rattle.zed_world.specs.Canonical.{IsCanonical};
 ghost use Rattle.zed_program.specs.Fresh.{fresh_header, fresh_player, fresh_properties, fresh_world, genesis_of, made_by, name_or_none, refused_as, rewritten, taken_from, title_of};
 ghost use Rattle.zed_world.specs.Writing.{written};
 ghost use Rattle.zed_world.specs.Reading.{world_at};
-ghost use Rattle.zed_program.specs.Outcome.{Ends, first_world, text_in};
-ghost use Rattle.zed_program.specs.Told.{IsCalm, Told, file_in};
-ghost use Rattle.zed_program.specs.Wanted.{New};
+ghost use Rattle.zed_program.specs.Outcome.{Ends, IsFirstWorld, text_in};
+ghost use Rattle.zed_program.specs.HostContents.{HostContents, Rose};
+ghost use Rattle.zed_program.specs.Commands.{New};
 
 use crate::collect::read_one;
 use crate::host::Host;
@@ -181,13 +181,14 @@ fn first<H: Host>(
     from: Option<&str>,
     name: Option<&str>,
 ) -> Result<Vec<u8>, Refusal>
-    ensures is { (t : Told) → H.told host.old ≡ Some t → IsCalm (H.failed host.old) (H.failed host.new)
-        → MatchResult result
-        (λ bytes. first_world t (text_in from.entry) (text_in name.entry) ≡ Ok bytes.items)
-        (λ e. (e ≡ Refusal.Memory) ⊎ (first_world t (text_in from.entry) (text_in name.entry) ≡ Err e)) }
+    ensures is { (t : HostContents) → H.contents host.old ≡ Some t
+        → let failed = Rose (H.faults host.old) (H.faults host.new) in MatchResult result
+        (λ bytes. IsFirstWorld failed t (text_in from.entry) (text_in name.entry) (Ok bytes.items))
+        (λ e. (e ≡ Refusal.Memory)
+        ⊎ IsFirstWorld failed t (text_in from.entry) (text_in name.entry) (Err e)) }
     ensures canonical { IfOk result (λ bytes. IsCanonical bytes.items) }
-    ensures kept { H.told host.new ≡ H.told host.old }
-    ensures rises { H.failed host.old ≤ H.failed host.new }
+    ensures kept { H.contents host.new ≡ H.contents host.old }
+    ensures rises { H.faults host.old ≤ H.faults host.new }
 {
     match from {
         Some(file) => {
@@ -223,10 +224,11 @@ pub(crate) fn make_new<H: Host>(
     from: Option<&str>,
     name: Option<&str>,
 ) -> Result<(), Refusal>
-    ensures ends { (t : Told) → H.told host.old ≡ Some t
-        → IsCalm (H.failed host.old) (H.failed host.new)
-        → Ends (New out.now world (text_in from.entry) (text_in name.entry)) t result (H.told host.new) }
-    ensures rises { H.failed host.old ≤ H.failed host.new }
+    ensures ends { (t : HostContents) → H.contents host.old ≡ Some t
+        → let failed = Rose (H.faults host.old) (H.faults host.new) in
+        Ends failed (New out.now world (text_in from.entry) (text_in name.entry)) t
+        result (H.contents host.new) }
+    ensures rises { H.faults host.old ≤ H.faults host.new }
 {
     let bytes = first(alloc, host, from, name)?;
     let file = file_of(alloc, world, bytes)?;

@@ -1,7 +1,7 @@
 //! What a command leaves with the host.
-ghost use Rattle.std.specs.Prelude.{◌≡◌, IfErr, OnOk, Some, is_err};
-ghost use Rattle.zed_program.specs.Outcome.{written_to};
-ghost use Rattle.zed_program.specs.Told.{Counts, Told, with_printed};
+ghost use Rattle.std.specs.Prelude.{◌≡◌, IfErr, OnErr, OnOk, Some, is_err};
+ghost use Rattle.zed_program.specs.Outcome.{HalfDone, Prints, Writes, after};
+ghost use Rattle.zed_program.specs.HostContents.{Counts, HostContents, StillTells};
 
 use crate::host::Host;
 use crate::refusal::Refusal;
@@ -13,26 +13,31 @@ pub(crate) fn write_out<H: Host>(
     bytes: &[u8],
     line: &str,
 ) -> Result<(), Refusal>
-    ensures ok { (t : Told) → H.told host.old ≡ Some t
-        → OnOk result (H.told host.new ≡ Some (written_to out.now bytes.now line.now t)) }
+    ensures ok { (t : HostContents) → H.contents host.old ≡ Some t → OnOk result
+        (H.contents host.new ≡ Some (after (Writes out.now bytes.now line.now) t)) }
+    ensures half { (t : HostContents) → H.contents host.old ≡ Some t → OnErr result
+        (StillTells (HalfDone (Writes out.now bytes.now line.now) t) (H.contents host.new)) }
     ensures err { IfErr result (λ e. e ≡ Refusal.File) }
-    ensures count { Counts (is_err result) (H.failed host.old) (H.failed host.new) }
+    ensures failures { Counts (is_err result) (H.failed host.old) (H.failed host.new) }
+    ensures faults { Counts (is_err result) (H.faults host.old) (H.faults host.new) }
 {
-    if host.write(out, bytes).is_err() {
-        return Err(Refusal::File);
-    }
-    if out != "stdout" && host.print(line.as_bytes()).is_err() {
-        return Err(Refusal::File);
+    host.write(out, bytes)?;
+    if out != "stdout" {
+        host.print(line.as_bytes())?;
     }
     Ok(())
 }
 
 /// Prints a text.
 pub(crate) fn print_out<H: Host>(host: &mut H, text: &[u8]) -> Result<(), Refusal>
-    ensures ok { (t : Told) → H.told host.old ≡ Some t
-        → OnOk result (H.told host.new ≡ Some (with_printed text.now t)) }
+    ensures ok { (t : HostContents) → H.contents host.old ≡ Some t
+        → OnOk result (H.contents host.new ≡ Some (after (Prints text.now) t)) }
+    ensures half { (t : HostContents) → H.contents host.old ≡ Some t
+        → OnErr result (StillTells (HalfDone (Prints text.now) t) (H.contents host.new)) }
     ensures err { IfErr result (λ e. e ≡ Refusal.File) }
-    ensures count { Counts (is_err result) (H.failed host.old) (H.failed host.new) }
+    ensures failures { Counts (is_err result) (H.failed host.old) (H.failed host.new) }
+    ensures faults { Counts (is_err result) (H.faults host.old) (H.faults host.new) }
 {
-    host.print(text).map_err(|_| Refusal::File)
+    host.print(text)?;
+    Ok(())
 }

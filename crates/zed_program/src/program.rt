@@ -1,36 +1,33 @@
 //! The program, over any host.
-ghost use Rattle.std.specs.Prelude.{◌≡◌, ◌≤◌, ◌<◌, ◌^◌, ◌⊎◌, IfErr, IfOk, IsSome, MatchResult, false, List, OnOk, Ok, Err, None, Some, ◌∷◌, ℕ, codes, is_err, length, map, true, string_bytes, Result};
+ghost use Rattle.std.specs.Prelude.{◌≡◌, ◌≤◌, ◌⊎◌, IsSome, MatchResult, List, Ok, Err, None, Some, ◌∷◌, ℕ, codes, length, map, true, string_bytes};
 ghost use Rattle.std.specs.List.{list_all};
 ghost use Rattle.zed_op.specs.declared.op.Edit.{Edit as TheEdit};
-ghost use Rattle.zed_op.specs.Set.{Agrees, set_of};
-ghost use Rattle.zed_editfile.specs.Stream.{AreRecords};
-ghost use Rattle.zed_program.specs.Files.{joined, texts_of_lists};
-ghost use Rattle.zed_program.specs.Lines.{line_of};
-ghost use Rattle.zed_program.specs.Outcome.{Ends, EndsRun, HasStatus, IsMade, with_world, file_of, report_on, texts_of, written_to};
+ghost use Rattle.zed_program.specs.Files.{joined};
+ghost use Rattle.zed_program.specs.Outcome.{Ends, EndsCalmly, EndsRun, IsMade, IsTold, file_of, report_on, texts_of};
 ghost use Rattle.zed_program.specs.Saving.{AsksToSave, SavedReadsBack, SavesSet};
-ghost use Rattle.zed_program.specs.Told.{Counts, IsCalm, Told, file_in, with_complaint, with_printed};
-ghost use Rattle.zed_program.specs.Wanted.{Check, Save, is_plain, meaning_of, wanted_of};
+ghost use Rattle.zed_program.specs.HostContents.{HostContents, NothingFailed, Rose};
+ghost use Rattle.zed_program.specs.Commands.{Check, Command as Asked, Save, command_of, is_plain, meaning_of};
 
 use crate::collect::load;
 use crate::edit::edit;
 use crate::host::Host;
 use crate::new::make_new;
 use crate::output::{print_out, write_out};
-use crate::refusal::{Refusal, bytes_told, line};
+use crate::refusal::{Refusal, bytes_told, line_of, plain_line};
 use crate::report::{report, world_file};
-use crate::words::{Action, ParseError, parse};
+use crate::words::{Command, ParseError, parse};
 use std::alloc::Global;
 use zed_editfile::one_reading;
 use zed_export::saved_is_read;
 
 // The world file of edit files.
 fn file_from<H: Host>(alloc: Global, host: &mut H, files: &[&str]) -> Result<Vec<u8>, Refusal>
-    ensures made { (t : Told) → H.told host.old ≡ Some t → IsCalm (H.failed host.old) (H.failed host.new)
-        → MatchResult result
-        (λ bytes. IsMade t (texts_of files.now) file_of (Ok bytes.items))
-        (λ e. (e ≡ Refusal.Memory) ⊎ IsMade t (texts_of files.now) file_of (Err e)) }
-    ensures kept { H.told host.new ≡ H.told host.old }
-    ensures rises { H.failed host.old ≤ H.failed host.new }
+    ensures made { (t : HostContents) → H.contents host.old ≡ Some t
+        → let failed = Rose (H.faults host.old) (H.faults host.new) in MatchResult result
+        (λ bytes. IsMade failed t (texts_of files.now) file_of (Ok bytes.items))
+        (λ e. (e ≡ Refusal.Memory) ⊎ IsMade failed t (texts_of files.now) file_of (Err e)) }
+    ensures kept { H.contents host.new ≡ H.contents host.old }
+    ensures rises { H.faults host.old ≤ H.faults host.new }
 {
     let document = load(alloc, host, files)?;
     world_file(alloc, &document)
@@ -38,10 +35,10 @@ fn file_from<H: Host>(alloc: Global, host: &mut H, files: &[&str]) -> Result<Vec
 
 // Writes the world file of edit files.
 fn save<H: Host>(alloc: Global, host: &mut H, out: &str, files: &[&str]) -> Result<(), Refusal>
-    ensures ends { (t : Told) → H.told host.old ≡ Some t
-        → IsCalm (H.failed host.old) (H.failed host.new)
-        → Ends (Save out.now (texts_of files.now)) t result (H.told host.new) }
-    ensures rises { H.failed host.old ≤ H.failed host.new }
+    ensures ends { (t : HostContents) → H.contents host.old ≡ Some t
+        → let failed = Rose (H.faults host.old) (H.faults host.new) in
+        Ends failed (Save out.now (texts_of files.now)) t result (H.contents host.new) }
+    ensures rises { H.faults host.old ≤ H.faults host.new }
 {
     let bytes = file_from(alloc, host, files)?;
     let line = bytes_told(alloc, bytes.len())?;
@@ -50,12 +47,12 @@ fn save<H: Host>(alloc: Global, host: &mut H, out: &str, files: &[&str]) -> Resu
 
 // The report on edit files.
 fn report_from<H: Host>(alloc: Global, host: &mut H, files: &[&str]) -> Result<Vec<u8>, Refusal>
-    ensures made { (t : Told) → H.told host.old ≡ Some t → IsCalm (H.failed host.old) (H.failed host.new)
-        → MatchResult result
-        (λ text. IsMade t (texts_of files.now) report_on (Ok text.items))
-        (λ e. (e ≡ Refusal.Memory) ⊎ IsMade t (texts_of files.now) report_on (Err e)) }
-    ensures kept { H.told host.new ≡ H.told host.old }
-    ensures rises { H.failed host.old ≤ H.failed host.new }
+    ensures made { (t : HostContents) → H.contents host.old ≡ Some t
+        → let failed = Rose (H.faults host.old) (H.faults host.new) in MatchResult result
+        (λ text. IsMade failed t (texts_of files.now) report_on (Ok text.items))
+        (λ e. (e ≡ Refusal.Memory) ⊎ IsMade failed t (texts_of files.now) report_on (Err e)) }
+    ensures kept { H.contents host.new ≡ H.contents host.old }
+    ensures rises { H.faults host.old ≤ H.faults host.new }
 {
     let document = load(alloc, host, files)?;
     report(alloc, &document)
@@ -63,10 +60,10 @@ fn report_from<H: Host>(alloc: Global, host: &mut H, files: &[&str]) -> Result<V
 
 // Prints the report on edit files.
 fn check<H: Host>(alloc: Global, host: &mut H, files: &[&str]) -> Result<(), Refusal>
-    ensures ends { (t : Told) → H.told host.old ≡ Some t
-        → IsCalm (H.failed host.old) (H.failed host.new)
-        → Ends (Check (texts_of files.now)) t result (H.told host.new) }
-    ensures rises { H.failed host.old ≤ H.failed host.new }
+    ensures ends { (t : HostContents) → H.contents host.old ≡ Some t
+        → let failed = Rose (H.faults host.old) (H.faults host.new) in
+        Ends failed (Check (texts_of files.now)) t result (H.contents host.new) }
+    ensures rises { H.faults host.old ≤ H.faults host.new }
 {
     let text = report_from(alloc, host, files)?;
     print_out(host, text.as_slice())
@@ -74,36 +71,38 @@ fn check<H: Host>(alloc: Global, host: &mut H, files: &[&str]) -> Result<(), Ref
 
 const MEMORY_LINE: &[u8] = b"zzted: Memory\n";
 
-// Tells the user why nothing was done.
+// Writes the line of a refusal to the standard error.
 fn complain_of<H: Host>(alloc: Global, host: &mut H, refusal: &Refusal)
-    ensures told { (t : Told) → H.told host.old ≡ Some t
-        → IsCalm (H.failed host.old) (H.failed host.new)
-        → (H.told host.new ≡ Some (with_complaint (line_of refusal.now) t))
-        ⊎ (H.told host.new ≡ Some (with_complaint (line_of Refusal.Memory) t)) }
-    ensures rises { H.failed host.old ≤ H.failed host.new }
+    ensures told { (t : HostContents) → H.contents host.old ≡ Some t
+        → let failed = Rose (H.faults host.old) (H.faults host.new) in
+        IsTold failed refusal.now t (H.contents host.new) }
+    ensures rises { H.faults host.old ≤ H.faults host.new }
 {
-    let _ = match line(alloc, refusal) {
-        Ok(text) => host.complain(text.as_bytes()),
-        Err(_) => host.complain(MEMORY_LINE),
+    let _ = match plain_line(refusal) {
+        Some(text) => host.complain(text.as_bytes()),
+        None => match line_of(alloc, refusal) {
+            Ok(text) => host.complain(text.as_bytes()),
+            Err(_) => host.complain(MEMORY_LINE),
+        },
     };
 }
 
-fn act<H: Host>(alloc: Global, host: &mut H, action: &Action<'_>) -> Result<(), Refusal>
-    ensures ends { (t : Told) → H.told host.old ≡ Some t
-        → IsCalm (H.failed host.old) (H.failed host.new)
-        → Ends (meaning_of action.now) t result (H.told host.new) }
-    ensures rises { H.failed host.old ≤ H.failed host.new }
+fn act<H: Host>(alloc: Global, host: &mut H, command: &Command<'_>) -> Result<(), Refusal>
+    ensures ends { (t : HostContents) → H.contents host.old ≡ Some t
+        → let failed = Rose (H.faults host.old) (H.faults host.new) in
+        Ends failed (meaning_of command.now) t result (H.contents host.new) }
+    ensures rises { H.faults host.old ≤ H.faults host.new }
 {
-    match action {
-        Action::Save { out, files } => save(alloc, host, out, files.as_slice()),
-        Action::Check { files } => check(alloc, host, files.as_slice()),
-        Action::New {
+    match command {
+        Command::Save { out, files } => save(alloc, host, out, files.as_slice()),
+        Command::Check { files } => check(alloc, host, files.as_slice()),
+        Command::New {
             out,
             world,
             from,
             name,
         } => make_new(alloc, host, out, *world, *from, *name),
-        Action::Edit {
+        Command::Edit {
             file,
             replica,
             words,
@@ -111,15 +110,18 @@ fn act<H: Host>(alloc: Global, host: &mut H, action: &Action<'_>) -> Result<(), 
     }
 }
 
+// What `run` does.
 fn run_words<H: Host>(alloc: Global, words: &[String], host: &mut H) -> u8
-    ensures ends { (t : Told) → H.told host.old ≡ Some t
-        → IsCalm (H.failed host.old) (H.failed host.new)
-        → EndsRun (wanted_of (map string_bytes words.now)) t result (H.told host.new) }
-    ensures accepted { IsSome (wanted_of (map string_bytes words.now)) → (result ≡ 0) ⊎ (result ≡ 1) }
-    ensures refused { wanted_of (map string_bytes words.now) ≡ None → (result ≡ 2) ⊎ (result ≡ 1) }
+    ensures ends { (t : HostContents) → H.contents host.old ≡ Some t
+        → EndsRun (command_of (map string_bytes words.now)) t
+        (H.faults host.old) (H.faults host.new) result (H.contents host.new) }
+    ensures accepted { IsSome (command_of (map string_bytes words.now))
+        → (result ≡ 0) ⊎ (result ≡ 1) }
+    ensures refused { command_of (map string_bytes words.now) ≡ None
+        → (result ≡ 2) ⊎ (result ≡ 1) }
 {
     match parse(alloc, words) {
-        Ok(action) => match act(alloc, host, &action) {
+        Ok(command) => match act(alloc, host, &command) {
             Ok(()) => 0,
             Err(refusal) => {
                 complain_of(alloc, host, &refusal);
@@ -143,36 +145,48 @@ fn count_of(words: &[String]) -> usize
     words.len()
 }
 
-/// Does what the words after the program's name ask for, and answers the exit status: 0, or 1 with a line on the standard error
-/// that names the refusal, or 2 for words that are no command. After a refusal no file is written.
+/// Does what the words after the program's name ask for, and answers the exit status: 0; or 1, with a
+/// line on the standard error that names the refusal; or 2 for words that are no command.
+///
+/// A refusal comes before the first write, but for `File` where the host fails at a write: then the
+/// written file is as that left it, or whole where only the printed line failed.
 pub fn run<H: Host>(alloc: Global, words: &[String], host: &mut H) -> u8
-    // What is left in a host that tells what it holds and doesn't fail.
-    ensures ends { (t : Told) → H.told host.old ≡ Some t
-        → IsCalm (H.failed host.old) (H.failed host.new)
-        → EndsRun (wanted_of (map string_bytes words.now)) t result (H.told host.new) }
+    // What is left in a host that tells what it holds, whatever of it fails.
+    ensures ends { (t : HostContents) → H.contents host.old ≡ Some t
+        → EndsRun (command_of (map string_bytes words.now)) t
+        (H.faults host.old) (H.faults host.new) result (H.contents host.new) }
+
+    // Where nothing fails.
+    ensures ends_calmly { (t : HostContents) (command : Asked)
+        → command_of (map string_bytes words.now) ≡ Some command
+        → H.contents host.old ≡ Some t → NothingFailed (H.faults host.old) (H.faults host.new)
+        → EndsCalmly command t result (H.contents host.new) }
 
     // The same for `save OUT FILES...`, where no word begins with a hyphen.
-    ensures saves { (t : Told) (out file : List ℕ) (files : List (List ℕ))
+    ensures saves { (t : HostContents) (out file : List ℕ) (files : List (List ℕ))
         → map string_bytes words.now ≡ codes "save" ∷ out ∷ file ∷ files
         → list_all is_plain (out ∷ file ∷ files) ≡ true
-        → H.told host.old ≡ Some t → IsCalm (H.failed host.old) (H.failed host.new)
-        → EndsRun (Some (Save out (file ∷ files))) t result (H.told host.new) }
+        → H.contents host.old ≡ Some t → NothingFailed (H.faults host.old) (H.faults host.new)
+        → EndsCalmly (Save out (file ∷ files)) t result (H.contents host.new) }
 
-    // Where the files spell lists of edits of one world that agree, the set of all of them counts: neither their order nor repeats.
-    ensures saves_sets { (t : Told) (out : List ℕ) (world : ℕ) (lists : List (List TheEdit))
-        → AsksToSave (map string_bytes words.now) t out world lists
-        → H.told host.old ≡ Some t → IsCalm (H.failed host.old) (H.failed host.new)
-        → SavesSet out t (joined lists) result (H.told host.new) }
+    // However the words ask to save: where the files spell lists of edits of one world that agree, the
+    // set of all of them counts, and neither their order nor repeats.
+    ensures saves_sets { (t : HostContents) (out : List ℕ) (world : ℕ)
+        (lists : List (List TheEdit)) → AsksToSave (map string_bytes words.now) t out world lists
+        → H.contents host.old ≡ Some t → NothingFailed (H.faults host.old) (H.faults host.new)
+        → SavesSet out t (joined lists) result (H.contents host.new) }
 
     // And what is saved is read as the exported world of that set.
-    ensures reads_back { (t : Told) (out : List ℕ) (world : ℕ) (lists : List (List TheEdit))
-        → AsksToSave (map string_bytes words.now) t out world lists
-        → H.told host.old ≡ Some t → IsCalm (H.failed host.old) (H.failed host.new)
-        → SavedReadsBack out t (joined lists) result (H.told host.new) }
+    ensures reads_back { (t : HostContents) (out : List ℕ) (world : ℕ)
+        (lists : List (List TheEdit)) → AsksToSave (map string_bytes words.now) t out world lists
+        → H.contents host.old ≡ Some t → NothingFailed (H.faults host.old) (H.faults host.new)
+        → SavedReadsBack out t (joined lists) result (H.contents host.new) }
 
     // The status, whatever the host does.
-    ensures accepted { IsSome (wanted_of (map string_bytes words.now)) → (result ≡ 0) ⊎ (result ≡ 1) }
-    ensures refused { wanted_of (map string_bytes words.now) ≡ None → (result ≡ 2) ⊎ (result ≡ 1) }
+    ensures accepted { IsSome (command_of (map string_bytes words.now))
+        → (result ≡ 0) ⊎ (result ≡ 1) }
+    ensures refused { command_of (map string_bytes words.now) ≡ None
+        → (result ≡ 2) ⊎ (result ≡ 1) }
 {
     // For the proof, which learns here that the words can be counted.
     let _count = count_of(words);

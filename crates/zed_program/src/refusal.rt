@@ -1,9 +1,10 @@
 //! Why a command was not carried out, and the lines that the program prints.
-ghost use Rattle.std.specs.Prelude.{◌≡◌, IfOk, string_bytes};
-ghost use Rattle.zed_program.specs.declared.refusal.Refusal.TheVariants.{BadEdit, Memory};
+ghost use Rattle.std.specs.Prelude.{◌≡◌, IfOk, IfSome, None, string_bytes, true};
+ghost use Rattle.zed_program.specs.declared.refusal.Refusal.TheVariants.{BadEdit, File, Memory};
 ghost use Rattle.zed_program.specs.Refusals.{action_refusal, document_refusal, export_refusal, file_refusal, world_refusal};
-ghost use Rattle.zed_program.specs.Lines.{bytes_line, cause_name, edits_line, line_of};
+ghost use Rattle.zed_program.specs.Lines.{bytes_line, edits_line, has_numbers, line_of as line_for};
 
+use crate::host::WriteError;
 use std::alloc::{AllocError, Global};
 use thiserror::Error;
 use zed_action::ActionError;
@@ -14,9 +15,10 @@ use zed_export::ExportError;
 use zed_types::Stamp;
 use zed_world::WorldError;
 
-/// Why a command was not carried out.
+/// Why a command was not carried out. The texts are for a reader of an error value; the program prints the
+/// lines of `plain_line` and `line_of` and none of them.
 #[derive(Clone, Copy, Debug, PartialEq, Eq, Error)]
-pub enum Refusal {
+pub(crate) enum Refusal {
     #[error("out of memory")]
     Memory,
     #[error("not a world file")]
@@ -145,6 +147,14 @@ pub(crate) fn of_export(error: ExportError) -> Refusal
     }
 }
 
+impl From<WriteError> for Refusal {
+    ghost from_gives = { λ _ r. r ≡ File };
+
+    fn from(_error: WriteError) -> Refusal {
+        Refusal::File
+    }
+}
+
 impl From<AllocError> for Refusal {
     ghost from_gives = { λ _ r. r ≡ Memory };
 
@@ -153,56 +163,65 @@ impl From<AllocError> for Refusal {
     }
 }
 
-// The name of a cause.
-fn name_of(cause: Cause) -> &'static str
-    ensures { result.now ≡ cause_name cause }
+// The line of an edit that doesn't fit.
+fn bad_edit_line(cause: Cause) -> &'static str
+    ensures { result.now ≡ line_for (BadEdit cause) }
 {
     match cause {
-        Cause::Short => "Short",
-        Cause::Op => "Op",
-        Cause::Tag => "Tag",
-        Cause::Long => "Long",
-        Cause::Stamp => "Stamp",
-        Cause::Range => "Range",
-        Cause::Order => "Order",
-        Cause::Genesis => "Genesis",
+        Cause::Short => "zzted: BadEdit Short\n",
+        Cause::Op => "zzted: BadEdit Op\n",
+        Cause::Tag => "zzted: BadEdit Tag\n",
+        Cause::Long => "zzted: BadEdit Long\n",
+        Cause::Stamp => "zzted: BadEdit Stamp\n",
+        Cause::Range => "zzted: BadEdit Range\n",
+        Cause::Order => "zzted: BadEdit Order\n",
+        Cause::Genesis => "zzted: BadEdit Genesis\n",
     }
 }
 
-fn bad_edit_line(alloc: Global, cause: Cause) -> Result<String, AllocError>
-    ensures { IfOk result (λ text. string_bytes text ≡ line_of (BadEdit cause)) }
+/// The line of a refusal that has no numbers, for the standard error.
+pub(crate) fn plain_line(refusal: &Refusal) -> Option<&'static str>
+    ensures line { IfSome result (λ text. text.now ≡ line_for refusal.now) }
+    ensures none { result ≡ None → has_numbers refusal.now ≡ true }
 {
-    let name = name_of(cause);
-    format!(in alloc; "zzted: BadEdit {name}\n")
+    let text = match *refusal {
+        Refusal::Memory => "zzted: Memory\n",
+        Refusal::NotZzt => "zzted: NotZzt\n",
+        Refusal::TooManyBoards => "zzted: TooManyBoards\n",
+        Refusal::Truncated => "zzted: Truncated\n",
+        Refusal::BadBoardSize => "zzted: BadBoardSize\n",
+        Refusal::TooManyStats => "zzted: TooManyStats\n",
+        Refusal::BadShare => "zzted: BadShare\n",
+        Refusal::Magic => "zzted: Magic\n",
+        Refusal::NewVersion => "zzted: NewVersion\n",
+        Refusal::OtherWorld => "zzted: OtherWorld\n",
+        Refusal::RecordLength => "zzted: RecordLength\n",
+        Refusal::BadEdit(cause) => bad_edit_line(cause),
+        Refusal::CutShort => "zzted: CutShort\n",
+        Refusal::Stale => "zzted: Stale\n",
+        Refusal::ClockSpent => "zzted: ClockSpent\n",
+        Refusal::NoSuch => "zzted: NoSuch\n",
+        Refusal::OutOfRange => "zzted: OutOfRange\n",
+        Refusal::NoWorld => "zzted: NoWorld\n",
+        Refusal::BadAction => "zzted: BadAction\n",
+        Refusal::File => "zzted: File\n",
+        Refusal::Clash(_)
+        | Refusal::BoardsOver(_)
+        | Refusal::StatsOver { .. }
+        | Refusal::BoardOver { .. } => return None,
+    };
+    Some(text)
 }
 
 /// The line for the standard error: `zzted: `, the name of the refusal, and its numbers or cause, each after a space.
-pub(crate) fn line(alloc: Global, refusal: &Refusal) -> Result<String, AllocError>
-    ensures { IfOk result (λ text. string_bytes text ≡ line_of refusal.now) }
+pub(crate) fn line_of(alloc: Global, refusal: &Refusal) -> Result<String, AllocError>
+    ensures { IfOk result (λ text. string_bytes text ≡ line_for refusal.now) }
 {
     match *refusal {
-        Refusal::Memory => String::from_str(alloc, "zzted: Memory\n"),
-        Refusal::NotZzt => String::from_str(alloc, "zzted: NotZzt\n"),
-        Refusal::TooManyBoards => String::from_str(alloc, "zzted: TooManyBoards\n"),
-        Refusal::Truncated => String::from_str(alloc, "zzted: Truncated\n"),
-        Refusal::BadBoardSize => String::from_str(alloc, "zzted: BadBoardSize\n"),
-        Refusal::TooManyStats => String::from_str(alloc, "zzted: TooManyStats\n"),
-        Refusal::BadShare => String::from_str(alloc, "zzted: BadShare\n"),
-        Refusal::Magic => String::from_str(alloc, "zzted: Magic\n"),
-        Refusal::NewVersion => String::from_str(alloc, "zzted: NewVersion\n"),
-        Refusal::OtherWorld => String::from_str(alloc, "zzted: OtherWorld\n"),
-        Refusal::RecordLength => String::from_str(alloc, "zzted: RecordLength\n"),
-        Refusal::BadEdit(cause) => bad_edit_line(alloc, cause),
-        Refusal::CutShort => String::from_str(alloc, "zzted: CutShort\n"),
         Refusal::Clash(stamp) => {
             let Stamp { time, replica } = stamp;
             format!(in alloc; "zzted: Clash {time} {replica}\n")
         }
-        Refusal::Stale => String::from_str(alloc, "zzted: Stale\n"),
-        Refusal::ClockSpent => String::from_str(alloc, "zzted: ClockSpent\n"),
-        Refusal::NoSuch => String::from_str(alloc, "zzted: NoSuch\n"),
-        Refusal::OutOfRange => String::from_str(alloc, "zzted: OutOfRange\n"),
-        Refusal::NoWorld => String::from_str(alloc, "zzted: NoWorld\n"),
         Refusal::BoardsOver(boards) => format!(in alloc; "zzted: BoardsOver {boards}\n"),
         Refusal::StatsOver { board, stats } => format!(in alloc;
             "zzted: StatsOver {board} {stats}\n"
@@ -210,8 +229,7 @@ pub(crate) fn line(alloc: Global, refusal: &Refusal) -> Result<String, AllocErro
         Refusal::BoardOver { board, bytes } => format!(in alloc;
             "zzted: BoardOver {board} {bytes}\n"
         ),
-        Refusal::BadAction => String::from_str(alloc, "zzted: BadAction\n"),
-        Refusal::File => String::from_str(alloc, "zzted: File\n"),
+        _ => String::from_str(alloc, plain_line(refusal).unwrap_or("")),
     }
 }
 

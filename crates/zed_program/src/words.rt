@@ -3,7 +3,7 @@ ghost use Rattle.std.specs.Prelude.{◌≡◌, ◌⊎◌, IfOk, MatchResult, Som
 ghost use Rattle.clap.specs.Words.{FailsBy, fault_of, found_of, rows_of, subcommand_of, subcommand_rows_of};
 ghost use Rattle.zed_program.specs.declared.words.ParseError.TheVariants.{Memory};
 ghost use Rattle.zed_program.specs.Grammar.{zzted_app};
-ghost use Rattle.zed_program.specs.Wanted.{action_of, check_of, edit_of, meaning_of, new_of, save_of, wanted_of};
+ghost use Rattle.zed_program.specs.Commands.{subcommand_asks, check_of, edit_of, meaning_of, new_of, save_of, command_of};
 
 use crate::grammar::zzted_command;
 use clap::error::ErrorKind;
@@ -12,7 +12,7 @@ use std::alloc::{AllocError, Global};
 
 /// What is to be done.
 #[derive(Drop)]
-pub enum Action<'a> {
+pub(crate) enum Command<'a> {
     /// The world file of edit files is to be written.
     Save {
         out: &'a str,
@@ -39,7 +39,7 @@ pub enum Action<'a> {
 
 /// Why the words ask for nothing.
 #[derive(Debug, Drop)]
-pub enum ParseError {
+pub(crate) enum ParseError {
     Memory,
     /// The words are refused, with the text for the user.
     Refused(String),
@@ -53,30 +53,32 @@ impl From<AllocError> for ParseError {
     }
 }
 
-fn save_in<'a>(alloc: Global, matches: &ArgMatches<'a>) -> Result<Option<Action<'a>>, AllocError>
-    ensures { IfOk result (λ a. option_map meaning_of a ≡ save_of (rows_of (found_of matches.now))) }
+fn save_in<'a>(alloc: Global, matches: &ArgMatches<'a>) -> Result<Option<Command<'a>>, AllocError>
+    ensures { IfOk result (λ a.
+        option_map meaning_of a ≡ save_of (rows_of (found_of matches.now))) }
 {
     let out = matches.get_str("OUT");
     let files = matches.get_strs("FILES");
     if let (Some(out), Some(files)) = (out, files) {
         let files = Vec::from_slice(alloc, files)?;
-        Ok(Some(Action::Save { out, files }))
+        Ok(Some(Command::Save { out, files }))
     } else {
         Ok(None)
     }
 }
 
-fn check_in<'a>(alloc: Global, matches: &ArgMatches<'a>) -> Result<Option<Action<'a>>, AllocError>
-    ensures { IfOk result (λ a. option_map meaning_of a ≡ check_of (rows_of (found_of matches.now))) }
+fn check_in<'a>(alloc: Global, matches: &ArgMatches<'a>) -> Result<Option<Command<'a>>, AllocError>
+    ensures { IfOk result (λ a.
+        option_map meaning_of a ≡ check_of (rows_of (found_of matches.now))) }
 {
     let Some(files) = matches.get_strs("FILES") else {
         return Ok(None);
     };
     let files = Vec::from_slice(alloc, files)?;
-    Ok(Some(Action::Check { files }))
+    Ok(Some(Command::Check { files }))
 }
 
-fn new_in<'a>(matches: &ArgMatches<'a>) -> Option<Action<'a>>
+fn new_in<'a>(matches: &ArgMatches<'a>) -> Option<Command<'a>>
     ensures { option_map meaning_of result ≡ new_of (rows_of (found_of matches.now)) }
 {
     let out = matches.get_str("OUT");
@@ -84,7 +86,7 @@ fn new_in<'a>(matches: &ArgMatches<'a>) -> Option<Action<'a>>
     let from = matches.get_str("from");
     let name = matches.get_str("name");
     if let (Some(out), Some(world)) = (out, world) {
-        Some(Action::New {
+        Some(Command::New {
             out,
             world,
             from,
@@ -95,15 +97,16 @@ fn new_in<'a>(matches: &ArgMatches<'a>) -> Option<Action<'a>>
     }
 }
 
-fn edit_in<'a>(alloc: Global, matches: &ArgMatches<'a>) -> Result<Option<Action<'a>>, AllocError>
-    ensures { IfOk result (λ a. option_map meaning_of a ≡ edit_of (rows_of (found_of matches.now))) }
+fn edit_in<'a>(alloc: Global, matches: &ArgMatches<'a>) -> Result<Option<Command<'a>>, AllocError>
+    ensures { IfOk result (λ a.
+        option_map meaning_of a ≡ edit_of (rows_of (found_of matches.now))) }
 {
     let file = matches.get_str("FILE");
     let replica = matches.get_one::<u16>("REPLICA");
     let words = matches.get_strs("WORDS");
     if let (Some(file), Some(replica), Some(words)) = (file, replica, words) {
         let words = Vec::from_slice(alloc, words)?;
-        Ok(Some(Action::Edit {
+        Ok(Some(Command::Edit {
             file,
             replica,
             words,
@@ -113,9 +116,12 @@ fn edit_in<'a>(alloc: Global, matches: &ArgMatches<'a>) -> Result<Option<Action<
     }
 }
 
-fn action_in<'a>(alloc: Global, matches: &ArgMatches<'a>) -> Result<Option<Action<'a>>, AllocError>
+fn command_named<'a>(
+    alloc: Global,
+    matches: &ArgMatches<'a>,
+) -> Result<Option<Command<'a>>, AllocError>
     ensures { IfOk result (λ a. option_map meaning_of a
-        ≡ option_and_then action_of (subcommand_rows_of matches.now)) }
+        ≡ option_and_then subcommand_asks (subcommand_rows_of matches.now)) }
 {
     let Some((name, inner)) = matches.subcommand() else {
         return Ok(None);
@@ -142,11 +148,11 @@ fn matches_in<'a>(alloc: Global, words: &'a [String]) -> Result<ArgMatches<'a>, 
 }
 
 // What is done without any word.
-fn stored_action<'a>(alloc: Global) -> Result<Action<'a>, AllocError>
-    ensures { IfOk result (λ a. wanted_of [] ≡ Some (meaning_of a)) }
+fn stored_command<'a>(alloc: Global) -> Result<Command<'a>, AllocError>
+    ensures { IfOk result (λ a. command_of [] ≡ Some (meaning_of a)) }
 {
     let files = vec![in alloc; "stdin"]?;
-    Ok(Action::Save {
+    Ok(Command::Save {
         out: "stdout",
         files,
     })
@@ -156,17 +162,17 @@ fn stored_action<'a>(alloc: Global) -> Result<Action<'a>, AllocError>
 ///
 /// # Errors
 /// `Refused` exactly where the words are not those of a command, with clap's text; a request for help counts as one.
-pub fn parse<'a>(alloc: Global, words: &'a [String]) -> Result<Action<'a>, ParseError>
+pub(crate) fn parse<'a>(alloc: Global, words: &'a [String]) -> Result<Command<'a>, ParseError>
     ensures { MatchResult result
-        (λ a. wanted_of (map string_bytes words.entry.now) ≡ Some (meaning_of a))
-        (λ e. (e ≡ ParseError.Memory) ⊎ (wanted_of (map string_bytes words.entry.now) ≡ None)) }
+        (λ a. command_of (map string_bytes words.entry.now) ≡ Some (meaning_of a))
+        (λ e. (e ≡ ParseError.Memory) ⊎ (command_of (map string_bytes words.entry.now) ≡ None)) }
 {
     if words.is_empty() {
-        return Ok(stored_action(alloc)?);
+        return Ok(stored_command(alloc)?);
     }
     match matches_in(alloc, words) {
-        Ok(matches) => match action_in(alloc, &matches)? {
-            Some(action) => Ok(action),
+        Ok(matches) => match command_named(alloc, &matches)? {
+            Some(command) => Ok(command),
             None => Err(ParseError::Refused(String::new(alloc))),
         },
         Err(error) => match error.kind() {

@@ -1,6 +1,6 @@
 //! Real files and streams as a host.
 ghost use Rattle.std.specs.Prelude.{◌≡◌, None, is_err};
-ghost use Rattle.zed_program.specs.Told.{Counts};
+ghost use Rattle.zed_program.specs.HostContents.{Counts};
 
 use std::alloc::{AllocError, Global};
 use std::io::{ErrorKind, Read, Write};
@@ -82,9 +82,11 @@ fn counted(failures: &mut u64, written: io::Result<()>) -> Result<(), WriteError
 }
 
 impl Host for SystemHost {
-    ghost told = { λ _. None };
+    ghost contents = { λ _. None };
 
     ghost failed = { λ s. s.failures };
+
+    ghost faults = { λ s. s.failures };
 
     fn read(&mut self, name: &str) -> Result<Vec<u8>, ReadError> {
         match read_named(&self.rt, name) {

@@ -7,18 +7,18 @@ use Rattle.zed_program.proofs.Streams.{all_collected, clash_first, file_first}
 use Rattle.zed_program.proofs.collect.load.Goals as goal
 
 pub returns-in_err-deliver_all-clause-collected : goal.returns-in_err-deliver_all-clause-collected
-returns-in_err-deliver_all-clause-collected g c = λ t at calm.
+returns-in_err-deliver_all-clause-collected g c = λ t at.
     let p = err_from_is_err_and c.from_residual-in_err-deliver_all.result c.from_residual-in_err-deliver_all.ensures.1 in
     let same : p.0 ≡ c.in_err-deliver_all.field-0.0 = p.2 in
-    rw (p.1, same) (clash_first t (texts_of c.args.names.now) (edits_then c.in_ok-world.field-0.edits.items c.in_ok-world.field-0.refusal) c.in_err-deliver_all.field-0.0
-    (c.in_ok-world.ensures.stream t at calm) c.in_err-deliver_all.ensures.err)
+    rw (p.1, same) (clash_first _ t (texts_of c.args.names.now) (edits_then c.in_ok-world.field-0.edits.items c.in_ok-world.field-0.refusal) c.in_err-deliver_all.field-0.0
+    (c.in_ok-world.ensures.stream t at) c.in_err-deliver_all.ensures.err)
 
 pub returns-in-Some-clause-collected : goal.returns-in-Some-clause-collected
-returns-in-Some-clause-collected g c = λ t at calm.
-    inr (file_first t (texts_of c.args.names.now) c.in_ok-world.field-0.edits.items c.in_ok-world.field-0.refusal c.in-Some.refusal
-    (c.in_ok-world.ensures.stream t at calm) c.in_ok-deliver_all.ensures.agree c.in-Some.is)
+returns-in-Some-clause-collected g c = λ t at.
+    inr (file_first _ t (texts_of c.args.names.now) c.in_ok-world.field-0.edits.items c.in_ok-world.field-0.refusal c.in-Some.refusal
+    (c.in_ok-world.ensures.stream t at) c.in_ok-deliver_all.ensures.agree c.in-Some.is)
 
 pub returns-in-None-clause-collected : goal.returns-in-None-clause-collected
-returns-in-None-clause-collected g c = λ t at calm.
-    all_collected t (texts_of c.args.names.now) c.in_ok-world.field-0.edits.items c.deliver_all.new.document.edits c.in_ok-world.field-0.refusal
-    (c.in_ok-world.ensures.stream t at calm) c.in_ok-deliver_all.ensures.agree c.in-None.is c.in_ok-deliver_all.ensures.set
+returns-in-None-clause-collected g c = λ t at.
+    all_collected _ t (texts_of c.args.names.now) c.in_ok-world.field-0.edits.items c.deliver_all.new.document.edits c.in_ok-world.field-0.refusal
+    (c.in_ok-world.ensures.stream t at) c.in_ok-deliver_all.ensures.agree c.in-None.is c.in_ok-deliver_all.ensures.set

@@ -1,16 +1,18 @@
-use Rattle.std.proofs.Common.{◌≡◌, Some, drop, map}
+use Rattle.std.proofs.Common.{◌≡◌, ℕ, List, Option, Some, drop}
 use Rattle.zed_op.specs.Set.{AllFit}
 use Rattle.zed_program.specs.Files.{IsStream, Stream, stream_after}
 use Rattle.zed_program.specs.Outcome.{IsStreamIn, texts_of}
-use Rattle.zed_program.specs.Told.{Told, file_in}
+use Rattle.zed_program.specs.HostContents.{AreRead, HostContents, Rose}
 use Rattle.zed_program.proofs.collect.read_all.Given as goal
 
 -- the host is as it was, and what was read, before what the other files come to, is the stream
 abbrev pub invariant-loop-name : goal.invariant-loop-name
 invariant-loop-name g l = record {
-  same : g.H.Host.told l.host ≡ g.H.Host.told l.fn.host;
-  calm : g.H.Host.failed l.host ≡ g.H.Host.failed l.fn.host;
+  same : g.H.Host.contents l.host ≡ g.H.Host.contents l.fn.host;
+  calm : g.H.Host.faults l.host ≡ g.H.Host.faults l.fn.host;
   fit : AllFit l.edits.items;
-  read : (t : Told) → g.H.Host.told l.fn.host ≡ Some t
-      → (s : Stream) → IsStream l.asked (map (file_in t) (texts_of (drop l.name-index l.names))) s → IsStreamIn t (texts_of l.names) (stream_after l.edits.items s);
+  read : (t : HostContents) (now : ℕ) (rest : List (Option (List ℕ))) → g.H.Host.contents l.fn.host ≡ Some t
+      → AreRead (Rose (g.H.Host.faults l.fn.host) now) t (texts_of (drop l.name-index l.names)) rest
+      → (s : Stream) → IsStream l.asked rest s
+      → IsStreamIn (Rose (g.H.Host.faults l.fn.host) now) t (texts_of l.names) (stream_after l.edits.items s);
 }

@@ -5,18 +5,18 @@ use Rattle.zed_program.proofs.Opened.{edited_done, edited_not_opened, edited_ref
 use Rattle.zed_program.proofs.edit.edited.Goals as goal
 
 pub returns-in-Err-clause-edited : goal.returns-in-Err-clause-edited
-returns-in-Err-clause-edited g c = λ t at calm.
-    edited_refused t c.args.file.now c.args.replica (texts_of c.args.words.now) c.in_ok-document.document c.in-Err.error c.of_action.result c.if-replica-eq0.false c.in_ok-document.ensures.sound
-    (c.in_ok-document.ensures.opened t at calm) c.of_action.ensures c.in-Err.ensures.ends
+returns-in-Err-clause-edited g c = λ t at.
+    edited_refused _ t c.args.file.now c.args.replica (texts_of c.args.words.now) c.in_ok-document.document c.in-Err.error c.of_action.result c.if-replica-eq0.false c.in_ok-document.ensures.sound
+    (c.in_ok-document.ensures.opened t at) c.of_action.ensures c.in-Err.ensures.ends
 
 pub returns-in-Ok-clause-edited : goal.returns-in-Ok-clause-edited
-returns-in-Ok-clause-edited g c = λ t at calm.
-    edited_done t c.args.file.now c.args.replica (texts_of c.args.words.now) c.in_ok-document.document c.act.new.document c.if-replica-eq0.false c.in_ok-document.ensures.sound
-    (c.in_ok-document.ensures.opened t at calm) c.act.ensures.world c.in-Ok.ensures.ends
+returns-in-Ok-clause-edited g c = λ t at.
+    edited_done _ t c.args.file.now c.args.replica (texts_of c.args.words.now) c.in_ok-document.document c.act.new.document c.if-replica-eq0.false c.in_ok-document.ensures.sound
+    (c.in_ok-document.ensures.opened t at) c.act.ensures.world c.in-Ok.ensures.ends
 
 pub returns-in_err-document-clause-edited : goal.returns-in_err-document-clause-edited
-returns-in_err-document-clause-edited g c = λ t at calm.
+returns-in_err-document-clause-edited g c = λ t at.
     let p = err_from_is_err_and c.from_residual.result c.from_residual.ensures.1 in
     let same : p.0 ≡ c.in_err-document.field-0.0 = p.2 in
-    rw (p.1, same) (edited_not_opened t c.args.file.now c.args.replica (texts_of c.args.words.now) c.in_err-document.field-0.0 c.if-replica-eq0.false
-    (c.in_err-document.ensures.opened t at calm))
+    rw (p.1, same) (edited_not_opened _ t c.args.file.now c.args.replica (texts_of c.args.words.now) c.in_err-document.field-0.0 c.if-replica-eq0.false
+    (c.in_err-document.ensures.opened t at))

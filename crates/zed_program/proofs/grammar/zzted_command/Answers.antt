@@ -13,7 +13,8 @@ returns c =
     ap app_of_fields c.subcommand_required.ensures
     ∙ ap (λ (f : Command-F Command). app_of_fields (record f { subcommand_required = true })) c.no_binary_name.ensures
     ∙ ap (on_top (λ s. record s { no_binary_name = true; subcommand_required = true })) bare in
-    let one = c.in_ok-subcommand.ensures.shape c.in_ok-save_command.ensures.local ∙ ap₂ with_subcommand top_is c.in_ok-save_command.ensures.shape in
+    let named = ap app_of_fields c.in_ok-bin_name.ensures.0 ∙ top_is in
+    let one = c.in_ok-subcommand.ensures.shape c.in_ok-save_command.ensures.local ∙ ap₂ with_subcommand named c.in_ok-save_command.ensures.shape in
     let two = c.in_ok-subcommand-2.ensures.shape c.in_ok-check_command.ensures.local ∙ ap₂ with_subcommand one c.in_ok-check_command.ensures.shape in
     let three = c.in_ok-subcommand-3.ensures.shape c.in_ok-new_command.ensures.local ∙ ap₂ with_subcommand two c.in_ok-new_command.ensures.shape in
     IfOk-weaker c.subcommand-4.result _ _ (λ r h. h.shape c.in_ok-edit_command.ensures.local ∙ ap₂ with_subcommand three c.in_ok-edit_command.ensures.shape) c.subcommand-4.ensures

@@ -1,19 +1,36 @@
-use Rattle.std.proofs.Common.{◌≡◌, ◌∙◌, ◌∷◌, [], Ok, refl}
+use Rattle.std.proofs.Common.{◌≡◌, ◌∙◌, ◌∷◌, [], inl, Ok, refl}
+use Rattle.std.proofs.lemmas.Result.{err_from_is_err_and}
 use Rattle.zed_editfile.specs.Spelling.{file_text}
 use Rattle.zed_program.specs.Fresh.{genesis_of}
 use Rattle.zed_program.specs.Lines.{edits_line}
-use Rattle.zed_program.specs.Outcome.{IsDone, first_world, text_in, written_to}
-use Rattle.zed_program.specs.Wanted.{New}
-use Rattle.zed_program.proofs.Endings.{calm_parts, written_ends}
+use Rattle.zed_program.specs.Outcome.{ComesTo, Writes, text_in}
+use Rattle.zed_program.specs.Commands.{New}
+use Rattle.zed_program.proofs.Endings.{counted_up, effect_ends, not_begun, refused_ends}
 use Rattle.zed_program.proofs.new.make_new.Goals as goal
 
 pub returns-clause-ends : goal.returns-clause-ends
-returns-clause-ends g c = λ t at calm.
-    let parts = calm_parts _ _ _ _ c.in_ok-bytes.ensures.rises c.write_out.ensures.count calm in
-    let wrote = c.write_out.ensures.ok t (c.in_ok-bytes.ensures.kept ∙ at) in
-    let made : first_world t (text_in c.args.from) (text_in c.args.name) ≡ Ok c.in_ok-bytes.bytes.items = c.in_ok-bytes.ensures.is t at parts.0 in
+returns-clause-ends g c = λ t at.
+    let here = c.in_ok-bytes.ensures.kept ∙ at in
     let line : c.as_str.result.now ≡ edits_line 1 = c.as_str.ensures.value ∙ c.in_ok-line.ensures in
     let text : c.as_slice.result.now ≡ file_text c.args.world (genesis_of c.in_ok-bytes.bytes.items ∷ []) = c.as_slice.ensures.value ∙ c.in_ok-file.ensures.ok in
-    let done : IsDone (New c.args.out.now c.args.world (text_in c.args.from) (text_in c.args.name)) t (Ok (written_to c.args.out.now c.as_slice.result.now c.as_str.result.now t)) =
-    rw (made, line, text) refl in
-    written_ends c.write_out.result _ _ t _ (New c.args.out.now c.args.world (text_in c.args.from) (text_in c.args.name)) _ done wrote c.write_out.ensures.count parts.1
+    let comes : ComesTo _ (New c.args.out.now c.args.world (text_in c.args.from) (text_in c.args.name)) t (Ok (Writes c.args.out.now c.as_slice.result.now c.as_str.result.now)) =
+    (Ok c.in_ok-bytes.bytes.items, c.in_ok-bytes.ensures.is t at, rw (line, text) refl) in
+    effect_ends c.write_out.result _ _ _ (New c.args.out.now c.args.world (text_in c.args.from) (text_in c.args.name)) t (Writes c.args.out.now c.as_slice.result.now c.as_str.result.now) _
+    c.in_ok-bytes.ensures.rises (counted_up _ _ _ c.write_out.ensures.faults) comes (c.write_out.ensures.ok t here) (c.write_out.ensures.half t here) c.write_out.ensures.err c.write_out.ensures.faults
+
+pub returns-in_err-bytes-clause-ends : goal.returns-in_err-bytes-clause-ends
+returns-in_err-bytes-clause-ends g c = λ t at.
+    let p = err_from_is_err_and c.from_residual.result c.from_residual.ensures.1 in
+    let same : p.0 ≡ c.in_err-bytes.field-0.0 = p.2 in
+    rw (p.1, same) (refused_ends _ (New c.args.out.now c.args.world (text_in c.args.from) (text_in c.args.name)) t c.in_err-bytes.field-0.0 _ (c.in_err-bytes.ensures.kept ∙ at)
+    (not_begun _ c.args.out.now c.args.world (text_in c.args.from) (text_in c.args.name) t c.in_err-bytes.field-0.0 (c.in_err-bytes.ensures.is t at)))
+
+pub returns-in_err-file-clause-ends : goal.returns-in_err-file-clause-ends
+returns-in_err-file-clause-ends g c = λ t at.
+    let p = err_from_is_err_and c.from_residual-in_err-file.result c.from_residual-in_err-file.ensures.1 in
+    rw p.1 (refused_ends _ (New c.args.out.now c.args.world (text_in c.args.from) (text_in c.args.name)) t p.0 _ (c.in_ok-bytes.ensures.kept ∙ at) (inl (p.2 ∙ c.in_err-file.ensures.err)))
+
+pub returns-in_err-line-clause-ends : goal.returns-in_err-line-clause-ends
+returns-in_err-line-clause-ends g c = λ t at.
+    let p = err_from_is_err_and c.from_residual-in_err-line.result c.from_residual-in_err-line.ensures.1 in
+    rw p.1 (refused_ends _ (New c.args.out.now c.args.world (text_in c.args.from) (text_in c.args.name)) t p.0 _ (c.in_ok-bytes.ensures.kept ∙ at) (inl (p.2)))

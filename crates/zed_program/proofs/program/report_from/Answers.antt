@@ -5,12 +5,12 @@ use Rattle.zed_program.proofs.Endings.{made_result, not_made}
 use Rattle.zed_program.proofs.program.report_from.Goals as goal
 
 pub returns-in_err-document-clause-made : goal.returns-in_err-document-clause-made
-returns-in_err-document-clause-made g c = λ t at calm.
+returns-in_err-document-clause-made g c = λ t at.
     let p = err_from_is_err_and c.from_residual.result c.from_residual.ensures.1 in
     let same : p.0 ≡ c.in_err-document.field-0.0 = p.2 in
-    rw (p.1, same) (not_made t (texts_of c.args.files.now) report_on c.in_err-document.field-0.0 (c.in_err-document.ensures.collected t at calm))
+    rw (p.1, same) (not_made _ t (texts_of c.args.files.now) report_on c.in_err-document.field-0.0 (c.in_err-document.ensures.collected t at))
 
 pub returns-clause-made : goal.returns-clause-made
-returns-clause-made g c = λ t at calm.
-    made_result c.report.result t (texts_of c.args.files.now) report_on c.in_ok-document.document.edits
-    (c.in_ok-document.ensures.collected t at calm) c.report.ensures
+returns-clause-made g c = λ t at.
+    made_result _ c.report.result t (texts_of c.args.files.now) report_on c.in_ok-document.document.edits
+    (c.in_ok-document.ensures.collected t at) c.report.ensures

@@ -1,10 +1,15 @@
 use Rattle.std.proofs.Common.{◌≡◌, ◌≤◌, ◌∙◌, ap, arith, length, map, ◌∷◌, Some, string_bytes}
 use Rattle.std.proofs.lemmas.List.{length-map}
 use Rattle.clap.specs.Lexer.{usize_max}
-use Rattle.zed_program.specs.Wanted.{Save, wanted_of}
+use Rattle.zed_program.specs.Commands.{Save, command_of}
+use Rattle.zed_program.proofs.Endings.{run_calmly}
 use Rattle.zed_program.proofs.SaveWords.{save_words}
 use Rattle.zed_program.proofs.FileTexts.{run_of_texts, reads_back, written_is_read}
 use Rattle.zed_program.proofs.program.run.Goals as goal
+
+pub returns-clause-ends_calmly : goal.returns-clause-ends_calmly
+returns-clause-ends_calmly g c = λ t command asked at calm.
+    run_calmly command t _ _ c.run_words.result _ calm (rw asked at (c.run_words.ensures.ends t at))
 
 pub returns-clause-saves : goal.returns-clause-saves
 returns-clause-saves g c = λ t out file files spelled plain at calm.
@@ -14,13 +19,13 @@ returns-clause-saves g c = λ t out file files spelled plain at calm.
     let counted = c.count_of-count.ensures in
     let small = c.count_of-count.type_inv in
     omega arith in
-    let wanted : wanted_of (map string_bytes c.args.words.now) ≡ Some (Save out (file ∷ files)) = ap wanted_of spelled ∙ save_words out file files plain few in
-    rw wanted at (c.run_words.ensures.ends t at calm)
+    let asked : command_of (map string_bytes c.args.words.now) ≡ Some (Save out (file ∷ files)) = ap command_of spelled ∙ save_words out file files plain few in
+    returns-clause-ends_calmly g c t (Save out (file ∷ files)) asked at calm
 
 pub returns-clause-saves_sets : goal.returns-clause-saves_sets
 returns-clause-saves_sets g c = λ t out world lists asks at calm.
     run_of_texts (written_is_read c.one_reading.ensures.one c.one_reading.ensures.file) (map string_bytes c.args.words.now) t out world lists c.run_words.result _ asks
-    (returns-clause-saves g c t out asks.file asks.files asks.words_are asks.plain at calm)
+    (returns-clause-ends_calmly g c t (Save out asks.files) asks.asks at calm)
 
 pub returns-clause-reads_back : goal.returns-clause-reads_back
 returns-clause-reads_back g c = λ t out world lists asks at calm.

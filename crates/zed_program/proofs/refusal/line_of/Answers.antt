@@ -1,7 +1,7 @@
 use Rattle.std.proofs.Common.{◌∷◌, [], ◌++◌, ◌∙◌, ap, sym, codes, append_assoc}
 use Rattle.std.specs.Fmt.{decimal}
 use Rattle.std.proofs.lemmas.Result.{IfOk-weaker}
-use Rattle.zed_program.proofs.refusal.line.Goals as goal
+use Rattle.zed_program.proofs.refusal.line_of.Goals as goal
 
 pub returns-in-Clash : goal.returns-in-Clash
 returns-in-Clash c = rw c.in-Clash.is (IfOk-weaker c.format.result _ _ (λ r h. h

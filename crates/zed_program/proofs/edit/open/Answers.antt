@@ -1,0 +1,14 @@
+use Rattle.std.proofs.Common.{◌≡◌}
+use Rattle.std.proofs.lemmas.Result.{err_from_is_err_and}
+use Rattle.zed_program.proofs.Opened.{read_opens, unread_opens}
+use Rattle.zed_program.proofs.edit.open.Goals as goal
+
+pub returns-clause-opened : goal.returns-clause-opened
+returns-clause-opened g c = λ t at.
+    read_opens _ t c.args.file.now c.in_ok-bytes.bytes.items c.opened.result (c.in_ok-bytes.ensures.bytes t at) (rw c.as_slice.ensures.value at c.opened.ensures.opened)
+
+pub returns-in_err-bytes-clause-opened : goal.returns-in_err-bytes-clause-opened
+returns-in_err-bytes-clause-opened g c = λ t at.
+    let p = err_from_is_err_and c.from_residual.result c.from_residual.ensures.1 in
+    let same : p.0 ≡ c.in_err-bytes.field-0.0 = p.2 in
+    rw (p.1, same) (unread_opens _ t c.args.file.now c.in_err-bytes.field-0.0 c.in_err-bytes.ensures.err (c.in_err-bytes.ensures.none t at))
