@@ -100,9 +100,14 @@ const FAILING: &[Failing] = &[
     },
 ];
 
+/// The calls that put the files there, and so many more.
+fn after_files(files: &[File], calls: u64) -> u64 {
+    calls.saturating_add(files.len() as u64)
+}
+
 /// Whether a command says File with status 1 and prints nothing where the device fails at its call after so many, and leaves `output`.
 fn tells_file(alloc: Global, failing: Failing, calls: u64, output: Output) -> bool {
-    let mut host = MemoryHost::new(alloc, failing.files.len() as u64 + calls);
+    let mut host = MemoryHost::new(alloc, after_files(failing.files, calls));
     put_files(alloc, &mut host, failing.files)
         && exits(alloc, &mut host, failing.words, 1)
         && host.failures() == 1
@@ -113,8 +118,8 @@ fn tells_file(alloc: Global, failing: Failing, calls: u64, output: Output) -> bo
 
 /// Whether a command comes out well where the device fails at none of its calls.
 fn passes(alloc: Global, failing: Failing) -> bool {
-    let calls = failing.files.len() as u64 + failing.before + failing.after;
-    let mut host = MemoryHost::new(alloc, calls);
+    let calls = failing.before.saturating_add(failing.after);
+    let mut host = MemoryHost::new(alloc, after_files(failing.files, calls));
     put_files(alloc, &mut host, failing.files)
         && exits(alloc, &mut host, failing.words, 0)
         && host.failures() == 0
@@ -129,7 +134,7 @@ fn fails_at_each(alloc: Global, failing: Failing) -> Result<(), Fail> {
         }
     }
     for more in 0..failing.after {
-        let calls = failing.before + more;
+        let calls = failing.before.saturating_add(more);
         if !tells_file(alloc, failing, calls, failing.made) {
             return Err(Fail::new(format_args!("a failure after {calls} calls")));
         }
@@ -162,12 +167,30 @@ const REFUSED: &[Refused] = &[
     // no such file
     (&["save", "o", "nofile"], 9, 1, 1, "zzted: File\n"),
     (&["check", "a", "nofile"], 9, 1, 1, "zzted: File\n"),
-    (&["new", "o", "7", "--from", "nofile"], 9, 1, 1, "zzted: File\n"),
-    (&["edit", "nofile", "1", "board-add", "One"], 9, 1, 1, "zzted: File\n"),
+    (
+        &["new", "o", "7", "--from", "nofile"],
+        9,
+        1,
+        1,
+        "zzted: File\n",
+    ),
+    (
+        &["edit", "nofile", "1", "board-add", "One"],
+        9,
+        1,
+        1,
+        "zzted: File\n",
+    ),
     // what comes before the failure
     (&["save", "o", "a", "c", "b"], 2, 1, 1, "zzted: Clash 2 1\n"),
     (&["check", "a", "c", "b"], 2, 1, 1, "zzted: Clash 2 1\n"),
-    (&["edit", "a", "0", "board-add", "One"], 9, 0, 1, "zzted: BadEdit Stamp\n"),
+    (
+        &["edit", "a", "0", "board-add", "One"],
+        9,
+        0,
+        1,
+        "zzted: BadEdit Stamp\n",
+    ),
     // the line itself fails
     (&["save", "o", "nofile"], 1, 2, 1, ""),
     (&["edit", "a", "0", "board-add", "One"], 0, 1, 1, ""),
@@ -176,7 +199,7 @@ const REFUSED: &[Refused] = &[
 
 fn is_refused_so(alloc: Global, refused: Refused) -> bool {
     let (words, calls, failures, status, line) = refused;
-    let mut host = MemoryHost::new(alloc, CLASH.len() as u64 + calls);
+    let mut host = MemoryHost::new(alloc, after_files(CLASH, calls));
     put_files(alloc, &mut host, CLASH)
         && exits(alloc, &mut host, words, status)
         && host.failures() == failures
