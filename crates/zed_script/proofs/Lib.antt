@@ -1,0 +1,5 @@
+pub mod TextLemmas
+pub mod HeadingLemmas
+pub mod ConditionLemmas
+pub mod CommandLemmas
+pub mod LeastLemmas
