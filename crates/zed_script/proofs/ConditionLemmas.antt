@@ -1,15 +1,13 @@
 -- Conditions, word by word.
 use borrow.Author.Tests.{ltb-true, ltb-false}
-use Rattle.std.proofs.Common.{◌≡◌, ◌∙◌, ℕ, ◌<◌, Bool, true, false, not, List, [], Option, Some, None, refl, arith, ap, subst, nat_lt}
+use Rattle.std.proofs.Common.{◌≡◌, ◌∙◌, ℕ, ◌<◌, Bool, true, false, not, List, [], Option, Some, None, refl, arith, sym, subst, nat_lt, codes}
 use Rattle.zed_script.specs.declared.conditions.Test.{Test}
-use Rattle.zed_script.specs.declared.conditions.Question.TheVariants.{Flag}
-use Rattle.zed_script.specs.Text.{word_at, word_end}
-use Rattle.zed_script.specs.Condition.{ConditionAt, PartAt, flipped, question_of, plain, negation}
+use Rattle.zed_script.specs.Text.{word_end}
+use Rattle.zed_script.specs.Condition.{ConditionAt, PartAt, flipped, plain, negation}
 use Rattle.zed_script.proofs.TextLemmas.{empty_word}
 
-empty_is_a_flag : question_of [] ≡ Flag
-unfolding question_of
-empty_is_a_flag = refl
+empty_is_no_not : [] ≡ codes "NOT" → ⊥
+empty_is_no_not e = cc
 
 -- behind NOT the program goes on
 pub not_moves : (p : List ℕ) (at : ℕ) (o : Option Test) (m : ℕ) → PartAt p at o m → o ≡ None → at < m
@@ -21,9 +19,7 @@ not_moves p at o m w h = by_place (nat_lt at (word_end p at)) refl
     by_place : (b : Bool) → nat_lt at (word_end p at) ≡ b → at < m
     by_place true e = let l = ltb-true at (word_end p at) e in let i = is_not.1 in omega arith
     by_place false e =
-        let flag : question_of (word_at p at) ≡ Flag = ap question_of (empty_word p at (ltb-false at (word_end p at) e)) ∙ empty_is_a_flag in
-        let n = is_not.0 in
-        absurd (cc)
+        absurd (empty_is_no_not (sym (empty_word p at (ltb-false at (word_end p at) e)) ∙ is_not.0))
 
 -- a test without a NOT is the last
 pub last_test : (p : List ℕ) (at : ℕ) (o : Option Test) (t : Test) (e : ℕ) → PartAt p at o e → o ≡ Some t → ConditionAt p at false t e

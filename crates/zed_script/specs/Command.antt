@@ -1,5 +1,5 @@
 -- Commands as a program writes them.
-use Rattle.std.specs.Prelude.{◌≡◌, ◌≢◌, ℕ, Bool, true, false, if◌then◌else◌, List, [], Option, Some, None, codes}
+use Rattle.std.specs.Prelude.{◌≡◌, ◌≢◌, ℕ, Bool, true, false, ◌||◌, ◌⊎◌, if◌then◌else◌, List, [], Option, Some, None, codes}
 use Rattle.std.specs.Str.{bytes_eq}
 use Rattle.zed_script.specs.declared.heading.Heading.{Heading}
 use Rattle.zed_script.specs.declared.kinds.TileKind.{TileKind}
@@ -7,55 +7,40 @@ use Rattle.zed_script.specs.declared.commands.Counter.{Counter}
 use Rattle.zed_script.specs.declared.commands.Counter.TheVariants.{Health, Ammo, Gems, Torches, Score, Time}
 use Rattle.zed_script.specs.declared.commands.Command.{Command}
 use Rattle.zed_script.specs.declared.commands.Command.TheVariants.{Go, Try, Walk, Shoot, Set, Clear, If, Give, Take, End, EndGame, Idle, Restart, Send, Zap, Restore, Lock, Unlock, Become, Die, Put, Change, Cycle, Char, Bind, Nothing, Other}
-use Rattle.zed_script.specs.declared.commands.Motion.{Motion}
-use Rattle.zed_script.specs.declared.commands.Motion.TheVariants.{Go as GoWord, Try as TryWord, Walk as WalkWord, Shoot as ShootWord, Set as SetWord, Clear as ClearWord, If as IfWord, Give as GiveWord, Take as TakeWord}
-use Rattle.zed_script.specs.declared.commands.Plain.{Plain}
-use Rattle.zed_script.specs.declared.commands.Plain.TheVariants.{End as EndWord, EndGame as EndGameWord, Idle as IdleWord, Restart as RestartWord, Lock as LockWord, Unlock as UnlockWord, Die as DieWord, Nothing as NothingWord}
-use Rattle.zed_script.specs.declared.commands.Making.{Making}
-use Rattle.zed_script.specs.declared.commands.Making.TheVariants.{Send as SendWord, Zap as ZapWord, Restore as RestoreWord, Become as BecomeWord, Put as PutWord, Change as ChangeWord, Cycle as CycleWord, Char as CharWord, Bind as BindWord}
 use Rattle.zed_script.specs.Text.{value_at, value_end, word_at, word_end}
-use Rattle.zed_script.specs.Heading.{HeadingAt}
+use Rattle.zed_script.specs.Heading.{DirectionAt}
 use Rattle.zed_script.specs.Kind.{kind_at}
-use Rattle.zed_script.specs.Condition.{ConditionAt}
+use Rattle.zed_script.specs.Condition.{QueryAt}
 
 -- ---- the words of the table
 
-unfoldable pub motion_of : List ℕ → Option Motion
-motion_of w =
-    if bytes_eq w (codes "GO") then Some GoWord else
-    if bytes_eq w (codes "TRY") then Some TryWord else
-    if bytes_eq w (codes "WALK") then Some WalkWord else
-    if bytes_eq w (codes "SHOOT") then Some ShootWord else
-    if bytes_eq w (codes "SET") then Some SetWord else
-    if bytes_eq w (codes "CLEAR") then Some ClearWord else
-    if bytes_eq w (codes "IF") then Some IfWord else
-    if bytes_eq w (codes "GIVE") then Some GiveWord else
-    if bytes_eq w (codes "TAKE") then Some TakeWord else None
+-- the words of the commands that do, ask or count something
+unfoldable pub is_deed : List ℕ → Bool
+is_deed w =
+    bytes_eq w (codes "GO") || bytes_eq w (codes "TRY") || bytes_eq w (codes "WALK")
+    || bytes_eq w (codes "SHOOT") || bytes_eq w (codes "PUT") || bytes_eq w (codes "IF")
+    || bytes_eq w (codes "GIVE") || bytes_eq w (codes "TAKE") || bytes_eq w (codes "CYCLE")
+    || bytes_eq w (codes "CHAR")
 
-unfoldable pub plain_of : List ℕ → Option Plain
-plain_of w =
-    if bytes_eq w (codes "END") then Some EndWord else
-    if bytes_eq w (codes "ENDGAME") then Some EndGameWord else
-    if bytes_eq w (codes "IDLE") then Some IdleWord else
-    if bytes_eq w (codes "RESTART") then Some RestartWord else
-    if bytes_eq w (codes "LOCK") then Some LockWord else
-    if bytes_eq w (codes "UNLOCK") then Some UnlockWord else
-    if bytes_eq w (codes "DIE") then Some DieWord else
-    if bytes_eq w (codes "PLAY") then Some NothingWord else
-    if bytes_eq w (codes "THROWSTAR") then Some NothingWord else None
+-- the words of the commands that name something
+unfoldable pub is_naming : List ℕ → Bool
+is_naming w =
+    bytes_eq w (codes "SET") || bytes_eq w (codes "CLEAR") || bytes_eq w (codes "SEND")
+    || bytes_eq w (codes "ZAP") || bytes_eq w (codes "RESTORE") || bytes_eq w (codes "BIND")
+    || bytes_eq w (codes "BECOME") || bytes_eq w (codes "CHANGE")
 
-unfoldable pub making_of : List ℕ → Option Making
-making_of w =
-    if bytes_eq w (codes "SEND") then Some SendWord else
-    if bytes_eq w (codes "ZAP") then Some ZapWord else
-    if bytes_eq w (codes "RESTORE") then Some RestoreWord else
-    if bytes_eq w (codes "BECOME") then Some BecomeWord else
-    if bytes_eq w (codes "PUT") then Some PutWord else
-    if bytes_eq w (codes "CHANGE") then Some ChangeWord else
-    if bytes_eq w (codes "CYCLE") then Some CycleWord else
-    if bytes_eq w (codes "CHAR") then Some CharWord else
-    if bytes_eq w (codes "BIND") then Some BindWord else None
+-- the words of the commands that stand alone
+unfoldable pub is_bare : List ℕ → Bool
+is_bare w =
+    bytes_eq w (codes "END") || bytes_eq w (codes "ENDGAME") || bytes_eq w (codes "IDLE")
+    || bytes_eq w (codes "RESTART") || bytes_eq w (codes "LOCK") || bytes_eq w (codes "UNLOCK")
+    || bytes_eq w (codes "DIE") || bytes_eq w (codes "PLAY") || bytes_eq w (codes "THROWSTAR")
 
+-- whether a word is a command's
+abbrev pub is_command : List ℕ → Bool
+is_command w = is_deed w || is_naming w || is_bare w
+
+-- the counter of a word
 unfoldable pub counter_of : List ℕ → Option Counter
 counter_of w =
     if bytes_eq w (codes "HEALTH") then Some Health else
@@ -70,10 +55,6 @@ counter_of w =
 -- a word
 abbrev pub NameAt : List ℕ → ℕ → List ℕ → ℕ → Type 0
 NameAt p at w end = (w ≡ word_at p at) × (end ≡ word_end p at)
-
--- a direction
-abbrev pub DirectionAt : List ℕ → ℕ → Heading → ℕ → Type 0
-DirectionAt p at h end = HeadingAt p at h.turns h.course end
 
 -- a kind; the player is none
 abbrev pub KindAt : List ℕ → ℕ → Option TileKind → ℕ → Type 0
@@ -92,46 +73,35 @@ AimAt p at a end = (mid : ℕ) × (DirectionAt p at a.0 mid × KindAt p mid a.1 
 abbrev pub ExchangeAt : List ℕ → ℕ → Option TileKind × Option TileKind → ℕ → Type 0
 ExchangeAt p at a end = (mid : ℕ) × (KindAt p at a.0 mid × KindAt p mid a.1 end)
 
-abbrev pub plain_command : Plain → Command
-plain_command EndWord = End
-plain_command EndGameWord = EndGame
-plain_command IdleWord = Idle
-plain_command RestartWord = Restart
-plain_command LockWord = Lock
-plain_command UnlockWord = Unlock
-plain_command DieWord = Die
-plain_command NothingWord = Nothing
-
 -- the command w, a word that ends at a place, stands before another place: a row each
 abbrev pub CommandBehind : List ℕ → List ℕ → ℕ → Command → ℕ → Type 0
-CommandBehind p w at (Go h) end = (motion_of w ≡ Some GoWord) × DirectionAt p at h end
-CommandBehind p w at (Try h) end = (motion_of w ≡ Some TryWord) × DirectionAt p at h end
-CommandBehind p w at (Walk h) end = (motion_of w ≡ Some WalkWord) × DirectionAt p at h end
-CommandBehind p w at (Shoot h) end = (motion_of w ≡ Some ShootWord) × DirectionAt p at h end
-CommandBehind p w at (Set n) end = (motion_of w ≡ Some SetWord) × NameAt p at n end
-CommandBehind p w at (Clear n) end = (motion_of w ≡ Some ClearWord) × NameAt p at n end
-CommandBehind p w at (If q) end = (motion_of w ≡ Some IfWord) × ConditionAt p at q.negated q.test end
-CommandBehind p w at (Give k v) end = (motion_of w ≡ Some GiveWord) × AmountAt p at (k, v) end
-CommandBehind p w at (Take k v) end = (motion_of w ≡ Some TakeWord) × AmountAt p at (k, v) end
-CommandBehind p w at (Send n) end = (making_of w ≡ Some SendWord) × NameAt p at n end
-CommandBehind p w at (Zap n) end = (making_of w ≡ Some ZapWord) × NameAt p at n end
-CommandBehind p w at (Restore n) end = (making_of w ≡ Some RestoreWord) × NameAt p at n end
-CommandBehind p w at (Bind n) end = (making_of w ≡ Some BindWord) × NameAt p at n end
-CommandBehind p w at (Become k) end = (making_of w ≡ Some BecomeWord) × KindAt p at k end
-CommandBehind p w at (Put h k) end = (making_of w ≡ Some PutWord) × AimAt p at (h, k) end
-CommandBehind p w at (Change j k) end = (making_of w ≡ Some ChangeWord) × ExchangeAt p at (j, k) end
-CommandBehind p w at (Cycle v) end = (making_of w ≡ Some CycleWord) × (v ≡ value_at p at) × (end ≡ value_end p at)
-CommandBehind p w at (Char v) end = (making_of w ≡ Some CharWord) × (v ≡ value_at p at) × (end ≡ value_end p at)
-CommandBehind p w at End end = (plain_of w ≡ Some EndWord) × (end ≡ at)
-CommandBehind p w at EndGame end = (plain_of w ≡ Some EndGameWord) × (end ≡ at)
-CommandBehind p w at Idle end = (plain_of w ≡ Some IdleWord) × (end ≡ at)
-CommandBehind p w at Restart end = (plain_of w ≡ Some RestartWord) × (end ≡ at)
-CommandBehind p w at Lock end = (plain_of w ≡ Some LockWord) × (end ≡ at)
-CommandBehind p w at Unlock end = (plain_of w ≡ Some UnlockWord) × (end ≡ at)
-CommandBehind p w at Die end = (plain_of w ≡ Some DieWord) × (end ≡ at)
-CommandBehind p w at Nothing end = (plain_of w ≡ Some NothingWord) × (end ≡ at)
-CommandBehind p w at (Other n) end =
-    (motion_of w ≡ None) × (making_of w ≡ None) × (plain_of w ≡ None) × (n ≡ w) × (end ≡ at)
+CommandBehind p w at (Go h) end = (w ≡ codes "GO") × DirectionAt p at h end
+CommandBehind p w at (Try h) end = (w ≡ codes "TRY") × DirectionAt p at h end
+CommandBehind p w at (Walk h) end = (w ≡ codes "WALK") × DirectionAt p at h end
+CommandBehind p w at (Shoot h) end = (w ≡ codes "SHOOT") × DirectionAt p at h end
+CommandBehind p w at (Set n) end = (w ≡ codes "SET") × NameAt p at n end
+CommandBehind p w at (Clear n) end = (w ≡ codes "CLEAR") × NameAt p at n end
+CommandBehind p w at (If q) end = (w ≡ codes "IF") × QueryAt p at q end
+CommandBehind p w at (Give k v) end = (w ≡ codes "GIVE") × AmountAt p at (k, v) end
+CommandBehind p w at (Take k v) end = (w ≡ codes "TAKE") × AmountAt p at (k, v) end
+CommandBehind p w at (Send n) end = (w ≡ codes "SEND") × NameAt p at n end
+CommandBehind p w at (Zap n) end = (w ≡ codes "ZAP") × NameAt p at n end
+CommandBehind p w at (Restore n) end = (w ≡ codes "RESTORE") × NameAt p at n end
+CommandBehind p w at (Bind n) end = (w ≡ codes "BIND") × NameAt p at n end
+CommandBehind p w at (Become k) end = (w ≡ codes "BECOME") × KindAt p at k end
+CommandBehind p w at (Put h k) end = (w ≡ codes "PUT") × AimAt p at (h, k) end
+CommandBehind p w at (Change j k) end = (w ≡ codes "CHANGE") × ExchangeAt p at (j, k) end
+CommandBehind p w at (Cycle v) end = (w ≡ codes "CYCLE") × (v ≡ value_at p at) × (end ≡ value_end p at)
+CommandBehind p w at (Char v) end = (w ≡ codes "CHAR") × (v ≡ value_at p at) × (end ≡ value_end p at)
+CommandBehind p w at End end = (w ≡ codes "END") × (end ≡ at)
+CommandBehind p w at EndGame end = (w ≡ codes "ENDGAME") × (end ≡ at)
+CommandBehind p w at Idle end = (w ≡ codes "IDLE") × (end ≡ at)
+CommandBehind p w at Restart end = (w ≡ codes "RESTART") × (end ≡ at)
+CommandBehind p w at Lock end = (w ≡ codes "LOCK") × (end ≡ at)
+CommandBehind p w at Unlock end = (w ≡ codes "UNLOCK") × (end ≡ at)
+CommandBehind p w at Die end = (w ≡ codes "DIE") × (end ≡ at)
+CommandBehind p w at Nothing end = ((w ≡ codes "PLAY") ⊎ (w ≡ codes "THROWSTAR")) × (end ≡ at)
+CommandBehind p w at (Other n) end = (is_command w ≡ false) × (n ≡ w) × (end ≡ at)
 
 -- whether THEN stands at a place
 abbrev pub is_then : List ℕ → ℕ → Bool

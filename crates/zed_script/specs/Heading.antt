@@ -3,6 +3,7 @@ use Rattle.std.specs.Prelude.{◌≡◌, ℕ, ◌||◌, if◌then◌else◌, Lis
 use Rattle.std.specs.Str.{bytes_eq}
 use Rattle.zed_script.specs.declared.heading.Course.{Course}
 use Rattle.zed_script.specs.declared.heading.Course.TheVariants.{North, South, East, West, Idle, Seek, Flow, Random, RandomNorthOrSouth, RandomNorthOrEast}
+use Rattle.zed_script.specs.declared.heading.Heading.{Heading}
 use Rattle.zed_script.specs.declared.heading.Turning.{Turning}
 use Rattle.zed_script.specs.declared.heading.Turning.TheVariants.{Clockwise, CounterClockwise, Opposite, Sideways}
 use Rattle.zed_script.specs.Text.{word_at, word_end}
@@ -38,9 +39,13 @@ pub record IsPiece (p : List ℕ) (at : ℕ) (turning : Option Turning) (course 
   pub leads : course_of (word_at p at) ≡ course
   pub ends : word_end p at ≡ end
 
--- a direction stands at a place and ends before another: words that turn, and then one that doesn't
+-- words that turn stand at a place, and then one that doesn't, which leads somewhere or nowhere
 abbrev pub HeadingAt : List ℕ → ℕ → List Turning → Option Course → ℕ → Type 0
 HeadingAt p at [] course end =
     (turning_of (word_at p at) ≡ None) × (course ≡ course_of (word_at p at)) × (end ≡ word_end p at)
 HeadingAt p at (t ∷ ts) course end =
     (turning_of (word_at p at) ≡ Some t) × HeadingAt p (word_end p at) ts course end
+
+-- a direction stands at a place and ends before another
+abbrev pub DirectionAt : List ℕ → ℕ → Heading → ℕ → Type 0
+DirectionAt p at h end = HeadingAt p at h.turns h.course end

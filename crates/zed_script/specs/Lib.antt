@@ -5,3 +5,4 @@ pub mod Condition
 pub mod Command
 pub mod Line
 pub mod Label
+pub mod Verbs

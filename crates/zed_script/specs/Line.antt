@@ -6,7 +6,7 @@ use Rattle.zed_script.specs.declared.lines.Instruction.{Instruction}
 use Rattle.zed_script.specs.declared.lines.Instruction.TheVariants.{End, Skipped, Blank, Step, Attempt, Command, Message}
 use Rattle.zed_script.specs.declared.lines.Line.{Line}
 use Rattle.zed_script.specs.Text.{line_after, line_end}
-use Rattle.zed_script.specs.Heading.{HeadingAt}
+use Rattle.zed_script.specs.Heading.{DirectionAt}
 
 -- what a byte begins: `:` 58, `'` 39, `@` 64, `/` 47, `?` 63, `#` 35
 abbrev pub begun_by : Option ℕ → LineKind
@@ -31,17 +31,31 @@ abbrev pub InstructionAt : List ℕ → ℕ → Instruction → ℕ → Type 0
 InstructionAt p at End next = (begun_at p at ≡ EndKind) × (next ≡ at)
 InstructionAt p at Skipped next = (begun_at p at ≡ SkippedKind) × (next ≡ line_after p at)
 InstructionAt p at Blank next = (begun_at p at ≡ BlankKind) × (next ≡ at + 1)
-InstructionAt p at (Step h) next = (begun_at p at ≡ StepKind) × HeadingAt p (at + 1) h.turns h.course next
-InstructionAt p at (Attempt h) next = (begun_at p at ≡ AttemptKind) × HeadingAt p (at + 1) h.turns h.course next
+InstructionAt p at (Step h) next = (begun_at p at ≡ StepKind) × DirectionAt p (at + 1) h next
+InstructionAt p at (Attempt h) next = (begun_at p at ≡ AttemptKind) × DirectionAt p (at + 1) h next
 InstructionAt p at Command next = (begun_at p at ≡ CommandKind) × (next ≡ at + 1)
 InstructionAt p at (Message m) next =
     (begun_at p at ≡ MessageKind) × (m ≡ line_text p at) × (next ≡ line_after p at)
 
--- a line of a program: what its first byte begins, and its bytes
+-- the kind of a line that an instruction begins
+abbrev pub line_kind : Instruction → LineKind
+line_kind End = EndKind
+line_kind Skipped = SkippedKind
+line_kind Blank = BlankKind
+line_kind (Step h) = StepKind
+line_kind (Attempt h) = AttemptKind
+line_kind Command = CommandKind
+line_kind (Message m) = MessageKind
+
+-- an instruction that begins a line of this kind stands at a place
+abbrev pub Begins : List ℕ → ℕ → LineKind → Type 0
+Begins p at kind = (i : Instruction) × ((next : ℕ) × (InstructionAt p at i next × (kind ≡ line_kind i)))
+
+-- a line of a program: where it starts, its bytes, and what stands there
 pub record LineAt (p : List ℕ) (at : ℕ) (l : Line) : Type 0 where
-  pub kind : l.kind ≡ begun_at p at
   pub start : l.start ≡ at
   pub text : l.text.now ≡ line_text p at
+  pub kind : Begins p at l.kind
 
 -- the lines of a program from a place on, each behind the one before
 abbrev pub LinesFrom : List ℕ → ℕ → List Line → Type 0

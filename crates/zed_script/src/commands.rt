@@ -1,6 +1,7 @@
 //! Commands as a program writes them.
-ghost use Rattle.std.specs.Prelude.{◌≡◌, ◌≤◌, IfOk, IfSome, Some, length};
-ghost use Rattle.zed_script.specs.Command.{AimAt, AmountAt, BehindThen, CommandAt, CommandBehind, ThenAt, ExchangeAt, NameAt, counter_of, making_of, motion_of, plain_command, plain_of};
+ghost use Rattle.std.specs.Prelude.{◌≡◌, ◌≤◌, IfOk, IfSome, Some, length, max};
+ghost use Rattle.zed_script.specs.Command.{AimAt, AmountAt, BehindThen, CommandAt, CommandBehind, ThenAt, ExchangeAt, NameAt, counter_of};
+ghost use Rattle.zed_script.specs.Verbs.{IsBare, IsDeed, IsNaming, bare_word, deed_word, naming_word};
 
 use crate::conditions::{Query, condition};
 use crate::heading::{Heading, direction};
@@ -54,48 +55,93 @@ pub enum Command {
     Other(Bytes),
 }
 
+/// A command that does, asks or counts something.
 #[derive(Clone, Copy)]
-enum Motion {
+enum Deed {
     Go,
     Try,
     Walk,
     Shoot,
-    Set,
-    Clear,
+    Put,
     If,
     Give,
     Take,
+    Cycle,
+    Char,
 }
 
-#[tactic(auto, unfolding(crate::specs::Command::motion_of))]
-fn motion_of(word: &[u8]) -> Option<Motion>
-    ensures { result ≡ motion_of word.now }
+/// The command that does, asks or counts something which a word is, if it is one.
+#[tactic(auto, unfolding(crate::specs::Command::is_deed))]
+fn deed_of(word: &[u8]) -> Option<Deed>
+    ensures { IsDeed word.now result }
 {
     if is_word(word, "GO") {
-        Some(Motion::Go)
+        Some(Deed::Go)
     } else if is_word(word, "TRY") {
-        Some(Motion::Try)
+        Some(Deed::Try)
     } else if is_word(word, "WALK") {
-        Some(Motion::Walk)
+        Some(Deed::Walk)
     } else if is_word(word, "SHOOT") {
-        Some(Motion::Shoot)
-    } else if is_word(word, "SET") {
-        Some(Motion::Set)
-    } else if is_word(word, "CLEAR") {
-        Some(Motion::Clear)
+        Some(Deed::Shoot)
+    } else if is_word(word, "PUT") {
+        Some(Deed::Put)
     } else if is_word(word, "IF") {
-        Some(Motion::If)
+        Some(Deed::If)
     } else if is_word(word, "GIVE") {
-        Some(Motion::Give)
+        Some(Deed::Give)
     } else if is_word(word, "TAKE") {
-        Some(Motion::Take)
+        Some(Deed::Take)
+    } else if is_word(word, "CYCLE") {
+        Some(Deed::Cycle)
+    } else if is_word(word, "CHAR") {
+        Some(Deed::Char)
     } else {
         None
     }
 }
 
+/// A command that names something.
 #[derive(Clone, Copy)]
-enum Plain {
+enum Naming {
+    Set,
+    Clear,
+    Send,
+    Zap,
+    Restore,
+    Bind,
+    Become,
+    Change,
+}
+
+/// The command that names something which a word is, if it is one.
+#[tactic(auto, unfolding(crate::specs::Command::is_naming))]
+fn naming_of(word: &[u8]) -> Option<Naming>
+    ensures { IsNaming word.now result }
+{
+    if is_word(word, "SET") {
+        Some(Naming::Set)
+    } else if is_word(word, "CLEAR") {
+        Some(Naming::Clear)
+    } else if is_word(word, "SEND") {
+        Some(Naming::Send)
+    } else if is_word(word, "ZAP") {
+        Some(Naming::Zap)
+    } else if is_word(word, "RESTORE") {
+        Some(Naming::Restore)
+    } else if is_word(word, "BIND") {
+        Some(Naming::Bind)
+    } else if is_word(word, "BECOME") {
+        Some(Naming::Become)
+    } else if is_word(word, "CHANGE") {
+        Some(Naming::Change)
+    } else {
+        None
+    }
+}
+
+/// A command that stands alone.
+#[derive(Clone, Copy)]
+enum Bare {
     End,
     EndGame,
     Idle,
@@ -103,76 +149,39 @@ enum Plain {
     Lock,
     Unlock,
     Die,
-    Nothing,
+    Play,
+    ThrowStar,
 }
 
-#[tactic(auto, unfolding(crate::specs::Command::plain_of))]
-fn plain_of(word: &[u8]) -> Option<Plain>
-    ensures { result ≡ plain_of word.now }
+/// The command that stands alone which a word is, if it is one.
+#[tactic(auto, unfolding(crate::specs::Command::is_bare))]
+fn bare_of(word: &[u8]) -> Option<Bare>
+    ensures { IsBare word.now result }
 {
     if is_word(word, "END") {
-        Some(Plain::End)
+        Some(Bare::End)
     } else if is_word(word, "ENDGAME") {
-        Some(Plain::EndGame)
+        Some(Bare::EndGame)
     } else if is_word(word, "IDLE") {
-        Some(Plain::Idle)
+        Some(Bare::Idle)
     } else if is_word(word, "RESTART") {
-        Some(Plain::Restart)
+        Some(Bare::Restart)
     } else if is_word(word, "LOCK") {
-        Some(Plain::Lock)
+        Some(Bare::Lock)
     } else if is_word(word, "UNLOCK") {
-        Some(Plain::Unlock)
+        Some(Bare::Unlock)
     } else if is_word(word, "DIE") {
-        Some(Plain::Die)
+        Some(Bare::Die)
     } else if is_word(word, "PLAY") {
-        Some(Plain::Nothing)
+        Some(Bare::Play)
     } else if is_word(word, "THROWSTAR") {
-        Some(Plain::Nothing)
+        Some(Bare::ThrowStar)
     } else {
         None
     }
 }
 
-#[derive(Clone, Copy)]
-enum Making {
-    Send,
-    Zap,
-    Restore,
-    Become,
-    Put,
-    Change,
-    Cycle,
-    Char,
-    Bind,
-}
-
-#[tactic(auto, unfolding(crate::specs::Command::making_of))]
-fn making_of(word: &[u8]) -> Option<Making>
-    ensures { result ≡ making_of word.now }
-{
-    if is_word(word, "SEND") {
-        Some(Making::Send)
-    } else if is_word(word, "ZAP") {
-        Some(Making::Zap)
-    } else if is_word(word, "RESTORE") {
-        Some(Making::Restore)
-    } else if is_word(word, "BECOME") {
-        Some(Making::Become)
-    } else if is_word(word, "PUT") {
-        Some(Making::Put)
-    } else if is_word(word, "CHANGE") {
-        Some(Making::Change)
-    } else if is_word(word, "CYCLE") {
-        Some(Making::Cycle)
-    } else if is_word(word, "CHAR") {
-        Some(Making::Char)
-    } else if is_word(word, "BIND") {
-        Some(Making::Bind)
-    } else {
-        None
-    }
-}
-
+/// The counter of a word.
 #[tactic(auto, unfolding(crate::specs::Command::counter_of))]
 fn counter_of(word: &[u8]) -> Option<Counter>
     ensures { result ≡ counter_of word.now }
@@ -200,9 +209,8 @@ fn amount_at(
     program: &[u8],
     at: usize,
 ) -> Result<((Option<Counter>, u16), usize), AllocError>
-    requires { at ≤ length program.now }
     ensures is { IfOk result (λ r. AmountAt program.now at r.0 r.1) }
-    ensures within { IfOk result (λ r. r.1 ≤ length program.now) }
+    ensures within { IfOk result (λ r. r.1 ≤ max at (length program.now)) }
     ensures after { IfOk result (λ r. at ≤ r.1) }
 {
     let name = word_at(alloc, program, at)?;
@@ -220,9 +228,8 @@ fn aim_at(
     program: &[u8],
     at: usize,
 ) -> Result<((Heading, Option<TileKind>), usize), AllocError>
-    requires { at ≤ length program.now }
     ensures is { IfOk result (λ r. AimAt program.now at r.0 r.1) }
-    ensures within { IfOk result (λ r. r.1 ≤ length program.now) }
+    ensures within { IfOk result (λ r. r.1 ≤ max at (length program.now)) }
     ensures after { IfOk result (λ r. at ≤ r.1) }
 {
     let (heading, end) = direction(alloc, program, at)?;
@@ -236,9 +243,8 @@ fn exchange_at(
     program: &[u8],
     at: usize,
 ) -> Result<((Option<TileKind>, Option<TileKind>), usize), AllocError>
-    requires { at ≤ length program.now }
     ensures is { IfOk result (λ r. ExchangeAt program.now at r.0 r.1) }
-    ensures within { IfOk result (λ r. r.1 ≤ length program.now) }
+    ensures within { IfOk result (λ r. r.1 ≤ max at (length program.now)) }
     ensures after { IfOk result (λ r. at ≤ r.1) }
 {
     let (first, end) = kind(alloc, program, at, false)?;
@@ -248,9 +254,8 @@ fn exchange_at(
 
 /// A word.
 fn name_at(alloc: Global, program: &[u8], at: usize) -> Result<(Bytes, usize), AllocError>
-    requires { at ≤ length program.now }
     ensures is { IfOk result (λ r. NameAt program.now at r.0 r.1) }
-    ensures within { IfOk result (λ r. r.1 ≤ length program.now) }
+    ensures within { IfOk result (λ r. r.1 ≤ max at (length program.now)) }
     ensures after { IfOk result (λ r. at ≤ r.1) }
 {
     let word = word_at(alloc, program, at)?;
@@ -259,123 +264,123 @@ fn name_at(alloc: Global, program: &[u8], at: usize) -> Result<(Bytes, usize), A
 }
 
 /// The command of such a word, which ends at a place.
-fn motion_behind(
+fn deed_behind(
     alloc: Global,
     program: &[u8],
     word: &Bytes,
-    verb: Motion,
+    verb: Deed,
     at: usize,
 ) -> Result<(Command, usize), AllocError>
-    requires within { at ≤ length program.now }
-    requires said { motion_of word.now ≡ Some verb }
+    requires said { word.now ≡ deed_word verb }
     ensures is { IfOk result (λ r. CommandBehind program.now word.now at r.0 r.1) }
-    ensures within { IfOk result (λ r. r.1 ≤ length program.now) }
+    ensures within { IfOk result (λ r. r.1 ≤ max at (length program.now)) }
     ensures after { IfOk result (λ r. at ≤ r.1) }
 {
     match verb {
-        Motion::Go => {
+        Deed::Go => {
             let (heading, end) = direction(alloc, program, at)?;
             Ok((Command::Go(heading), end))
         }
-        Motion::Try => {
+        Deed::Try => {
             let (heading, end) = direction(alloc, program, at)?;
             Ok((Command::Try(heading), end))
         }
-        Motion::Walk => {
+        Deed::Walk => {
             let (heading, end) = direction(alloc, program, at)?;
             Ok((Command::Walk(heading), end))
         }
-        Motion::Shoot => {
+        Deed::Shoot => {
             let (heading, end) = direction(alloc, program, at)?;
             Ok((Command::Shoot(heading), end))
         }
-        Motion::Set => {
-            let (word, end) = name_at(alloc, program, at)?;
-            Ok((Command::Set(word), end))
+        Deed::Put => {
+            let ((heading, kind), end) = aim_at(alloc, program, at)?;
+            Ok((Command::Put(heading, kind), end))
         }
-        Motion::Clear => {
-            let (word, end) = name_at(alloc, program, at)?;
-            Ok((Command::Clear(word), end))
-        }
-        Motion::If => {
+        Deed::If => {
             let (query, end) = condition(alloc, program, at)?;
             Ok((Command::If(query), end))
         }
-        Motion::Give => {
+        Deed::Give => {
             let ((counter, value), end) = amount_at(alloc, program, at)?;
             Ok((Command::Give(counter, value), end))
         }
-        Motion::Take => {
+        Deed::Take => {
             let ((counter, value), end) = amount_at(alloc, program, at)?;
             Ok((Command::Take(counter, value), end))
         }
+        Deed::Cycle => Ok((
+            Command::Cycle(value_at(program, at)),
+            value_end(program, at),
+        )),
+        Deed::Char => Ok((Command::Char(value_at(program, at)), value_end(program, at))),
     }
 }
 
 /// The command of such a word, which ends at a place.
-fn making_behind(
+fn naming_behind(
     alloc: Global,
     program: &[u8],
     word: &Bytes,
-    verb: Making,
+    verb: Naming,
     at: usize,
 ) -> Result<(Command, usize), AllocError>
-    requires within { at ≤ length program.now }
-    requires said { making_of word.now ≡ Some verb }
+    requires said { word.now ≡ naming_word verb }
     ensures is { IfOk result (λ r. CommandBehind program.now word.now at r.0 r.1) }
-    ensures within { IfOk result (λ r. r.1 ≤ length program.now) }
+    ensures within { IfOk result (λ r. r.1 ≤ max at (length program.now)) }
     ensures after { IfOk result (λ r. at ≤ r.1) }
 {
     match verb {
-        Making::Send => {
-            let (word, end) = name_at(alloc, program, at)?;
-            Ok((Command::Send(word), end))
+        Naming::Set => {
+            let (name, end) = name_at(alloc, program, at)?;
+            Ok((Command::Set(name), end))
         }
-        Making::Zap => {
-            let (word, end) = name_at(alloc, program, at)?;
-            Ok((Command::Zap(word), end))
+        Naming::Clear => {
+            let (name, end) = name_at(alloc, program, at)?;
+            Ok((Command::Clear(name), end))
         }
-        Making::Restore => {
-            let (word, end) = name_at(alloc, program, at)?;
-            Ok((Command::Restore(word), end))
+        Naming::Send => {
+            let (name, end) = name_at(alloc, program, at)?;
+            Ok((Command::Send(name), end))
         }
-        Making::Bind => {
-            let (word, end) = name_at(alloc, program, at)?;
-            Ok((Command::Bind(word), end))
+        Naming::Zap => {
+            let (name, end) = name_at(alloc, program, at)?;
+            Ok((Command::Zap(name), end))
         }
-        Making::Become => {
+        Naming::Restore => {
+            let (name, end) = name_at(alloc, program, at)?;
+            Ok((Command::Restore(name), end))
+        }
+        Naming::Bind => {
+            let (name, end) = name_at(alloc, program, at)?;
+            Ok((Command::Bind(name), end))
+        }
+        Naming::Become => {
             let (kind, end) = kind(alloc, program, at, false)?;
             Ok((Command::Become(kind), end))
         }
-        Making::Put => {
-            let ((heading, kind), end) = aim_at(alloc, program, at)?;
-            Ok((Command::Put(heading, kind), end))
-        }
-        Making::Change => {
+        Naming::Change => {
             let ((first, second), end) = exchange_at(alloc, program, at)?;
             Ok((Command::Change(first, second), end))
         }
-        Making::Cycle => Ok((
-            Command::Cycle(value_at(program, at)),
-            value_end(program, at),
-        )),
-        Making::Char => Ok((Command::Char(value_at(program, at)), value_end(program, at))),
     }
 }
 
 /// The command of such a word.
-fn plain_command(verb: Plain) -> Command
-    ensures { result ≡ plain_command verb }
+fn bare_command(program: &[u8], word: &Bytes, verb: Bare, at: usize) -> Command
+    requires said { word.now ≡ bare_word verb }
+    ensures { CommandBehind program.now word.now at result at }
 {
     match verb {
-        Plain::End => Command::End,
-        Plain::EndGame => Command::EndGame,
-        Plain::Idle => Command::Idle,
-        Plain::Restart => Command::Restart,
-        Plain::Lock => Command::Lock,
-        Plain::Unlock => Command::Unlock,
-        Plain::Die => Command::Die,
-        Plain::Nothing => Command::Nothing,
+        Bare::End => Command::End,
+        Bare::EndGame => Command::EndGame,
+        Bare::Idle => Command::Idle,
+        Bare::Restart => Command::Restart,
+        Bare::Lock => Command::Lock,
+        Bare::Unlock => Command::Unlock,
+        Bare::Die => Command::Die,
+        Bare::Play => Command::Nothing,
+        Bare::ThrowStar => Command::Nothing,
     }
 }
 
@@ -386,28 +391,26 @@ fn command_behind(
     word: Bytes,
     at: usize,
 ) -> Result<(Command, usize), AllocError>
-    requires { at ≤ length program.now }
     ensures is { IfOk result (λ r. CommandBehind program.now word at r.0 r.1) }
-    ensures within { IfOk result (λ r. r.1 ≤ length program.now) }
+    ensures within { IfOk result (λ r. r.1 ≤ max at (length program.now)) }
     ensures after { IfOk result (λ r. at ≤ r.1) }
 {
-    if let Some(verb) = motion_of(word.as_slice()) {
-        return motion_behind(alloc, program, &word, verb, at);
+    if let Some(verb) = deed_of(word.as_slice()) {
+        return deed_behind(alloc, program, &word, verb, at);
     }
-    if let Some(verb) = making_of(word.as_slice()) {
-        return making_behind(alloc, program, &word, verb, at);
+    if let Some(verb) = naming_of(word.as_slice()) {
+        return naming_behind(alloc, program, &word, verb, at);
     }
-    match plain_of(word.as_slice()) {
-        Some(verb) => Ok((plain_command(verb), at)),
+    match bare_of(word.as_slice()) {
+        Some(verb) => Ok((bare_command(program, &word, verb, at), at)),
         None => Ok((Command::Other(word), at)),
     }
 }
 
 /// Where THEN ends, if it stands at a place.
 fn then_end(alloc: Global, program: &[u8], at: usize) -> Result<Option<usize>, AllocError>
-    requires { at ≤ length program.now }
     ensures is { IfOk result (λ r. ThenAt program.now at r) }
-    ensures within { IfOk result (λ r. IfSome r (λ end. end ≤ length program.now)) }
+    ensures within { IfOk result (λ r. IfSome r (λ end. end ≤ max at (length program.now))) }
     ensures after { IfOk result (λ r. IfSome r (λ end. at ≤ end)) }
 {
     let word = word_at(alloc, program, at)?;
@@ -420,9 +423,8 @@ fn then_end(alloc: Global, program: &[u8], at: usize) -> Result<Option<usize>, A
 
 /// Where the words THEN end that stand at a place.
 fn behind_then(alloc: Global, program: &[u8], at: usize) -> Result<usize, AllocError>
-    requires { at ≤ length program.now }
     ensures is { IfOk result (λ r. BehindThen program.now at r) }
-    ensures within { IfOk result (λ r. r ≤ length program.now) }
+    ensures within { IfOk result (λ r. r ≤ max at (length program.now)) }
     ensures after { IfOk result (λ r. at ≤ r) }
 {
     let mut from = at;
@@ -441,9 +443,8 @@ pub fn next_command(
     program: &[u8],
     at: usize,
 ) -> Result<(Option<Command>, usize), AllocError>
-    requires { at ≤ length program.now }
     ensures is { IfOk result (λ r. CommandAt program.now at r.0 r.1) }
-    ensures within { IfOk result (λ r. r.1 ≤ length program.now) }
+    ensures within { IfOk result (λ r. r.1 ≤ max at (length program.now)) }
     ensures after { IfOk result (λ r. at ≤ r.1) }
 {
     let from = behind_then(alloc, program, at)?;

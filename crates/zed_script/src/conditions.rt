@@ -1,6 +1,7 @@
 //! Conditions as a program writes them.
-ghost use Rattle.std.specs.Prelude.{◌≡◌, ◌≤◌, IfOk, length};
-ghost use Rattle.zed_script.specs.Condition.{AnyAt, BlockedAt, ConditionAt, PartAt, PartBehind, question_of};
+ghost use Rattle.std.specs.Prelude.{◌≡◌, ◌≤◌, IfOk, length, max};
+ghost use Rattle.zed_script.specs.Condition.{PartAt, PartBehind, QueryAt};
+ghost use Rattle.zed_script.specs.Verbs.{AnyAt, BlockedAt, IsQuestion, question_word};
 
 use crate::heading::{Heading, direction};
 use crate::kinds::{TileKind, kind};
@@ -31,7 +32,7 @@ pub struct Query {
     pub test: Test,
 }
 
-/// Which test a word begins.
+/// Which test a word begins that isn't a flag's.
 #[derive(Clone, Copy)]
 enum Question {
     Not,
@@ -40,48 +41,71 @@ enum Question {
     Blocked,
     Any,
     Energized,
-    Flag,
 }
 
-#[tactic(auto, unfolding(crate::specs::Condition::question_of))]
-fn question_of(word: &[u8]) -> Question
-    ensures { result ≡ question_of word.now }
+/// The question that a word is, or None where it is a flag's.
+#[tactic(auto, unfolding(crate::specs::Condition::is_question))]
+fn question_of(word: &[u8]) -> Option<Question>
+    ensures { IsQuestion word.now result }
 {
     if is_word(word, "NOT") {
-        Question::Not
+        Some(Question::Not)
     } else if is_word(word, "ALLIGNED") {
-        Question::Aligned
+        Some(Question::Aligned)
     } else if is_word(word, "CONTACT") {
-        Question::Contact
+        Some(Question::Contact)
     } else if is_word(word, "BLOCKED") {
-        Question::Blocked
+        Some(Question::Blocked)
     } else if is_word(word, "ANY") {
-        Question::Any
+        Some(Question::Any)
     } else if is_word(word, "ENERGIZED") {
-        Question::Energized
+        Some(Question::Energized)
     } else {
-        Question::Flag
+        None
     }
 }
 
+/// The direction behind BLOCKED.
 fn blocked_at(alloc: Global, program: &[u8], at: usize) -> Result<(Option<Test>, usize), AllocError>
-    requires { at ≤ length program.now }
     ensures is { IfOk result (λ r. BlockedAt program.now at r.0 r.1) }
-    ensures within { IfOk result (λ r. r.1 ≤ length program.now) }
+    ensures within { IfOk result (λ r. r.1 ≤ max at (length program.now)) }
     ensures after { IfOk result (λ r. at ≤ r.1) }
 {
     let (heading, end) = direction(alloc, program, at)?;
     Ok((Some(Test::Blocked(heading)), end))
 }
 
+/// The kind behind ANY.
 fn any_at(alloc: Global, program: &[u8], at: usize) -> Result<(Option<Test>, usize), AllocError>
-    requires { at ≤ length program.now }
     ensures is { IfOk result (λ r. AnyAt program.now at r.0 r.1) }
-    ensures within { IfOk result (λ r. r.1 ≤ length program.now) }
+    ensures within { IfOk result (λ r. r.1 ≤ max at (length program.now)) }
     ensures after { IfOk result (λ r. at ≤ r.1) }
 {
     let (kind, end) = kind(alloc, program, at, true)?;
     Ok((Some(Test::Any(kind)), end))
+}
+
+/// The test that a question begins whose word ends at a place, or None where that is NOT.
+fn asked_behind(
+    alloc: Global,
+    program: &[u8],
+    word: &Bytes,
+    question: Question,
+    at: usize,
+) -> Result<(Option<Test>, usize), AllocError>
+    requires said { word.now ≡ question_word question }
+    ensures is { IfOk result (λ r. PartBehind program.now word.now at r.0 r.1) }
+    ensures within { IfOk result (λ r. r.1 ≤ max at (length program.now)) }
+    ensures after { IfOk result (λ r. at ≤ r.1) }
+{
+    match question {
+        Question::Not => Ok((None, at)),
+        Question::Aligned => Ok((Some(Test::Aligned), at)),
+        Question::Contact => Ok((Some(Test::Contact), at)),
+        Question::Blocked => blocked_at(alloc, program, at),
+        Question::Any => any_at(alloc, program, at),
+        Question::Energized => Ok((Some(Test::Energized), at)),
+    }
 }
 
 /// The test whose first word ends at a place, or None where that is NOT.
@@ -91,27 +115,20 @@ fn test_behind(
     word: Bytes,
     at: usize,
 ) -> Result<(Option<Test>, usize), AllocError>
-    requires { at ≤ length program.now }
     ensures is { IfOk result (λ r. PartBehind program.now word at r.0 r.1) }
-    ensures within { IfOk result (λ r. r.1 ≤ length program.now) }
+    ensures within { IfOk result (λ r. r.1 ≤ max at (length program.now)) }
     ensures after { IfOk result (λ r. at ≤ r.1) }
 {
     match question_of(word.as_slice()) {
-        Question::Not => Ok((None, at)),
-        Question::Aligned => Ok((Some(Test::Aligned), at)),
-        Question::Contact => Ok((Some(Test::Contact), at)),
-        Question::Blocked => blocked_at(alloc, program, at),
-        Question::Any => any_at(alloc, program, at),
-        Question::Energized => Ok((Some(Test::Energized), at)),
-        Question::Flag => Ok((Some(Test::Flag(word)), at)),
+        Some(question) => asked_behind(alloc, program, &word, question, at),
+        None => Ok((Some(Test::Flag(word)), at)),
     }
 }
 
 /// The test that stands at a place, or None where NOT does.
 fn test_at(alloc: Global, program: &[u8], at: usize) -> Result<(Option<Test>, usize), AllocError>
-    requires { at ≤ length program.now }
     ensures is { IfOk result (λ r. PartAt program.now at r.0 r.1) }
-    ensures within { IfOk result (λ r. r.1 ≤ length program.now) }
+    ensures within { IfOk result (λ r. r.1 ≤ max at (length program.now)) }
     ensures after { IfOk result (λ r. at ≤ r.1) }
 {
     let word = word_at(alloc, program, at)?;
@@ -121,9 +138,8 @@ fn test_at(alloc: Global, program: &[u8], at: usize) -> Result<(Option<Test>, us
 
 /// The condition that stands at a place, and the place behind it.
 pub fn condition(alloc: Global, program: &[u8], at: usize) -> Result<(Query, usize), AllocError>
-    requires { at ≤ length program.now }
-    ensures is { IfOk result (λ r. ConditionAt program.now at r.0.negated r.0.test r.1) }
-    ensures within { IfOk result (λ r. r.1 ≤ length program.now) }
+    ensures is { IfOk result (λ r. QueryAt program.now at r.0 r.1) }
+    ensures within { IfOk result (λ r. r.1 ≤ max at (length program.now)) }
     ensures after { IfOk result (λ r. at ≤ r.1) }
 {
     let mut negated = false;

@@ -1,6 +1,6 @@
 //! Directions as a program writes them.
-ghost use Rattle.std.specs.Prelude.{◌≡◌, ◌≤◌, IfOk, Some, length};
-ghost use Rattle.zed_script.specs.Heading.{HeadingAt, IsPiece, chosen_of, course_of, turning_of};
+ghost use Rattle.std.specs.Prelude.{◌≡◌, ◌≤◌, IfOk, Some, length, max};
+ghost use Rattle.zed_script.specs.Heading.{DirectionAt, IsPiece, chosen_of, course_of, turning_of};
 
 use crate::text::{is_word, word_at, word_end};
 use std::alloc::{AllocError, Global};
@@ -107,9 +107,8 @@ struct Piece {
 
 /// The word of a direction that stands at a place.
 fn piece_at(alloc: Global, program: &[u8], at: usize) -> Result<Piece, AllocError>
-    requires { at ≤ length program.now }
     ensures is { IfOk result (λ r. IsPiece program.now at r.turning r.course r.end) }
-    ensures within { IfOk result (λ r. r.end ≤ length program.now) }
+    ensures within { IfOk result (λ r. r.end ≤ max at (length program.now)) }
     ensures after { IfOk result (λ r. at ≤ r.end) }
 {
     let word = word_at(alloc, program, at)?;
@@ -125,9 +124,8 @@ fn piece_at(alloc: Global, program: &[u8], at: usize) -> Result<Piece, AllocErro
 
 /// The direction that stands at a place, and the place behind it.
 pub fn direction(alloc: Global, program: &[u8], at: usize) -> Result<(Heading, usize), AllocError>
-    requires { at ≤ length program.now }
-    ensures is { IfOk result (λ r. HeadingAt program.now at r.0.turns r.0.course r.1) }
-    ensures within { IfOk result (λ r. r.1 ≤ length program.now) }
+    ensures is { IfOk result (λ r. DirectionAt program.now at r.0 r.1) }
+    ensures within { IfOk result (λ r. r.1 ≤ max at (length program.now)) }
     ensures after { IfOk result (λ r. at ≤ r.1) }
 {
     let mut turns = Seq::new(alloc);

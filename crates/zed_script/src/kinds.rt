@@ -1,5 +1,5 @@
 //! Kinds of tiles as a program writes them.
-ghost use Rattle.std.specs.Prelude.{◌≡◌, ◌≤◌, IfOk, length};
+ghost use Rattle.std.specs.Prelude.{◌≡◌, ◌≤◌, IfOk, length, max};
 ghost use Rattle.zed_script.specs.Kind.{allowed, colour_of, element_below, element_of, is_element, kind_at, kind_of, matches, tile_of};
 
 use crate::text::{is_word, word_at, word_end};
@@ -129,9 +129,8 @@ pub fn kind(
     at: usize,
     player: bool,
 ) -> Result<(Option<TileKind>, usize), AllocError>
-    requires { at ≤ length program.now }
     ensures is { IfOk result (λ r. r ≡ kind_at program.now at player) }
-    ensures within { IfOk result (λ r. r.1 ≤ length program.now) }
+    ensures within { IfOk result (λ r. r.1 ≤ max at (length program.now)) }
     ensures after { IfOk result (λ r. at ≤ r.1) }
 {
     let first = word_at(alloc, program, at)?;

@@ -7,6 +7,7 @@ mod conditions;
 mod heading;
 mod kinds;
 mod labels;
+mod laws;
 mod lines;
 mod text;
 
@@ -15,5 +16,6 @@ pub use conditions::{Query, Test, condition};
 pub use heading::{Course, Heading, Turning, direction};
 pub use kinds::{TileKind, kind};
 pub use labels::{byte_is, first_label, is_restart, label_at, label_place};
+pub use laws::{one_command, one_condition, one_direction, one_instruction};
 pub use lines::{Instruction, Line, LineKind, Program, standing_at};
 pub use text::{is_word, line_after, line_end, word_at, word_end};

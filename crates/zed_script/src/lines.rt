@@ -1,9 +1,9 @@
 //! Instructions and lines as a program writes them.
-ghost use Rattle.std.specs.Prelude.{◌≡◌, ◌≤◌, IfOk, length};
+ghost use Rattle.std.specs.Prelude.{◌≡◌, ◌≤◌, IfOk, length, max};
 ghost use Rattle.zed_script.specs.Line.{InstructionAt, IsAhead, LineAt, LinesFrom, line_text, begun_at, begun_by};
 
 use crate::heading::{Heading, direction};
-use crate::text::{line_after, line_end};
+use crate::text::{line_after, line_end, part};
 use std::alloc::{AllocError, Global};
 use zed_types::{Bytes, Seq};
 
@@ -88,11 +88,9 @@ fn copy_of(alloc: Global, bytes: &[u8]) -> Result<Bytes, AllocError>
 #[tactic(auto, unfolding(crate::specs::Line::line_text))]
 /// The line that stands at a place, without its end.
 fn line_text(program: &[u8], at: usize) -> &[u8]
-    requires { at ≤ length program.now }
     ensures { result.now ≡ line_text program.now at }
 {
-    let to = line_end(program, at);
-    &program[at..to]
+    part(program, at, line_end(program, at))
 }
 
 /// The instruction that stands at a place, and the place behind it: behind its line, its direction or its mark.
@@ -128,8 +126,8 @@ pub fn standing_at(
 }
 
 /// The line that stands at a place.
+#[tactic(auto, using(crate::proofs::LineLemmas::begins))]
 fn line_at(program: &[u8], at: usize) -> Line
-    requires { at ≤ length program.now }
     ensures { LineAt program.now at result }
 {
     Line {

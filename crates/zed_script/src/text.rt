@@ -1,5 +1,5 @@
 //! Words, values and lines in the bytes of a program.
-ghost use Rattle.std.specs.Prelude.{◌≡◌, ◌<◌, ◌≤◌, IfOk, length, min, slice_get};
+ghost use Rattle.std.specs.Prelude.{◌≡◌, ◌<◌, ◌≤◌, IfOk, IsTrue, length, max, min, slice_get, slice_range};
 ghost use Rattle.std.specs.Str.{bytes_eq};
 ghost use Rattle.zed_script.specs.Text.{is_of, end_by_first, number, with_digit, value_at, line_after, line_end, run_end, upper, value_end, word_at, word_end, word_start};
 
@@ -31,7 +31,7 @@ fn is_of(class: Class, byte: u8) -> bool
 /// Where the bytes of a class end that stand from a place on.
 pub(crate) fn run_end(class: Class, program: &[u8], at: usize) -> usize
     ensures is { result ≡ run_end class program.now at }
-    ensures within { at ≤ length program.now → result ≤ length program.now }
+    ensures within { result ≤ max at (length program.now) }
     ensures after { at ≤ result }
 {
     let mut to = at;
@@ -41,9 +41,22 @@ pub(crate) fn run_end(class: Class, program: &[u8], at: usize) -> usize
     to
 }
 
+/// The bytes from a place to another one, of which there are none past the end.
+pub(crate) fn part(program: &[u8], from: usize, to: usize) -> &[u8]
+    requires ordered { from ≤ to }
+    requires within { to ≤ max from (length program.now) }
+    ensures { result.now ≡ slice_range program.now from to }
+{
+    if to > program.len() {
+        return &[];
+    }
+    &program[from..to]
+}
+
+/// Where the spaces end that stand from a place on.
 fn word_start(program: &[u8], at: usize) -> usize
     ensures is { result ≡ word_start program.now at }
-    ensures within { at ≤ length program.now → result ≤ length program.now }
+    ensures within { result ≤ max at (length program.now) }
     ensures after { at ≤ result }
 {
     run_end(Class::Space, program, at)
@@ -52,7 +65,7 @@ fn word_start(program: &[u8], at: usize) -> usize
 /// Where the word ends that begins at a place.
 fn end_of_word(program: &[u8], from: usize) -> usize
     ensures is { result ≡ end_by_first program.now from (slice_get program.now from) }
-    ensures within { from ≤ length program.now → result ≤ length program.now }
+    ensures within { result ≤ max from (length program.now) }
     ensures after { from ≤ result }
 {
     match program.get(from) {
@@ -71,7 +84,7 @@ fn end_of_word(program: &[u8], from: usize) -> usize
 /// Where the word ends that stands at a place.
 pub fn word_end(program: &[u8], at: usize) -> usize
     ensures is { result ≡ word_end program.now at }
-    ensures within { at ≤ length program.now → result ≤ length program.now }
+    ensures within { result ≤ max at (length program.now) }
     ensures after { at ≤ result }
 {
     let from = word_start(program, at);
@@ -92,12 +105,11 @@ fn upper(alloc: Global, bytes: &[u8]) -> Result<Bytes, AllocError>
 #[tactic(auto, unfolding(crate::specs::Text::word_at, crate::specs::Text::word_end))]
 /// The word that stands at a place, in upper case.
 pub fn word_at(alloc: Global, program: &[u8], at: usize) -> Result<Bytes, AllocError>
-    requires { at ≤ length program.now }
     ensures { IfOk result (λ w. w ≡ word_at program.now at) }
 {
     let from = word_start(program, at);
     let to = end_of_word(program, from);
-    upper(alloc, &program[from..to])
+    upper(alloc, part(program, from, to))
 }
 
 /// A number with a digit more, or one that is as good where it is over 32,767 by then.
@@ -125,19 +137,18 @@ fn number_of(digits: &[u8]) -> u16
 /// The value that stands at a place: 0 without a digit, at most 32,767.
 #[tactic(auto, unfolding(crate::specs::Text::value_at, crate::specs::Text::value_end))]
 pub(crate) fn value_at(program: &[u8], at: usize) -> u16
-    requires { at ≤ length program.now }
     ensures { result ≡ value_at program.now at }
 {
     let from = run_end(Class::Space, program, at);
     let to = run_end(Class::Digit, program, from);
-    number_of(&program[from..to])
+    number_of(part(program, from, to))
 }
 
 #[tactic(auto, unfolding(crate::specs::Text::value_end))]
 /// Where the value ends that stands at a place.
 pub(crate) fn value_end(program: &[u8], at: usize) -> usize
     ensures is { result ≡ value_end program.now at }
-    ensures within { at ≤ length program.now → result ≤ length program.now }
+    ensures within { result ≤ max at (length program.now) }
     ensures after { at ≤ result }
 {
     let from = run_end(Class::Space, program, at);
@@ -148,7 +159,7 @@ pub(crate) fn value_end(program: &[u8], at: usize) -> usize
 /// Where the line ends that stands at a place: at its byte 13, or at the end.
 pub fn line_end(program: &[u8], at: usize) -> usize
     ensures is { result ≡ line_end program.now at }
-    ensures within { at ≤ length program.now → result ≤ length program.now }
+    ensures within { result ≤ max at (length program.now) }
     ensures after { at ≤ result }
 {
     run_end(Class::Line, program, at)
@@ -158,7 +169,7 @@ pub fn line_end(program: &[u8], at: usize) -> usize
 /// The place behind the line that stands at a place.
 pub fn line_after(program: &[u8], at: usize) -> usize
     ensures is { result ≡ line_after program.now at }
-    ensures within { at ≤ length program.now → result ≤ length program.now }
+    ensures within { result ≤ max at (length program.now) }
     ensures after { at ≤ result }
     ensures moves { at < length program.now → at < result }
 {
@@ -168,7 +179,8 @@ pub fn line_after(program: &[u8], at: usize) -> usize
 
 /// Whether a word is this one.
 pub fn is_word(word: &[u8], name: &str) -> bool
-    ensures { result ≡ bytes_eq word.now name.now }
+    ensures is { result ≡ bytes_eq word.now name.now }
+    ensures same { IsTrue result → word.now ≡ name.now }
 {
     word == name.as_bytes()
 }

@@ -16,7 +16,7 @@ loop-test-preserved c = record {
       subst P (flipped_not c.loop-test.negated b)
       (c.loop-test.invariant.so_far (not b) t e
       (first_not c.args.program.now c.loop-test.to c.in_ok-test.test c.in_ok-test.end b t e c.in_ok-test.ensures.is c.in-None.is rest));
-  within = c.in_ok-test.ensures.within;
+  within = (let a = c.in_ok-test.ensures.within in let b = c.loop-test.invariant.within in omega arith);
   after = (let a = c.in_ok-test.ensures.after in omega arith);
 }
 

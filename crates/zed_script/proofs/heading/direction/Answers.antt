@@ -21,7 +21,7 @@ loop-turns-preserved c =
           subst P (sym (ap (λ l. l ++ ts) c.in_ok-push-in-Some.ensures.ok ∙ append_assoc c.loop-turns.turns (c.in-Some.turning ∷ []) ts))
           (c.loop-turns.invariant.so_far (c.in-Some.turning ∷ ts) d e
           (first_piece c.args.program.now c.loop-turns.to w.turning c.in-Some.turning w.course w.end ts d e c.in_ok-piece.ensures.is c.in-Some.is rest));
-      within = c.in_ok-piece.ensures.within;
+      within = (let a = c.in_ok-piece.ensures.within in let b = c.loop-turns.invariant.within in omega arith);
       after = (let a = c.in_ok-piece.ensures.after in omega arith);
     }
 
