@@ -1,8 +1,8 @@
 //! Copies of a board.
 ghost use Rattle.std.specs.Prelude.{◌≡◌, IfOk};
 
-use crate::stat::Stat;
 use crate::scene::Scene;
+use crate::stat::Stat;
 use std::alloc::{AllocError, Global};
 use zed_types::{Bytes, Seq};
 

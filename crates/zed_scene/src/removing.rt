@@ -1,8 +1,8 @@
 ghost use Rattle.std.specs.Prelude.{◌≡◌, map};
 ghost use Rattle.zed_scene.specs.Removing.{after_removal, attack, damage, hurt, remove_stat, renumbered, one_less};
 
-use crate::stat::Stat;
 use crate::scene::Scene;
+use crate::stat::Stat;
 use zed_types::{Place, Tile};
 
 /// The number of a stat after another is removed; None where it is that one.

@@ -1,9 +1,9 @@
 ghost use Rattle.std.specs.Prelude.{◌≡◌, OnErr, IfOk};
 ghost use Rattle.zed_scene.specs.Shooting.{bullet, is_hit, p1_of, shot};
 
-use crate::stat::Stat;
 use crate::moving::{PLAYER, is_destructible, is_walkable};
 use crate::scene::Scene;
+use crate::stat::Stat;
 use crate::step::{Step, ahead};
 use std::alloc::AllocError;
 use zed_types::{Place, Tile};
