@@ -141,7 +141,7 @@ impl Scene {
         self.acting
     }
 
-    /// The number of the stat whose program has its turn, or None where none has or it is gone.
+    /// The number of the stat whose program has its turn, or had it last; None where none had one yet, or it is gone.
     pub fn running(&self) -> Option<usize>
         ensures result { result ≡ self.now.running }
     {
@@ -175,13 +175,6 @@ impl Scene {
         } else {
             None
         };
-    }
-
-    /// Ends the turn of a program.
-    pub fn stop_running(&mut self)
-        ensures result { self.new ≡ record self.old { running = None } }
-    {
-        self.running = None;
     }
 
     /// The tile at a place; outside of the table there is element 1.
