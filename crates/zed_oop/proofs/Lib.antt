@@ -4,3 +4,4 @@ pub mod TurnLemmas
 pub mod RoomLemmas
 pub mod ChainLemmas
 pub mod ProgramLemmas
+pub mod OneTurn

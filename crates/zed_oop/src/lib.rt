@@ -5,6 +5,7 @@
 
 mod acting;
 mod holding;
+mod laws;
 mod leading;
 mod making;
 mod performing;
@@ -14,6 +15,7 @@ mod testing;
 mod turning;
 
 pub use holding::{give, take};
+pub use laws::one_turn;
 pub use leading::led;
 pub use sending::send_alone;
 pub use testing::holds;
