@@ -1,6 +1,7 @@
+pub mod Chains
+pub mod Drawing
+pub mod Front
 pub mod Games
 pub mod Keeping
-pub mod Chains
 pub mod Numbering
-pub mod Uniqueness
-pub mod Front
+pub mod TurnFront

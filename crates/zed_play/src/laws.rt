@@ -1,13 +1,7 @@
 //! Laws of steps.
-ghost use Rattle.std.specs.Prelude.{◌≡◌};
-ghost use Rattle.zed_play.specs.Laws.{LaterWordsDoNotMatter, StepHasOneOutcome, TurnIsOne, TurnUsesFront};
-
-/// A step with these words of chance has one outcome, so that NoWords comes exactly where it lacks a word.
-pub fn step_has_one_outcome()
-    ensures result { TurnIsOne → StepHasOneOutcome }
-{}
+ghost use Rattle.zed_play.specs.Laws.{LaterWordsDoNotMatter};
 
 /// The words behind those that a step used can be any others.
 pub fn later_words_do_not_matter()
-    ensures result { TurnUsesFront → LaterWordsDoNotMatter }
+    ensures result { LaterWordsDoNotMatter }
 {}
