@@ -5,3 +5,4 @@ pub mod Games
 pub mod Keeping
 pub mod Numbering
 pub mod TurnFront
+pub mod Uniqueness

@@ -25,7 +25,7 @@ pub use ending::Ending;
 pub use error::PlayError;
 pub use game::Game;
 pub use key::{Asked, Bounds, Deed, Key};
-pub use laws::later_words_do_not_matter;
+pub use laws::{later_words_do_not_matter, step_has_one_outcome};
 pub use messages::Messages;
 pub use play::Play;
 pub use readers::Carried;
