@@ -1,4 +1,4 @@
-ghost use Rattle.std.specs.Prelude.{◌≡◌, IfOk, ◌↔◌, IsTrue, nat_eq};
+ghost use Rattle.std.specs.Prelude.{◌≡◌, IfOk, ◌↔◌, IsTrue, nat_eq, ◌<◌, length, slice_set};
 ghost use Rattle.std.proofs.Common.{rules};
 ghost use Rattle.std.specs.Cmp.Rules.{comparing};
 ghost use lib.Pointwise.{pointwise};
@@ -62,5 +62,13 @@ impl Bytes {
         ensures { IsTrue result ↔ self.now ≡ other.now }
     {
         self.bytes.as_slice() == other.bytes.as_slice()
+    }
+
+    /// Replaces byte `i`.
+    pub fn set(&mut self, i: usize, byte: u8)
+        requires { i < length self.old }
+        ensures { self.new ≡ slice_set self.old i byte }
+    {
+        self.bytes[i] = byte;
     }
 }

@@ -1,4 +1,4 @@
-ghost use Rattle.std.specs.Prelude.{◌≡◌, [], ◌∷◌, ◌++◌, OnOk, OnErr, length, take, drop, ◌≤◌};
+ghost use Rattle.std.specs.Prelude.{◌≡◌, [], ◌∷◌, ◌++◌, OnOk, OnErr, length, take, drop, ◌≤◌, ◌<◌, ◌-◌, slice_set, slice_get, remove, Some};
 ghost use Rattle.std.specs.Cmp.Lexicographic.{pointwise, lists_per, lists_equiv};
 ghost use Rattle.std.specs.Borrow.{sem};
 ghost use Rattle.zed_types.specs.Lending.{LendsElements};
@@ -93,6 +93,51 @@ impl<T: Drop> Seq<T> {
         ensures err { OnErr result (self.new ≡ self.old) }
     {
         self.items.push(x)?;
+        Ok(())
+    }
+
+    /// Replaces the element `i`.
+    pub fn set(&mut self, i: usize, x: T)
+        requires { i < length self.old }
+        ensures { self.new ≡ slice_set self.old i x }
+    {
+        self.items[i] = x;
+    }
+
+    /// Replaces the element `i`, and answers what stood there.
+    pub fn replace(&mut self, i: usize, x: T) -> T
+        requires { i < length self.old }
+        ensures list { self.new ≡ slice_set self.old i x }
+        ensures result { slice_get self.old i ≡ Some result }
+    {
+        std::mem::replace(&mut self.items[i], x)
+    }
+
+    /// Takes the element `i` out.
+    pub fn remove(&mut self, i: usize)
+        requires { i < length self.old }
+        ensures { self.new ≡ remove self.old i }
+    {
+        let _gone = self.items.remove(i);
+    }
+
+    /// Puts more elements at the end.
+    pub fn append(&mut self, more: Seq<T>) -> Result<(), AllocError>
+        ensures { OnOk result (self.new ≡ self.old ++ more) }
+    {
+        let mut run = more.items;
+        self.items.reserve(run.len())?;
+        self.items.append(&mut run).unwrap();
+        Ok(())
+    }
+
+    /// Leaves the last `most` elements.
+    pub fn keep_last(&mut self, most: usize) -> Result<(), AllocError>
+        ensures { OnOk result (self.new ≡ drop (length self.old - most) self.old) }
+    {
+        let n = self.items.len();
+        let tail = self.items.split_off(n.saturating_sub(most))?;
+        self.items = tail;
         Ok(())
     }
 }

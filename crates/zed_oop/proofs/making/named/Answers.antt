@@ -1,0 +1,10 @@
+use Rattle.std.proofs.Common.{◌≡◌, ◌∙◌, ap, length, slice_get, sym, rules, arith}
+use Rattle.zed_oop.specs.Making.{has_name, named}
+use Rattle.zed_script.proofs.LeastLemmas.{least_is}
+use Rattle.zed_oop.proofs.making.named.Goals as goal
+
+pub returns-then-branch : goal.returns-then-branch
+unfolding named
+returns-then-branch c =
+    let s = c.args.scene.now in
+    sym (least_is (λ i. has_name s c.args.name.now i (slice_get s.stats i)) c.loop-i.i (length s.stats) c.loop-i.invariant (sym c.in_ok-has_name.ensures ∙ c.if-branch.true) (omega (arith, ap length c.stats-i-end.ensures.result)))

@@ -1,0 +1,154 @@
+-- Messages to labels, and labels that are hidden and shown again.
+use Rattle.std.specs.Prelude.{ℕ, zero, suc, ◌+◌, Bool, true, false, not, ◌&&◌, ◌||◌, ◌==◌, nat_le, nat_lt, if◌then◌else◌, List, [], ◌∷◌, length, take, drop, slice_get, slice_set, position, Option, Some, None, is_some, codes}
+use Rattle.std.specs.List.{list_any}
+use Rattle.std.specs.Str.{bytes_eq}
+use Rattle.zed_scene.specs.declared.stat.Stat.{Stat}
+use Rattle.zed_scene.specs.Scene.{Scene, own, program_of, put_stat}
+use Rattle.zed_script.specs.Label.{byte_is, first_label, is_restart, label_at, label_place}
+use Rattle.zed_script.specs.Text.{word_at}
+
+-- f of 0, of 1, and so on below n, each after the one before
+abbrev pub for_each : {X : Type 0} → (ℕ → X → X) → ℕ → X → X
+for_each f zero x = x
+for_each f (suc n) x = f n (for_each f n x)
+
+abbrev pub is_colon : ℕ → Bool
+is_colon b = b == 58
+
+-- of a word `T:L` the target T, cut at the first colon
+abbrev pub target_before : List ℕ → Option ℕ → Option (List ℕ)
+target_before w None = None
+target_before w (Some i) = Some (take i w)
+
+unfoldable pub target_of : List ℕ → Option (List ℕ)
+target_of w = target_before w (position is_colon w)
+
+abbrev pub label_behind : List ℕ → Option ℕ → List ℕ
+label_behind w None = w
+label_behind w (Some i) = drop (i + 1) w
+
+-- and the label L
+unfoldable pub label_of : List ℕ → List ℕ
+label_of w = label_behind w (position is_colon w)
+
+-- a program that begins with `@`, 64, and a name
+unfoldable pub is_named : List ℕ → List ℕ → Bool
+is_named p name = byte_is p 0 64 && bytes_eq (word_at p 1) name
+
+abbrev pub is_number : ℕ → Option ℕ → Bool
+is_number i None = false
+is_number i (Some n) = n == i
+
+-- whether stat i is the one whose program has its turn
+abbrev pub is_own : Scene → ℕ → Bool
+is_own s i = is_number i s.running
+
+-- whether stat i, whose program this is, is meant by a name: ALL and OTHERS and SELF, or that of its program
+abbrev pub is_meant : List ℕ → List ℕ → ℕ → Bool → Bool
+is_meant p name i own =
+    if bytes_eq name (codes "ALL") then nat_le 1 i else
+    if bytes_eq name (codes "OTHERS") then nat_le 1 i && not own else
+    if bytes_eq name (codes "SELF") then own else nat_le 1 i && is_named p name
+
+abbrev pub is_target_of : List ℕ → Option (List ℕ) → ℕ → Bool → Bool
+is_target_of p None i own = own
+is_target_of p (Some name) i own = is_meant p name i own
+
+-- whether a word is sent to stat i; without a colon it is sent to the stat itself
+unfoldable pub is_target : List ℕ → List ℕ → ℕ → Bool → Bool
+is_target p w i own = is_target_of p (target_of w) i own
+
+-- whether a message reaches stat i: it is a target, and not locked, but for its own messages
+abbrev pub is_reached : List ℕ → List ℕ → ℕ → Bool → Stat → Bool
+is_reached p w i own a = is_target p w i own && (a.p2 == 0 || own)
+
+abbrev pub set_to : ℕ → Stat → Option ℕ → Scene → Scene
+set_to i a None s = s
+set_to i a (Some at) s = put_stat i (record a { position = Some at }) s
+
+abbrev pub sent_to : List ℕ → ℕ → Option Stat → Scene → Scene
+sent_to w i None s = s
+sent_to w i (Some a) s =
+    if is_reached (program_of s a.program) w i (is_own s i) a
+    then set_to i a (label_place (program_of s a.program) (label_of w)) s
+    else s
+
+-- a message to stat i, if it is a target
+unfoldable pub send_one : List ℕ → ℕ → Scene → Scene
+send_one w i s = sent_to w i (slice_get s.stats i) s
+
+-- a label is sent to stat i alone, if it isn't locked
+abbrev pub sent_alone_to : List ℕ → ℕ → Option Stat → Scene → Scene
+sent_alone_to l i None s = s
+sent_alone_to l i (Some a) s =
+    if a.p2 == 0 then set_to i a (label_place (program_of s a.program) l) s else s
+
+abbrev pub sent_alone : List ℕ → ℕ → Scene → Scene
+sent_alone l i s = sent_alone_to l i (slice_get s.stats i) s
+
+-- a word `T:L` is sent: the position of each target that has the label is set to it
+unfoldable pub sent : List ℕ → Scene → Scene
+sent w s = for_each (send_one w) (length s.stats) s
+
+-- whether the own position was set
+unfoldable pub reaches_itself : List ℕ → ℕ → List ℕ → Bool
+reaches_itself p i w = is_target p w i true && is_some (label_place p (label_of w))
+
+abbrev pub reached_as : List ℕ → Scene → Option ℕ → Option Stat → Bool
+reached_as w s None o = false
+reached_as w s (Some i) None = false
+reached_as w s (Some i) (Some a) = reaches_itself (program_of s a.program) i w
+
+-- whether a word that is sent sets the position of the stat whose turn it is
+abbrev pub own_reached : List ℕ → Scene → Bool
+own_reached w s = reached_as w s s.running (own s)
+
+abbrev pub has_colon : List ℕ → Bool
+has_colon w = list_any is_colon w
+
+-- ---- ZAP and RESTORE
+
+abbrev pub with_byte : ℕ → List ℕ → Option ℕ → List ℕ
+with_byte b p None = p
+with_byte b p (Some at) = slice_set p at b
+
+-- the first label of a program is hidden: `'`, 39, stands for its `:`
+abbrev pub zapped_in : List ℕ → List ℕ → List ℕ
+zapped_in label p = if is_restart label then p else with_byte 39 p (first_label p label)
+
+abbrev pub restore_at : List ℕ → ℕ → List ℕ → List ℕ
+restore_at label at p = if nat_lt at (length p) && label_at 39 p label at then slice_set p at 58 else p
+
+-- each hidden label is shown again
+abbrev pub restored_in : List ℕ → List ℕ → List ℕ
+restored_in label p = if is_restart label then p else for_each (restore_at label) (length p) p
+
+-- a program changes; the stats that share it share the change
+abbrev pub changed_at : (List ℕ → List ℕ) → ℕ → Option (List ℕ) → List (List ℕ) → List (List ℕ)
+changed_at f k None ps = ps
+changed_at f k (Some p) ps = slice_set ps k (f p)
+
+abbrev pub changed_in : (List ℕ → List ℕ) → ℕ → List (List ℕ) → List (List ℕ)
+changed_in f k ps = changed_at f k (slice_get ps k) ps
+
+abbrev pub changed_program : (List ℕ → List ℕ) → Option ℕ → Scene → Scene
+changed_program f None s = s
+changed_program f (Some k) s = record s { programs = changed_in f k s.programs }
+
+abbrev pub changed_of : (List ℕ → List ℕ) → List ℕ → ℕ → Option Stat → Scene → Scene
+changed_of f w i None s = s
+changed_of f w i (Some a) s =
+    if is_target (program_of s a.program) w i (is_own s i) then changed_program f a.program s else s
+
+unfoldable pub zap_one : List ℕ → ℕ → Scene → Scene
+zap_one w i s = changed_of (zapped_in (label_of w)) w i (slice_get s.stats i) s
+
+unfoldable pub restore_one : List ℕ → ℕ → Scene → Scene
+restore_one w i s = changed_of (restored_in (label_of w)) w i (slice_get s.stats i) s
+
+-- each target of a word `T:L` is zapped, and restored
+unfoldable pub zapped : List ℕ → Scene → Scene
+zapped w s = for_each (zap_one w) (length s.stats) s
+
+unfoldable pub restored : List ℕ → Scene → Scene
+restored w s = for_each (restore_one w) (length s.stats) s

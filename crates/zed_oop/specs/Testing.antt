@@ -1,0 +1,70 @@
+-- Whether conditions hold.
+use Rattle.std.specs.Prelude.{ℕ, ◌+◌, ◌-◌, Bool, true, false, not, ◌||◌, ◌==◌, nat_lt, if◌then◌else◌, List, slice_get, Option, Some, None}
+use Rattle.std.specs.List.{list_any}
+use Rattle.std.specs.Str.{bytes_eq}
+use Rattle.zed_types.specs.declared.tile.Place.{Place}
+use Rattle.zed_types.specs.declared.tile.Tile.{Tile}
+use Rattle.zed_scene.specs.declared.stat.Stat.{Stat}
+use Rattle.zed_script.specs.declared.conditions.Query.{Query}
+use Rattle.zed_script.specs.declared.conditions.Test.{Test}
+use Rattle.zed_script.specs.declared.conditions.Test.TheVariants.{Aligned, Contact, Blocked, Any, Energized, Flag}
+use Rattle.zed_script.specs.declared.heading.Heading.{Heading}
+use Rattle.zed_script.specs.declared.kinds.TileKind.{TileKind}
+use Rattle.zed_scene.specs.Scene.{Scene, element_ahead}
+use Rattle.zed_scene.specs.declared.step.Step.{Step}
+use Rattle.zed_script.specs.Condition.{flipped}
+use Rattle.zed_script.specs.Kind.{matches}
+use Rattle.zed_oop.specs.Leading.{led}
+use Rattle.zed_scene.specs.Moving.{is_walkable}
+use Rattle.zed_scene.specs.Places.{ahead}
+use Rattle.zed_scene.specs.Seeking.{place_of}
+use Rattle.zed_scene.specs.Flags.{has_flag}
+use Rattle.zed_scene.specs.Words.{Drawn, ◌>>=◌}
+
+abbrev pub is_aligned : Place → Place → Bool
+is_aligned a b = a.x == b.x || a.y == b.y
+
+-- the size of a difference
+abbrev pub apart : ℕ → ℕ → ℕ
+apart a b = if nat_lt a b then b - a else a - b
+
+abbrev pub is_in_contact : Place → Place → Bool
+is_in_contact a b = apart a.x b.x + apart a.y b.y == 1
+
+abbrev pub is_any : TileKind → List Tile → Bool
+is_any k tiles = list_any (matches k) tiles
+
+abbrev pub is_way_blocked : Stat → Scene → Option Step → Option Bool
+is_way_blocked a s None = None
+is_way_blocked a s (Some d) = Some (not (is_walkable (element_ahead s (ahead a.place d))))
+
+-- whether what is ahead can't be walked on; none where the direction is none
+unfoldable pub blocked : Heading → Stat → Scene → List ℕ → Drawn (Option Bool)
+blocked h a s ws = do
+  d ← led h.turns h.course a s ws
+  Some (is_way_blocked a s d.0, d.1)
+
+abbrev pub player_place : Scene → Place → Place
+player_place s p = place_of p (slice_get s.stats 0)
+
+abbrev pub any_of : List Tile → Option TileKind → Option Bool
+any_of tiles None = None
+any_of tiles (Some k) = Some (is_any k tiles)
+
+abbrev pub tested : Test → Stat → Scene → List ℕ → Drawn (Option Bool)
+tested Aligned a s ws = Some (Some (is_aligned a.place (player_place s a.place)), ws)
+tested Contact a s ws = Some (Some (is_in_contact a.place (player_place s a.place)), ws)
+tested (Blocked h) a s ws = blocked h a s ws
+tested (Any k) a s ws = Some (any_of s.tiles k, ws)
+tested Energized a s ws = Some (Some false, ws)
+tested (Flag w) a s ws = Some (Some (has_flag s.flags w), ws)
+
+abbrev pub negated_if : Bool → Option Bool → Option Bool
+negated_if negated None = None
+negated_if negated (Some truth) = Some (flipped negated truth)
+
+-- whether a condition holds; none where it has a direction or a kind that there isn't
+unfoldable pub holds : Query → Stat → Scene → List ℕ → Drawn (Option Bool)
+holds q a s ws = do
+  t ← tested q.test a s ws
+  Some (negated_if q.negated t.0, t.1)

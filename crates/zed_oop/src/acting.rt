@@ -1,0 +1,87 @@
+//! What a stat's program does to the board.
+ghost use Rattle.std.specs.Prelude.{◌≡◌};
+ghost use Rattle.zed_oop.specs.Acting.{with_position, skip_line, with_cycle, with_p1, with_p2, with_step};
+
+use zed_scene::{Scene, Step};
+use zed_script::line_after;
+
+/// How the turn goes on after an instruction.
+#[derive(Clone, Copy, Debug, PartialEq, Eq)]
+pub enum Next {
+    /// The rest of the line is skipped.
+    Skip,
+    /// With the instruction at its position.
+    Stay,
+    /// With the command at its position.
+    Command,
+    /// The rest of the line is skipped, and the turn ends.
+    SkipAndEnd,
+    /// The turn ends at its position.
+    End,
+    /// The turn ends with a message of an error, and the program with it.
+    Error,
+}
+
+/// Sets the position of the stat whose turn it is.
+pub(crate) fn go_to(scene: &mut Scene, position: Option<usize>)
+    ensures { scene.new ≡ with_position position scene.old }
+{
+    if let Some(stat) = scene.own() {
+        let mut changed = stat;
+        changed.position = position;
+        scene.put_own(changed);
+    }
+}
+
+pub(crate) fn set_p1(scene: &mut Scene, p1: u8)
+    ensures { scene.new ≡ with_p1 p1 scene.old }
+{
+    if let Some(stat) = scene.own() {
+        let mut changed = stat;
+        changed.p1 = p1;
+        scene.put_own(changed);
+    }
+}
+
+pub(crate) fn set_p2(scene: &mut Scene, p2: u8)
+    ensures { scene.new ≡ with_p2 p2 scene.old }
+{
+    if let Some(stat) = scene.own() {
+        let mut changed = stat;
+        changed.p2 = p2;
+        scene.put_own(changed);
+    }
+}
+
+pub(crate) fn set_cycle(scene: &mut Scene, cycle: u16)
+    ensures { scene.new ≡ with_cycle cycle scene.old }
+{
+    if let Some(stat) = scene.own() {
+        let mut changed = stat;
+        changed.cycle = cycle;
+        scene.put_own(changed);
+    }
+}
+
+pub(crate) fn set_step(scene: &mut Scene, step: Step)
+    ensures { scene.new ≡ with_step step scene.old }
+{
+    if let Some(stat) = scene.own() {
+        let mut changed = stat;
+        changed.step = step;
+        scene.put_own(changed);
+    }
+}
+
+#[tactic(auto, unfolding(crate::specs::Acting::skip_line))]
+/// Skips the rest of the line that the stat whose turn it is stands in.
+pub(crate) fn skip_line(scene: &mut Scene)
+    ensures { scene.new ≡ skip_line scene.old }
+{
+    if let Some(stat) = scene.own() {
+        if let Some(at) = stat.position {
+            let next = line_after(scene.program(stat.program), at);
+            go_to(scene, Some(next));
+        }
+    }
+}

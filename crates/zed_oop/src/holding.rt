@@ -1,0 +1,89 @@
+//! Counters, and what is given to them and taken from them.
+ghost use Rattle.std.specs.Prelude.{◌≡◌};
+ghost use Rattle.zed_oop.specs.Holding.{added, given, in_counter, taken, taken_from, with_counter};
+
+use zed_scene::{Counters, Scene};
+use zed_script::Counter;
+
+fn in_counter(counters: Counters, counter: Counter) -> i16
+    ensures { result ≡ in_counter counter counters }
+{
+    match counter {
+        Counter::Health => counters.health,
+        Counter::Ammo => counters.ammo,
+        Counter::Gems => counters.gems,
+        Counter::Torches => counters.torches,
+        Counter::Score => counters.score,
+        Counter::Time => counters.time,
+    }
+}
+
+fn with_counter(counters: Counters, counter: Counter, n: i16) -> Counters
+    ensures { result ≡ with_counter counter n counters }
+{
+    match counter {
+        Counter::Health => Counters {
+            health: n,
+            ..counters
+        },
+        Counter::Ammo => Counters {
+            ammo: n,
+            ..counters
+        },
+        Counter::Gems => Counters {
+            gems: n,
+            ..counters
+        },
+        Counter::Torches => Counters {
+            torches: n,
+            ..counters
+        },
+        Counter::Score => Counters {
+            score: n,
+            ..counters
+        },
+        Counter::Time => Counters {
+            time: n,
+            ..counters
+        },
+    }
+}
+
+/// A counter with a value more, which stops at 32,767.
+fn added(n: i16, value: u16) -> i16
+    ensures { result ≡ added n value }
+{
+    let sum = i32::from(n) + i32::from(value);
+    if sum > 32767 { 32767 } else { sum as i16 }
+}
+
+/// A counter with a value less, or None where there isn't so much.
+fn taken(n: i16, value: u16) -> Option<i16>
+    ensures { result ≡ taken n value }
+{
+    let rest = i32::from(n) - i32::from(value);
+    if rest < 0 { None } else { Some(rest as i16) }
+}
+
+/// Gives a value to a counter, which stops at 32,767.
+pub fn give(scene: &mut Scene, counter: Counter, value: u16)
+    ensures result { scene.new ≡ given counter value scene.old }
+{
+    let counters = scene.counters();
+    let n = in_counter(counters, counter);
+    scene.set_counters(with_counter(counters, counter, added(n, value)));
+}
+
+/// Takes a value from a counter, and tells whether there was so much; where there wasn't, nothing is taken.
+pub fn take(scene: &mut Scene, counter: Counter, value: u16) -> bool
+    ensures result { taken_from counter value scene.old ≡ (result, scene.new) }
+{
+    let counters = scene.counters();
+    match taken(in_counter(counters, counter), value) {
+        Some(rest) => {
+            scene.set_counters(with_counter(counters, counter, rest));
+            true
+        }
+        None => false,
+    }
+}

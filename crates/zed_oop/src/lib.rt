@@ -1,0 +1,30 @@
+//! Programs of objects as they run: where their directions lead, whether their conditions hold, what each command does to the
+//! board, and a turn of one, a chain of single instructions. Hands on what a user needs of boards in play and of programs as they
+//! are written.
+#![tactic(auto)]
+
+mod acting;
+mod holding;
+mod laws;
+mod leading;
+mod making;
+mod performing;
+mod programs;
+mod sending;
+mod testing;
+mod turning;
+
+pub use holding::{give, take};
+pub use laws::one_turn;
+pub use leading::led;
+pub use sending::send_alone;
+pub use testing::holds;
+pub use turning::{Effects, have_turn, turn};
+pub use zed_scene::{
+    Counters, OopError, Scene, Shooter, Stat, Step, Words, ahead, clockwise, counter_clockwise,
+    is_destructible, is_on_board, is_walkable, opposite, random_step, sign, tile_in,
+};
+pub use zed_script::{
+    Command, Counter, Course, Heading, Instruction, Line, Program, Query, Test, TileKind, Turning,
+    condition, direction, kind, next_command, standing_at,
+};

@@ -1,0 +1,97 @@
+//! Whether conditions hold.
+ghost use Rattle.std.specs.Prelude.{◌≡◌};
+ghost use Rattle.zed_oop.specs.Testing.{apart, blocked, player_place, holds, is_any, is_aligned, is_in_contact, tested};
+ghost use Rattle.zed_scene.specs.Words.{Draws};
+
+use crate::leading::led;
+use zed_scene::{OopError, Scene, Stat, Words, ahead, has_flag, is_walkable};
+use zed_script::{Heading, Query, Test, TileKind};
+use zed_types::{Place, Tile};
+
+fn is_aligned(a: Place, b: Place) -> bool
+    ensures { result ≡ is_aligned a b }
+{
+    a.x == b.x || a.y == b.y
+}
+
+/// How far two numbers are apart.
+fn apart(a: u8, b: u8) -> u8
+    ensures { result ≡ apart a b }
+{
+    if a < b { b - a } else { a - b }
+}
+
+fn is_in_contact(a: Place, b: Place) -> bool
+    ensures { result ≡ is_in_contact a b }
+{
+    u16::from(apart(a.x, b.x)) + u16::from(apart(a.y, b.y)) == 1
+}
+
+fn is_any(kind: TileKind, tiles: &[Tile]) -> bool
+    ensures { result ≡ is_any kind tiles.now }
+{
+    tiles.iter().any(|t| kind.matches(*t))
+}
+
+#[tactic(auto, unfolding(crate::specs::Testing::blocked))]
+/// Whether what is ahead can't be walked on; None where the direction is none.
+fn blocked(
+    scene: &Scene,
+    heading: &Heading,
+    stat: Stat,
+    words: &mut Words,
+) -> Result<Option<bool>, OopError>
+    ensures { Draws result words.new (blocked heading.now stat scene.now words.old) }
+{
+    match led(scene, heading, stat, words)? {
+        Some(step) => Ok(Some(!is_walkable(scene.element(ahead(stat.place, step))))),
+        None => Ok(None),
+    }
+}
+
+/// The player's place, or another without a player.
+fn player_place(scene: &Scene, other: Place) -> Place
+    ensures { result ≡ player_place scene.now other }
+{
+    match scene.stat(0) {
+        Some(player) => player.place,
+        None => other,
+    }
+}
+
+fn tested(
+    scene: &Scene,
+    test: &Test,
+    stat: Stat,
+    words: &mut Words,
+) -> Result<Option<bool>, OopError>
+    ensures { Draws result words.new (tested test.now stat scene.now words.old) }
+{
+    match test {
+        Test::Aligned => Ok(Some(is_aligned(stat.place, player_place(scene, stat.place)))),
+        Test::Contact => Ok(Some(is_in_contact(stat.place, player_place(scene, stat.place)))),
+        Test::Blocked(heading) => blocked(scene, heading, stat, words),
+        Test::Any(kind) => match kind {
+            Some(kind) => Ok(Some(is_any(*kind, scene.tiles()))),
+            None => Ok(None),
+        },
+        Test::Energized => Ok(Some(false)),
+        Test::Flag(word) => Ok(Some(has_flag(scene.flags(), word.as_slice()))),
+    }
+}
+
+#[tactic(auto, unfolding(crate::specs::Testing::holds))]
+/// Whether a condition holds for a stat; None where it has a direction or a kind that there isn't.
+pub fn holds(
+    scene: &Scene,
+    query: &Query,
+    stat: Stat,
+    words: &mut Words,
+) -> Result<Option<bool>, OopError>
+    ensures result { Draws result words.new (holds query.now stat scene.now words.old) }
+{
+    match tested(scene, &query.test, stat, words)? {
+        Some(truth) => Ok(Some(truth != query.negated)),
+        None => Ok(None),
+    }
+}

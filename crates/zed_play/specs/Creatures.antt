@@ -1,0 +1,92 @@
+-- Lions, tigers and bears.
+use Rattle.std.specs.Prelude.{ℕ, pos, ◌+◌, ◌*◌, ◌%◌, Bool, ◌&&◌, not, ◌==◌, nat_le, nat_lt, if◌then◌else◌, List, slice_get, Option, Some, None}
+use Rattle.zed_types.specs.declared.tile.Place.{Place}
+use Rattle.zed_scene.specs.declared.stat.Stat.{Stat}
+use Rattle.zed_scene.specs.Scene.{Scene, element_at}
+use Rattle.zed_scene.specs.declared.shooting.Shooter.TheVariants.{Creature}
+use Rattle.zed_scene.specs.declared.step.Step.{Step}
+use Rattle.zed_scene.specs.Places.{ahead, sign_of}
+use Rattle.zed_scene.specs.Moving.{is_walkable}
+use Rattle.zed_scene.specs.Seeking.{place_of, random_step, sought, still}
+use Rattle.zed_scene.specs.Shooting.{shot}
+use Rattle.zed_scene.specs.Words.{Drawn, draw, ◌>>=◌}
+use Rattle.zed_play.specs.Acts.{apart, attacks, moves}
+
+-- where the player is
+abbrev pub player_place : Place → Scene → Place
+player_place from s = place_of from (slice_get s.stats 0)
+
+-- ---- the lion
+
+-- by chance where P1 is below a number below 10, else towards the player
+abbrev pub lion_step : Stat → Scene → List ℕ → Drawn Step
+lion_step a s ws = do
+  r ← draw 10 ws
+  if nat_lt a.p1 r.0 then random_step r.1 else sought a.place s r.1
+
+-- it goes where it may, and attacks the player
+abbrev pub prowls : Option Place → Scene → Scene
+prowls None s = s
+prowls (Some n) s =
+    if is_walkable (element_at s n) then moves n s else if element_at s n == 4 then attacks n s else s
+
+unfoldable pub lion : Stat → Scene → List ℕ → Drawn Scene
+lion a s ws = do
+  d ← lion_step a s ws
+  Some (prowls (ahead a.place d.0) s, d.1)
+
+-- ---- the tiger
+
+-- a creature's shot along the row or the column of the player, where the other differs by at most 2
+abbrev pub up_to_two : ℕ → ℕ → Bool
+up_to_two a b = nat_le (apart a b) 2
+
+abbrev pub shot_in_column : Place → Place → Scene → Bool × Scene
+shot_in_column from to s = shot from (record { x = pos 0; y = sign_of to.y from.y }) Creature s
+
+abbrev pub shot_in_row : Place → Place → Scene → Bool × Scene
+shot_in_row from to s = shot from (record { x = sign_of to.x from.x; y = pos 0 }) Creature s
+
+-- the second shot, if the first failed and the rows differ by at most 2
+abbrev pub or_in_row : Place → Place → Bool × Scene → Scene
+or_in_row from to first =
+    if first.0 then first.1 else if up_to_two to.y from.y then (shot_in_row from to first.1).1 else first.1
+
+unfoldable pub tiger_shots : Place → Place → Scene → Scene
+tiger_shots from to s =
+    if up_to_two to.x from.x then or_in_row from to (shot_in_column from to s)
+    else if up_to_two to.y from.y then (shot_in_row from to s).1 else s
+
+-- it shoots where three times a number below 10 is at most P2 mod 128 and P2 is below 128
+abbrev pub tiger_fires : ℕ → Stat → Scene → Scene
+tiger_fires r a s =
+    if nat_le (r * 3) (a.p2 % 128) && nat_lt a.p2 128 then tiger_shots a.place (player_place a.place s) s else s
+
+-- then it does as a lion
+unfoldable pub tiger : Stat → Scene → List ℕ → Drawn Scene
+tiger a s ws = do
+  r ← draw 10 ws
+  lion a (tiger_fires r.0 a s) r.1
+
+-- ---- the bear
+
+-- whether two columns, or two rows, differ by at most 8 - P1
+abbrev pub is_felt : ℕ → ℕ → ℕ → Bool
+is_felt p1 a b = nat_le (apart a b + p1) 8
+
+abbrev pub bear_step : Place → Stat → Step
+bear_step to a =
+    if not (to.x == a.place.x) && is_felt a.p1 to.y a.place.y then record { x = sign_of to.x a.place.x; y = pos 0 }
+    else if is_felt a.p1 to.x a.place.x then record { x = pos 0; y = sign_of to.y a.place.y }
+    else still
+
+-- it goes where it may, and attacks the player and breakable walls
+abbrev pub charges : Option Place → Scene → Scene
+charges None s = s
+charges (Some n) s =
+    if is_walkable (element_at s n) then moves n s
+    else if element_at s n == 4 then attacks n s
+    else if element_at s n == 23 then attacks n s else s
+
+unfoldable pub bear : Stat → Scene → Scene
+bear a s = charges (ahead a.place (bear_step (player_place a.place s) a)) s

@@ -1,0 +1,14 @@
+pub mod Acts
+pub mod Creatures
+pub mod Pushers
+pub mod Bullets
+pub mod Things
+pub mod Game
+pub mod Touch
+pub mod Player
+pub mod Objects
+pub mod Tick
+pub mod Playtest
+pub mod Step
+pub mod Opening
+pub mod Laws

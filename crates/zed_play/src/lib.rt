@@ -1,0 +1,32 @@
+//! A playtest of a board: each step looks at the stats, which act by their elements.
+#![tactic(auto)]
+
+mod acts;
+mod bullets;
+mod creatures;
+mod ending;
+mod error;
+mod game;
+mod key;
+mod laws;
+mod looking;
+mod messages;
+mod objects;
+mod opening;
+mod play;
+mod player;
+mod pushers;
+mod readers;
+mod thing;
+mod ticking;
+mod touching;
+
+pub use ending::Ending;
+pub use error::PlayError;
+pub use game::Game;
+pub use key::{Asked, Bounds, Deed, Key};
+pub use laws::{later_words_do_not_matter, step_has_one_outcome};
+pub use messages::Messages;
+pub use play::Play;
+pub use readers::Carried;
+pub use thing::Thing;

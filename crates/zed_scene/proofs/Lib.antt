@@ -1,0 +1,3 @@
+pub mod Pushing
+pub mod Tables
+pub mod Reach

@@ -1,0 +1,9 @@
+pub mod Places
+pub mod Scene
+pub mod Removing
+pub mod Words
+pub mod Moving
+pub mod Trying
+pub mod Shooting
+pub mod Seeking
+pub mod Flags

@@ -1,0 +1,10 @@
+/// Six numbers that programs give and take.
+#[derive(Clone, Copy, Debug, PartialEq, Eq)]
+pub struct Counters {
+    pub health: i16,
+    pub ammo: i16,
+    pub gems: i16,
+    pub torches: i16,
+    pub score: i16,
+    pub time: i16,
+}

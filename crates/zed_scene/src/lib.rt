@@ -1,0 +1,31 @@
+//! A board in play: its tiles, stats, programs, counters and flags, and what is done on it by whoever acts there: stats are taken
+//! away, moved, pushed, damaged and shot, and steps are chosen by words of chance.
+#![tactic(auto)]
+
+mod copying;
+mod counters;
+mod error;
+mod flags;
+mod laws;
+mod moving;
+mod programs;
+mod removing;
+mod scene;
+mod seeking;
+mod shooting;
+mod stat;
+mod step;
+mod trying;
+mod words;
+
+pub use counters::Counters;
+pub use error::OopError;
+pub use flags::has_flag;
+pub use laws::reach_suffices;
+pub use moving::{is_destructible, is_walkable};
+pub use scene::{Scene, tile_in};
+pub use seeking::{random_step, up_or_down};
+pub use shooting::Shooter;
+pub use stat::Stat;
+pub use step::{Step, ahead, clockwise, counter_clockwise, is_on_board, opposite, sign};
+pub use words::Words;

@@ -1,0 +1,264 @@
+//! A board in play: what stands where.
+ghost use Rattle.std.specs.Prelude.{◌≡◌, [], ◌<◌, length, slice_get, None, Some};
+ghost use Rattle.zed_scene.specs.Scene.{element_ahead, actor, own, program_of, put, put_actor, put_own, put_program, put_stat, stat_at, there, tile_at, with_tile};
+
+use crate::counters::Counters;
+use crate::stat::Stat;
+use crate::step::is_on_board;
+use std::marker::Model;
+use zed_types::{Bytes, Place, Seq, Tile};
+
+/// A board in play, with ten flags. Contracts see it as the record of what it holds.
+#[derive(Debug, Drop)]
+pub struct Scene {
+    pub(crate) tiles: [Tile; 1500],
+    pub(crate) stats: Seq<Stat>,
+    pub(crate) programs: Seq<Bytes>,
+    pub(crate) counters: Counters,
+    pub(crate) flags: Seq<Bytes>,
+    pub(crate) ticking: usize,
+    pub(crate) acting: Option<usize>,
+    pub(crate) running: Option<usize>,
+}
+
+impl Model for Scene {
+    ghost use Rattle.std.specs.Prelude.{◌≡◌, length};
+    ghost use Rattle.zed_scene.specs.Scene.{Scene as Plain};
+
+    ghost Value = { Plain };
+
+    ghost view = { λ s. record { tiles = s.tiles; stats = s.stats; programs = s.programs; counters = s.counters; flags = s.flags; ticking = s.ticking; acting = s.acting; running = s.running } };
+
+    ghost invariant = { λ s. length s.flags ≡ 10 };
+}
+
+/// What stands outside of the table.
+const EDGE: Tile = Tile {
+    element: 1,
+    colour: 0,
+};
+
+/// The tile at a place of a table; outside of it there is element 1.
+pub fn tile_in(tiles: &[Tile; 1500], place: Place) -> Tile
+    ensures result { result ≡ tile_at tiles.now place }
+{
+    if is_on_board(place) {
+        let index = (usize::from(place.y) - 1) * 60 + (usize::from(place.x) - 1);
+        tiles[index]
+    } else {
+        EDGE
+    }
+}
+
+fn put_in(tiles: &mut [Tile; 1500], place: Place, tile: Tile)
+    ensures { tiles.new ≡ with_tile tiles.old place tile }
+{
+    if is_on_board(place) {
+        let index = (usize::from(place.y) - 1) * 60 + (usize::from(place.x) - 1);
+        tiles[index] = tile;
+    }
+}
+
+/// The lowest stat with this column and row.
+fn lowest_at(stats: &[Stat], place: Place) -> Option<usize>
+    ensures { result ≡ stat_at stats.now place }
+{
+    stats
+        .iter()
+        .position(|a| a.place.x == place.x && a.place.y == place.y)
+}
+
+impl Scene {
+    /// A board on which no stat acts yet. There are ten flags, of at most 20 bytes each; stats name their programs by number.
+    pub fn new(
+        tiles: [Tile; 1500],
+        stats: Seq<Stat>,
+        programs: Seq<Bytes>,
+        counters: Counters,
+        flags: Seq<Bytes>,
+    ) -> Scene
+        requires { length flags ≡ 10 }
+        ensures result { result ≡ record { tiles = tiles; stats = stats; programs = programs; counters = counters; flags = flags; ticking = 0; acting = None; running = None } }
+    {
+        Scene {
+            tiles,
+            stats,
+            programs,
+            counters,
+            flags,
+            ticking: 0,
+            acting: None,
+            running: None,
+        }
+    }
+
+    /// The tiles, row after row.
+    pub fn tiles(&self) -> &[Tile; 1500]
+        ensures result { result.now ≡ self.now.tiles }
+    {
+        &self.tiles
+    }
+
+    /// The stats, the player first.
+    pub fn stats(&self) -> &[Stat]
+        ensures result { result.now ≡ self.now.stats }
+    {
+        self.stats.as_slice()
+    }
+
+    /// The programs, by their numbers.
+    pub fn programs(&self) -> &[Bytes]
+        ensures result { result.now ≡ self.now.programs }
+    {
+        self.programs.as_slice()
+    }
+
+    pub fn counters(&self) -> Counters
+        ensures result { result ≡ self.now.counters }
+    {
+        self.counters
+    }
+
+    /// The ten flags.
+    pub fn flags(&self) -> &[Bytes]
+        ensures result { result.now ≡ self.now.flags }
+        ensures within { length self.now.flags ≡ 10 }
+    {
+        self.flags.as_slice()
+    }
+
+    /// The number of the stat that is looked at in a step. A stat that is removed at or below it makes it one less.
+    pub fn ticking(&self) -> usize
+        ensures result { result ≡ self.now.ticking }
+    {
+        self.ticking
+    }
+
+    /// The number of the stat that acts, or None once it is gone.
+    pub fn acting(&self) -> Option<usize>
+        ensures result { result ≡ self.now.acting }
+    {
+        self.acting
+    }
+
+    /// The number of the stat whose program has its turn, or had it last; None where none had one yet, or it is gone.
+    pub fn running(&self) -> Option<usize>
+        ensures result { result ≡ self.now.running }
+    {
+        self.running
+    }
+
+    pub fn set_counters(&mut self, counters: Counters)
+        ensures result { self.new ≡ record self.old { counters = counters } }
+    {
+        self.counters = counters;
+    }
+
+    pub fn set_ticking(&mut self, i: usize)
+        ensures result { self.new ≡ record self.old { ticking = i } }
+    {
+        self.ticking = i;
+    }
+
+    pub fn set_acting(&mut self, i: Option<usize>)
+        ensures result { self.new ≡ record self.old { acting = i } }
+    {
+        self.acting = i;
+    }
+
+    /// Lets the program of stat i have its turn; a stat that isn't there has none.
+    pub fn set_running(&mut self, i: usize)
+        ensures result { self.new ≡ record self.old { running = there self.old i } }
+    {
+        self.running = if i < self.stats.as_slice().len() {
+            Some(i)
+        } else {
+            None
+        };
+    }
+
+    /// The tile at a place; outside of the table there is element 1.
+    pub fn tile(&self, place: Place) -> Tile
+        ensures result { result ≡ tile_at self.now.tiles place }
+    {
+        tile_in(&self.tiles, place)
+    }
+
+    /// The element at a place; where there is none of the table there is element 1.
+    pub fn element(&self, place: Option<Place>) -> u8
+        ensures result { result ≡ element_ahead self.now place }
+    {
+        match place {
+            Some(place) => self.tile(place).element,
+            None => EDGE.element,
+        }
+    }
+
+    /// Puts a tile at a place; outside of the table nothing is written.
+    pub fn put(&mut self, place: Place, tile: Tile)
+        ensures result { self.new ≡ put place tile self.old }
+    {
+        put_in(&mut self.tiles, place, tile);
+    }
+
+    /// The lowest stat with this column and row.
+    pub fn stat_at(&self, place: Place) -> Option<usize>
+        ensures result { result ≡ stat_at self.now.stats place }
+    {
+        lowest_at(self.stats.as_slice(), place)
+    }
+
+    /// A stat.
+    pub fn stat(&self, i: usize) -> Option<Stat>
+        ensures result { result ≡ slice_get self.now.stats i }
+    {
+        self.stats.as_slice().get(i).copied()
+    }
+
+    /// Changes a stat; nothing where there is none of this number.
+    pub fn put_stat(&mut self, i: usize, stat: Stat)
+        ensures result { self.new ≡ put_stat i stat self.old }
+    {
+        if i < self.stats.as_slice().len() {
+            self.stats.set(i, stat);
+        }
+    }
+
+    /// The stat that acts.
+    pub fn actor(&self) -> Option<Stat>
+        ensures result { result ≡ actor self.now }
+    {
+        match self.acting {
+            Some(i) => self.stat(i),
+            None => None,
+        }
+    }
+
+    /// Changes the stat that acts.
+    pub fn put_actor(&mut self, stat: Stat)
+        ensures result { self.new ≡ put_actor stat self.old }
+    {
+        if let Some(i) = self.acting {
+            self.put_stat(i, stat);
+        }
+    }
+
+    /// The stat whose program has its turn.
+    pub fn own(&self) -> Option<Stat>
+        ensures result { result ≡ own self.now }
+    {
+        match self.running {
+            Some(i) => self.stat(i),
+            None => None,
+        }
+    }
+
+    /// Changes the stat whose program has its turn.
+    pub fn put_own(&mut self, stat: Stat)
+        ensures result { self.new ≡ put_own stat self.old }
+    {
+        if let Some(i) = self.running {
+            self.put_stat(i, stat);
+        }
+    }
+}

@@ -1,0 +1,64 @@
+ghost use Rattle.zed_scene.specs.Seeking.{random_step, sought, towards, up_or_down};
+ghost use Rattle.std.specs.Prelude.{◌≡◌};
+ghost use Rattle.zed_scene.specs.Words.{Draws};
+
+use crate::error::OopError;
+use crate::scene::Scene;
+use crate::step::{Step, sign};
+use crate::words::Words;
+use zed_types::Place;
+
+/// The step from one place towards another, along the columns where `columns` says so or the rows agree, unless the columns agree.
+fn towards(from: Place, to: Place, columns: bool) -> Step
+    ensures { result ≡ towards from to columns }
+{
+    let x = if columns || from.y == to.y {
+        sign(to.x, from.x)
+    } else {
+        0
+    };
+    if x == 0 {
+        Step {
+            x: 0,
+            y: sign(to.y, from.y),
+        }
+    } else {
+        Step { x, y: 0 }
+    }
+}
+
+impl Scene {
+    /// The step towards the player, which takes a word.
+    pub fn seek(&self, from: Place, words: &mut Words) -> Result<Step, OopError>
+        ensures { Draws result words.new (sought from self.now words.old) }
+    {
+        let r = words.random(2)?;
+        let to = match self.stat(0) {
+            Some(player) => player.place,
+            None => from,
+        };
+        Ok(towards(from, to, r == 0))
+    }
+}
+
+/// A step in any direction, which takes one word or two.
+pub fn random_step(words: &mut Words) -> Result<Step, OopError>
+    ensures { Draws result words.new (random_step words.old) }
+{
+    match words.random(3)? {
+        0 => Ok(Step::WEST),
+        2 => Ok(Step::EAST),
+        _ => up_or_down(words),
+    }
+}
+
+/// A step to the north or the south, which takes a word.
+pub fn up_or_down(words: &mut Words) -> Result<Step, OopError>
+    ensures { Draws result words.new (up_or_down words.old) }
+{
+    if words.random(2)? == 0 {
+        Ok(Step::NORTH)
+    } else {
+        Ok(Step::SOUTH)
+    }
+}

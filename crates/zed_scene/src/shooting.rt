@@ -1,0 +1,101 @@
+ghost use Rattle.std.specs.Prelude.{◌≡◌, OnErr, IfOk};
+ghost use Rattle.zed_scene.specs.Shooting.{bullet, is_hit, p1_of, shot};
+
+use crate::moving::{PLAYER, is_destructible, is_walkable};
+use crate::scene::Scene;
+use crate::stat::Stat;
+use crate::step::{Step, ahead};
+use std::alloc::AllocError;
+use zed_types::{Place, Tile};
+
+/// Who shoots.
+#[derive(Clone, Copy, Debug, PartialEq, Eq)]
+pub enum Shooter {
+    Player,
+    Creature,
+}
+
+/// A bullet that flies.
+const BULLET: Tile = Tile {
+    element: 18,
+    colour: 0x0F,
+};
+
+const WATER: u8 = 19;
+
+const BREAKABLE: u8 = 23;
+
+/// Stats of a board at most, the player among them.
+const STATS: usize = 151;
+
+fn p1_of(shooter: Shooter) -> u8
+    ensures { result ≡ p1_of shooter }
+{
+    match shooter {
+        Shooter::Player => 0,
+        Shooter::Creature => 1,
+    }
+}
+
+/// Whether a shot hurts an element.
+fn is_hit(n: u8, shooter: Shooter) -> bool
+    ensures { result ≡ is_hit n shooter }
+{
+    if n == BREAKABLE {
+        return true;
+    }
+    if !is_destructible(n) {
+        return false;
+    }
+    match shooter {
+        Shooter::Player => n != PLAYER,
+        Shooter::Creature => n == PLAYER,
+    }
+}
+
+fn bullet(place: Place, step: Step, shooter: Shooter, under: Tile) -> Stat
+    ensures { result ≡ bullet place step shooter under }
+{
+    Stat {
+        place,
+        step,
+        cycle: 1,
+        p1: p1_of(shooter),
+        p2: 0,
+        p3: 0,
+        follower: None,
+        leader: None,
+        under,
+        position: Some(0),
+        program: None,
+    }
+}
+
+impl Scene {
+    #[tactic(auto, unfolding(crate::specs::Shooting::shot))]
+    /// Shoots from a place along a step, and tells whether that didn't fail: a bullet flies where there is room, else what can be
+    /// hit is damaged.
+    pub fn shoot(&mut self, from: Place, step: Step, shooter: Shooter) -> Result<bool, AllocError>
+        ensures result { IfOk result (λ done. shot from step shooter self.old ≡ (done, self.new)) }
+        ensures kept { OnErr result (self.new ≡ self.old) }
+    {
+        let to = match ahead(from, step) {
+            Some(to) => to,
+            None => return Ok(false),
+        };
+        let there = self.tile(to);
+        if is_walkable(there.element) || there.element == WATER {
+            if self.stats.as_slice().len() >= STATS {
+                return Ok(false);
+            }
+            self.stats.push(bullet(to, step, shooter, there))?;
+            self.put(to, BULLET);
+            return Ok(true);
+        }
+        if is_hit(there.element, shooter) {
+            self.damage(to);
+            return Ok(true);
+        }
+        Ok(false)
+    }
+}

@@ -1,0 +1,4 @@
+pub mod Picture
+pub mod Panel
+pub mod Frames
+pub mod Laws

@@ -1,0 +1,17 @@
+//! Pictures of boards: a character and an attribute for each of the 80 by 25 places of the screen, for a board of a world and for
+//! a board in play, and such a picture as lines of text.
+#![tactic(auto)]
+
+mod drawing;
+mod error;
+mod frame;
+mod laws;
+mod panel;
+mod picture;
+mod text;
+
+pub use drawing::{draw_board, draw_play};
+pub use error::ScreenError;
+pub use frame::{Cell, Frame};
+pub use laws::playtest_shows_its_board;
+pub use text::ascii;

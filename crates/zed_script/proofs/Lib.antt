@@ -1,0 +1,11 @@
+pub mod TextLemmas
+pub mod HeadingLemmas
+pub mod ConditionLemmas
+pub mod CommandLemmas
+pub mod LeastLemmas
+pub mod Building
+pub mod OneDirection
+pub mod OneInstruction
+pub mod LineLemmas
+pub mod OneCondition
+pub mod OneCommand

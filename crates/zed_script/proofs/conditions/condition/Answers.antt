@@ -1,0 +1,28 @@
+use Rattle.std.proofs.Common.{◌<◌, Bool, false, not, subst, arith}
+use Rattle.zed_script.specs.Condition.{ConditionAt}
+use Rattle.zed_script.proofs.ConditionLemmas.{first_not, flipped_false, flipped_not, last_test, not_moves}
+use Rattle.zed_script.proofs.conditions.condition.Goals as goal
+
+pub loop-test-smaller : goal.loop-test-smaller
+loop-test-smaller c =
+    let moves : c.loop-test.to < c.in_ok-test.end = not_moves c.args.program.now c.loop-test.to c.in_ok-test.test c.in_ok-test.end c.in_ok-test.ensures.is c.in-None.is in
+    let within = c.in_ok-test.ensures.within in
+    omega arith
+
+pub loop-test-preserved : goal.loop-test-preserved
+loop-test-preserved c = record {
+  so_far = λ b t e rest.
+      let P : Bool → Type 0 = λ x. ConditionAt c.args.program.now c.args.at x t e in
+      subst P (flipped_not c.loop-test.negated b)
+      (c.loop-test.invariant.so_far (not b) t e
+      (first_not c.args.program.now c.loop-test.to c.in_ok-test.test c.in_ok-test.end b t e c.in_ok-test.ensures.is c.in-None.is rest));
+  within = (let a = c.in_ok-test.ensures.within in let b = c.loop-test.invariant.within in omega arith);
+  after = (let a = c.in_ok-test.ensures.after in omega arith);
+}
+
+pub returns-in-Some-clause-is : goal.returns-in-Some-clause-is
+returns-in-Some-clause-is c =
+    let P : Bool → Type 0 = λ x. ConditionAt c.args.program.now c.args.at x c.in-Some.test c.in_ok-test.end in
+    subst P (flipped_false c.loop-test.negated)
+    (c.loop-test.invariant.so_far false c.in-Some.test c.in_ok-test.end
+    (last_test c.args.program.now c.loop-test.to c.in_ok-test.test c.in-Some.test c.in_ok-test.end c.in_ok-test.ensures.is c.in-Some.is))

@@ -1,0 +1,34 @@
+use Rattle.std.proofs.Common.{◌∙◌, ◌<◌, ◌++◌, ◌∷◌, [], List, subst, sym, ap, append_assoc, arith}
+use Rattle.std.proofs.lemmas.List.{append-nil}
+use Rattle.zed_script.specs.declared.heading.Turning.{Turning}
+use Rattle.zed_script.specs.Heading.{HeadingAt}
+use Rattle.zed_script.proofs.HeadingLemmas.{first_piece, last_piece, piece_moves}
+use Rattle.zed_script.proofs.heading.direction.Goals as goal
+
+pub loop-turns-smaller : goal.loop-turns-smaller
+loop-turns-smaller c =
+    let w = c.in_ok-piece.piece in
+    let moves : c.loop-turns.to < w.end = piece_moves c.args.program.now c.loop-turns.to w.turning c.in-Some.turning w.course w.end c.in_ok-piece.ensures.is c.in-Some.is in
+    let within = c.in_ok-piece.ensures.within in
+    omega arith
+
+pub loop-turns-preserved : goal.loop-turns-preserved
+loop-turns-preserved c =
+    let w = c.in_ok-piece.piece in
+    record {
+      so_far = λ ts d e rest.
+          let P : List Turning → Type 0 = λ l. HeadingAt c.args.program.now c.args.at l d e in
+          subst P (sym (ap (λ l. l ++ ts) c.in_ok-push-in-Some.ensures.ok ∙ append_assoc c.loop-turns.turns (c.in-Some.turning ∷ []) ts))
+          (c.loop-turns.invariant.so_far (c.in-Some.turning ∷ ts) d e
+          (first_piece c.args.program.now c.loop-turns.to w.turning c.in-Some.turning w.course w.end ts d e c.in_ok-piece.ensures.is c.in-Some.is rest));
+      within = (let a = c.in_ok-piece.ensures.within in let b = c.loop-turns.invariant.within in omega arith);
+      after = (let a = c.in_ok-piece.ensures.after in omega arith);
+    }
+
+pub returns-in-None-clause-is : goal.returns-in-None-clause-is
+returns-in-None-clause-is c =
+    let w = c.in_ok-piece.piece in
+    let P : List Turning → Type 0 = λ l. HeadingAt c.args.program.now c.args.at l w.course w.end in
+    subst P (append-nil c.loop-turns.turns)
+    (c.loop-turns.invariant.so_far [] w.course w.end
+    (last_piece c.args.program.now c.loop-turns.to w.turning w.course w.end c.in_ok-piece.ensures.is c.in-None.is))

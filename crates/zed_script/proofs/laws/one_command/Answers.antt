@@ -1,0 +1,5 @@
+use Rattle.zed_script.proofs.OneCommand.{command_one}
+use Rattle.zed_script.proofs.laws.one_command.Goals as goal
+
+pub returns : goal.returns
+returns c = record { alone = command_one }

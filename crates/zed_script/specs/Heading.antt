@@ -1,0 +1,51 @@
+-- Directions as a program writes them.
+use Rattle.std.specs.Prelude.{◌≡◌, ℕ, ◌||◌, if◌then◌else◌, List, [], ◌∷◌, Option, Some, None, codes}
+use Rattle.std.specs.Str.{bytes_eq}
+use Rattle.zed_script.specs.declared.heading.Course.{Course}
+use Rattle.zed_script.specs.declared.heading.Course.TheVariants.{North, South, East, West, Idle, Seek, Flow, Random, RandomNorthOrSouth, RandomNorthOrEast}
+use Rattle.zed_script.specs.declared.heading.Heading.{Heading}
+use Rattle.zed_script.specs.declared.heading.Turning.{Turning}
+use Rattle.zed_script.specs.declared.heading.Turning.TheVariants.{Clockwise, CounterClockwise, Opposite, Sideways}
+use Rattle.zed_script.specs.Text.{word_at, word_end}
+
+unfoldable pub turning_of : List ℕ → Option Turning
+turning_of w =
+    if bytes_eq w (codes "CW") then Some Clockwise else
+    if bytes_eq w (codes "CCW") then Some CounterClockwise else
+    if bytes_eq w (codes "OPP") then Some Opposite else
+    if bytes_eq w (codes "RNDP") then Some Sideways else None
+
+-- where a word leads by chance, or by what the object knows
+unfoldable pub chosen_of : List ℕ → Option Course
+chosen_of w =
+    if bytes_eq w (codes "SEEK") then Some Seek else
+    if bytes_eq w (codes "FLOW") then Some Flow else
+    if bytes_eq w (codes "RND") then Some Random else
+    if bytes_eq w (codes "RNDNS") then Some RandomNorthOrSouth else
+    if bytes_eq w (codes "RNDNE") then Some RandomNorthOrEast else None
+
+-- where a word leads
+unfoldable pub course_of : List ℕ → Option Course
+course_of w =
+    if bytes_eq w (codes "N") || bytes_eq w (codes "NORTH") then Some North else
+    if bytes_eq w (codes "S") || bytes_eq w (codes "SOUTH") then Some South else
+    if bytes_eq w (codes "E") || bytes_eq w (codes "EAST") then Some East else
+    if bytes_eq w (codes "W") || bytes_eq w (codes "WEST") then Some West else
+    if bytes_eq w (codes "I") || bytes_eq w (codes "IDLE") then Some Idle else chosen_of w
+
+-- a word of a direction: how it turns, if it does, where it leads if it doesn't, and its end
+pub record IsPiece (p : List ℕ) (at : ℕ) (turning : Option Turning) (course : Option Course) (end : ℕ) : Type 0 where
+  pub turns : turning_of (word_at p at) ≡ turning
+  pub leads : course_of (word_at p at) ≡ course
+  pub ends : word_end p at ≡ end
+
+-- words that turn stand at a place, and then one that doesn't, which leads somewhere or nowhere
+abbrev pub HeadingAt : List ℕ → ℕ → List Turning → Option Course → ℕ → Type 0
+HeadingAt p at [] course end =
+    (turning_of (word_at p at) ≡ None) × (course ≡ course_of (word_at p at)) × (end ≡ word_end p at)
+HeadingAt p at (t ∷ ts) course end =
+    (turning_of (word_at p at) ≡ Some t) × HeadingAt p (word_end p at) ts course end
+
+-- a direction stands at a place and ends before another
+abbrev pub DirectionAt : List ℕ → ℕ → Heading → ℕ → Type 0
+DirectionAt p at h end = HeadingAt p at h.turns h.course end

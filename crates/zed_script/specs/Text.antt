@@ -1,0 +1,61 @@
+-- Words, values and lines in the bytes of a program.
+use Rattle.std.specs.Prelude.{ℕ, ◌+◌, ◌-◌, ◌*◌, min, Bool, ◌||◌, not, ◌==◌, nat_lt, if◌then◌else◌, List, [], ◌∷◌, length, map, drop, slice_get, slice_range, Option, Some, None}
+use Rattle.std.specs.List.{prefix_len}
+use Rattle.std.specs.Char.{is_ascii_digit, is_ascii_alphanumeric, to_ascii_uppercase}
+use Rattle.zed_script.specs.declared.text.Class.{Class}
+use Rattle.zed_script.specs.declared.text.Class.TheVariants.{Space, Digit, Word, Line}
+
+abbrev pub is_of : Class → ℕ → Bool
+is_of Space b = b == 32
+is_of Digit b = is_ascii_digit b
+is_of Word b = is_ascii_alphanumeric b || b == 58 || b == 95
+is_of Line b = not (b == 13)
+
+-- where the longest run of a class ends that stands from a place on
+unfoldable pub run_end : Class → List ℕ → ℕ → ℕ
+run_end c p at = at + prefix_len (is_of c) (drop at p)
+
+-- a word stands after spaces
+abbrev pub word_start : List ℕ → ℕ → ℕ
+word_start p at = run_end Space p at
+
+-- none begins with a digit
+abbrev pub end_by_first : List ℕ → ℕ → Option ℕ → ℕ
+end_by_first p from None = from
+end_by_first p from (Some b) = if is_ascii_digit b then from else run_end Word p from
+
+unfoldable pub word_end : List ℕ → ℕ → ℕ
+word_end p at = end_by_first p (word_start p at) (slice_get p (word_start p at))
+
+abbrev pub upper : List ℕ → List ℕ
+upper = map to_ascii_uppercase
+
+-- the word at a place, in upper case
+unfoldable pub word_at : List ℕ → ℕ → List ℕ
+word_at p at = upper (slice_range p (word_start p at) (word_end p at))
+
+-- what a number spells with digits behind it
+abbrev pub number : ℕ → List ℕ → ℕ
+number n [] = n
+number n (d ∷ ds) = number (n * 10 + (d - 48)) ds
+
+-- a number with a digit more; over 32,767 it doesn't matter which
+abbrev pub with_digit : ℕ → ℕ → ℕ
+with_digit n d = if nat_lt 3276 n then 32767 else n * 10 + (d - 48)
+
+abbrev pub value_start : List ℕ → ℕ → ℕ
+value_start p at = run_end Space p at
+
+unfoldable pub value_end : List ℕ → ℕ → ℕ
+value_end p at = run_end Digit p (value_start p at)
+
+-- the value at a place: 0 without a digit, at most 32,767
+unfoldable pub value_at : List ℕ → ℕ → ℕ
+value_at p at = min (number 0 (slice_range p (value_start p at) (value_end p at))) 32767
+
+-- the place behind the line: past its byte 13, if it has one
+unfoldable pub line_end : List ℕ → ℕ → ℕ
+line_end p at = run_end Line p at
+
+unfoldable pub line_after : List ℕ → ℕ → ℕ
+line_after p at = if nat_lt (line_end p at) (length p) then line_end p at + 1 else line_end p at

@@ -1,0 +1,87 @@
+-- How the reader tells the words apart, which only its own contracts cite.
+use Rattle.std.specs.Prelude.{◌≡◌, ℕ, true, false, List, Option, Some, None, codes}
+use Rattle.zed_script.specs.declared.conditions.Question.{Question}
+use Rattle.zed_script.specs.declared.conditions.Question.TheVariants.{Not, Aligned, Contact, Blocked, Any, Energized}
+use Rattle.zed_script.specs.declared.conditions.Test.{Test}
+use Rattle.zed_script.specs.declared.conditions.Test.TheVariants.{Blocked as BlockedTest, Any as AnyTest}
+use Rattle.zed_script.specs.declared.commands.Bare.{Bare}
+use Rattle.zed_script.specs.declared.commands.Bare.TheVariants.{End, EndGame, Idle, Restart, Lock, Unlock, Die, Play, ThrowStar}
+use Rattle.zed_script.specs.declared.commands.Deed.{Deed}
+use Rattle.zed_script.specs.declared.commands.Deed.TheVariants.{Go, Try, Walk, Shoot, Put, If, Give, Take, Cycle, Char}
+use Rattle.zed_script.specs.declared.commands.Naming.{Naming}
+use Rattle.zed_script.specs.declared.commands.Naming.TheVariants.{Set, Clear, Send, Zap, Restore, Bind, Become, Change}
+use Rattle.zed_script.specs.Heading.{DirectionAt}
+use Rattle.zed_script.specs.Kind.{kind_at}
+use Rattle.zed_script.specs.Condition.{is_question}
+use Rattle.zed_script.specs.Command.{is_bare, is_deed, is_naming}
+
+-- the word of a question
+abbrev pub question_word : Question → List ℕ
+question_word Not = codes "NOT"
+question_word Aligned = codes "ALLIGNED"
+question_word Contact = codes "CONTACT"
+question_word Blocked = codes "BLOCKED"
+question_word Any = codes "ANY"
+question_word Energized = codes "ENERGIZED"
+
+-- which question a word is, if it is one
+abbrev pub IsQuestion : List ℕ → Option Question → Type 0
+IsQuestion w None = is_question w ≡ false
+IsQuestion w (Some q) = w ≡ question_word q
+
+-- the direction behind BLOCKED, and the kind behind ANY
+abbrev pub BlockedAt : List ℕ → ℕ → Option Test → ℕ → Type 0
+BlockedAt p at (Some (BlockedTest h)) end = DirectionAt p at h end
+BlockedAt p at _ end = ⊥
+
+abbrev pub AnyAt : List ℕ → ℕ → Option Test → ℕ → Type 0
+AnyAt p at (Some (AnyTest k)) end = kind_at p at true ≡ (k, end)
+AnyAt p at _ end = ⊥
+
+-- the word of a command that does, asks or counts
+abbrev pub deed_word : Deed → List ℕ
+deed_word Go = codes "GO"
+deed_word Try = codes "TRY"
+deed_word Walk = codes "WALK"
+deed_word Shoot = codes "SHOOT"
+deed_word Put = codes "PUT"
+deed_word If = codes "IF"
+deed_word Give = codes "GIVE"
+deed_word Take = codes "TAKE"
+deed_word Cycle = codes "CYCLE"
+deed_word Char = codes "CHAR"
+
+abbrev pub IsDeed : List ℕ → Option Deed → Type 0
+IsDeed w None = is_deed w ≡ false
+IsDeed w (Some v) = w ≡ deed_word v
+
+-- the word of a command that names something
+abbrev pub naming_word : Naming → List ℕ
+naming_word Set = codes "SET"
+naming_word Clear = codes "CLEAR"
+naming_word Send = codes "SEND"
+naming_word Zap = codes "ZAP"
+naming_word Restore = codes "RESTORE"
+naming_word Bind = codes "BIND"
+naming_word Become = codes "BECOME"
+naming_word Change = codes "CHANGE"
+
+abbrev pub IsNaming : List ℕ → Option Naming → Type 0
+IsNaming w None = is_naming w ≡ false
+IsNaming w (Some v) = w ≡ naming_word v
+
+-- the word of a command that stands alone
+abbrev pub bare_word : Bare → List ℕ
+bare_word End = codes "END"
+bare_word EndGame = codes "ENDGAME"
+bare_word Idle = codes "IDLE"
+bare_word Restart = codes "RESTART"
+bare_word Lock = codes "LOCK"
+bare_word Unlock = codes "UNLOCK"
+bare_word Die = codes "DIE"
+bare_word Play = codes "PLAY"
+bare_word ThrowStar = codes "THROWSTAR"
+
+abbrev pub IsBare : List ℕ → Option Bare → Type 0
+IsBare w None = is_bare w ≡ false
+IsBare w (Some v) = w ≡ bare_word v

@@ -1,0 +1,458 @@
+//! Commands as a program writes them.
+ghost use Rattle.std.specs.Prelude.{◌≡◌, ◌≤◌, IfOk, IfSome, Some, length, max};
+ghost use Rattle.zed_script.specs.Command.{AimAt, AmountAt, BehindThen, CommandAt, CommandBehind, ThenAt, ExchangeAt, NameAt, counter_of};
+ghost use Rattle.zed_script.specs.Verbs.{IsBare, IsDeed, IsNaming, bare_word, deed_word, naming_word};
+
+use crate::conditions::{Query, condition};
+use crate::heading::{Heading, direction};
+use crate::kinds::{TileKind, kind};
+use crate::text::{is_word, value_at, value_end, word_at, word_end};
+use std::alloc::{AllocError, Global};
+use zed_types::Bytes;
+
+/// A number that programs give and take.
+#[derive(Clone, Copy, Debug, PartialEq, Eq)]
+pub enum Counter {
+    Health,
+    Ammo,
+    Gems,
+    Torches,
+    Score,
+    Time,
+}
+
+/// A command as a program writes it. None stands for a counter or a kind that there isn't.
+#[derive(Debug, Drop)]
+pub enum Command {
+    Go(Heading),
+    Try(Heading),
+    Walk(Heading),
+    Shoot(Heading),
+    Set(Bytes),
+    Clear(Bytes),
+    If(Query),
+    Give(Option<Counter>, u16),
+    Take(Option<Counter>, u16),
+    End,
+    EndGame,
+    Idle,
+    Restart,
+    Send(Bytes),
+    Zap(Bytes),
+    Restore(Bytes),
+    Lock,
+    Unlock,
+    Become(Option<TileKind>),
+    Die,
+    Put(Heading, Option<TileKind>),
+    Change(Option<TileKind>, Option<TileKind>),
+    Cycle(u16),
+    Char(u16),
+    Bind(Bytes),
+    /// PLAY and THROWSTAR, which do nothing here.
+    Nothing,
+    /// Any other word: a message to that label.
+    Other(Bytes),
+}
+
+/// A command that does, asks or counts something.
+#[derive(Clone, Copy)]
+enum Deed {
+    Go,
+    Try,
+    Walk,
+    Shoot,
+    Put,
+    If,
+    Give,
+    Take,
+    Cycle,
+    Char,
+}
+
+/// The command that does, asks or counts something which a word is, if it is one.
+#[tactic(auto, unfolding(crate::specs::Command::is_deed))]
+fn deed_of(word: &[u8]) -> Option<Deed>
+    ensures { IsDeed word.now result }
+{
+    if is_word(word, "GO") {
+        Some(Deed::Go)
+    } else if is_word(word, "TRY") {
+        Some(Deed::Try)
+    } else if is_word(word, "WALK") {
+        Some(Deed::Walk)
+    } else if is_word(word, "SHOOT") {
+        Some(Deed::Shoot)
+    } else if is_word(word, "PUT") {
+        Some(Deed::Put)
+    } else if is_word(word, "IF") {
+        Some(Deed::If)
+    } else if is_word(word, "GIVE") {
+        Some(Deed::Give)
+    } else if is_word(word, "TAKE") {
+        Some(Deed::Take)
+    } else if is_word(word, "CYCLE") {
+        Some(Deed::Cycle)
+    } else if is_word(word, "CHAR") {
+        Some(Deed::Char)
+    } else {
+        None
+    }
+}
+
+/// A command that names something.
+#[derive(Clone, Copy)]
+enum Naming {
+    Set,
+    Clear,
+    Send,
+    Zap,
+    Restore,
+    Bind,
+    Become,
+    Change,
+}
+
+/// The command that names something which a word is, if it is one.
+#[tactic(auto, unfolding(crate::specs::Command::is_naming))]
+fn naming_of(word: &[u8]) -> Option<Naming>
+    ensures { IsNaming word.now result }
+{
+    if is_word(word, "SET") {
+        Some(Naming::Set)
+    } else if is_word(word, "CLEAR") {
+        Some(Naming::Clear)
+    } else if is_word(word, "SEND") {
+        Some(Naming::Send)
+    } else if is_word(word, "ZAP") {
+        Some(Naming::Zap)
+    } else if is_word(word, "RESTORE") {
+        Some(Naming::Restore)
+    } else if is_word(word, "BIND") {
+        Some(Naming::Bind)
+    } else if is_word(word, "BECOME") {
+        Some(Naming::Become)
+    } else if is_word(word, "CHANGE") {
+        Some(Naming::Change)
+    } else {
+        None
+    }
+}
+
+/// A command that stands alone.
+#[derive(Clone, Copy)]
+enum Bare {
+    End,
+    EndGame,
+    Idle,
+    Restart,
+    Lock,
+    Unlock,
+    Die,
+    Play,
+    ThrowStar,
+}
+
+/// The command that stands alone which a word is, if it is one.
+#[tactic(auto, unfolding(crate::specs::Command::is_bare))]
+fn bare_of(word: &[u8]) -> Option<Bare>
+    ensures { IsBare word.now result }
+{
+    if is_word(word, "END") {
+        Some(Bare::End)
+    } else if is_word(word, "ENDGAME") {
+        Some(Bare::EndGame)
+    } else if is_word(word, "IDLE") {
+        Some(Bare::Idle)
+    } else if is_word(word, "RESTART") {
+        Some(Bare::Restart)
+    } else if is_word(word, "LOCK") {
+        Some(Bare::Lock)
+    } else if is_word(word, "UNLOCK") {
+        Some(Bare::Unlock)
+    } else if is_word(word, "DIE") {
+        Some(Bare::Die)
+    } else if is_word(word, "PLAY") {
+        Some(Bare::Play)
+    } else if is_word(word, "THROWSTAR") {
+        Some(Bare::ThrowStar)
+    } else {
+        None
+    }
+}
+
+/// The counter of a word.
+#[tactic(auto, unfolding(crate::specs::Command::counter_of))]
+fn counter_of(word: &[u8]) -> Option<Counter>
+    ensures { result ≡ counter_of word.now }
+{
+    if is_word(word, "HEALTH") {
+        Some(Counter::Health)
+    } else if is_word(word, "AMMO") {
+        Some(Counter::Ammo)
+    } else if is_word(word, "GEMS") {
+        Some(Counter::Gems)
+    } else if is_word(word, "TORCHES") {
+        Some(Counter::Torches)
+    } else if is_word(word, "SCORE") {
+        Some(Counter::Score)
+    } else if is_word(word, "TIME") {
+        Some(Counter::Time)
+    } else {
+        None
+    }
+}
+
+/// A counter and a value.
+fn amount_at(
+    alloc: Global,
+    program: &[u8],
+    at: usize,
+) -> Result<((Option<Counter>, u16), usize), AllocError>
+    ensures is { IfOk result (λ r. AmountAt program.now at r.0 r.1) }
+    ensures within { IfOk result (λ r. r.1 ≤ max at (length program.now)) }
+    ensures after { IfOk result (λ r. at ≤ r.1) }
+{
+    let name = word_at(alloc, program, at)?;
+    let end = word_end(program, at);
+    let value = value_at(program, end);
+    Ok((
+        (counter_of(name.as_slice()), value),
+        value_end(program, end),
+    ))
+}
+
+/// A direction and a kind.
+fn aim_at(
+    alloc: Global,
+    program: &[u8],
+    at: usize,
+) -> Result<((Heading, Option<TileKind>), usize), AllocError>
+    ensures is { IfOk result (λ r. AimAt program.now at r.0 r.1) }
+    ensures within { IfOk result (λ r. r.1 ≤ max at (length program.now)) }
+    ensures after { IfOk result (λ r. at ≤ r.1) }
+{
+    let (heading, end) = direction(alloc, program, at)?;
+    let (kind, last) = kind(alloc, program, end, false)?;
+    Ok(((heading, kind), last))
+}
+
+/// Two kinds.
+fn exchange_at(
+    alloc: Global,
+    program: &[u8],
+    at: usize,
+) -> Result<((Option<TileKind>, Option<TileKind>), usize), AllocError>
+    ensures is { IfOk result (λ r. ExchangeAt program.now at r.0 r.1) }
+    ensures within { IfOk result (λ r. r.1 ≤ max at (length program.now)) }
+    ensures after { IfOk result (λ r. at ≤ r.1) }
+{
+    let (first, end) = kind(alloc, program, at, false)?;
+    let (second, last) = kind(alloc, program, end, false)?;
+    Ok(((first, second), last))
+}
+
+/// A word.
+fn name_at(alloc: Global, program: &[u8], at: usize) -> Result<(Bytes, usize), AllocError>
+    ensures is { IfOk result (λ r. NameAt program.now at r.0 r.1) }
+    ensures within { IfOk result (λ r. r.1 ≤ max at (length program.now)) }
+    ensures after { IfOk result (λ r. at ≤ r.1) }
+{
+    let word = word_at(alloc, program, at)?;
+    let end = word_end(program, at);
+    Ok((word, end))
+}
+
+/// The command of such a word, which ends at a place.
+fn deed_behind(
+    alloc: Global,
+    program: &[u8],
+    word: &Bytes,
+    verb: Deed,
+    at: usize,
+) -> Result<(Command, usize), AllocError>
+    requires said { word.now ≡ deed_word verb }
+    ensures is { IfOk result (λ r. CommandBehind program.now word.now at r.0 r.1) }
+    ensures within { IfOk result (λ r. r.1 ≤ max at (length program.now)) }
+    ensures after { IfOk result (λ r. at ≤ r.1) }
+{
+    match verb {
+        Deed::Go => {
+            let (heading, end) = direction(alloc, program, at)?;
+            Ok((Command::Go(heading), end))
+        }
+        Deed::Try => {
+            let (heading, end) = direction(alloc, program, at)?;
+            Ok((Command::Try(heading), end))
+        }
+        Deed::Walk => {
+            let (heading, end) = direction(alloc, program, at)?;
+            Ok((Command::Walk(heading), end))
+        }
+        Deed::Shoot => {
+            let (heading, end) = direction(alloc, program, at)?;
+            Ok((Command::Shoot(heading), end))
+        }
+        Deed::Put => {
+            let ((heading, kind), end) = aim_at(alloc, program, at)?;
+            Ok((Command::Put(heading, kind), end))
+        }
+        Deed::If => {
+            let (query, end) = condition(alloc, program, at)?;
+            Ok((Command::If(query), end))
+        }
+        Deed::Give => {
+            let ((counter, value), end) = amount_at(alloc, program, at)?;
+            Ok((Command::Give(counter, value), end))
+        }
+        Deed::Take => {
+            let ((counter, value), end) = amount_at(alloc, program, at)?;
+            Ok((Command::Take(counter, value), end))
+        }
+        Deed::Cycle => Ok((
+            Command::Cycle(value_at(program, at)),
+            value_end(program, at),
+        )),
+        Deed::Char => Ok((Command::Char(value_at(program, at)), value_end(program, at))),
+    }
+}
+
+/// The command of such a word, which ends at a place.
+fn naming_behind(
+    alloc: Global,
+    program: &[u8],
+    word: &Bytes,
+    verb: Naming,
+    at: usize,
+) -> Result<(Command, usize), AllocError>
+    requires said { word.now ≡ naming_word verb }
+    ensures is { IfOk result (λ r. CommandBehind program.now word.now at r.0 r.1) }
+    ensures within { IfOk result (λ r. r.1 ≤ max at (length program.now)) }
+    ensures after { IfOk result (λ r. at ≤ r.1) }
+{
+    match verb {
+        Naming::Set => {
+            let (name, end) = name_at(alloc, program, at)?;
+            Ok((Command::Set(name), end))
+        }
+        Naming::Clear => {
+            let (name, end) = name_at(alloc, program, at)?;
+            Ok((Command::Clear(name), end))
+        }
+        Naming::Send => {
+            let (name, end) = name_at(alloc, program, at)?;
+            Ok((Command::Send(name), end))
+        }
+        Naming::Zap => {
+            let (name, end) = name_at(alloc, program, at)?;
+            Ok((Command::Zap(name), end))
+        }
+        Naming::Restore => {
+            let (name, end) = name_at(alloc, program, at)?;
+            Ok((Command::Restore(name), end))
+        }
+        Naming::Bind => {
+            let (name, end) = name_at(alloc, program, at)?;
+            Ok((Command::Bind(name), end))
+        }
+        Naming::Become => {
+            let (kind, end) = kind(alloc, program, at, false)?;
+            Ok((Command::Become(kind), end))
+        }
+        Naming::Change => {
+            let ((first, second), end) = exchange_at(alloc, program, at)?;
+            Ok((Command::Change(first, second), end))
+        }
+    }
+}
+
+/// The command of such a word.
+fn bare_command(program: &[u8], word: &Bytes, verb: Bare, at: usize) -> Command
+    requires said { word.now ≡ bare_word verb }
+    ensures { CommandBehind program.now word.now at result at }
+{
+    match verb {
+        Bare::End => Command::End,
+        Bare::EndGame => Command::EndGame,
+        Bare::Idle => Command::Idle,
+        Bare::Restart => Command::Restart,
+        Bare::Lock => Command::Lock,
+        Bare::Unlock => Command::Unlock,
+        Bare::Die => Command::Die,
+        Bare::Play => Command::Nothing,
+        Bare::ThrowStar => Command::Nothing,
+    }
+}
+
+/// The command whose word ends at a place.
+fn command_behind(
+    alloc: Global,
+    program: &[u8],
+    word: Bytes,
+    at: usize,
+) -> Result<(Command, usize), AllocError>
+    ensures is { IfOk result (λ r. CommandBehind program.now word at r.0 r.1) }
+    ensures within { IfOk result (λ r. r.1 ≤ max at (length program.now)) }
+    ensures after { IfOk result (λ r. at ≤ r.1) }
+{
+    if let Some(verb) = deed_of(word.as_slice()) {
+        return deed_behind(alloc, program, &word, verb, at);
+    }
+    if let Some(verb) = naming_of(word.as_slice()) {
+        return naming_behind(alloc, program, &word, verb, at);
+    }
+    match bare_of(word.as_slice()) {
+        Some(verb) => Ok((bare_command(program, &word, verb, at), at)),
+        None => Ok((Command::Other(word), at)),
+    }
+}
+
+/// Where THEN ends, if it stands at a place.
+fn then_end(alloc: Global, program: &[u8], at: usize) -> Result<Option<usize>, AllocError>
+    ensures is { IfOk result (λ r. ThenAt program.now at r) }
+    ensures within { IfOk result (λ r. IfSome r (λ end. end ≤ max at (length program.now))) }
+    ensures after { IfOk result (λ r. IfSome r (λ end. at ≤ end)) }
+{
+    let word = word_at(alloc, program, at)?;
+    if is_word(word.as_slice(), "THEN") {
+        Ok(Some(word_end(program, at)))
+    } else {
+        Ok(None)
+    }
+}
+
+/// Where the words THEN end that stand at a place.
+fn behind_then(alloc: Global, program: &[u8], at: usize) -> Result<usize, AllocError>
+    ensures is { IfOk result (λ r. BehindThen program.now at r) }
+    ensures within { IfOk result (λ r. r ≤ max at (length program.now)) }
+    ensures after { IfOk result (λ r. at ≤ r) }
+{
+    let mut from = at;
+    loop {
+        match then_end(alloc, program, from)? {
+            Some(end) => from = end,
+            None => return Ok(from),
+        }
+    }
+}
+
+#[tactic(auto)]
+/// The command that stands at a place, or None where no word does, and the place behind it. THEN is passed over.
+pub fn next_command(
+    alloc: Global,
+    program: &[u8],
+    at: usize,
+) -> Result<(Option<Command>, usize), AllocError>
+    ensures is { IfOk result (λ r. CommandAt program.now at r.0 r.1) }
+    ensures within { IfOk result (λ r. r.1 ≤ max at (length program.now)) }
+    ensures after { IfOk result (λ r. at ≤ r.1) }
+{
+    let from = behind_then(alloc, program, at)?;
+    let word = word_at(alloc, program, from)?;
+    let end = word_end(program, from);
+    if word.as_slice().is_empty() {
+        return Ok((None, end));
+    }
+    let (command, last) = command_behind(alloc, program, word, end)?;
+    Ok((Some(command), last))
+}

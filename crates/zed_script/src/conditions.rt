@@ -1,0 +1,155 @@
+//! Conditions as a program writes them.
+ghost use Rattle.std.specs.Prelude.{◌≡◌, ◌≤◌, IfOk, length, max};
+ghost use Rattle.zed_script.specs.Condition.{PartAt, PartBehind, QueryAt};
+ghost use Rattle.zed_script.specs.Verbs.{AnyAt, BlockedAt, IsQuestion, question_word};
+
+use crate::heading::{Heading, direction};
+use crate::kinds::{TileKind, kind};
+use crate::text::{is_word, word_at, word_end};
+use std::alloc::{AllocError, Global};
+use zed_types::Bytes;
+
+/// What is asked.
+#[derive(Debug, Drop)]
+pub enum Test {
+    /// In the same row or column as the player.
+    Aligned,
+    /// Beside the player.
+    Contact,
+    /// What is ahead can't be walked on.
+    Blocked(Heading),
+    /// A tile of the kind is on the board; None where no kind was named.
+    Any(Option<TileKind>),
+    Energized,
+    /// A flag has this word.
+    Flag(Bytes),
+}
+
+/// A condition as a program writes it.
+#[derive(Debug, Drop)]
+pub struct Query {
+    pub negated: bool,
+    pub test: Test,
+}
+
+/// Which test a word begins that isn't a flag's.
+#[derive(Clone, Copy)]
+enum Question {
+    Not,
+    Aligned,
+    Contact,
+    Blocked,
+    Any,
+    Energized,
+}
+
+/// The question that a word is, or None where it is a flag's.
+#[tactic(auto, unfolding(crate::specs::Condition::is_question))]
+fn question_of(word: &[u8]) -> Option<Question>
+    ensures { IsQuestion word.now result }
+{
+    if is_word(word, "NOT") {
+        Some(Question::Not)
+    } else if is_word(word, "ALLIGNED") {
+        Some(Question::Aligned)
+    } else if is_word(word, "CONTACT") {
+        Some(Question::Contact)
+    } else if is_word(word, "BLOCKED") {
+        Some(Question::Blocked)
+    } else if is_word(word, "ANY") {
+        Some(Question::Any)
+    } else if is_word(word, "ENERGIZED") {
+        Some(Question::Energized)
+    } else {
+        None
+    }
+}
+
+/// The direction behind BLOCKED.
+fn blocked_at(alloc: Global, program: &[u8], at: usize) -> Result<(Option<Test>, usize), AllocError>
+    ensures is { IfOk result (λ r. BlockedAt program.now at r.0 r.1) }
+    ensures within { IfOk result (λ r. r.1 ≤ max at (length program.now)) }
+    ensures after { IfOk result (λ r. at ≤ r.1) }
+{
+    let (heading, end) = direction(alloc, program, at)?;
+    Ok((Some(Test::Blocked(heading)), end))
+}
+
+/// The kind behind ANY.
+fn any_at(alloc: Global, program: &[u8], at: usize) -> Result<(Option<Test>, usize), AllocError>
+    ensures is { IfOk result (λ r. AnyAt program.now at r.0 r.1) }
+    ensures within { IfOk result (λ r. r.1 ≤ max at (length program.now)) }
+    ensures after { IfOk result (λ r. at ≤ r.1) }
+{
+    let (kind, end) = kind(alloc, program, at, true)?;
+    Ok((Some(Test::Any(kind)), end))
+}
+
+/// The test that a question begins whose word ends at a place, or None where that is NOT.
+fn asked_behind(
+    alloc: Global,
+    program: &[u8],
+    word: &Bytes,
+    question: Question,
+    at: usize,
+) -> Result<(Option<Test>, usize), AllocError>
+    requires said { word.now ≡ question_word question }
+    ensures is { IfOk result (λ r. PartBehind program.now word.now at r.0 r.1) }
+    ensures within { IfOk result (λ r. r.1 ≤ max at (length program.now)) }
+    ensures after { IfOk result (λ r. at ≤ r.1) }
+{
+    match question {
+        Question::Not => Ok((None, at)),
+        Question::Aligned => Ok((Some(Test::Aligned), at)),
+        Question::Contact => Ok((Some(Test::Contact), at)),
+        Question::Blocked => blocked_at(alloc, program, at),
+        Question::Any => any_at(alloc, program, at),
+        Question::Energized => Ok((Some(Test::Energized), at)),
+    }
+}
+
+/// The test whose first word ends at a place, or None where that is NOT.
+fn test_behind(
+    alloc: Global,
+    program: &[u8],
+    word: Bytes,
+    at: usize,
+) -> Result<(Option<Test>, usize), AllocError>
+    ensures is { IfOk result (λ r. PartBehind program.now word at r.0 r.1) }
+    ensures within { IfOk result (λ r. r.1 ≤ max at (length program.now)) }
+    ensures after { IfOk result (λ r. at ≤ r.1) }
+{
+    match question_of(word.as_slice()) {
+        Some(question) => asked_behind(alloc, program, &word, question, at),
+        None => Ok((Some(Test::Flag(word)), at)),
+    }
+}
+
+/// The test that stands at a place, or None where NOT does.
+fn test_at(alloc: Global, program: &[u8], at: usize) -> Result<(Option<Test>, usize), AllocError>
+    ensures is { IfOk result (λ r. PartAt program.now at r.0 r.1) }
+    ensures within { IfOk result (λ r. r.1 ≤ max at (length program.now)) }
+    ensures after { IfOk result (λ r. at ≤ r.1) }
+{
+    let word = word_at(alloc, program, at)?;
+    let end = word_end(program, at);
+    test_behind(alloc, program, word, end)
+}
+
+/// The condition that stands at a place, and the place behind it.
+pub fn condition(alloc: Global, program: &[u8], at: usize) -> Result<(Query, usize), AllocError>
+    ensures is { IfOk result (λ r. QueryAt program.now at r.0 r.1) }
+    ensures within { IfOk result (λ r. r.1 ≤ max at (length program.now)) }
+    ensures after { IfOk result (λ r. at ≤ r.1) }
+{
+    let mut negated = false;
+    let mut to = at;
+    loop {
+        let (test, end) = test_at(alloc, program, to)?;
+        match test {
+            Some(test) => return Ok((Query { negated, test }, end)),
+            None => negated = !negated,
+        }
+        to = end;
+    }
+}

@@ -1,0 +1,144 @@
+//! Directions as a program writes them.
+ghost use Rattle.std.specs.Prelude.{◌≡◌, ◌≤◌, IfOk, Some, length, max};
+ghost use Rattle.zed_script.specs.Heading.{DirectionAt, IsPiece, chosen_of, course_of, turning_of};
+
+use crate::text::{is_word, word_at, word_end};
+use std::alloc::{AllocError, Global};
+use zed_types::Seq;
+
+/// How a direction is turned.
+#[derive(Clone, Copy, Debug, PartialEq, Eq)]
+pub enum Turning {
+    Clockwise,
+    CounterClockwise,
+    Opposite,
+    /// To the one side or the other, by chance.
+    Sideways,
+}
+
+/// A direction that isn't turned.
+#[derive(Clone, Copy, Debug, PartialEq, Eq)]
+pub enum Course {
+    North,
+    South,
+    East,
+    West,
+    Idle,
+    Seek,
+    Flow,
+    Random,
+    RandomNorthOrSouth,
+    RandomNorthOrEast,
+}
+
+/// A direction as a program writes it.
+#[derive(Debug, Drop)]
+pub struct Heading {
+    /// The first of them turns last.
+    pub turns: Seq<Turning>,
+    /// None where no word of a direction stands behind the turns.
+    pub course: Option<Course>,
+}
+
+#[tactic(auto, unfolding(crate::specs::Heading::turning_of))]
+fn turning_of(word: &[u8]) -> Option<Turning>
+    ensures { result ≡ turning_of word.now }
+{
+    if is_word(word, "CW") {
+        Some(Turning::Clockwise)
+    } else if is_word(word, "CCW") {
+        Some(Turning::CounterClockwise)
+    } else if is_word(word, "OPP") {
+        Some(Turning::Opposite)
+    } else if is_word(word, "RNDP") {
+        Some(Turning::Sideways)
+    } else {
+        None
+    }
+}
+
+/// Where a word leads by chance, or by what the object knows.
+#[tactic(auto, unfolding(crate::specs::Heading::chosen_of))]
+fn chosen_of(word: &[u8]) -> Option<Course>
+    ensures { result ≡ chosen_of word.now }
+{
+    if is_word(word, "SEEK") {
+        Some(Course::Seek)
+    } else if is_word(word, "FLOW") {
+        Some(Course::Flow)
+    } else if is_word(word, "RND") {
+        Some(Course::Random)
+    } else if is_word(word, "RNDNS") {
+        Some(Course::RandomNorthOrSouth)
+    } else if is_word(word, "RNDNE") {
+        Some(Course::RandomNorthOrEast)
+    } else {
+        None
+    }
+}
+
+/// Where a word leads.
+#[tactic(auto, unfolding(crate::specs::Heading::course_of))]
+fn course_of(word: &[u8]) -> Option<Course>
+    ensures { result ≡ course_of word.now }
+{
+    if is_word(word, "N") || is_word(word, "NORTH") {
+        Some(Course::North)
+    } else if is_word(word, "S") || is_word(word, "SOUTH") {
+        Some(Course::South)
+    } else if is_word(word, "E") || is_word(word, "EAST") {
+        Some(Course::East)
+    } else if is_word(word, "W") || is_word(word, "WEST") {
+        Some(Course::West)
+    } else if is_word(word, "I") || is_word(word, "IDLE") {
+        Some(Course::Idle)
+    } else {
+        chosen_of(word)
+    }
+}
+
+/// A word of a direction: what it says, and the place behind it.
+#[derive(Clone, Copy)]
+struct Piece {
+    turning: Option<Turning>,
+    course: Option<Course>,
+    end: usize,
+}
+
+/// The word of a direction that stands at a place.
+fn piece_at(alloc: Global, program: &[u8], at: usize) -> Result<Piece, AllocError>
+    ensures is { IfOk result (λ r. IsPiece program.now at r.turning r.course r.end) }
+    ensures within { IfOk result (λ r. r.end ≤ max at (length program.now)) }
+    ensures after { IfOk result (λ r. at ≤ r.end) }
+{
+    let word = word_at(alloc, program, at)?;
+    let turning = turning_of(word.as_slice());
+    let course = course_of(word.as_slice());
+    let end = word_end(program, at);
+    Ok(Piece {
+        turning,
+        course,
+        end,
+    })
+}
+
+/// The direction that stands at a place, and the place behind it.
+pub fn direction(alloc: Global, program: &[u8], at: usize) -> Result<(Heading, usize), AllocError>
+    ensures is { IfOk result (λ r. DirectionAt program.now at r.0 r.1) }
+    ensures within { IfOk result (λ r. r.1 ≤ max at (length program.now)) }
+    ensures after { IfOk result (λ r. at ≤ r.1) }
+{
+    let mut turns = Seq::new(alloc);
+    let mut to = at;
+    loop {
+        let piece = piece_at(alloc, program, to)?;
+        match piece.turning {
+            Some(turning) => turns.push(turning)?,
+            None => {
+                let course = piece.course;
+                return Ok((Heading { turns, course }, piece.end));
+            }
+        }
+        to = piece.end;
+    }
+}

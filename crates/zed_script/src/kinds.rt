@@ -1,0 +1,146 @@
+//! Kinds of tiles as a program writes them.
+ghost use Rattle.std.specs.Prelude.{◌≡◌, ◌≤◌, IfOk, length, max};
+ghost use Rattle.zed_script.specs.Kind.{allowed, colour_of, element_below, element_of, is_element, kind_at, kind_of, matches, tile_of};
+
+use crate::text::{is_word, word_at, word_end};
+use std::alloc::{AllocError, Global};
+use zed_types::{Tile, element};
+
+/// The number of the player's element.
+const PLAYER: u8 = 4;
+
+/// A kind of tiles: an element, of one colour or of any.
+#[derive(Clone, Copy, Debug, PartialEq, Eq)]
+pub struct TileKind {
+    pub colour: Option<u8>,
+    pub element: u8,
+}
+
+impl TileKind {
+    /// Whether a tile is of the kind.
+    pub fn matches(self, tile: Tile) -> bool
+        ensures { result ≡ matches self tile }
+    {
+        if tile.element != self.element {
+            return false;
+        }
+        match self.colour {
+            Some(colour) => tile.colour % 16 == colour,
+            None => true,
+        }
+    }
+
+    /// A tile of the kind, which has this colour where the kind has none.
+    pub fn tile(self, colour: u8) -> Tile
+        ensures { result ≡ tile_of self colour }
+    {
+        Tile {
+            element: self.element,
+            colour: match self.colour {
+                Some(own) => own,
+                None => colour,
+            },
+        }
+    }
+}
+
+#[tactic(auto, unfolding(crate::specs::Kind::colour_of))]
+fn colour_of(word: &[u8]) -> Option<u8>
+    ensures { result ≡ colour_of word.now }
+{
+    if is_word(word, "BLUE") {
+        Some(9)
+    } else if is_word(word, "GREEN") {
+        Some(10)
+    } else if is_word(word, "CYAN") {
+        Some(11)
+    } else if is_word(word, "RED") {
+        Some(12)
+    } else if is_word(word, "PURPLE") {
+        Some(13)
+    } else if is_word(word, "YELLOW") {
+        Some(14)
+    } else if is_word(word, "WHITE") {
+        Some(15)
+    } else {
+        None
+    }
+}
+
+/// Whether an element has this word.
+#[tactic(auto, unfolding(crate::specs::Kind::is_element))]
+fn is_element(word: &[u8], n: u8) -> bool
+    ensures { result ≡ is_element word.now n }
+{
+    is_word(word, element(n).word)
+}
+
+/// The element below `n` that has this word.
+fn element_below(word: &[u8], n: u8) -> Option<u8>
+    ensures { result ≡ element_below n word.now }
+{
+    if n == 0 {
+        return None;
+    }
+    if is_element(word, n - 1) {
+        return Some(n - 1);
+    }
+    element_below(word, n - 1)
+}
+
+/// The element of this word; an empty word is of none.
+#[tactic(auto, unfolding(crate::specs::Kind::element_of))]
+fn element_of(word: &[u8]) -> Option<u8>
+    ensures { result ≡ element_of word.now }
+{
+    if word.is_empty() {
+        None
+    } else {
+        element_below(word, 54)
+    }
+}
+
+/// The kind, unless it is the player's where that isn't allowed.
+fn allowed(kind: TileKind, player: bool) -> Option<TileKind>
+    ensures { result ≡ allowed kind player }
+{
+    if kind.element == PLAYER && !player {
+        None
+    } else {
+        Some(kind)
+    }
+}
+
+fn kind_of(colour: Option<u8>, word: &[u8], player: bool) -> Option<TileKind>
+    ensures { result ≡ kind_of colour word.now player }
+{
+    match element_of(word) {
+        Some(element) => allowed(TileKind { colour, element }, player),
+        None => None,
+    }
+}
+
+#[tactic(auto, unfolding(crate::specs::Kind::kind_at))]
+/// The kind that stands at a place, or None where none does, and the place behind its words. The player is a kind only where that
+/// is allowed.
+pub fn kind(
+    alloc: Global,
+    program: &[u8],
+    at: usize,
+    player: bool,
+) -> Result<(Option<TileKind>, usize), AllocError>
+    ensures is { IfOk result (λ r. r ≡ kind_at program.now at player) }
+    ensures within { IfOk result (λ r. r.1 ≤ max at (length program.now)) }
+    ensures after { IfOk result (λ r. at ≤ r.1) }
+{
+    let first = word_at(alloc, program, at)?;
+    let end = word_end(program, at);
+    match colour_of(first.as_slice()) {
+        Some(colour) => {
+            let second = word_at(alloc, program, end)?;
+            let last = word_end(program, end);
+            Ok((kind_of(Some(colour), second.as_slice(), player), last))
+        }
+        None => Ok((kind_of(None, first.as_slice(), player), end)),
+    }
+}

@@ -1,0 +1,32 @@
+//! That one thing stands at each place of a program.
+ghost use Rattle.std.specs.Prelude.{◌≡◌, ℕ, List, Option};
+ghost use Rattle.zed_script.specs.declared.commands.Command.{Command};
+ghost use Rattle.zed_script.specs.declared.conditions.Query.{Query};
+ghost use Rattle.zed_script.specs.declared.heading.Heading.{Heading};
+ghost use Rattle.zed_script.specs.declared.lines.Instruction.{Instruction};
+ghost use Rattle.zed_script.specs.Command.{CommandAt};
+ghost use Rattle.zed_script.specs.Condition.{QueryAt};
+ghost use Rattle.zed_script.specs.Heading.{DirectionAt};
+ghost use Rattle.zed_script.specs.Line.{InstructionAt};
+
+/// A direction stands at each place, known or not, and no other does there, nor one that ends elsewhere.
+pub fn one_direction()
+    ensures stands { (p : List ℕ) (at : ℕ) → (h : Heading) × ((end : ℕ) × DirectionAt p at h end) }
+    ensures alone { (p : List ℕ) (at : ℕ) (h g : Heading) (m n : ℕ) → DirectionAt p at h m → DirectionAt p at g n → (h ≡ g) × (m ≡ n) }
+{}
+
+/// At most one condition stands at a place, and it ends at one place.
+pub fn one_condition()
+    ensures alone { (p : List ℕ) (at : ℕ) (q r : Query) (m n : ℕ) → QueryAt p at q m → QueryAt p at r n → (q ≡ r) × (m ≡ n) }
+{}
+
+/// At most one command stands at a place, or no word does, and it ends at one place.
+pub fn one_command()
+    ensures alone { (p : List ℕ) (at : ℕ) (c d : Option Command) (m n : ℕ) → CommandAt p at c m → CommandAt p at d n → (c ≡ d) × (m ≡ n) }
+{}
+
+/// An instruction stands at each place, and no other does there, nor one behind which the program goes on elsewhere.
+pub fn one_instruction()
+    ensures stands { (p : List ℕ) (at : ℕ) → (i : Instruction) × ((next : ℕ) × InstructionAt p at i next) }
+    ensures alone { (p : List ℕ) (at : ℕ) (i j : Instruction) (m n : ℕ) → InstructionAt p at i m → InstructionAt p at j n → (i ≡ j) × (m ≡ n) }
+{}

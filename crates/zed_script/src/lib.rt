@@ -1,0 +1,21 @@
+//! Programs of objects as they are written: words, values, lines, directions, conditions, kinds, commands and labels, each read
+//! from the bytes of a program at a place. What they do on a board is told elsewhere.
+#![tactic(auto)]
+
+mod commands;
+mod conditions;
+mod heading;
+mod kinds;
+mod labels;
+mod laws;
+mod lines;
+mod text;
+
+pub use commands::{Command, Counter, next_command};
+pub use conditions::{Query, Test, condition};
+pub use heading::{Course, Heading, Turning, direction};
+pub use kinds::{TileKind, kind};
+pub use labels::{byte_is, first_label, is_restart, label_at, label_place};
+pub use laws::{one_command, one_condition, one_direction, one_instruction};
+pub use lines::{Instruction, Line, LineKind, Program, standing_at};
+pub use text::{is_word, line_after, line_end, word_at, word_end};

@@ -1,0 +1,186 @@
+//! Words, values and lines in the bytes of a program.
+ghost use Rattle.std.specs.Prelude.{◌≡◌, ◌<◌, ◌≤◌, IfOk, IsTrue, length, max, min, slice_get, slice_range};
+ghost use Rattle.std.specs.Str.{bytes_eq};
+ghost use Rattle.zed_script.specs.Text.{is_of, end_by_first, number, with_digit, value_at, line_after, line_end, run_end, upper, value_end, word_at, word_end, word_start};
+
+use std::alloc::{AllocError, Global};
+use zed_types::Bytes;
+
+/// What a run of bytes is made of.
+#[derive(Clone, Copy, Debug)]
+pub(crate) enum Class {
+    Space,
+    Digit,
+    /// Letters, digits, `:` and `_`.
+    Word,
+    /// All but the end of a line.
+    Line,
+}
+
+fn is_of(class: Class, byte: u8) -> bool
+    ensures { result ≡ is_of class byte }
+{
+    match class {
+        Class::Space => byte == b' ',
+        Class::Digit => byte.is_ascii_digit(),
+        Class::Word => byte.is_ascii_alphanumeric() || byte == b':' || byte == b'_',
+        Class::Line => byte != 13,
+    }
+}
+
+/// Where the bytes of a class end that stand from a place on.
+pub(crate) fn run_end(class: Class, program: &[u8], at: usize) -> usize
+    ensures is { result ≡ run_end class program.now at }
+    ensures within { result ≤ max at (length program.now) }
+    ensures after { at ≤ result }
+{
+    let mut to = at;
+    while to < program.len() && is_of(class, program[to]) {
+        to += 1;
+    }
+    to
+}
+
+/// The bytes from a place to another one, of which there are none past the end.
+pub(crate) fn part(program: &[u8], from: usize, to: usize) -> &[u8]
+    requires ordered { from ≤ to }
+    requires within { to ≤ max from (length program.now) }
+    ensures { result.now ≡ slice_range program.now from to }
+{
+    if to > program.len() {
+        return &[];
+    }
+    &program[from..to]
+}
+
+/// Where the spaces end that stand from a place on.
+fn word_start(program: &[u8], at: usize) -> usize
+    ensures is { result ≡ word_start program.now at }
+    ensures within { result ≤ max at (length program.now) }
+    ensures after { at ≤ result }
+{
+    run_end(Class::Space, program, at)
+}
+
+/// Where the word ends that begins at a place.
+fn end_of_word(program: &[u8], from: usize) -> usize
+    ensures is { result ≡ end_by_first program.now from (slice_get program.now from) }
+    ensures within { result ≤ max from (length program.now) }
+    ensures after { from ≤ result }
+{
+    match program.get(from) {
+        Some(byte) => {
+            if byte.is_ascii_digit() {
+                from
+            } else {
+                run_end(Class::Word, program, from)
+            }
+        }
+        None => from,
+    }
+}
+
+#[tactic(auto, unfolding(crate::specs::Text::word_end))]
+/// Where the word ends that stands at a place.
+pub fn word_end(program: &[u8], at: usize) -> usize
+    ensures is { result ≡ word_end program.now at }
+    ensures within { result ≤ max at (length program.now) }
+    ensures after { at ≤ result }
+{
+    let from = word_start(program, at);
+    end_of_word(program, from)
+}
+
+/// Bytes in upper case.
+fn upper(alloc: Global, bytes: &[u8]) -> Result<Bytes, AllocError>
+    ensures { IfOk result (λ b. b ≡ upper bytes.now) }
+{
+    let mut out = Vec::new(alloc);
+    for byte in bytes {
+        out.push(byte.to_ascii_uppercase())?;
+    }
+    Ok(Bytes::new(out))
+}
+
+#[tactic(auto, unfolding(crate::specs::Text::word_at, crate::specs::Text::word_end))]
+/// The word that stands at a place, in upper case.
+pub fn word_at(alloc: Global, program: &[u8], at: usize) -> Result<Bytes, AllocError>
+    ensures { IfOk result (λ w. w ≡ word_at program.now at) }
+{
+    let from = word_start(program, at);
+    let to = end_of_word(program, from);
+    upper(alloc, part(program, from, to))
+}
+
+/// A number with a digit more, or one that is as good where it is over 32,767 by then.
+fn with_digit(n: u32, digit: u8) -> u32
+    ensures { result ≡ with_digit n digit }
+{
+    if n > 3276 {
+        32767
+    } else {
+        n * 10 + u32::from(digit.saturating_sub(48))
+    }
+}
+
+/// The number that digits spell, at most 32,767.
+fn number_of(digits: &[u8]) -> u16
+    ensures { result ≡ min (number 0 digits.now) 32767 }
+{
+    let mut n: u32 = 0;
+    for digit in digits {
+        n = with_digit(n, *digit);
+    }
+    if n > 32767 { 32767 } else { n as u16 }
+}
+
+/// The value that stands at a place: 0 without a digit, at most 32,767.
+#[tactic(auto, unfolding(crate::specs::Text::value_at, crate::specs::Text::value_end))]
+pub(crate) fn value_at(program: &[u8], at: usize) -> u16
+    ensures { result ≡ value_at program.now at }
+{
+    let from = run_end(Class::Space, program, at);
+    let to = run_end(Class::Digit, program, from);
+    number_of(part(program, from, to))
+}
+
+#[tactic(auto, unfolding(crate::specs::Text::value_end))]
+/// Where the value ends that stands at a place.
+pub(crate) fn value_end(program: &[u8], at: usize) -> usize
+    ensures is { result ≡ value_end program.now at }
+    ensures within { result ≤ max at (length program.now) }
+    ensures after { at ≤ result }
+{
+    let from = run_end(Class::Space, program, at);
+    run_end(Class::Digit, program, from)
+}
+
+#[tactic(auto, unfolding(crate::specs::Text::line_end))]
+/// Where the line ends that stands at a place: at its byte 13, or at the end.
+pub fn line_end(program: &[u8], at: usize) -> usize
+    ensures is { result ≡ line_end program.now at }
+    ensures within { result ≤ max at (length program.now) }
+    ensures after { at ≤ result }
+{
+    run_end(Class::Line, program, at)
+}
+
+#[tactic(auto, unfolding(crate::specs::Text::line_after))]
+/// The place behind the line that stands at a place.
+pub fn line_after(program: &[u8], at: usize) -> usize
+    ensures is { result ≡ line_after program.now at }
+    ensures within { result ≤ max at (length program.now) }
+    ensures after { at ≤ result }
+    ensures moves { at < length program.now → at < result }
+{
+    let to = line_end(program, at);
+    if to < program.len() { to + 1 } else { to }
+}
+
+/// Whether a word is this one.
+pub fn is_word(word: &[u8], name: &str) -> bool
+    ensures is { result ≡ bytes_eq word.now name.now }
+    ensures same { IsTrue result → word.now ≡ name.now }
+{
+    word == name.as_bytes()
+}
