@@ -209,9 +209,9 @@ fn amount_at(
     program: &[u8],
     at: usize,
 ) -> Result<((Option<Counter>, u16), usize), AllocError>
-    ensures is { IfOk result (λ r. AmountAt program.now at r.0 r.1) }
+    ensures result { IfOk result (λ r. AmountAt program.now at r.0 r.1) }
     ensures within { IfOk result (λ r. r.1 ≤ max at (length program.now)) }
-    ensures after { IfOk result (λ r. at ≤ r.1) }
+    ensures ends { IfOk result (λ r. at ≤ r.1) }
 {
     let name = word_at(alloc, program, at)?;
     let end = word_end(program, at);
@@ -228,9 +228,9 @@ fn aim_at(
     program: &[u8],
     at: usize,
 ) -> Result<((Heading, Option<TileKind>), usize), AllocError>
-    ensures is { IfOk result (λ r. AimAt program.now at r.0 r.1) }
+    ensures result { IfOk result (λ r. AimAt program.now at r.0 r.1) }
     ensures within { IfOk result (λ r. r.1 ≤ max at (length program.now)) }
-    ensures after { IfOk result (λ r. at ≤ r.1) }
+    ensures ends { IfOk result (λ r. at ≤ r.1) }
 {
     let (heading, end) = direction(alloc, program, at)?;
     let (kind, last) = kind(alloc, program, end, false)?;
@@ -243,9 +243,9 @@ fn exchange_at(
     program: &[u8],
     at: usize,
 ) -> Result<((Option<TileKind>, Option<TileKind>), usize), AllocError>
-    ensures is { IfOk result (λ r. ExchangeAt program.now at r.0 r.1) }
+    ensures result { IfOk result (λ r. ExchangeAt program.now at r.0 r.1) }
     ensures within { IfOk result (λ r. r.1 ≤ max at (length program.now)) }
-    ensures after { IfOk result (λ r. at ≤ r.1) }
+    ensures ends { IfOk result (λ r. at ≤ r.1) }
 {
     let (first, end) = kind(alloc, program, at, false)?;
     let (second, last) = kind(alloc, program, end, false)?;
@@ -254,9 +254,9 @@ fn exchange_at(
 
 /// A word.
 fn name_at(alloc: Global, program: &[u8], at: usize) -> Result<(Bytes, usize), AllocError>
-    ensures is { IfOk result (λ r. NameAt program.now at r.0 r.1) }
+    ensures result { IfOk result (λ r. NameAt program.now at r.0 r.1) }
     ensures within { IfOk result (λ r. r.1 ≤ max at (length program.now)) }
-    ensures after { IfOk result (λ r. at ≤ r.1) }
+    ensures ends { IfOk result (λ r. at ≤ r.1) }
 {
     let word = word_at(alloc, program, at)?;
     let end = word_end(program, at);
@@ -272,9 +272,9 @@ fn deed_behind(
     at: usize,
 ) -> Result<(Command, usize), AllocError>
     requires said { word.now ≡ deed_word verb }
-    ensures is { IfOk result (λ r. CommandBehind program.now word.now at r.0 r.1) }
+    ensures result { IfOk result (λ r. CommandBehind program.now word.now at r.0 r.1) }
     ensures within { IfOk result (λ r. r.1 ≤ max at (length program.now)) }
-    ensures after { IfOk result (λ r. at ≤ r.1) }
+    ensures ends { IfOk result (λ r. at ≤ r.1) }
 {
     match verb {
         Deed::Go => {
@@ -326,9 +326,9 @@ fn naming_behind(
     at: usize,
 ) -> Result<(Command, usize), AllocError>
     requires said { word.now ≡ naming_word verb }
-    ensures is { IfOk result (λ r. CommandBehind program.now word.now at r.0 r.1) }
+    ensures result { IfOk result (λ r. CommandBehind program.now word.now at r.0 r.1) }
     ensures within { IfOk result (λ r. r.1 ≤ max at (length program.now)) }
-    ensures after { IfOk result (λ r. at ≤ r.1) }
+    ensures ends { IfOk result (λ r. at ≤ r.1) }
 {
     match verb {
         Naming::Set => {
@@ -391,9 +391,9 @@ fn command_behind(
     word: Bytes,
     at: usize,
 ) -> Result<(Command, usize), AllocError>
-    ensures is { IfOk result (λ r. CommandBehind program.now word at r.0 r.1) }
+    ensures result { IfOk result (λ r. CommandBehind program.now word at r.0 r.1) }
     ensures within { IfOk result (λ r. r.1 ≤ max at (length program.now)) }
-    ensures after { IfOk result (λ r. at ≤ r.1) }
+    ensures ends { IfOk result (λ r. at ≤ r.1) }
 {
     if let Some(verb) = deed_of(word.as_slice()) {
         return deed_behind(alloc, program, &word, verb, at);
@@ -409,9 +409,9 @@ fn command_behind(
 
 /// Where THEN ends, if it stands at a place.
 fn then_end(alloc: Global, program: &[u8], at: usize) -> Result<Option<usize>, AllocError>
-    ensures is { IfOk result (λ r. ThenAt program.now at r) }
+    ensures result { IfOk result (λ r. ThenAt program.now at r) }
     ensures within { IfOk result (λ r. IfSome r (λ end. end ≤ max at (length program.now))) }
-    ensures after { IfOk result (λ r. IfSome r (λ end. at ≤ end)) }
+    ensures ends { IfOk result (λ r. IfSome r (λ end. at ≤ end)) }
 {
     let word = word_at(alloc, program, at)?;
     if is_word(word.as_slice(), "THEN") {
@@ -423,9 +423,9 @@ fn then_end(alloc: Global, program: &[u8], at: usize) -> Result<Option<usize>, A
 
 /// Where the words THEN end that stand at a place.
 fn behind_then(alloc: Global, program: &[u8], at: usize) -> Result<usize, AllocError>
-    ensures is { IfOk result (λ r. BehindThen program.now at r) }
+    ensures result { IfOk result (λ r. BehindThen program.now at r) }
     ensures within { IfOk result (λ r. r ≤ max at (length program.now)) }
-    ensures after { IfOk result (λ r. at ≤ r) }
+    ensures ends { IfOk result (λ r. at ≤ r) }
 {
     let mut from = at;
     loop {
@@ -443,9 +443,9 @@ pub fn next_command(
     program: &[u8],
     at: usize,
 ) -> Result<(Option<Command>, usize), AllocError>
-    ensures is { IfOk result (λ r. CommandAt program.now at r.0 r.1) }
+    ensures result { IfOk result (λ r. CommandAt program.now at r.0 r.1) }
     ensures within { IfOk result (λ r. r.1 ≤ max at (length program.now)) }
-    ensures after { IfOk result (λ r. at ≤ r.1) }
+    ensures ends { IfOk result (λ r. at ≤ r.1) }
 {
     let from = behind_then(alloc, program, at)?;
     let word = word_at(alloc, program, from)?;

@@ -67,9 +67,9 @@ fn question_of(word: &[u8]) -> Option<Question>
 
 /// The direction behind BLOCKED.
 fn blocked_at(alloc: Global, program: &[u8], at: usize) -> Result<(Option<Test>, usize), AllocError>
-    ensures is { IfOk result (λ r. BlockedAt program.now at r.0 r.1) }
+    ensures result { IfOk result (λ r. BlockedAt program.now at r.0 r.1) }
     ensures within { IfOk result (λ r. r.1 ≤ max at (length program.now)) }
-    ensures after { IfOk result (λ r. at ≤ r.1) }
+    ensures ends { IfOk result (λ r. at ≤ r.1) }
 {
     let (heading, end) = direction(alloc, program, at)?;
     Ok((Some(Test::Blocked(heading)), end))
@@ -77,9 +77,9 @@ fn blocked_at(alloc: Global, program: &[u8], at: usize) -> Result<(Option<Test>,
 
 /// The kind behind ANY.
 fn any_at(alloc: Global, program: &[u8], at: usize) -> Result<(Option<Test>, usize), AllocError>
-    ensures is { IfOk result (λ r. AnyAt program.now at r.0 r.1) }
+    ensures result { IfOk result (λ r. AnyAt program.now at r.0 r.1) }
     ensures within { IfOk result (λ r. r.1 ≤ max at (length program.now)) }
-    ensures after { IfOk result (λ r. at ≤ r.1) }
+    ensures ends { IfOk result (λ r. at ≤ r.1) }
 {
     let (kind, end) = kind(alloc, program, at, true)?;
     Ok((Some(Test::Any(kind)), end))
@@ -94,9 +94,9 @@ fn asked_behind(
     at: usize,
 ) -> Result<(Option<Test>, usize), AllocError>
     requires said { word.now ≡ question_word question }
-    ensures is { IfOk result (λ r. PartBehind program.now word.now at r.0 r.1) }
+    ensures result { IfOk result (λ r. PartBehind program.now word.now at r.0 r.1) }
     ensures within { IfOk result (λ r. r.1 ≤ max at (length program.now)) }
-    ensures after { IfOk result (λ r. at ≤ r.1) }
+    ensures ends { IfOk result (λ r. at ≤ r.1) }
 {
     match question {
         Question::Not => Ok((None, at)),
@@ -115,9 +115,9 @@ fn test_behind(
     word: Bytes,
     at: usize,
 ) -> Result<(Option<Test>, usize), AllocError>
-    ensures is { IfOk result (λ r. PartBehind program.now word at r.0 r.1) }
+    ensures result { IfOk result (λ r. PartBehind program.now word at r.0 r.1) }
     ensures within { IfOk result (λ r. r.1 ≤ max at (length program.now)) }
-    ensures after { IfOk result (λ r. at ≤ r.1) }
+    ensures ends { IfOk result (λ r. at ≤ r.1) }
 {
     match question_of(word.as_slice()) {
         Some(question) => asked_behind(alloc, program, &word, question, at),
@@ -127,9 +127,9 @@ fn test_behind(
 
 /// The test that stands at a place, or None where NOT does.
 fn test_at(alloc: Global, program: &[u8], at: usize) -> Result<(Option<Test>, usize), AllocError>
-    ensures is { IfOk result (λ r. PartAt program.now at r.0 r.1) }
+    ensures result { IfOk result (λ r. PartAt program.now at r.0 r.1) }
     ensures within { IfOk result (λ r. r.1 ≤ max at (length program.now)) }
-    ensures after { IfOk result (λ r. at ≤ r.1) }
+    ensures ends { IfOk result (λ r. at ≤ r.1) }
 {
     let word = word_at(alloc, program, at)?;
     let end = word_end(program, at);
@@ -138,9 +138,9 @@ fn test_at(alloc: Global, program: &[u8], at: usize) -> Result<(Option<Test>, us
 
 /// The condition that stands at a place, and the place behind it.
 pub fn condition(alloc: Global, program: &[u8], at: usize) -> Result<(Query, usize), AllocError>
-    ensures is { IfOk result (λ r. QueryAt program.now at r.0 r.1) }
+    ensures result { IfOk result (λ r. QueryAt program.now at r.0 r.1) }
     ensures within { IfOk result (λ r. r.1 ≤ max at (length program.now)) }
-    ensures after { IfOk result (λ r. at ≤ r.1) }
+    ensures ends { IfOk result (λ r. at ≤ r.1) }
 {
     let mut negated = false;
     let mut to = at;

@@ -107,9 +107,9 @@ struct Piece {
 
 /// The word of a direction that stands at a place.
 fn piece_at(alloc: Global, program: &[u8], at: usize) -> Result<Piece, AllocError>
-    ensures is { IfOk result (λ r. IsPiece program.now at r.turning r.course r.end) }
+    ensures result { IfOk result (λ r. IsPiece program.now at r.turning r.course r.end) }
     ensures within { IfOk result (λ r. r.end ≤ max at (length program.now)) }
-    ensures after { IfOk result (λ r. at ≤ r.end) }
+    ensures ends { IfOk result (λ r. at ≤ r.end) }
 {
     let word = word_at(alloc, program, at)?;
     let turning = turning_of(word.as_slice());
@@ -124,9 +124,9 @@ fn piece_at(alloc: Global, program: &[u8], at: usize) -> Result<Piece, AllocErro
 
 /// The direction that stands at a place, and the place behind it.
 pub fn direction(alloc: Global, program: &[u8], at: usize) -> Result<(Heading, usize), AllocError>
-    ensures is { IfOk result (λ r. DirectionAt program.now at r.0 r.1) }
+    ensures result { IfOk result (λ r. DirectionAt program.now at r.0 r.1) }
     ensures within { IfOk result (λ r. r.1 ≤ max at (length program.now)) }
-    ensures after { IfOk result (λ r. at ≤ r.1) }
+    ensures ends { IfOk result (λ r. at ≤ r.1) }
 {
     let mut turns = Seq::new(alloc);
     let mut to = at;

@@ -129,9 +129,9 @@ pub fn kind(
     at: usize,
     player: bool,
 ) -> Result<(Option<TileKind>, usize), AllocError>
-    ensures is { IfOk result (λ r. r ≡ kind_at program.now at player) }
+    ensures result { IfOk result (λ r. r ≡ kind_at program.now at player) }
     ensures within { IfOk result (λ r. r.1 ≤ max at (length program.now)) }
-    ensures after { IfOk result (λ r. at ≤ r.1) }
+    ensures ends { IfOk result (λ r. at ≤ r.1) }
 {
     let first = word_at(alloc, program, at)?;
     let end = word_end(program, at);

@@ -66,7 +66,7 @@ pub fn label_at(mark: u8, program: &[u8], at: usize, label: &[u8]) -> bool
 #[tactic(auto, unfolding(crate::specs::Label::first_label))]
 /// The place of the first label of this word.
 pub fn first_label(program: &[u8], label: &[u8]) -> Option<usize>
-    ensures is { result ≡ first_label program.now label.now }
+    ensures result { result ≡ first_label program.now label.now }
     ensures within { IfSome result (λ at. at < length program.now) }
 {
     for at in 0..program.len() {

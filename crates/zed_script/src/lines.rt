@@ -99,8 +99,8 @@ pub fn standing_at(
     program: &[u8],
     at: usize,
 ) -> Result<(Instruction, usize), AllocError>
-    ensures is { IfOk result (λ r. InstructionAt program.now at r.0 r.1) }
-    ensures ahead { IfOk result (λ r. IsAhead r.0 at r.1 (length program.now)) }
+    ensures result { IfOk result (λ r. InstructionAt program.now at r.0 r.1) }
+    ensures ends { IfOk result (λ r. IsAhead r.0 at r.1 (length program.now)) }
 {
     if at >= program.len() {
         return Ok((Instruction::End, at));

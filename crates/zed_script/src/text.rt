@@ -30,9 +30,9 @@ fn is_of(class: Class, byte: u8) -> bool
 
 /// Where the bytes of a class end that stand from a place on.
 pub(crate) fn run_end(class: Class, program: &[u8], at: usize) -> usize
-    ensures is { result ≡ run_end class program.now at }
+    ensures result { result ≡ run_end class program.now at }
     ensures within { result ≤ max at (length program.now) }
-    ensures after { at ≤ result }
+    ensures ends { at ≤ result }
 {
     let mut to = at;
     while to < program.len() && is_of(class, program[to]) {
@@ -55,18 +55,18 @@ pub(crate) fn part(program: &[u8], from: usize, to: usize) -> &[u8]
 
 /// Where the spaces end that stand from a place on.
 fn word_start(program: &[u8], at: usize) -> usize
-    ensures is { result ≡ word_start program.now at }
+    ensures result { result ≡ word_start program.now at }
     ensures within { result ≤ max at (length program.now) }
-    ensures after { at ≤ result }
+    ensures ends { at ≤ result }
 {
     run_end(Class::Space, program, at)
 }
 
 /// Where the word ends that begins at a place.
 fn end_of_word(program: &[u8], from: usize) -> usize
-    ensures is { result ≡ end_by_first program.now from (slice_get program.now from) }
+    ensures result { result ≡ end_by_first program.now from (slice_get program.now from) }
     ensures within { result ≤ max from (length program.now) }
-    ensures after { from ≤ result }
+    ensures ends { from ≤ result }
 {
     match program.get(from) {
         Some(byte) => {
@@ -83,9 +83,9 @@ fn end_of_word(program: &[u8], from: usize) -> usize
 #[tactic(auto, unfolding(crate::specs::Text::word_end))]
 /// Where the word ends that stands at a place.
 pub fn word_end(program: &[u8], at: usize) -> usize
-    ensures is { result ≡ word_end program.now at }
+    ensures result { result ≡ word_end program.now at }
     ensures within { result ≤ max at (length program.now) }
-    ensures after { at ≤ result }
+    ensures ends { at ≤ result }
 {
     let from = word_start(program, at);
     end_of_word(program, from)
@@ -147,9 +147,9 @@ pub(crate) fn value_at(program: &[u8], at: usize) -> u16
 #[tactic(auto, unfolding(crate::specs::Text::value_end))]
 /// Where the value ends that stands at a place.
 pub(crate) fn value_end(program: &[u8], at: usize) -> usize
-    ensures is { result ≡ value_end program.now at }
+    ensures result { result ≡ value_end program.now at }
     ensures within { result ≤ max at (length program.now) }
-    ensures after { at ≤ result }
+    ensures ends { at ≤ result }
 {
     let from = run_end(Class::Space, program, at);
     run_end(Class::Digit, program, from)
@@ -158,9 +158,9 @@ pub(crate) fn value_end(program: &[u8], at: usize) -> usize
 #[tactic(auto, unfolding(crate::specs::Text::line_end))]
 /// Where the line ends that stands at a place: at its byte 13, or at the end.
 pub fn line_end(program: &[u8], at: usize) -> usize
-    ensures is { result ≡ line_end program.now at }
+    ensures result { result ≡ line_end program.now at }
     ensures within { result ≤ max at (length program.now) }
-    ensures after { at ≤ result }
+    ensures ends { at ≤ result }
 {
     run_end(Class::Line, program, at)
 }
@@ -168,9 +168,9 @@ pub fn line_end(program: &[u8], at: usize) -> usize
 #[tactic(auto, unfolding(crate::specs::Text::line_after))]
 /// The place behind the line that stands at a place.
 pub fn line_after(program: &[u8], at: usize) -> usize
-    ensures is { result ≡ line_after program.now at }
+    ensures result { result ≡ line_after program.now at }
     ensures within { result ≤ max at (length program.now) }
-    ensures after { at ≤ result }
+    ensures ends { at ≤ result }
     ensures moves { at < length program.now → at < result }
 {
     let to = line_end(program, at);
@@ -179,7 +179,7 @@ pub fn line_after(program: &[u8], at: usize) -> usize
 
 /// Whether a word is this one.
 pub fn is_word(word: &[u8], name: &str) -> bool
-    ensures is { result ≡ bytes_eq word.now name.now }
+    ensures result { result ≡ bytes_eq word.now name.now }
     ensures same { IsTrue result → word.now ≡ name.now }
 {
     word == name.as_bytes()

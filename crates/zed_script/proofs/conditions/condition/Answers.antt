@@ -5,7 +5,7 @@ use Rattle.zed_script.proofs.conditions.condition.Goals as goal
 
 pub loop-test-smaller : goal.loop-test-smaller
 loop-test-smaller c =
-    let moves : c.loop-test.to < c.in_ok-test.end = not_moves c.args.program.now c.loop-test.to c.in_ok-test.test c.in_ok-test.end c.in_ok-test.ensures.is c.in-None.is in
+    let moves : c.loop-test.to < c.in_ok-test.end = not_moves c.args.program.now c.loop-test.to c.in_ok-test.test c.in_ok-test.end c.in_ok-test.ensures.result c.in-None.is in
     let within = c.in_ok-test.ensures.within in
     omega arith
 
@@ -15,14 +15,14 @@ loop-test-preserved c = record {
       let P : Bool → Type 0 = λ x. ConditionAt c.args.program.now c.args.at x t e in
       subst P (flipped_not c.loop-test.negated b)
       (c.loop-test.invariant.so_far (not b) t e
-      (first_not c.args.program.now c.loop-test.to c.in_ok-test.test c.in_ok-test.end b t e c.in_ok-test.ensures.is c.in-None.is rest));
+      (first_not c.args.program.now c.loop-test.to c.in_ok-test.test c.in_ok-test.end b t e c.in_ok-test.ensures.result c.in-None.is rest));
   within = (let a = c.in_ok-test.ensures.within in let b = c.loop-test.invariant.within in omega arith);
-  after = (let a = c.in_ok-test.ensures.after in omega arith);
+  after = (let a = c.in_ok-test.ensures.ends in omega arith);
 }
 
-pub returns-in-Some-clause-is : goal.returns-in-Some-clause-is
-returns-in-Some-clause-is c =
+pub returns-in-Some-clause-result : goal.returns-in-Some-clause-result
+returns-in-Some-clause-result c =
     let P : Bool → Type 0 = λ x. ConditionAt c.args.program.now c.args.at x c.in-Some.test c.in_ok-test.end in
     subst P (flipped_false c.loop-test.negated)
     (c.loop-test.invariant.so_far false c.in-Some.test c.in_ok-test.end
-    (last_test c.args.program.now c.loop-test.to c.in_ok-test.test c.in-Some.test c.in_ok-test.end c.in_ok-test.ensures.is c.in-Some.is))
+    (last_test c.args.program.now c.loop-test.to c.in_ok-test.test c.in-Some.test c.in_ok-test.end c.in_ok-test.ensures.result c.in-Some.is))

@@ -8,7 +8,7 @@ use Rattle.zed_script.proofs.heading.direction.Goals as goal
 pub loop-turns-smaller : goal.loop-turns-smaller
 loop-turns-smaller c =
     let w = c.in_ok-piece.piece in
-    let moves : c.loop-turns.to < w.end = piece_moves c.args.program.now c.loop-turns.to w.turning c.in-Some.turning w.course w.end c.in_ok-piece.ensures.is c.in-Some.is in
+    let moves : c.loop-turns.to < w.end = piece_moves c.args.program.now c.loop-turns.to w.turning c.in-Some.turning w.course w.end c.in_ok-piece.ensures.result c.in-Some.is in
     let within = c.in_ok-piece.ensures.within in
     omega arith
 
@@ -20,15 +20,15 @@ loop-turns-preserved c =
           let P : List Turning → Type 0 = λ l. HeadingAt c.args.program.now c.args.at l d e in
           subst P (sym (ap (λ l. l ++ ts) c.in_ok-push-in-Some.ensures.ok ∙ append_assoc c.loop-turns.turns (c.in-Some.turning ∷ []) ts))
           (c.loop-turns.invariant.so_far (c.in-Some.turning ∷ ts) d e
-          (first_piece c.args.program.now c.loop-turns.to w.turning c.in-Some.turning w.course w.end ts d e c.in_ok-piece.ensures.is c.in-Some.is rest));
+          (first_piece c.args.program.now c.loop-turns.to w.turning c.in-Some.turning w.course w.end ts d e c.in_ok-piece.ensures.result c.in-Some.is rest));
       within = (let a = c.in_ok-piece.ensures.within in let b = c.loop-turns.invariant.within in omega arith);
-      after = (let a = c.in_ok-piece.ensures.after in omega arith);
+      after = (let a = c.in_ok-piece.ensures.ends in omega arith);
     }
 
-pub returns-in-None-clause-is : goal.returns-in-None-clause-is
-returns-in-None-clause-is c =
+pub returns-in-None-clause-result : goal.returns-in-None-clause-result
+returns-in-None-clause-result c =
     let w = c.in_ok-piece.piece in
     let P : List Turning → Type 0 = λ l. HeadingAt c.args.program.now c.args.at l w.course w.end in
     subst P (append-nil c.loop-turns.turns)
     (c.loop-turns.invariant.so_far [] w.course w.end
-    (last_piece c.args.program.now c.loop-turns.to w.turning w.course w.end c.in_ok-piece.ensures.is c.in-None.is))
+    (last_piece c.args.program.now c.loop-turns.to w.turning w.course w.end c.in_ok-piece.ensures.result c.in-None.is))

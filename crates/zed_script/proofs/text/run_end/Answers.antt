@@ -9,9 +9,9 @@ loop-to-preserved c = record {
   after = omega arith;
 }
 
-pub returns-else-is_of-clause-is : goal.returns-else-is_of-clause-is
-returns-else-is_of-clause-is c =
+pub returns-else-is_of-clause-result : goal.returns-else-is_of-clause-result
+returns-else-is_of-clause-result c =
     sym (run_stops c.args.class c.args.program.now c.loop-to.to (omega arith) (search rules)) ∙ c.loop-to.invariant.same
 
-pub returns-after-loop-to-clause-is : goal.returns-after-loop-to-clause-is
-returns-after-loop-to-clause-is c = sym (run_at_end c.args.class c.args.program.now c.loop-to.to (omega arith)) ∙ c.loop-to.invariant.same
+pub returns-after-loop-to-clause-result : goal.returns-after-loop-to-clause-result
+returns-after-loop-to-clause-result c = sym (run_at_end c.args.class c.args.program.now c.loop-to.to (omega arith)) ∙ c.loop-to.invariant.same
