@@ -15,9 +15,12 @@ use std::process::ExitCode;
 use system::{Access, SystemHost};
 use zed_program::{Action, ParseError, parse, run};
 
-// The words after the program's name.
+// The words after the program's name. They are pushed one by one: `collect` goes on after a growth that is refused, with a smaller one.
 fn words_of(rt: &HostRuntime) -> io::Result<Vec<String>> {
-    let words = env::args(rt)?.skip(1).collect(rt.alloc())?;
+    let mut words = Vec::new(rt.alloc());
+    for word in env::args(rt)?.skip(1) {
+        words.push(word)?;
+    }
     Ok(words)
 }
 
