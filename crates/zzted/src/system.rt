@@ -2,9 +2,12 @@
 ghost use Rattle.std.specs.Prelude.{◌≡◌, None, is_err};
 ghost use Rattle.zed_program.specs.HostContents.{Counts};
 
+use crate::fresh::write;
+use crate::hold::{held, stands};
+use crate::place::Place;
 use std::alloc::{AllocError, Global};
-use std::io::{ErrorKind, Read, Write};
-use std::{fs, io};
+use std::fs::{self, File};
+use std::io::{self, ErrorKind, Read, Write};
 use zed_program::{Host, ReadError, WriteError};
 
 /// A file that has not ended after so many reads is a failure.
@@ -13,16 +16,102 @@ const READS: u32 = 1_048_576;
 /// Most bytes of one read.
 const PIECE: usize = 4096;
 
+/// How a command gets to the one file that it writes.
+#[derive(Drop)]
+pub enum Access {
+    /// It writes none.
+    Read,
+    /// It writes the file.
+    Write(Place),
+    /// It reads the file and writes it again; nobody else does so in between.
+    Edit(Place),
+}
+
+impl Access {
+    /// The access of a command that writes the file of a place, if there is one.
+    pub fn writing(place: Option<Place>) -> Access {
+        match place {
+            Some(place) => Access::Write(place),
+            None => Access::Read,
+        }
+    }
+
+    /// The access of a command that reads the file of a place, if there is one, and writes it again.
+    pub fn editing(place: Option<Place>) -> Access {
+        match place {
+            Some(place) => Access::Edit(place),
+            None => Access::Read,
+        }
+    }
+
+    // The place of a name that is written.
+    fn written(&self, name: &str) -> Option<&Place> {
+        match self {
+            Access::Write(place) | Access::Edit(place) if place.is_of(name) => Some(place),
+            _ => None,
+        }
+    }
+
+    // The place of a name that is read and written again.
+    fn edited(&self, name: &str) -> Option<&Place> {
+        match self {
+            Access::Edit(place) if place.is_of(name) => Some(place),
+            _ => None,
+        }
+    }
+}
+
 /// Files by their paths; `stdin` and `stdout` are the streams. It doesn't tell what they hold.
 #[derive(Drop)]
 pub struct SystemHost {
     rt: HostRuntime,
+    access: Access,
+    // what is edited, as it was read; its lock is held until it is closed
+    held: Option<File>,
     failures: u64,
 }
 
 impl SystemHost {
-    pub fn new(rt: HostRuntime) -> SystemHost {
-        SystemHost { rt, failures: 0 }
+    /// A host for a command that writes what `access` tells, and nothing else.
+    pub fn new(rt: HostRuntime, access: Access) -> SystemHost {
+        SystemHost {
+            rt,
+            access,
+            held: None,
+            failures: 0,
+        }
+    }
+
+    // Reads the file of a name.
+    fn read_named(&mut self, name: &str) -> Result<Vec<u8>, Stop>
+        ensures kept { self.new.failures ≡ self.old.failures }
+    {
+        let alloc = self.rt.alloc();
+        if name == "stdin" {
+            return read_whole(alloc, &mut self.rt.stdin());
+        }
+        let Some(place) = self.access.edited(name) else {
+            return read_whole(alloc, &mut fs::open(&self.rt, name)?);
+        };
+        let mut file = held(&self.rt, name, place.spot()?)?;
+        let bytes = read_whole(alloc, &mut file)?;
+        self.held = Some(file);
+        Ok(bytes)
+    }
+
+    // Writes the file of a name. What was read from it must still stand there.
+    fn write_named(&self, name: &str, bytes: &[u8]) -> io::Result<()> {
+        if name == "stdout" {
+            return self.rt.stdout().write_all(bytes);
+        }
+        let Some(place) = self.access.written(name) else {
+            return Err(io::Error::from(ErrorKind::Unsupported));
+        };
+        let spot = place.spot();
+        if let (Some(file), Ok(spot)) = (&self.held, &spot) {
+            stands(&self.rt, file, spot)?;
+        }
+        write(&self.rt, name, spot, bytes)
     }
 }
 
@@ -39,6 +128,13 @@ impl From<AllocError> for Stop {
     }
 }
 
+impl From<io::Error> for Stop {
+    fn from(_error: io::Error) -> Stop {
+        Stop::Device
+    }
+}
+
+// All that is left in a reader.
 fn read_whole<R: Read>(alloc: Global, reader: &mut R) -> Result<Vec<u8>, Stop> {
     let mut bytes = Vec::new(alloc);
     let mut piece = [0u8; PIECE];
@@ -51,23 +147,6 @@ fn read_whole<R: Read>(alloc: Global, reader: &mut R) -> Result<Vec<u8>, Stop> {
         }
     }
     Err(Stop::Device)
-}
-
-fn read_named(rt: &HostRuntime, name: &str) -> Result<Vec<u8>, Stop> {
-    if name == "stdin" {
-        return read_whole(rt.alloc(), &mut rt.stdin());
-    }
-    match fs::open(rt, name) {
-        Ok(mut file) => read_whole(rt.alloc(), &mut file),
-        Err(_) => Err(Stop::Device),
-    }
-}
-
-fn write_named(rt: &HostRuntime, name: &str, bytes: &[u8]) -> io::Result<()> {
-    if name == "stdout" {
-        return rt.stdout().write_all(bytes);
-    }
-    fs::write(rt, name, bytes)
 }
 
 // Counts a write that failed.
@@ -89,7 +168,7 @@ impl Host for SystemHost {
     ghost faults = { λ s. s.failures };
 
     fn read(&mut self, name: &str) -> Result<Vec<u8>, ReadError> {
-        match read_named(&self.rt, name) {
+        match self.read_named(name) {
             Ok(bytes) => Ok(bytes),
             Err(Stop::Memory) => Err(ReadError::Memory),
             Err(Stop::Device) => {
@@ -100,7 +179,7 @@ impl Host for SystemHost {
     }
 
     fn write(&mut self, name: &str, bytes: &[u8]) -> Result<(), WriteError> {
-        let written = write_named(&self.rt, name, bytes);
+        let written = self.write_named(name, bytes);
         counted(&mut self.failures, written)
     }
 

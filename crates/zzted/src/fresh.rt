@@ -1,0 +1,175 @@
+//! Writing a file of a real folder.
+ghost use Rattle.std.specs.Prelude.{None};
+
+use crate::place::{Spot, is_at};
+use crate::replace::{Folder, replace};
+use std::fs::{self, File, Metadata, OpenOptions, Permissions};
+use std::io::{self, ErrorKind, Write};
+use std::os::unix::fs::{MetadataExt, OpenOptionsExt, PermissionsExt, fchown};
+
+/// A new file that others take for a left one, between its making and its lock, is made anew. So many times are a failure.
+const TRIES: u32 = 1024;
+
+/// The bits of a mode that are permissions.
+const PERMISSIONS: u32 = 0o7777;
+
+/// The permissions of a new file before it has those of the old one: nobody else reads it.
+const OWN: u32 = 0o600;
+
+/// The permissions that are asked for where there is no old file.
+const COMMON: u32 = 0o666;
+
+/// A real folder. It doesn't tell what it holds.
+#[derive(Drop)]
+struct RealFolder<'a> {
+    rt: &'a HostRuntime,
+    spot: &'a Spot,
+    old: Option<Metadata>,
+    folder: File,
+    fresh: Option<File>,
+}
+
+// Opens a new file and takes its lock, which tells others that its process lives. Nothing where another took the file away before.
+fn open_fresh(rt: &HostRuntime, path: &str, mode: u32) -> io::Result<Option<File>> {
+    let mut how = OpenOptions::new();
+    how.write(true).create_new(true).mode(mode);
+    let file = how.open(rt, path)?;
+    match hold(rt, path, &file) {
+        Ok(true) => Ok(Some(file)),
+        Ok(false) => Ok(None),
+        Err(error) => {
+            let _ = fs::remove_file(rt, path);
+            Err(error)
+        }
+    }
+}
+
+// Takes the lock of a new file, and tells whether the file is still there.
+fn hold(rt: &HostRuntime, path: &str, file: &File) -> io::Result<bool> {
+    file.lock()?;
+    is_at(rt, file, path)
+}
+
+// Makes a new file.
+fn make_fresh(rt: &HostRuntime, path: &str, mode: u32) -> io::Result<File> {
+    for _ in 0..TRIES {
+        if let Some(file) = open_fresh(rt, path, mode)? {
+            return Ok(file);
+        }
+    }
+    Err(io::Error::from(ErrorKind::ResourceBusy))
+}
+
+// Gives a new file the owner and the group of the old one, where the system lets it, or the group alone.
+fn keep_owner(file: &File, old: &Metadata) {
+    if fchown(file, Some(old.uid()), Some(old.gid())).is_err() {
+        let _ = fchown(file, None, Some(old.gid()));
+    }
+}
+
+// Gives a new file the owner and the permissions of the old one.
+fn keep(file: &File, old: &Metadata) -> io::Result<()> {
+    let made = file.metadata()?;
+    if made.uid() != old.uid() || made.gid() != old.gid() {
+        keep_owner(file, old);
+    }
+    if made.mode() == old.mode() {
+        return Ok(());
+    }
+    file.set_permissions(Permissions::from_mode(old.mode() & PERMISSIONS))
+}
+
+fn missing() -> io::Error {
+    io::Error::from(ErrorKind::NotFound)
+}
+
+impl Folder for RealFolder<'_> {
+    ghost told = { λ _. None };
+
+    fn create(&mut self) -> io::Result<()> {
+        let mode = if self.old.is_some() { OWN } else { COMMON };
+        self.fresh = Some(make_fresh(self.rt, self.spot.fresh(), mode)?);
+        Ok(())
+    }
+
+    fn fill(&mut self, bytes: &[u8]) -> io::Result<()> {
+        let Some(file) = &mut self.fresh else {
+            return Err(missing());
+        };
+        if let Some(old) = &self.old {
+            keep(file, old)?;
+        }
+        file.write_all(bytes)
+    }
+
+    fn sync(&mut self) -> io::Result<()> {
+        match &self.fresh {
+            Some(file) => file.sync_all(),
+            None => Err(missing()),
+        }
+    }
+
+    fn rename(&mut self) -> io::Result<()> {
+        fs::rename(self.rt, self.spot.fresh(), self.spot.path())
+    }
+
+    fn remove(&mut self) {
+        if self.fresh.is_some() {
+            let _ = fs::remove_file(self.rt, self.spot.fresh());
+        }
+    }
+
+    fn sync_place(&mut self) -> io::Result<()> {
+        match self.folder.sync_all() {
+            // a file system that can't bring a folder by itself onto its disk
+            Err(error) if error.kind() == ErrorKind::InvalidInput => Ok(()),
+            synced => synced,
+        }
+    }
+}
+
+// What stands in a place, if it can be written; nothing where there is no file.
+fn opened(rt: &HostRuntime, name: &str) -> io::Result<Option<File>> {
+    match OpenOptions::new().write(true).open(rt, name) {
+        Ok(file) => Ok(Some(file)),
+        Err(error) if error.kind() == ErrorKind::NotFound => Ok(None),
+        Err(error) => Err(error),
+    }
+}
+
+// Puts a file with these bytes into a place.
+fn put(rt: &HostRuntime, spot: &Spot, old: Option<Metadata>, bytes: &[u8]) -> io::Result<()> {
+    let folder = fs::open(rt, spot.folder())?;
+    let mut folder = RealFolder {
+        rt,
+        spot,
+        old,
+        folder,
+        fresh: None,
+    };
+    replace(&mut folder, bytes)
+}
+
+/// Writes the file of a name that leads to a place. A file is replaced whole or stays as it was; what is no file, as a pipe or a
+/// terminal, is written as it stands.
+///
+/// # Errors
+/// A device failed, or what stands there can't be written.
+pub fn write(
+    rt: &HostRuntime,
+    name: &str,
+    spot: io::Result<&Spot>,
+    bytes: &[u8],
+) -> io::Result<()> {
+    let Some(mut file) = opened(rt, name)? else {
+        return put(rt, spot?, None, bytes);
+    };
+    let old = file.metadata()?;
+    if !old.is_file() {
+        return file.write_all(bytes);
+    }
+    let spot = spot?;
+    // A file that has no name any more can't be replaced.
+    fs::symlink_metadata(rt, spot.path())?;
+    put(rt, spot, Some(old), bytes)
+}

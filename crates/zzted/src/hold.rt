@@ -1,0 +1,62 @@
+//! Reading a file that is to be replaced, so that no other command replaces it in between.
+
+use crate::place::{Spot, is_at};
+use std::fs::{self, File, OpenOptions};
+use std::io::{self, ErrorKind};
+use std::os::fd::AsRawFd;
+
+/// A file that was replaced so many times while its lock was waited for is a failure.
+const LOOKS: u32 = 1_048_576;
+
+/// The greatest number of a standard stream.
+const STANDARD: i32 = 2;
+
+// Opens a file, to be written too where that is allowed: in network folders only such a one is locked. Where a standard stream is closed
+// the system gives its number away; then a file that can be written would take the stream's lines.
+fn open_file(rt: &HostRuntime, name: &str) -> io::Result<File> {
+    match OpenOptions::new().read(true).write(true).open(rt, name) {
+        Ok(file) if file.as_raw_fd() > STANDARD => Ok(file),
+        Ok(_) => fs::open(rt, name),
+        Err(error) if error.kind() == ErrorKind::PermissionDenied => fs::open(rt, name),
+        Err(error) if error.kind() == ErrorKind::ReadOnlyFilesystem => fs::open(rt, name),
+        Err(error) => Err(error),
+    }
+}
+
+// Opens a file and waits for its lock. Nothing where it was replaced in the meantime: then the lock is of a file that is gone.
+fn open_held(rt: &HostRuntime, name: &str, spot: &Spot) -> io::Result<Option<File>> {
+    if !fs::metadata(rt, name)?.is_file() {
+        return Ok(Some(fs::open(rt, name)?));
+    }
+    let file = open_file(rt, name)?;
+    file.lock()?;
+    if is_at(rt, &file, spot.path())? {
+        Ok(Some(file))
+    } else {
+        Ok(None)
+    }
+}
+
+/// Opens the file of a name that leads to a place, and holds its lock as long as it is open. What is no file, as a pipe, has no lock.
+///
+/// # Errors
+/// A device failed, there is no such file, or it can't be read or locked.
+pub fn held(rt: &HostRuntime, name: &str, spot: &Spot) -> io::Result<File> {
+    for _ in 0..LOOKS {
+        if let Some(file) = open_held(rt, name, spot)? {
+            return Ok(file);
+        }
+    }
+    Err(io::Error::from(ErrorKind::ResourceBusy))
+}
+
+/// Sees that a file that is held still stands in its place.
+///
+/// # Errors
+/// Another file stands there, or a device failed.
+pub fn stands(rt: &HostRuntime, file: &File, spot: &Spot) -> io::Result<()> {
+    if !file.metadata()?.is_file() || is_at(rt, file, spot.path())? {
+        return Ok(());
+    }
+    Err(io::Error::from(ErrorKind::NotFound))
+}

@@ -1,0 +1,165 @@
+//! Where a file stands that a command writes: its path behind symbolic links, its folder, and the name of the new file that is to take
+//! its place.
+ghost use Rattle.std.specs.Io.{StartsWith};
+
+use crate::leftover::{BEGINNING, clear};
+use std::fs::{self, File, Metadata};
+use std::io::{self, ErrorKind};
+use std::os::unix::fs::MetadataExt;
+use std::process;
+use std::time::{SystemTime, UNIX_EPOCH};
+
+/// Most symbolic links on the way to a file.
+const LINKS: u32 = 40;
+
+/// A file that a command writes, by the name that its words give.
+#[derive(Drop)]
+pub struct Place {
+    name: String,
+    spot: Option<Spot>,
+}
+
+/// Where the file of a name stands, which is no symbolic link.
+#[derive(Drop)]
+pub struct Spot {
+    path: String,
+    folder: String,
+    fresh: String,
+}
+
+impl Spot {
+    /// The file itself.
+    pub fn path(&self) -> &str {
+        self.path.as_str()
+    }
+
+    /// The folder that it stands in.
+    pub fn folder(&self) -> &str {
+        self.folder.as_str()
+    }
+
+    /// The new file beside it: its name tells the program, the process and the time.
+    pub fn fresh(&self) -> &str {
+        self.fresh.as_str()
+    }
+}
+
+// The folder of a path, with its last slash; nothing for the folder that the program runs in.
+fn folder_of(path: &str) -> &str
+    ensures { StartsWith path.now result.now }
+{
+    match path.rsplit_once('/') {
+        Some((_, name)) => path.strip_suffix(name).unwrap_or(""),
+        None => "",
+    }
+}
+
+// Where a symbolic link leads.
+fn target_of(rt: &HostRuntime, link: &str) -> io::Result<String> {
+    let target = fs::read_link(rt, link)?;
+    let Some(text) = target.as_path().to_str() else {
+        return Err(io::Error::from(ErrorKind::InvalidFilename));
+    };
+    if text.starts_with('/') {
+        return Ok(String::from_str(rt.alloc(), text)?);
+    }
+    let mut path = String::from_str(rt.alloc(), folder_of(link))?;
+    path.push_str(text)?;
+    Ok(path)
+}
+
+// Whether a path is a symbolic link. One that leads nowhere is one too, and what isn't there is none.
+fn is_link(rt: &HostRuntime, path: &str) -> io::Result<bool> {
+    match fs::symlink_metadata(rt, path) {
+        Ok(metadata) => Ok(metadata.is_symlink()),
+        Err(error) if error.kind() == ErrorKind::NotFound => Ok(false),
+        Err(error) => Err(error),
+    }
+}
+
+// What a name leads to.
+fn followed(rt: &HostRuntime, name: &str) -> io::Result<String> {
+    let mut path = String::from_str(rt.alloc(), name)?;
+    for _ in 0..LINKS {
+        if !is_link(rt, path.as_str())? {
+            return Ok(path);
+        }
+        path = target_of(rt, path.as_str())?;
+    }
+    Err(io::Error::from(ErrorKind::FilesystemLoop))
+}
+
+// The name of a new file in a folder.
+fn fresh_in(rt: &HostRuntime, folder: &str) -> io::Result<String> {
+    let process = process::id(rt.process());
+    let time = match SystemTime::now(rt)?.duration_since(UNIX_EPOCH) {
+        Ok(time) => time,
+        Err(_) => return Err(io::Error::from(ErrorKind::InvalidData)),
+    };
+    let seconds = time.as_secs();
+    let rest = time.subsec_nanos();
+    let path = format!(in rt.alloc(); "{folder}{BEGINNING}{process}-{seconds}-{rest}")?;
+    Ok(path)
+}
+
+// Finds where a name leads, and clears what ended processes left there.
+fn find(rt: &HostRuntime, name: &str) -> io::Result<Spot> {
+    let path = followed(rt, name)?;
+    let folder = folder_of(path.as_str());
+    let folder = String::from_str(rt.alloc(), if folder.is_empty() { "./" } else { folder })?;
+    clear(rt, folder.as_str())?;
+    let fresh = fresh_in(rt, folder.as_str())?;
+    Ok(Spot {
+        path,
+        folder,
+        fresh,
+    })
+}
+
+impl Place {
+    /// Finds the place of a name, with all memory that writing there takes.
+    ///
+    /// # Errors
+    /// `OutOfMemory` alone. Where a device fails the place is unknown, and nothing but a device can be written there.
+    pub fn of(rt: &HostRuntime, name: &str) -> io::Result<Place> {
+        let spot = match find(rt, name) {
+            Ok(spot) => Some(spot),
+            Err(error) if error.kind() == ErrorKind::OutOfMemory => return Err(error),
+            Err(_) => None,
+        };
+        let name = String::from_str(rt.alloc(), name)?;
+        Ok(Place { name, spot })
+    }
+
+    /// Whether it is the place of this name.
+    pub fn is_of(&self, name: &str) -> bool {
+        self.name.as_str() == name
+    }
+
+    /// Where the file stands.
+    ///
+    /// # Errors
+    /// That this is unknown.
+    pub fn spot(&self) -> io::Result<&Spot> {
+        match &self.spot {
+            Some(spot) => Ok(spot),
+            None => Err(io::Error::from(ErrorKind::NotFound)),
+        }
+    }
+}
+
+fn is_same(one: &Metadata, other: &Metadata) -> bool {
+    one.dev() == other.dev() && one.ino() == other.ino()
+}
+
+/// Whether an open file is what stands at a path. The file may be gone, or another in its place.
+///
+/// # Errors
+/// A device failed.
+pub fn is_at(rt: &HostRuntime, file: &File, path: &str) -> io::Result<bool> {
+    match fs::symlink_metadata(rt, path) {
+        Ok(there) => Ok(is_same(&there, &file.metadata()?)),
+        Err(error) if error.kind() == ErrorKind::NotFound => Ok(false),
+        Err(error) => Err(error),
+    }
+}

@@ -1,0 +1,152 @@
+/* For LD_PRELOAD: lets one call of a program fail, or ends the program there, and tells what it did. It stands on no header.
+   $FAULT is `KIND NTH HOW`: of the calls of this kind the one of this number fails (HOW is `fail`), the program is ended before it (`end`), or
+   half of its bytes are written and then the program is ended (`half`). KIND is growth, open, list, read, write, sync, rename, lock, look, mode, or
+   any for each of these. Once that has come, $FAULT_MET has a line. Each call that changes what a folder holds adds a line to $FAULT_TRACE. */
+typedef unsigned long size;
+struct statx;
+
+extern void *__libc_malloc(size);
+extern void *__libc_realloc(void *, size);
+extern void *dlsym(void *, const char *);
+extern int *__errno_location(void);
+extern char *getenv(const char *);
+extern int getpid(void);
+extern int kill(int, int);
+
+#define NEXT(name) ((__typeof__(&name)) dlsym((void *) -1, #name))
+#define EIO 5
+#define ENOSPC 28
+#define SIGKILL 9
+#define APPENDING 02101 /* O_WRONLY | O_CREAT | O_APPEND */
+
+int open(const char *, int, ...);
+int close(int);
+long write(int, const void *, size);
+
+enum { FAIL, END, HALF };
+
+static int is_read, how;
+static char kind[16];
+static size nth, met;
+static char paths[64][256];
+
+static int is_same(const char *one, const char *other) {
+    while (*one && *one == *other) one++, other++;
+    return *one == *other;
+}
+
+/* Copies a word, and answers what stands after it. */
+static const char *word(const char *from, char *to, size room) {
+    while (*from && *from != ' ') {
+        if (room > 1) *to++ = *from, room--;
+        from++;
+    }
+    *to = 0;
+    return *from ? from + 1 : from;
+}
+
+static void read_fault(void) {
+    const char *asked = getenv("FAULT");
+    char number[24], name[8];
+    is_read = 1;
+    if (!asked) return;
+    asked = word(asked, kind, sizeof kind);
+    asked = word(asked, number, sizeof number);
+    word(asked, name, sizeof name);
+    for (const char *digit = number; *digit; digit++) nth = nth * 10 + (size) (*digit - '0');
+    how = is_same(name, "half") ? HALF : is_same(name, "end") ? END : FAIL;
+}
+
+static void put(int to, const char *text) {
+    size length = 0;
+    while (text[length]) length++;
+    NEXT(write)(to, text, length);
+}
+
+/* Adds a line to the file that a variable names. */
+static void tell(const char *variable, const char *first, const char *second, const char *third) {
+    const char *name = getenv(variable);
+    int to = name ? NEXT(open)(name, APPENDING, 0666) : -1;
+    if (to < 0) return;
+    put(to, first), put(to, " "), put(to, second);
+    if (third) put(to, " "), put(to, third);
+    put(to, "\n");
+    NEXT(close)(to);
+}
+
+static void end(void) { kill(getpid(), SIGKILL); }
+
+/* Whether the next call of a kind is the one that $FAULT names. */
+static int is_met(const char *now) {
+    if (!is_read) read_fault();
+    if (!nth || !(is_same(kind, now) || is_same(kind, "any")) || ++met != nth) return 0;
+    tell("FAULT_MET", now, "", 0);
+    if (how == END) end();
+    return 1;
+}
+
+static long failed(int error) {
+    *__errno_location() = error;
+    return -1;
+}
+
+static const char *path_of(int file) { return file >= 0 && file < 64 ? paths[file] : ""; }
+
+static int opened(int file, const char *path) {
+    if (file >= 0 && file < 64) word(path, paths[file], sizeof paths[file]);
+    return file;
+}
+
+void *malloc(size length) { return is_met("growth") ? 0 : __libc_malloc(length); }
+
+void *realloc(void *at, size length) { return is_met("growth") ? 0 : __libc_realloc(at, length); }
+
+int open(const char *path, int flags, ...) {
+    __builtin_va_list more;
+    __builtin_va_start(more, flags);
+    unsigned mode = __builtin_va_arg(more, unsigned);
+    __builtin_va_end(more);
+    if (is_met("open")) return (int) failed(EIO);
+    return opened(NEXT(open)(path, flags, mode), path);
+}
+
+int openat(int folder, const char *path, int flags, ...) {
+    return is_met("list") ? (int) failed(EIO) : opened(NEXT(openat)(folder, path, flags, 0), path);
+}
+
+long getdents64(int file, void *to, size length) { return is_met("list") ? failed(EIO) : NEXT(getdents64)(file, to, length); }
+
+long read(int file, void *to, size length) { return is_met("read") ? failed(EIO) : NEXT(read)(file, to, length); }
+
+long write(int file, const void *from, size length) {
+    if (is_met("write")) {
+        if (how == HALF) NEXT(write)(file, from, length / 2), end();
+        return failed(ENOSPC);
+    }
+    tell("FAULT_TRACE", "write", path_of(file), 0);
+    return NEXT(write)(file, from, length);
+}
+
+long __write(int file, const void *from, size length) { return write(file, from, length); }
+
+int fsync(int file) {
+    if (is_met("sync")) return (int) failed(EIO);
+    tell("FAULT_TRACE", "sync", path_of(file), 0);
+    return NEXT(fsync)(file);
+}
+
+int rename(const char *from, const char *to) {
+    if (is_met("rename")) return (int) failed(EIO);
+    tell("FAULT_TRACE", "rename", from, to);
+    return NEXT(rename)(from, to);
+}
+
+int flock(int file, int wanted) { return is_met("lock") ? (int) failed(EIO) : NEXT(flock)(file, wanted); }
+
+int fchmod(int file, unsigned mode) { return is_met("mode") ? (int) failed(EIO) : NEXT(fchmod)(file, mode); }
+
+int statx(int folder, const char *path, int flags, unsigned wanted, struct statx *to) {
+    return is_met("look") ? (int) failed(EIO) : NEXT(statx)(folder, path, flags, wanted, to);
+}
+
+long readlink(const char *path, char *to, size length) { return is_met("look") ? failed(EIO) : NEXT(readlink)(path, to, length); }
