@@ -18,7 +18,7 @@ returns-in_ok-instruction-in-Instructing-clause-steps c =
     (state c.instruct.new.scene c.instruct.new.words c.instruct.new.lines) c.in-Some.stat c.in-Some-position.at
     c.in_ok-instruction-in-Instructing.instruction c.in_ok-instruction-in-Instructing.next c.program.result.now c.instruct.result
     c.in-Instructing.is (sym c.own.ensures.result ∙ c.in-Some.is) c.in-Some-position.is c.program.ensures.result
-    c.in_ok-instruction-in-Instructing.ensures.is c.instruct.ensures
+    c.in_ok-instruction-in-Instructing.ensures.result c.instruct.ensures
 
 pub returns-in_ok-command-in-Commanding-clause-steps : goal.returns-in_ok-command-in-Commanding-clause-steps
 returns-in_ok-command-in-Commanding-clause-steps c =
@@ -26,7 +26,7 @@ returns-in_ok-command-in-Commanding-clause-steps c =
     (state c.command_with.new.scene c.command_with.new.words c.command_with.new.lines) c.in-Some.stat c.in-Some-position.at
     c.in-Commanding.start c.in_ok-command-in-Commanding.command c.in_ok-command-in-Commanding.next c.program-in-Commanding.result.now
     c.command_with.result c.in-Commanding.is (sym c.own.ensures.result ∙ c.in-Some.is) c.in-Some-position.is c.program-in-Commanding.ensures.result
-    c.in_ok-command-in-Commanding.ensures.is c.command_with.ensures
+    c.in_ok-command-in-Commanding.ensures.result c.command_with.ensures
 
 pub returns-in_ok-instruction-in-Instructing-clause-nearer : goal.returns-in_ok-instruction-in-Instructing-clause-nearer
 returns-in_ok-instruction-in-Instructing-clause-nearer c =
@@ -34,7 +34,7 @@ returns-in_ok-instruction-in-Instructing-clause-nearer c =
     (state c.instruct.new.scene c.instruct.new.words c.instruct.new.lines) c.in-Some.stat c.in-Some-position.at
     c.in_ok-instruction-in-Instructing.instruction c.in_ok-instruction-in-Instructing.next c.program.result.now c.instruct.result
     c.in-Instructing.is (sym c.own.ensures.result ∙ c.in-Some.is) c.in-Some-position.is c.program.ensures.result
-    c.in_ok-instruction-in-Instructing.ensures.ahead c.instruct.ensures
+    c.in_ok-instruction-in-Instructing.ensures.ends c.instruct.ensures
 
 pub returns-in_ok-command-in-Commanding-clause-nearer : goal.returns-in_ok-command-in-Commanding-clause-nearer
 returns-in_ok-command-in-Commanding-clause-nearer c =
@@ -42,4 +42,4 @@ returns-in_ok-command-in-Commanding-clause-nearer c =
     (state c.command_with.new.scene c.command_with.new.words c.command_with.new.lines) c.in-Some.stat c.in-Some-position.at
     c.in-Commanding.start c.in_ok-command-in-Commanding.command c.in_ok-command-in-Commanding.next
     c.command_with.result c.in-Commanding.is (sym c.own.ensures.result ∙ c.in-Some.is) c.in-Some-position.is
-    c.in_ok-command-in-Commanding.ensures.after c.command_with.ensures
+    c.in_ok-command-in-Commanding.ensures.ends c.command_with.ensures
