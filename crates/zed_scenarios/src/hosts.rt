@@ -12,7 +12,6 @@ use zed_program::{Host, MemoryHost, run};
 pub(crate) enum Contents {
     /// An edit file of world 7 with these edits.
     Edits(&'static [Row]),
-    World(&'static [Piece]),
     Bytes(&'static [u8]),
 }
 
@@ -87,10 +86,6 @@ fn put_file(alloc: Global, host: &mut MemoryHost, file: File) -> bool {
         Contents::Edits(rows) => match edit_file(alloc, rows) {
             Some(bytes) => host.write(file.0, bytes.as_slice()).is_ok(),
             None => false,
-        },
-        Contents::World(pieces) => match spelled(alloc, pieces) {
-            Ok(world) => host.write(file.0, world.as_slice()).is_ok(),
-            Err(_) => false,
         },
     }
 }
