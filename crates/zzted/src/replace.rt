@@ -44,7 +44,8 @@ pub trait Folder {
 fn make<F: Folder>(folder: &mut F, bytes: &[u8]) -> io::Result<()>
     ensures result { OnOk result (F.told folder.new
         ≡ option_map (λ h. with_synced (with_beside bytes.now h)) (F.told folder.old)) }
-    ensures kept { option_map place_of (F.told folder.new) ≡ option_map place_of (F.told folder.old) }
+    ensures kept { option_map place_of (F.told folder.new)
+        ≡ option_map place_of (F.told folder.old) }
 {
     folder.create()?;
     folder.fill(bytes)?;
