@@ -16,3 +16,4 @@ mod words;
 pub use host::{Host, ReadError, WriteError};
 pub use memory::MemoryHost;
 pub use program::run;
+pub use words::{Command, ParseError, parse};

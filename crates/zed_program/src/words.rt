@@ -12,7 +12,7 @@ use std::alloc::{AllocError, Global};
 
 /// What is to be done.
 #[derive(Drop)]
-pub(crate) enum Command<'a> {
+pub enum Command<'a> {
     /// The world file of edit files is to be written.
     Save {
         out: &'a str,
@@ -39,7 +39,7 @@ pub(crate) enum Command<'a> {
 
 /// Why the words ask for nothing.
 #[derive(Debug, Drop)]
-pub(crate) enum ParseError {
+pub enum ParseError {
     Memory,
     /// The words are refused, with the text for the user.
     Refused(String),
@@ -162,7 +162,7 @@ fn stored_command<'a>(alloc: Global) -> Result<Command<'a>, AllocError>
 ///
 /// # Errors
 /// `Refused` exactly where the words are not those of a command, with clap's text; a request for help counts as one.
-pub(crate) fn parse<'a>(alloc: Global, words: &'a [String]) -> Result<Command<'a>, ParseError>
+pub fn parse<'a>(alloc: Global, words: &'a [String]) -> Result<Command<'a>, ParseError>
     ensures { MatchResult result
         (λ a. command_of (map string_bytes words.entry.now) ≡ Some (meaning_of a))
         (λ e. (e ≡ ParseError.Memory) ⊎ (command_of (map string_bytes words.entry.now) ≡ None)) }

@@ -13,7 +13,7 @@ use std::env;
 use std::io::{self, ErrorKind, Write};
 use std::process::ExitCode;
 use system::{Access, SystemHost};
-use zed_program::{Action, ParseError, parse, run};
+use zed_program::{Command, ParseError, parse, run};
 
 // The words after the program's name. They are pushed one by one: `collect` goes on after a growth that is refused, with a smaller one.
 fn words_of(rt: &HostRuntime) -> io::Result<Vec<String>> {
@@ -35,10 +35,10 @@ fn place_of(rt: &HostRuntime, name: &str) -> io::Result<Option<Place>> {
 // How the command of these words gets to the file that it writes. Words that are refused write none; the program tells of them.
 fn access_of(rt: &HostRuntime, words: &[String]) -> io::Result<Access> {
     match parse(rt.alloc(), words) {
-        Ok(Action::Edit { file, .. }) => Ok(Access::editing(place_of(rt, file)?)),
-        Ok(Action::Save { out, .. }) => Ok(Access::writing(place_of(rt, out)?)),
-        Ok(Action::New { out, .. }) => Ok(Access::writing(place_of(rt, out)?)),
-        Ok(Action::Check { .. }) => Ok(Access::Read),
+        Ok(Command::Edit { file, .. }) => Ok(Access::editing(place_of(rt, file)?)),
+        Ok(Command::Save { out, .. }) => Ok(Access::writing(place_of(rt, out)?)),
+        Ok(Command::New { out, .. }) => Ok(Access::writing(place_of(rt, out)?)),
+        Ok(Command::Check { .. }) => Ok(Access::Read),
         Err(ParseError::Refused(_)) => Ok(Access::Read),
         Err(ParseError::Memory) => Err(io::Error::from(ErrorKind::OutOfMemory)),
     }
