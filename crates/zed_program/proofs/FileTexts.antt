@@ -158,7 +158,7 @@ records_fit (e ∷ es) h = (h.0.0, records_fit es h.1)
 
 records_have_sizes : (es : List Edit) → AreRecords es → HaveSizes es
 records_have_sizes [] h = tt
-records_have_sizes (e ∷ es) h = (h.0.1.0, records_have_sizes es h.1)
+records_have_sizes (e ∷ es) h = (h.0.1, records_have_sizes es h.1)
 
 saved_at : (es : List Edit) (bytes : List ℕ) → file_of es ≡ Ok bytes → saved 20000 (replay es) ≡ Ok bytes
 saved_at es bytes is = go (refusal_of 20000 (replay es)) is
