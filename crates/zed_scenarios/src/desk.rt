@@ -91,10 +91,7 @@ fn has_exit(plain: &Plain, n: usize, side: Side, wanted: Option<Name>) -> bool {
     let Some(board) = plain.boards.as_slice().get(n) else {
         return false;
     };
-    is_board(
-        board.properties.exits[usize::from(side.index())],
-        wanted,
-    )
+    is_board(board.properties.exits[usize::from(side.index())], wanted)
 }
 
 fn has_tile(plain: &Plain, n: usize, place: usize, tile: Tile) -> bool {
