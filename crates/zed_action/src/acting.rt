@@ -36,7 +36,8 @@ fn insert(
     bytes: Bytes,
 ) -> Result<(), ActionError>
     requires { document.old.is_stale ≡ false }
-    ensures ends { Ends (Inserts document.old replica text position bytes) result document.new.edits }
+    ensures ends { Ends (Inserts document.old replica text position bytes)
+        result document.new.edits }
     ensures kept { OnErr result (document.new.edits ≡ document.old.edits) }
     ensures sound { OnOk result (document.new.is_stale ≡ false) }
     ensures stale { (result ≢ Err ActionError.Memory) → document.new.is_stale ≡ false }
@@ -59,7 +60,8 @@ fn delete(
     requires sound { document.old.is_stale ≡ false }
     requires replica { 1 ≤ replica }
     ensures ends { Ends (Deletes document.old replica text from to) result document.new.edits }
-    ensures kept { IfErr result (λ e. LeavesDeletion document.old replica text from to e document.new.edits) }
+    ensures kept { IfErr result (λ e.
+        LeavesDeletion document.old replica text from to e document.new.edits) }
     ensures stale { (result ≢ Err ActionError.Memory) → document.new.is_stale ≡ false }
     ensures world { document.new.world ≡ document.old.world }
 {
