@@ -34,13 +34,20 @@ impl Document {
     /// another world was made; Memory. The world is made by replica 0 at time 1; the one that is there already is answered again. The
     /// set of edits is as before on each refusal. After Memory the document may be stale.
     pub fn author(&mut self, replica: u16, op: Op) -> Result<Edit, DocumentError>
-        ensures answers { (result ≡ Err DocumentError.Memory) ⊎ AnswersAuthor self.old replica op result }
-        ensures edits { self.new.edits ≡ (if is_ok result then with_edit (authored self.old.edits replica op) self.old.edits else self.old.edits) }
-        ensures taken { OnOk result (is_one_of (held_stamps self.new.edits) (authored self.old.edits replica op).stamp ≡ false) }
+        ensures answers { (result ≡ Err DocumentError.Memory)
+            ⊎ AnswersAuthor self.old replica op result }
+        ensures edits { self.new.edits ≡ (if is_ok result
+            then with_edit (authored self.old.edits replica op) self.old.edits
+            else self.old.edits) }
+        ensures taken { OnOk result (is_one_of (held_stamps self.new.edits)
+            (authored self.old.edits replica op).stamp ≡ false) }
         ensures world { self.new.world ≡ self.old.world }
         ensures sound { OnOk result (self.new.is_stale ≡ false) }
-        ensures stale { (result ≢ Err DocumentError.Memory) → self.new.is_stale ≡ self.old.is_stale }
-        ensures memory_only_when { result ≡ Err DocumentError.Memory → (self.old.is_stale ≡ false) × (is_spent_for self.old.edits op ≡ false) × MayTakeMemory self.old.edits (authored self.old.edits replica op) }
+        ensures stale { (result ≢ Err DocumentError.Memory)
+            → self.new.is_stale ≡ self.old.is_stale }
+        ensures memory_only_when { result ≡ Err DocumentError.Memory
+            → (self.old.is_stale ≡ false) × (is_spent_for self.old.edits op ≡ false)
+            × MayTakeMemory self.old.edits (authored self.old.edits replica op) }
     {
         if self.is_stale() {
             return Err(DocumentError::Stale);
@@ -66,13 +73,16 @@ impl Document {
     pub(crate) fn make(&mut self, edit: Edit) -> Result<Edit, DocumentError>
         requires sound { self.old.is_stale ≡ false }
         requires late { IsLate self.old.edits edit }
-        ensures answers { (result ≡ Err DocumentError.Memory) ⊎ AnswersToDo (fault edit) self.old.edits edit result }
-        ensures edits { self.new.edits ≡ (if is_ok result then with_edit edit self.old.edits else self.old.edits) }
+        ensures answers { (result ≡ Err DocumentError.Memory)
+            ⊎ AnswersToDo (fault edit) self.old.edits edit result }
+        ensures edits { self.new.edits
+            ≡ (if is_ok result then with_edit edit self.old.edits else self.old.edits) }
         ensures taken { OnOk result (is_one_of (held_stamps self.new.edits) edit.stamp ≡ false) }
         ensures world { self.new.world ≡ self.old.world }
         ensures sound { OnOk result (self.new.is_stale ≡ false) }
         ensures stale { (result ≢ Err DocumentError.Memory) → self.new.is_stale ≡ false }
-        ensures memory_only_when { result ≡ Err DocumentError.Memory → MayTakeMemory self.old.edits edit }
+        ensures memory_only_when { result ≡ Err DocumentError.Memory
+            → MayTakeMemory self.old.edits edit }
     {
         match check(self.alloc(), &edit) {
             Ok(()) => self.make_checked(edit),
@@ -85,13 +95,18 @@ impl Document {
         requires sound { self.old.is_stale ≡ false }
         requires fits { Fits edit }
         requires late { IsLate self.old.edits edit }
-        ensures answers { (result ≡ Err DocumentError.Memory) ⊎ MatchBool (can (replay self.old.edits) edit) (AnswersMade (edit_with edit.stamp self.old.edits) edit result) (result ≡ Err DocumentError.NoSuch) }
-        ensures edits { self.new.edits ≡ (if is_ok result then with_edit edit self.old.edits else self.old.edits) }
+        ensures answers { (result ≡ Err DocumentError.Memory)
+            ⊎ MatchBool (can (replay self.old.edits) edit)
+            (AnswersMade (edit_with edit.stamp self.old.edits) edit result)
+            (result ≡ Err DocumentError.NoSuch) }
+        ensures edits { self.new.edits
+            ≡ (if is_ok result then with_edit edit self.old.edits else self.old.edits) }
         ensures taken { OnOk result (is_one_of (held_stamps self.new.edits) edit.stamp ≡ false) }
         ensures world { self.new.world ≡ self.old.world }
         ensures sound { OnOk result (self.new.is_stale ≡ false) }
         ensures stale { (result ≢ Err DocumentError.Memory) → self.new.is_stale ≡ false }
-        ensures memory_only_when { result ≡ Err DocumentError.Memory → can (replay self.old.edits) edit ≡ true }
+        ensures memory_only_when { result ≡ Err DocumentError.Memory
+            → can (replay self.old.edits) edit ≡ true }
     {
         if self.has_all_of(&edit) {
             self.take(edit)
@@ -106,8 +121,10 @@ impl Document {
         requires fits { Fits edit }
         requires late { IsLate self.old.edits edit }
         requires can { can (replay self.old.edits) edit ≡ true }
-        ensures answers { (result ≡ Err DocumentError.Memory) ⊎ AnswersMade (edit_with edit.stamp self.old.edits) edit result }
-        ensures edits { self.new.edits ≡ (if is_ok result then with_edit edit self.old.edits else self.old.edits) }
+        ensures answers { (result ≡ Err DocumentError.Memory)
+            ⊎ AnswersMade (edit_with edit.stamp self.old.edits) edit result }
+        ensures edits { self.new.edits
+            ≡ (if is_ok result then with_edit edit self.old.edits else self.old.edits) }
         ensures taken { OnOk result (is_one_of (held_stamps self.new.edits) edit.stamp ≡ false) }
         ensures world { self.new.world ≡ self.old.world }
         ensures sound { OnOk result (self.new.is_stale ≡ false) }

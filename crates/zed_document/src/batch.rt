@@ -26,14 +26,16 @@ pub(crate) struct Batch {
 /// Puts an edit under its stamp, unless the log or the map has it. Clash where they have another one of its stamp.
 fn put(log: &[Edit], map: &mut BTreeMap<Stamp, Edit>, edit: Edit) -> Result<(), DocumentError>
     requires { IsRising log.now }
-    ensures ok { OnOk result (MatchOption (first_of (edit_with edit.stamp log.now) (get stamp_cmp map.old edit.stamp))
+    ensures ok { OnOk result (MatchOption
+        (first_of (edit_with edit.stamp log.now) (get stamp_cmp map.old edit.stamp))
         (map.new.entries ≡ insert_entry stamp_cmp map.old.entries edit.stamp edit)
         (λ f. (f ≡ edit) × (map.new.entries ≡ map.old.entries))) }
     ensures memory { result ≡ Err DocumentError.Memory
         → first_of (edit_with edit.stamp log.now) (get stamp_cmp map.old edit.stamp) ≡ None }
     ensures clash { IfErr result (λ e. (e ≡ DocumentError.Memory)
         ⊎ ((e ≡ DocumentError.Clash edit.stamp) × (map.new.entries ≡ map.old.entries)
-        × IsSomeAnd (first_of (edit_with edit.stamp log.now) (get stamp_cmp map.old edit.stamp)) (λ f. f ≢ edit))) }
+        × IsSomeAnd (first_of (edit_with edit.stamp log.now) (get stamp_cmp map.old edit.stamp))
+        (λ f. f ≢ edit))) }
 {
     let stamp = edit.stamp;
     let there = match spot_of(log, stamp) {

@@ -60,7 +60,8 @@ pub(crate) fn next_stamp(edits: &[Edit], replica: u16) -> Option<Stamp>
     requires { IsRising edits.now }
     ensures spent { IfNone result (are_spent edits.now 1 ≡ true) }
     ensures left { OnSome result (are_spent edits.now 1 ≡ false) }
-    ensures next { IfSome result (λ s. s ≡ record { time = time_after edits.now; replica = replica }) }
+    ensures next { IfSome result (λ s.
+        s ≡ record { time = time_after edits.now; replica = replica }) }
 {
     if is_spent(edits, 1) {
         None

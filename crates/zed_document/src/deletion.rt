@@ -98,7 +98,8 @@ fn stretches_in(
     from: usize,
     to: usize,
 ) -> Result<Vec<ByteRange>, DocumentError>
-    ensures ok { IfOk result (λ ranges. ranges.items ≡ stretches (part from to (alive elements.now))) }
+    ensures ok { IfOk result (λ ranges.
+        ranges.items ≡ stretches (part from to (alive elements.now))) }
     ensures err { IfErr result (λ e. e ≡ DocumentError.Memory) }
 {
     let mut ranges = Vec::new(alloc);
@@ -145,7 +146,9 @@ fn deletions_follow(edits: &[Edit], replica: u16, text: TextId, from: usize, to:
     requires left { is_spent edits.now (length (stretches_of edits.now text from to)) ≡ false }
     requires replica { 1 ≤ replica }
     ensures follow { CanFollow edits.now (deletions_of edits.now replica text from to) }
-    ensures shows { text_shown (replay (edits.now ++ deletions_of edits.now replica text from to)) text ≡ without from to (text_shown (replay edits.now) text) }
+    ensures shows { text_shown
+        (replay (edits.now ++ deletions_of edits.now replica text from to)) text
+        ≡ without from to (text_shown (replay edits.now) text) }
 {
     texts_keep_names();
     fit_is_of_parts();
@@ -162,8 +165,11 @@ impl Document {
         from: usize,
         to: usize,
     ) -> Result<Vec<Edit>, DocumentError>
-        ensures answers { (result ≡ Err DocumentError.Memory) ⊎ AnswersDeletion self.now text from to (λ r. IsOkAnd r (λ v. v.items ≡ deletions_of self.now.edits replica text from to)) result }
-        ensures memory_only_when { result ≡ Err DocumentError.Memory → MayTakeMemoryToDelete self.now text from to }
+        ensures answers { (result ≡ Err DocumentError.Memory)
+            ⊎ AnswersDeletion self.now text from to (λ r. IsOkAnd r (λ v.
+            v.items ≡ deletions_of self.now.edits replica text from to)) result }
+        ensures memory_only_when { result ≡ Err DocumentError.Memory
+            → MayTakeMemoryToDelete self.now text from to }
     {
         let view = View::of(self.shown_with(text)?);
         if to <= from || view.length(text) < to {
@@ -183,8 +189,13 @@ impl Document {
     ) -> Result<Vec<Edit>, DocumentError>
         requires elements { elements.now ≡ elements_of (replay self.now.edits) text }
         requires part { is_part from to (length (text_shown (replay self.now.edits) text)) ≡ true }
-        ensures answers { (result ≡ Err DocumentError.Memory) ⊎ MatchBool (is_spent self.now.edits (length (stretches_of self.now.edits text from to))) (result ≡ Err DocumentError.ClockSpent) (IsOkAnd result (λ v. v.items ≡ deletions_of self.now.edits replica text from to)) }
-        ensures memory_only_when { result ≡ Err DocumentError.Memory → is_spent self.now.edits (length (stretches_of self.now.edits text from to)) ≡ false }
+        ensures answers { (result ≡ Err DocumentError.Memory)
+            ⊎ MatchBool
+            (is_spent self.now.edits (length (stretches_of self.now.edits text from to)))
+            (result ≡ Err DocumentError.ClockSpent)
+            (IsOkAnd result (λ v. v.items ≡ deletions_of self.now.edits replica text from to)) }
+        ensures memory_only_when { result ≡ Err DocumentError.Memory
+            → is_spent self.now.edits (length (stretches_of self.now.edits text from to)) ≡ false }
     {
         if are_spent(self.edits(), count_stretches(elements, from, to)) {
             return Err(DocumentError::ClockSpent);
@@ -204,7 +215,8 @@ impl Document {
         requires sound { self.old.is_stale ≡ false }
         requires follow { CanFollow self.old.edits edits.now }
         ensures edits { OnOk result (self.new.edits ≡ self.old.edits ++ edits.now) }
-        ensures memory { OnErr result ((n : ℕ) × (self.new.edits ≡ self.old.edits ++ take n edits.now)) }
+        ensures memory { OnErr result
+            ((n : ℕ) × (self.new.edits ≡ self.old.edits ++ take n edits.now)) }
         ensures only { IfErr result (λ e. e ≡ DocumentError.Memory) }
         ensures world { self.new.world ≡ self.old.world }
         ensures sound { OnOk result (self.new.is_stale ≡ false) }
@@ -223,7 +235,8 @@ impl Document {
     fn make_next(&mut self, edit: Edit) -> Result<Edit, DocumentError>
         requires sound { self.old.is_stale ≡ false }
         requires next { IsNext self.old.edits edit }
-        ensures edits { self.new.edits ≡ (if is_ok result then self.old.edits ++ edit ∷ [] else self.old.edits) }
+        ensures edits { self.new.edits
+            ≡ (if is_ok result then self.old.edits ++ edit ∷ [] else self.old.edits) }
         ensures only { IfErr result (λ e. e ≡ DocumentError.Memory) }
         ensures world { self.new.world ≡ self.old.world }
         ensures sound { OnOk result (self.new.is_stale ≡ false) }
@@ -245,14 +258,21 @@ impl Document {
         to: usize,
     ) -> Result<Vec<Edit>, DocumentError>
         requires { 1 ≤ replica }
-        ensures answers { (result ≡ Err DocumentError.Memory) ⊎ AnswersDeletion self.old text from to (λ r. IsOkAnd r (λ v. v.items ≡ deletions_of self.old.edits replica text from to)) result }
-        ensures edits { OnOk result (self.new.edits ≡ self.old.edits ++ deletions_of self.old.edits replica text from to) }
-        ensures shows { OnOk result (text_shown (replay self.new.edits) text ≡ without from to (text_shown (replay self.old.edits) text)) }
-        ensures memory { result ≡ Err DocumentError.Memory → (n : ℕ) × (self.new.edits ≡ self.old.edits ++ take n (deletions_of self.old.edits replica text from to)) }
-        ensures kept { is_ok result ≡ false → (result ≢ Err DocumentError.Memory) → self.new ≡ self.old }
+        ensures answers { (result ≡ Err DocumentError.Memory)
+            ⊎ AnswersDeletion self.old text from to (λ r. IsOkAnd r (λ v.
+            v.items ≡ deletions_of self.old.edits replica text from to)) result }
+        ensures edits { OnOk result
+            (self.new.edits ≡ self.old.edits ++ deletions_of self.old.edits replica text from to) }
+        ensures shows { OnOk result (text_shown (replay self.new.edits) text
+            ≡ without from to (text_shown (replay self.old.edits) text)) }
+        ensures memory { result ≡ Err DocumentError.Memory → (n : ℕ) × (self.new.edits
+            ≡ self.old.edits ++ take n (deletions_of self.old.edits replica text from to)) }
+        ensures kept { is_ok result ≡ false → (result ≢ Err DocumentError.Memory)
+            → self.new ≡ self.old }
         ensures world { self.new.world ≡ self.old.world }
         ensures sound { OnOk result (self.new.is_stale ≡ false) }
-        ensures memory_only_when { result ≡ Err DocumentError.Memory → MayTakeMemoryToDelete self.old text from to }
+        ensures memory_only_when { result ≡ Err DocumentError.Memory
+            → MayTakeMemoryToDelete self.old text from to }
     {
         let made = self.deletions(replica, text, from, to)?;
         deletions_follow(self.edits(), replica, text, from, to);

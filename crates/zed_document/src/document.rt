@@ -87,7 +87,9 @@ impl Document {
 
     /// The plain document, but of a stale one.
     pub(crate) fn shown(&self) -> Result<&Plain, DocumentError>
-        ensures { MatchBool self.now.is_stale (result ≡ Err DocumentError.Stale) (IsOkAnd result (λ p. p.now ≡ replay self.now.edits)) }
+        ensures { MatchBool self.now.is_stale
+            (result ≡ Err DocumentError.Stale)
+            (IsOkAnd result (λ p. p.now ≡ replay self.now.edits)) }
     {
         if self.is_stale {
             Err(DocumentError::Stale)
@@ -127,11 +129,14 @@ impl Document {
     /// stale. An edit that is there already takes no memory, but for a Genesis, which is checked anew.
     pub fn deliver(&mut self, edit: Edit) -> Result<Delivered, DocumentError>
         ensures answers { (result ≡ Err DocumentError.Memory) ⊎ Answers self.old edit result }
-        ensures edits { self.new.edits ≡ (if is_ok result then with_edit edit self.old.edits else self.old.edits) }
+        ensures edits { self.new.edits
+            ≡ (if is_ok result then with_edit edit self.old.edits else self.old.edits) }
         ensures world { self.new.world ≡ self.old.world }
         ensures sound { OnOk result (self.new.is_stale ≡ false) }
-        ensures stale { (result ≢ Err DocumentError.Memory) → self.new.is_stale ≡ self.old.is_stale }
-        ensures memory_only_when { result ≡ Err DocumentError.Memory → MayTakeMemoryFor self.old edit }
+        ensures stale { (result ≢ Err DocumentError.Memory)
+            → self.new.is_stale ≡ self.old.is_stale }
+        ensures memory_only_when { result ≡ Err DocumentError.Memory
+            → MayTakeMemoryFor self.old edit }
     {
         if self.is_stale {
             return Err(DocumentError::Stale);
@@ -146,12 +151,15 @@ impl Document {
     pub(crate) fn receive(&mut self, edit: Edit) -> Result<Delivered, DocumentError>
         requires sound { self.old.is_stale ≡ false }
         requires fits { Fits edit }
-        ensures answers { (result ≡ Err DocumentError.Memory) ⊎ AnswersAt (edit_with edit.stamp self.old.edits) self.old.edits edit result }
-        ensures edits { self.new.edits ≡ (if is_ok result then with_edit edit self.old.edits else self.old.edits) }
+        ensures answers { (result ≡ Err DocumentError.Memory)
+            ⊎ AnswersAt (edit_with edit.stamp self.old.edits) self.old.edits edit result }
+        ensures edits { self.new.edits
+            ≡ (if is_ok result then with_edit edit self.old.edits else self.old.edits) }
         ensures world { self.new.world ≡ self.old.world }
         ensures sound { OnOk result (self.new.is_stale ≡ false) }
         ensures stale { (result ≢ Err DocumentError.Memory) → self.new.is_stale ≡ false }
-        ensures memory_only_when { result ≡ Err DocumentError.Memory → edit_with edit.stamp self.old.edits ≡ None }
+        ensures memory_only_when { result ≡ Err DocumentError.Memory
+            → edit_with edit.stamp self.old.edits ≡ None }
     {
         match spot_of(&self.edits, edit.stamp) {
             Ok(there) => {
@@ -172,8 +180,10 @@ impl Document {
         requires within { place ≤ length self.old.edits }
         requires belongs { with_edit edit self.old.edits ≡ insert self.old.edits place edit }
         requires below { AllBelow edit.stamp (take place self.old.edits) }
-        ensures tells { (result ≡ Err DocumentError.Memory) ⊎ IsOkAnd result (λ d. TellsNew self.old.edits (with_edit edit self.old.edits) edit d) }
-        ensures edits { self.new.edits ≡ (if is_ok result then with_edit edit self.old.edits else self.old.edits) }
+        ensures tells { (result ≡ Err DocumentError.Memory) ⊎ IsOkAnd result (λ d.
+            TellsNew self.old.edits (with_edit edit self.old.edits) edit d) }
+        ensures edits { self.new.edits
+            ≡ (if is_ok result then with_edit edit self.old.edits else self.old.edits) }
         ensures world { self.new.world ≡ self.old.world }
         ensures sound { OnOk result (self.new.is_stale ≡ false) }
     {
@@ -190,8 +200,10 @@ impl Document {
         requires fits { Fits edit }
         requires last { with_edit edit self.old.edits ≡ self.old.edits ++ edit ∷ [] }
         requires below { AllBelow edit.stamp self.old.edits }
-        ensures tells { (result ≡ Err DocumentError.Memory) ⊎ IsOkAnd result (λ d. TellsNew self.old.edits (with_edit edit self.old.edits) edit d) }
-        ensures edits { self.new.edits ≡ (if is_ok result then with_edit edit self.old.edits else self.old.edits) }
+        ensures tells { (result ≡ Err DocumentError.Memory) ⊎ IsOkAnd result (λ d.
+            TellsNew self.old.edits (with_edit edit self.old.edits) edit d) }
+        ensures edits { self.new.edits
+            ≡ (if is_ok result then with_edit edit self.old.edits else self.old.edits) }
         ensures world { self.new.world ≡ self.old.world }
         ensures sound { OnOk result (self.new.is_stale ≡ false) }
     {
@@ -221,8 +233,10 @@ impl Document {
         requires fits { Fits edit }
         requires within { place ≤ length self.old.edits }
         requires belongs { with_edit edit self.old.edits ≡ insert self.old.edits place edit }
-        ensures tells { (result ≡ Err DocumentError.Memory) ⊎ IsOkAnd result (λ d. TellsNew self.old.edits (with_edit edit self.old.edits) edit d) }
-        ensures edits { self.new.edits ≡ (if is_ok result then with_edit edit self.old.edits else self.old.edits) }
+        ensures tells { (result ≡ Err DocumentError.Memory) ⊎ IsOkAnd result (λ d.
+            TellsNew self.old.edits (with_edit edit self.old.edits) edit d) }
+        ensures edits { self.new.edits
+            ≡ (if is_ok result then with_edit edit self.old.edits else self.old.edits) }
         ensures world { self.new.world ≡ self.old.world }
         ensures sound { OnOk result (self.new.is_stale ≡ false) }
     {
@@ -274,7 +288,8 @@ impl Document {
         ensures answers { AnswersMerge self.old other.now result }
         ensures edits { OnOk result (self.new.edits ≡ union self.old.edits other.now.edits) }
         ensures kept { OnErr result ((result ≢ Err DocumentError.Memory) → self.new ≡ self.old) }
-        ensures memory { result ≡ Err DocumentError.Memory → (s : TheStamp) × (self.new.edits ≡ union self.old.edits (below s other.now.edits)) }
+        ensures memory { result ≡ Err DocumentError.Memory
+            → (s : TheStamp) × (self.new.edits ≡ union self.old.edits (below s other.now.edits)) }
         ensures world { self.new.world ≡ self.old.world }
         ensures sound { OnOk result (self.new.is_stale ≡ false) }
     {

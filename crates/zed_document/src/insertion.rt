@@ -33,7 +33,9 @@ fn live_name(elements: &[TextByte], k: usize) -> Option<ElemId>
 
 /// The name of the byte before a position, none at the head.
 fn name_before(elements: &[TextByte], position: usize) -> Result<Option<ElemId>, DocumentError>
-    ensures { MatchBool (nat_le position (length (alive_bytes elements.now))) (result ≡ Ok (byte_before elements.now position)) (result ≡ Err DocumentError.OutOfRange) }
+    ensures { MatchBool (nat_le position (length (alive_bytes elements.now)))
+        (result ≡ Ok (byte_before elements.now position))
+        (result ≡ Err DocumentError.OutOfRange) }
 {
     if position == 0 {
         return Ok(None);
@@ -47,7 +49,10 @@ fn name_before(elements: &[TextByte], position: usize) -> Result<Option<ElemId>,
 impl Document {
     /// The name of the byte before a position of a text.
     fn place_at(&self, text: TextId, position: usize) -> Result<Option<ElemId>, DocumentError>
-        ensures { TellsOfText self.now text (λ r. MatchBool (nat_le position (length (text_shown (replay self.now.edits) text))) (r ≡ Ok (byte_before (elements (replay self.now.edits) text) position)) (r ≡ Err DocumentError.OutOfRange)) result }
+        ensures { TellsOfText self.now text (λ r. MatchBool
+            (nat_le position (length (text_shown (replay self.now.edits) text)))
+            (r ≡ Ok (byte_before (elements (replay self.now.edits) text) position))
+            (r ≡ Err DocumentError.OutOfRange)) result }
     {
         match self.shown_with(text) {
             Ok(plain) => {
@@ -68,13 +73,20 @@ impl Document {
         position: usize,
         bytes: Bytes,
     ) -> Result<Edit, DocumentError>
-        ensures answers { (result ≡ Err DocumentError.Memory) ⊎ AnswersInsertion self.old replica text position bytes result }
-        ensures edits { self.new.edits ≡ (if is_ok result then self.old.edits ++ authored self.old.edits replica (insertion_at self.old.edits text position bytes) ∷ [] else self.old.edits) }
-        ensures shows { OnOk result (text_shown (replay self.new.edits) text ≡ with_bytes position bytes (text_shown (replay self.old.edits) text)) }
+        ensures answers { (result ≡ Err DocumentError.Memory)
+            ⊎ AnswersInsertion self.old replica text position bytes result }
+        ensures edits { self.new.edits ≡ (if is_ok result
+            then self.old.edits ++ authored self.old.edits replica
+            (insertion_at self.old.edits text position bytes) ∷ []
+            else self.old.edits) }
+        ensures shows { OnOk result (text_shown (replay self.new.edits) text
+            ≡ with_bytes position bytes (text_shown (replay self.old.edits) text)) }
         ensures world { self.new.world ≡ self.old.world }
         ensures sound { OnOk result (self.new.is_stale ≡ false) }
-        ensures stale { (result ≢ Err DocumentError.Memory) → self.new.is_stale ≡ self.old.is_stale }
-        ensures memory_only_when { result ≡ Err DocumentError.Memory → MayTakeMemoryAt self.old replica text position bytes }
+        ensures stale { (result ≢ Err DocumentError.Memory)
+            → self.new.is_stale ≡ self.old.is_stale }
+        ensures memory_only_when { result ≡ Err DocumentError.Memory
+            → MayTakeMemoryAt self.old replica text position bytes }
     {
         match self.place_at(text, position) {
             Ok(after) => match next_stamp(self.edits(), replica) {

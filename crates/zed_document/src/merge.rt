@@ -31,7 +31,8 @@ fn count_before(edits: &[Edit], stamp: Stamp) -> usize
 /// Whether a log begins with an edit of a stamp.
 fn begins_with(edits: &[Edit], stamp: Stamp) -> bool
     ensures yes { OnTrue result (IsSomeAnd (slice_get edits.now 0) (λ e. e.stamp ≡ stamp)) }
-    ensures no { OnFalse result (IfSome (slice_get edits.now 0) (λ e. same_stamp stamp e.stamp ≡ false)) }
+    ensures no { OnFalse result
+        (IfSome (slice_get edits.now 0) (λ e. same_stamp stamp e.stamp ≡ false)) }
 {
     match edits.first() {
         Some(first) => first.stamp == stamp,
@@ -69,9 +70,11 @@ fn push_next<'a>(
 ) -> Result<&'a [Edit], DocumentError>
     requires rising { IsRising log.now }
     requires below { AllBelow edit.now.stamp joined.old.items }
-    ensures next { IfOk result (λ rest. joined.new.items ++ rest.now ≡ with_edit edit.now (joined.old.items ++ log.now)) }
+    ensures next { IfOk result (λ rest. joined.new.items ++ rest.now
+        ≡ with_edit edit.now (joined.old.items ++ log.now)) }
     ensures rising { IfOk result (λ rest. IsRising rest.now) }
-    ensures below { OnOk result ((s : TheStamp) → before edit.now.stamp s ≡ true → AllBelow s joined.new.items) }
+    ensures below { OnOk result ((s : TheStamp)
+        → before edit.now.stamp s ≡ true → AllBelow s joined.new.items) }
     ensures err { IfErr result (λ e. e ≡ DocumentError.Memory) }
 {
     let (front, rest) = log.split_at(count_before(log, edit.stamp));
@@ -103,7 +106,8 @@ fn from_stamp(log: &[Edit], stamp: Stamp) -> &[Edit]
     requires { IsRising log.now }
     ensures rising { IsRising result.now }
     ensures above { AllFrom stamp result.now }
-    ensures there { (s : TheStamp) → before s stamp ≡ false → edit_with s result.now ≡ edit_with s log.now }
+    ensures there { (s : TheStamp) → before s stamp ≡ false
+        → edit_with s result.now ≡ edit_with s log.now }
 {
     log.split_at(count_before(log, stamp)).1
 }

@@ -14,7 +14,8 @@ use zed_types::Stamp;
 fn place_of(edits: &[Edit], stamp: Stamp) -> usize
     ensures within { result ≤ length edits.now }
     ensures above { AllByRecursion (λ e. before stamp e.stamp ≡ true) (drop result edits.now) }
-    ensures below { 0 < result → IfSome (slice_get edits.now (result - 1)) (λ e. before stamp e.stamp ≡ false) }
+    ensures below { 0 < result
+        → IfSome (slice_get edits.now (result - 1)) (λ e. before stamp e.stamp ≡ false) }
 {
     let mut place = edits.len();
     while place > 0 && stamp.is_before(edits[place - 1].stamp) {
@@ -26,8 +27,10 @@ fn place_of(edits: &[Edit], stamp: Stamp) -> usize
 /// Whether the edit before a place of a log has a stamp.
 fn ends_with(edits: &[Edit], place: usize, stamp: Stamp) -> bool
     requires { place ≤ length edits.now }
-    ensures yes { OnTrue result ((0 < place) × IfSome (slice_get edits.now (place - 1)) (λ e. e.stamp ≡ stamp)) }
-    ensures no { OnFalse result (0 < place → IfSome (slice_get edits.now (place - 1)) (λ e. same_stamp stamp e.stamp ≡ false)) }
+    ensures yes { OnTrue result
+        ((0 < place) × IfSome (slice_get edits.now (place - 1)) (λ e. e.stamp ≡ stamp)) }
+    ensures no { OnFalse result (0 < place
+        → IfSome (slice_get edits.now (place - 1)) (λ e. same_stamp stamp e.stamp ≡ false)) }
 {
     place > 0 && edits[place - 1].stamp == stamp
 }
@@ -36,11 +39,13 @@ fn ends_with(edits: &[Edit], place: usize, stamp: Stamp) -> bool
 pub(crate) fn spot_of(edits: &[Edit], stamp: Stamp) -> Result<&Edit, usize>
     requires { IsRising edits.now }
     ensures there { IfOk result (λ f. edit_with stamp edits.now ≡ Some f.now) }
-    ensures known { OnOk result ((e : TheEdit) → e.stamp ≡ stamp → with_edit e edits.now ≡ edits.now) }
+    ensures known { OnOk result ((e : TheEdit) → e.stamp ≡ stamp
+        → with_edit e edits.now ≡ edits.now) }
     ensures free { OnErr result (edit_with stamp edits.now ≡ None) }
     ensures within { IfErr result (λ i. i ≤ length edits.now) }
     ensures below { IfErr result (λ i. AllBelow stamp (take i edits.now)) }
-    ensures belongs { IfErr result (λ i. (e : TheEdit) → e.stamp ≡ stamp → with_edit e edits.now ≡ insert edits.now i e) }
+    ensures belongs { IfErr result (λ i. (e : TheEdit) → e.stamp ≡ stamp
+        → with_edit e edits.now ≡ insert edits.now i e) }
 {
     let place = place_of(edits, stamp);
     if ends_with(edits, place, stamp) {

@@ -47,7 +47,8 @@ impl Document {
 
     /// The plain document, of a text that was made.
     pub(crate) fn shown_with(&self, text: TextId) -> Result<&Plain, DocumentError>
-        ensures { TellsOfText self.now text (λ r. IsOkAnd r (λ p. p.now ≡ replay self.now.edits)) result }
+        ensures { TellsOfText self.now text
+            (λ r. IsOkAnd r (λ p. p.now ≡ replay self.now.edits)) result }
     {
         match self.shown() {
             Ok(plain) => {
@@ -63,7 +64,8 @@ impl Document {
 
     /// How many alive bytes a text has. In this order: Stale; NoSuch where the text wasn't made.
     pub fn length(&self, text: TextId) -> Result<usize, DocumentError>
-        ensures { result ≡ unless_no_text self.now text (length (text_shown (replay self.now.edits) text)) }
+        ensures { result
+            ≡ unless_no_text self.now text (length (text_shown (replay self.now.edits) text)) }
     {
         match self.shown_with(text) {
             Ok(plain) => Ok(plain.length(text)),
@@ -83,7 +85,8 @@ impl Document {
 
     /// The alive bytes of a text. In this order: Stale; NoSuch where the text wasn't made; Memory.
     pub fn text(&self, text: TextId) -> Result<Vec<u8>, DocumentError>
-        ensures { TellsOfText self.now text (λ r. (r ≡ Err DocumentError.Memory) ⊎ IsOkAnd r (λ bytes. bytes.items ≡ text_shown (replay self.now.edits) text)) result }
+        ensures { TellsOfText self.now text (λ r. (r ≡ Err DocumentError.Memory)
+            ⊎ IsOkAnd r (λ bytes. bytes.items ≡ text_shown (replay self.now.edits) text)) result }
     {
         match self.shown_with(text) {
             Ok(plain) => plain.text(self.alloc(), text).map_err(of_edit),

@@ -46,7 +46,8 @@ fn agree_at(own: &[Edit], other: &[Edit], stamp: Stamp) -> bool
 fn agree_at_all(own: &[Edit], other: &[Edit], stamps: &[Stamp]) -> bool
     requires own { IsRising own.now }
     requires other { IsRising other.now }
-    ensures { IsTrue result ↔ AllByRecursion (λ s. edit_with s own.now ≡ edit_with s other.now) stamps.now }
+    ensures { IsTrue result
+        ↔ AllByRecursion (λ s. edit_with s own.now ≡ edit_with s other.now) stamps.now }
 {
     for stamp in stamps {
         if !agree_at(own, other, *stamp) {

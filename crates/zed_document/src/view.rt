@@ -311,7 +311,9 @@ impl<'a> View<'a> {
     /// The number of a text in the order in which texts were made, if it was. It is sought by halves, since in every document that is
     /// the order of their names.
     pub fn text_number(&self, id: TextId) -> Option<usize>
-        ensures is { IsOrdered self.now → MatchOption result (find_text id self.now.texts ≡ None) (λ k. find_text id self.now.texts ≡ Some (text_at self.now k)) }
+        ensures is { IsOrdered self.now → MatchOption result
+            (find_text id self.now.texts ≡ None)
+            (λ k. find_text id self.now.texts ≡ Some (text_at self.now k)) }
         ensures within { IfSome result (λ k. k < length self.now.texts) }
     {
         number_among(self.plain.texts.as_slice(), id)
@@ -335,7 +337,8 @@ impl<'a> View<'a> {
     /// Appends the live bytes of the text of a number, or nothing.
     pub fn append_text_at(&self, k: usize, out: &mut Vec<u8>) -> Result<(), AllocError>
         requires { k < length self.now.texts }
-        ensures ok { OnOk result (out.new.items ≡ out.old.items ++ alive_bytes (text_at self.now k).elements) }
+        ensures ok { OnOk result
+            (out.new.items ≡ out.old.items ++ alive_bytes (text_at self.now k).elements) }
         ensures err { OnErr result (out.new.items ≡ out.old.items) }
     {
         append_live(self.elements_at(k), out)
@@ -350,7 +353,9 @@ fn find_made(texts: &[Text], id: TextId) -> Option<&Text>
 
 /// The place of a text among texts in the order of their names.
 fn number_among(texts: &[Text], id: TextId) -> Option<usize>
-    ensures is { NamesRise (λ t. t.id.name) texts.now → MatchOption result (find_text id texts.now ≡ None) (λ k. find_text id texts.now ≡ Some (slice_index_or texts.now k no_text)) }
+    ensures is { NamesRise (λ t. t.id.name) texts.now → MatchOption result
+        (find_text id texts.now ≡ None)
+        (λ k. find_text id texts.now ≡ Some (slice_index_or texts.now k no_text)) }
     ensures within { IfSome result (λ k. k < length texts.now) }
 {
     texts.binary_search_by(|text| text.id.cmp(&id)).ok()
