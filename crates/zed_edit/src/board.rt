@@ -16,7 +16,8 @@ use zed_op::EditError;
 use zed_types::{BoardId, BoardSetting, Bytes, Rectangle, Seq, StatId, StatSetting, Tile};
 
 fn set_if(board: &mut Board, b: BoardId, setting: &BoardSetting) -> Result<(), EditError>
-    ensures set { IfOk result (λ _. board.new ≡ board_if b (set_board_property setting.now) board.old) }
+    ensures set { IfOk result (λ _.
+        board.new ≡ board_if b (set_board_property setting.now) board.old) }
     ensures memory { IfErr result (λ e. e ≡ EditError.Memory) }
     ensures memory_only_when { IfErr result (λ e. board_has_string setting.now ≡ true) }
 {
@@ -32,7 +33,8 @@ pub(crate) fn set_boards(
     b: BoardId,
     setting: &BoardSetting,
 ) -> Result<(), EditError>
-    ensures set { IfOk result (λ _. boards.new ≡ change_boards b (set_board_property setting.now) boards.old) }
+    ensures set { IfOk result (λ _.
+        boards.new ≡ change_boards b (set_board_property setting.now) boards.old) }
     ensures memory { IfErr result (λ e. e ≡ EditError.Memory) }
     ensures memory_only_when { IfErr result (λ e. board_has_string setting.now ≡ true) }
 {

@@ -47,7 +47,8 @@ fn open_text(
 ) -> Result<usize, EditError>
     requires few { t < 2 ^ 31 }
     requires short { HasShortProgram stat.now }
-    ensures added { IfOk result (λ _. texts.new ≡ texts.old ++ texts_from stamp t (option_to_list (own_program stat.now))) }
+    ensures added { IfOk result (λ _. texts.new
+        ≡ texts.old ++ texts_from stamp t (option_to_list (own_program stat.now))) }
     ensures number { IfOk result (λ u. u ≡ t + length (option_to_list (own_program stat.now))) }
     ensures memory { IfErr result (λ e. e ≡ EditError.Memory) }
 {
@@ -74,7 +75,8 @@ fn open_texts_of(
     requires few { t < 2 ^ 30 }
     requires stats { length stats.now ≤ 151 }
     requires short { HaveShortPrograms stats.now }
-    ensures added { IfOk result (λ _. texts.new ≡ texts.old ++ texts_from stamp t (filter_map own_program stats.now)) }
+    ensures added { IfOk result (λ _. texts.new
+        ≡ texts.old ++ texts_from stamp t (filter_map own_program stats.now)) }
     ensures number { IfOk result (λ u. u ≡ t + length (filter_map own_program stats.now)) }
     ensures few { IfOk result (λ u. u ≤ t + 151) }
     ensures memory { IfErr result (λ e. e ≡ EditError.Memory) }
@@ -130,7 +132,8 @@ pub(crate) fn open_world(
     stamp: Stamp,
     bytes: &[u8],
 ) -> Result<(), EditError>
-    ensures opened { IfOk result (λ _. plain.new ≡ world_opened stamp (world_at bytes.now) plain.old) }
+    ensures opened { IfOk result (λ _.
+        plain.new ≡ world_opened stamp (world_at bytes.now) plain.old) }
     ensures memory { IfErr result (λ e. e ≡ EditError.Memory) }
     ensures kept { plain.new.held ≡ plain.old.held }
 {

@@ -62,7 +62,8 @@ fn insert_if(
     bytes: &[u8],
 ) -> Result<(), EditError>
     requires { length bytes.now < 2 ^ 32 }
-    ensures put { IfOk result (λ _. text.new ≡ text_if t (put_after after (run_from stamp 0 bytes.now)) text.old) }
+    ensures put { IfOk result (λ _.
+        text.new ≡ text_if t (put_after after (run_from stamp 0 bytes.now)) text.old) }
     ensures memory { IfErr result (λ e. e ≡ EditError.Memory) }
 {
     if text.id == t {
@@ -82,7 +83,8 @@ pub(crate) fn insert_bytes(
     bytes: &[u8],
 ) -> Result<(), EditError>
     requires { length bytes.now < 2 ^ 32 }
-    ensures put { IfOk result (λ _. texts.new ≡ change_texts t (put_after after (run_from stamp 0 bytes.now)) texts.old) }
+    ensures put { IfOk result (λ _.
+        texts.new ≡ change_texts t (put_after after (run_from stamp 0 bytes.now)) texts.old) }
     ensures memory { IfErr result (λ e. e ≡ EditError.Memory) }
 {
     for x in texts.iter_mut() {
