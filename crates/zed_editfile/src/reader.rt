@@ -61,7 +61,8 @@ impl EditReader {
         ensures asked { self.new.asked ≡ self.old.asked }
         ensures ok { OnOk result (self.new.fault ≡ None) }
         ensures err { IfErr result (λ e. self.new.fault ≡ Some e) }
-        ensures again { IfSome self.old.fault (λ e. (result ≡ Err e) × (self.new ≡ self.old) × (out.new.items ≡ out.old.items)) }
+        ensures again { IfSome self.old.fault (λ e. (result ≡ Err e)
+            × (self.new ≡ self.old) × (out.new.items ≡ out.old.items)) }
     {
         if let Some(fault) = self.fault {
             return Err(fault);
@@ -89,7 +90,10 @@ impl EditReader {
     pub fn finish(&self) -> Result<(), EditFileError>
         ensures exact { result ≡ verdict_of (ending self.now) }
         // What ends well is the whole text of the edits that were read.
-        ensures whole { OnOk result ((bytes : List ℕ) (found : List Edit) → Reads bytes found self.now → (world : ℕ) × (self.now.world ≡ Some world) × AreRecords found × (bytes ≡ file_text world found)) }
+        ensures whole { OnOk result ((bytes : List ℕ) (found : List Edit)
+            → Reads bytes found self.now
+            → (world : ℕ) × (self.now.world ≡ Some world) × AreRecords found
+            × (bytes ≡ file_text world found)) }
     {
         if let Some(earlier) = self.fault {
             return Err(earlier);

@@ -37,8 +37,10 @@ fn edit_of(alloc: Global, body: &[u8]) -> Result<Edit, EditFileError>
 /// The length of the body of the record that begins here, once its four bytes are there.
 pub(crate) fn length_of(bytes: &[u8]) -> Result<Option<usize>, EditFileError>
     ensures none { IfOk result (λ len. IfNone len (length bytes.now < 4)) }
-    ensures some { IfOk result (λ len. IfSome len (λ n. (4 ≤ length bytes.now) × (n ≡ little_number 4 bytes.now) × (is_length n ≡ true))) }
-    ensures err { IfErr result (λ e. (e ≡ EditFileError.RecordLength) × (4 ≤ length bytes.now) × (is_length (little_number 4 bytes.now) ≡ false)) }
+    ensures some { IfOk result (λ len. IfSome len (λ n. (4 ≤ length bytes.now)
+        × (n ≡ little_number 4 bytes.now) × (is_length n ≡ true))) }
+    ensures err { IfErr result (λ e. (e ≡ EditFileError.RecordLength)
+        × (4 ≤ length bytes.now) × (is_length (little_number 4 bytes.now) ≡ false)) }
 {
     if bytes.len() < 4 {
         return Ok(None);
@@ -75,9 +77,14 @@ pub(crate) fn read_record<'a>(
     bytes: &'a [u8],
     out: &mut Vec<Edit>,
 ) -> Result<Option<&'a [u8]>, EditFileError>
-    ensures some { IfOk result (λ rest. IfSome rest (λ r. Gains out.old.items out.new.items bytes.now r.now × (r.now ≡ drop (little_number 4 bytes.now) (drop 4 bytes.now)) × (length r.now < length bytes.now))) }
-    ensures none { IfOk result (λ rest. IfNone rest ((out.new.items ≡ out.old.items) × (record_stop bytes.now ≡ waits bytes.now))) }
-    ensures err { IfErr result (λ e. (out.new.items ≡ out.old.items) × ((e ≡ EditFileError.Memory) ⊎ (record_stop bytes.now ≡ fails e))) }
+    ensures some { IfOk result (λ rest. IfSome rest (λ r.
+        Gains out.old.items out.new.items bytes.now r.now
+        × (r.now ≡ drop (little_number 4 bytes.now) (drop 4 bytes.now))
+        × (length r.now < length bytes.now))) }
+    ensures none { IfOk result (λ rest. IfNone rest
+        ((out.new.items ≡ out.old.items) × (record_stop bytes.now ≡ waits bytes.now))) }
+    ensures err { IfErr result (λ e. (out.new.items ≡ out.old.items)
+        × ((e ≡ EditFileError.Memory) ⊎ (record_stop bytes.now ≡ fails e))) }
 {
     match split_record(bytes)? {
         None => Ok(None),
@@ -94,8 +101,11 @@ pub(crate) fn read_records<'a>(
     bytes: &'a [u8],
     out: &mut Vec<Edit>,
 ) -> Result<&'a [u8], EditFileError>
-    ensures ok { IfOk result (λ tail. Gains out.old.items out.new.items bytes.now tail.now × (record_stop tail.now ≡ waits tail.now)) }
-    ensures err { IfErr result (λ e. (tail : List ℕ) × Gains out.old.items out.new.items bytes.now tail × ((e ≡ EditFileError.Memory) ⊎ (record_stop tail ≡ fails e))) }
+    ensures ok { IfOk result (λ tail. Gains out.old.items out.new.items bytes.now tail.now
+        × (record_stop tail.now ≡ waits tail.now)) }
+    ensures err { IfErr result (λ e. (tail : List ℕ)
+        × Gains out.old.items out.new.items bytes.now tail
+        × ((e ≡ EditFileError.Memory) ⊎ (record_stop tail ≡ fails e))) }
 {
     let mut rest = bytes;
     while let Some(after) = read_record(alloc, rest, out)? {

@@ -94,14 +94,16 @@ pub(crate) fn header_setting_of(
 }
 
 fn board_byte_of(property: BoardByte, bytes: &[u8]) -> Result<(BoardSetting, &[u8]), EditFileError>
-    ensures { Gives (λ x. (x.0, x.1.now)) result (mapped (BoardSetting.Byte property) (byte_at bytes.now)) }
+    ensures { Gives (λ x. (x.0, x.1.now)) result
+        (mapped (BoardSetting.Byte property) (byte_at bytes.now)) }
 {
     let (byte, rest) = byte_of(bytes)?;
     Ok((BoardSetting::Byte(property, byte), rest))
 }
 
 fn board_flag_of(property: BoardFlag, bytes: &[u8]) -> Result<(BoardSetting, &[u8]), EditFileError>
-    ensures { Gives (λ x. (x.0, x.1.now)) result (mapped (BoardSetting.Flag property) (boolean_at bytes.now)) }
+    ensures { Gives (λ x. (x.0, x.1.now)) result
+        (mapped (BoardSetting.Flag property) (boolean_at bytes.now)) }
 {
     let (set, rest) = boolean_of(bytes)?;
     Ok((BoardSetting::Flag(property, set), rest))
@@ -112,7 +114,8 @@ fn board_text_of(
     property: BoardText,
     bytes: &[u8],
 ) -> Result<(BoardSetting, &[u8]), EditFileError>
-    ensures { Gives (λ x. (x.0, x.1.now)) result (mapped (BoardSetting.Text property) (string_at bytes.now)) }
+    ensures { Gives (λ x. (x.0, x.1.now)) result
+        (mapped (BoardSetting.Text property) (string_at bytes.now)) }
 {
     let (text, rest) = string_of(alloc, bytes)?;
     Ok((BoardSetting::Text(property, text), rest))
@@ -158,7 +161,8 @@ pub(crate) fn board_setting_of(
 }
 
 fn stat_byte_of(field: StatByte, bytes: &[u8]) -> Result<(StatSetting, &[u8]), EditFileError>
-    ensures { Gives (λ x. (x.0, x.1.now)) result (mapped (StatSetting.Byte field) (byte_at bytes.now)) }
+    ensures { Gives (λ x. (x.0, x.1.now)) result
+        (mapped (StatSetting.Byte field) (byte_at bytes.now)) }
 {
     let (byte, rest) = byte_of(bytes)?;
     Ok((StatSetting::Byte(field, byte), rest))

@@ -17,7 +17,8 @@ const HEAD: usize = 12;
 #[tactic(auto, unfolding(crate::specs::Stream::head_stop))]
 fn world_of(asked: Option<u64>, head: &[u8]) -> Result<Option<u64>, EditFileError>
     ensures none { IfOk result (λ world. IfNone world (head_stop asked head.now ≡ waits head.now)) }
-    ensures some { IfOk result (λ world. IfSome world (λ n. (head_stop asked head.now ≡ None) × (n ≡ little_number 8 (drop 4 head.now)))) }
+    ensures some { IfOk result (λ world. IfSome world (λ n.
+        (head_stop asked head.now ≡ None) × (n ≡ little_number 8 (drop 4 head.now)))) }
     ensures err { IfErr result (λ e. head_stop asked head.now ≡ fails e) }
     ensures bytes { (i : ℕ) → slice_index head.now i < 256 }
 {
@@ -61,9 +62,14 @@ fn take_head<'a>(
     piece: &'a [u8],
 ) -> Result<(Option<u64>, &'a [u8]), EditFileError>
     requires { head_stop asked kept.old.items ≡ waits kept.old.items }
-    ensures none { IfOk result (λ x. IfNone x.0 ((kept.new.items ≡ kept.old.items ++ piece.now) × (head_stop asked kept.new.items ≡ waits kept.new.items))) }
-    ensures some { IfOk result (λ x. IfSome x.0 (λ n. (kept.new.items ≡ []) × (is_other asked n ≡ false) × (n < 2 ^ 64) × (kept.old.items ++ piece.now ≡ head_text n ++ x.1.now))) }
-    ensures err { IfErr result (λ e. (e ≡ EditFileError.Memory) ⊎ (head_stop asked (kept.old.items ++ piece.now) ≡ fails e)) }
+    ensures none { IfOk result (λ x. IfNone x.0
+        ((kept.new.items ≡ kept.old.items ++ piece.now)
+        × (head_stop asked kept.new.items ≡ waits kept.new.items))) }
+    ensures some { IfOk result (λ x. IfSome x.0 (λ n.
+        (kept.new.items ≡ []) × (is_other asked n ≡ false) × (n < 2 ^ 64)
+        × (kept.old.items ++ piece.now ≡ head_text n ++ x.1.now))) }
+    ensures err { IfErr result (λ e. (e ≡ EditFileError.Memory)
+        ⊎ (head_stop asked (kept.old.items ++ piece.now) ≡ fails e)) }
 {
     let left = fill(kept, HEAD, piece)?;
     match world_of(asked, kept)? {
@@ -83,9 +89,14 @@ fn take_cut<'a>(
     out: &mut Vec<Edit>,
 ) -> Result<Option<&'a [u8]>, EditFileError>
     requires { record_stop kept.old.items ≡ waits kept.old.items }
-    ensures some { IfOk result (λ left. IfSome left (λ l. (kept.new.items ≡ []) × Gains out.old.items out.new.items (kept.old.items ++ piece.now) l.now)) }
-    ensures none { IfOk result (λ left. IfNone left ((out.new.items ≡ out.old.items) × (kept.new.items ≡ kept.old.items ++ piece.now) × (record_stop kept.new.items ≡ waits kept.new.items))) }
-    ensures err { IfErr result (λ e. (out.new.items ≡ out.old.items) × ((e ≡ EditFileError.Memory) ⊎ (record_stop (kept.old.items ++ piece.now) ≡ fails e))) }
+    ensures some { IfOk result (λ left. IfSome left (λ l. (kept.new.items ≡ [])
+        × Gains out.old.items out.new.items (kept.old.items ++ piece.now) l.now)) }
+    ensures none { IfOk result (λ left. IfNone left ((out.new.items ≡ out.old.items)
+        × (kept.new.items ≡ kept.old.items ++ piece.now)
+        × (record_stop kept.new.items ≡ waits kept.new.items))) }
+    ensures err { IfErr result (λ e. (out.new.items ≡ out.old.items)
+        × ((e ≡ EditFileError.Memory)
+        ⊎ (record_stop (kept.old.items ++ piece.now) ≡ fails e))) }
 {
     if kept.is_empty() {
         return Ok(Some(piece));
@@ -114,8 +125,12 @@ fn take_records(
     out: &mut Vec<Edit>,
 ) -> Result<(), EditFileError>
     requires { record_stop kept.old.items ≡ waits kept.old.items }
-    ensures ok { OnOk result (Gains out.old.items out.new.items (kept.old.items ++ piece.now) kept.new.items × (record_stop kept.new.items ≡ waits kept.new.items)) }
-    ensures err { IfErr result (λ e. (tail : List ℕ) × Gains out.old.items out.new.items (kept.old.items ++ piece.now) tail × ((e ≡ EditFileError.Memory) ⊎ (record_stop tail ≡ fails e))) }
+    ensures ok { OnOk result
+        (Gains out.old.items out.new.items (kept.old.items ++ piece.now) kept.new.items
+        × (record_stop kept.new.items ≡ waits kept.new.items)) }
+    ensures err { IfErr result (λ e. (tail : List ℕ)
+        × Gains out.old.items out.new.items (kept.old.items ++ piece.now) tail
+        × ((e ≡ EditFileError.Memory) ⊎ (record_stop tail ≡ fails e))) }
 {
     match take_cut(alloc, kept, piece, out)? {
         None => Ok(()),
@@ -137,7 +152,8 @@ pub(crate) fn advance(
     out: &mut Vec<Edit>,
 ) -> Result<(), EditFileError>
     requires { IsWaiting asked world.old kept.old.items }
-    ensures advances { Advances asked world.old world.new (kept.old.items ++ piece.now) out.old.items out.new.items (end_of result kept.new.items) }
+    ensures advances { Advances asked world.old world.new (kept.old.items ++ piece.now)
+        out.old.items out.new.items (end_of result kept.new.items) }
     ensures waits { OnOk result (IsWaiting asked world.new kept.new.items) }
 {
     match *world {
