@@ -49,7 +49,8 @@ fn stat_of(
     requires few_boards { length boards.now ≤ 101 }
     requires stats { stats.now ≡ names_of_stats (board_at view.now i) }
     requires few_stats { length stats.now ≤ 151 }
-    ensures is { result ≡ stat_with view.now (board_at view.now i) (stat_at (board_at view.now i) j) code }
+    ensures is { result
+        ≡ stat_with view.now (board_at view.now i) (stat_at (board_at view.now i) j) code }
     ensures fits { FitsStat result }
 {
     let x = view.stat_byte(i, j, StatByte::X);
@@ -84,7 +85,8 @@ fn properties_of(
     requires board { i < length view.now.boards }
     requires boards { boards.now ≡ names_of_boards view.now }
     requires few_boards { length boards.now ≤ 101 }
-    ensures is { IfOk result (λ properties. properties ≡ exported_properties view.now (board_at view.now i).properties) }
+    ensures is { IfOk result (λ properties.
+        properties ≡ exported_properties view.now (board_at view.now i).properties) }
     ensures fits { IfOk result (λ properties. IsInteger properties.time_limit) }
 {
     Ok(Properties {
@@ -125,7 +127,8 @@ fn stats_of(
     requires stats { stats.now ≡ names_of_stats (board_at view.now i) }
     requires few_stats { length stats.now ≤ 151 }
     requires ordered { IsOrdered view.now }
-    ensures is { IfOk result (λ stats. stats ≡ exported_above view.now (board_at view.now i) [] (stats_there (board_at view.now i))) }
+    ensures is { IfOk result (λ stats. stats
+        ≡ exported_above view.now (board_at view.now i) [] (stats_there (board_at view.now i))) }
     ensures fits { IfOk result (λ stats. AllByRecursion FitsStat stats) }
 {
     let mut texts = Vec::new(alloc);

@@ -27,7 +27,8 @@ fn boards_of(alloc: Global, view: &View, names: &BoardNames) -> Result<Seq<Board
     requires ordered { IsOrdered view.now }
     requires named { names.now ≡ names_of_boards view.now }
     requires few { length names.now ≤ 101 }
-    requires few_stats { AllByRecursion (λ b. length (stats_there b) ≤ 151) (boards_there view.now) }
+    requires few_stats { AllByRecursion
+        (λ b. length (stats_there b) ≤ 151) (boards_there view.now) }
     ensures is { IfOk result (λ boards. boards ≡ exported_boards view.now) }
     ensures fits { IfOk result (λ boards. AllByRecursion FitsBoard boards) }
 {
@@ -61,7 +62,9 @@ fn file_within(alloc: Global, view: &View, limit: usize) -> Result<Vec<u8>, Expo
     requires ordered { IsOrdered view.now }
     requires limit { limit ≤ 32767 }
     requires within { refusal_of limit view.now ≡ None }
-    ensures is { MatchResult result (λ file. file.items ≡ world_text (world_of view.now)) (λ e. e ≡ ExportError.Memory) }
+    ensures is { MatchResult result
+        (λ file. file.items ≡ world_text (world_of view.now))
+        (λ e. e ≡ ExportError.Memory) }
     ensures back { IfOk result (λ file. world_at file.items ≡ Ok (world_of view.now)) }
 {
     let Ok(world) = world_within(alloc, view, limit) else {
@@ -103,7 +106,8 @@ pub fn save(alloc: Global, document: &Document, limit: usize) -> Result<Vec<u8>,
     ensures exact { Answers (λ file. file.items) (unless_stale document.now (saved limit)) result }
 
     // What is saved is read as the exported world.
-    ensures back { IfOk result (λ file. world_at file.items ≡ Ok (world_of (replay document.now.edits))) }
+    ensures back { IfOk result (λ file.
+        world_at file.items ≡ Ok (world_of (replay document.now.edits))) }
 {
     let Ok(view) = document.view() else {
         return Err(ExportError::Stale);

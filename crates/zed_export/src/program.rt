@@ -78,7 +78,8 @@ fn own_code(bytes: Vec<u8>) -> Code
 /// The program of a stat that has the bytes of stat `user`, whose program is told.
 fn shared_code(user: usize, own: &Code) -> Code
     requires { user ≤ 151 }
-    ensures { (bytes : List ℕ) → own.now ≡ code_with None bytes → result ≡ code_with (Some user) bytes }
+    ensures { (bytes : List ℕ) → own.now ≡ code_with None bytes
+        → result ≡ code_with (Some user) bytes }
 {
     match own {
         Code::None => Code::None,

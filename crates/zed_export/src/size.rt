@@ -67,7 +67,8 @@ fn stats_bytes(alloc: Global, view: &View, i: usize) -> usize
     requires board { i < length view.now.boards }
     requires few { length (alive_stats (board_at view.now i)) ≤ 151 }
     requires ordered { IsOrdered view.now }
-    ensures { result ≡ told (length (flat_map stat_text (exported_above view.now (board_at view.now i) [] (alive_stats (board_at view.now i))))) }
+    ensures { result ≡ told (length (flat_map stat_text
+        (exported_above view.now (board_at view.now i) [] (alive_stats (board_at view.now i))))) }
 {
     let mut texts: SmallVec<Option<TextId>, 151> = SmallVec::new(alloc);
     let mut bytes: usize = 0;

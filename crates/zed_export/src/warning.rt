@@ -84,7 +84,9 @@ fn add_boards(out: &mut Vec<Warning>, boards: &[BoardData]) -> Result<(), AllocE
 /// What is odd about a world: board by board PlayerTile where its player stands on no player tile, and then stat by stat OffBoard where
 /// it is outside the table, else SamePlace where a lower stat has its place. Nothing but Memory is refused.
 pub fn warnings(alloc: Global, world: &World) -> Result<Vec<Warning>, ExportError>
-    ensures { MatchResult result (λ warnings. warnings.items ≡ warnings_of world.now) (λ e. e ≡ ExportError.Memory) }
+    ensures { MatchResult result
+        (λ warnings. warnings.items ≡ warnings_of world.now)
+        (λ e. e ≡ ExportError.Memory) }
 {
     let mut out = Vec::new(alloc);
     match add_boards(&mut out, world.boards()) {
