@@ -69,7 +69,8 @@ pub fn led(
     stat: Stat,
     words: &mut Words,
 ) -> Result<Option<Step>, OopError>
-    ensures result { Draws result words.new (led heading.now.turns heading.now.course stat scene.now words.old) }
+    ensures result { Draws result words.new
+        (led heading.now.turns heading.now.course stat scene.now words.old) }
 {
     match heading.course {
         Some(course) => {

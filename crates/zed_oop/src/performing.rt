@@ -57,7 +57,8 @@ fn do_go(
     stat: Stat,
     words: &mut Words,
 ) -> Result<Next, OopError>
-    ensures { Performs result scene.new words.new (effect (Go heading.now) start stat scene.old words.old) }
+    ensures { Performs result scene.new words.new
+        (effect (Go heading.now) start stat scene.old words.old) }
 {
     match led(scene, heading, stat, words)? {
         Some(step) => Ok(finish_go(scene, start, stat.place, step)),
@@ -73,7 +74,8 @@ fn do_try(
     stat: Stat,
     words: &mut Words,
 ) -> Result<Next, OopError>
-    ensures { Performs result scene.new words.new (effect (Try heading.now) start stat scene.old words.old) }
+    ensures { Performs result scene.new words.new
+        (effect (Try heading.now) start stat scene.old words.old) }
 {
     match led(scene, heading, stat, words)? {
         Some(step) => Ok(finish_try(scene, stat.place, step)),
@@ -89,7 +91,8 @@ fn do_walk(
     stat: Stat,
     words: &mut Words,
 ) -> Result<Next, OopError>
-    ensures { Performs result scene.new words.new (effect (Walk heading.now) start stat scene.old words.old) }
+    ensures { Performs result scene.new words.new
+        (effect (Walk heading.now) start stat scene.old words.old) }
 {
     match led(scene, heading, stat, words)? {
         Some(step) => {
@@ -108,7 +111,8 @@ fn do_shoot(
     stat: Stat,
     words: &mut Words,
 ) -> Result<Next, OopError>
-    ensures { Performs result scene.new words.new (effect (Shoot heading.now) start stat scene.old words.old) }
+    ensures { Performs result scene.new words.new
+        (effect (Shoot heading.now) start stat scene.old words.old) }
 {
     match led(scene, heading, stat, words)? {
         Some(step) => {
@@ -140,7 +144,8 @@ fn do_put(
     stat: Stat,
     words: &mut Words,
 ) -> Result<Next, OopError>
-    ensures { Performs result scene.new words.new (effect (Put heading.now kind) start stat scene.old words.old) }
+    ensures { Performs result scene.new words.new
+        (effect (Put heading.now kind) start stat scene.old words.old) }
 {
     match led(scene, heading, stat, words)? {
         Some(step) => Ok(finish_put(scene, stat.place, kind, step)),
@@ -156,7 +161,8 @@ fn do_if(
     stat: Stat,
     words: &mut Words,
 ) -> Result<Next, OopError>
-    ensures { Performs result scene.new words.new (effect (If query.now) start stat scene.old words.old) }
+    ensures { Performs result scene.new words.new
+        (effect (If query.now) start stat scene.old words.old) }
 {
     match holds(scene, query, stat, words)? {
         Some(truth) => {
@@ -171,7 +177,8 @@ fn do_if(
 }
 
 fn do_give(scene: &mut Scene, counter: Option<Counter>, value: u16) -> Next
-    ensures { known_or_error (λ c t. skips (given c value t)) counter scene.old ≡ (result, scene.new) }
+    ensures { known_or_error (λ c t. skips (given c value t)) counter scene.old
+        ≡ (result, scene.new) }
 {
     match counter {
         Some(counter) => {
@@ -183,7 +190,8 @@ fn do_give(scene: &mut Scene, counter: Option<Counter>, value: u16) -> Next
 }
 
 fn do_take(scene: &mut Scene, counter: Option<Counter>, value: u16) -> Next
-    ensures { known_or_error (λ c t. or_command (taken_from c value t)) counter scene.old ≡ (result, scene.new) }
+    ensures { known_or_error (λ c t. or_command (taken_from c value t)) counter scene.old
+        ≡ (result, scene.new) }
 {
     match counter {
         Some(counter) => {
@@ -198,7 +206,8 @@ fn do_take(scene: &mut Scene, counter: Option<Counter>, value: u16) -> Next
 }
 
 fn do_become(scene: &mut Scene, kind: Option<TileKind>, place: Place) -> Next
-    ensures { known_or_error (λ j t. (SkipAndEnd, became j place t)) kind scene.old ≡ (result, scene.new) }
+    ensures { known_or_error (λ j t. (SkipAndEnd, became j place t)) kind scene.old
+        ≡ (result, scene.new) }
 {
     match kind {
         Some(kind) => {
@@ -233,7 +242,8 @@ fn do_cycle(scene: &mut Scene, value: u16)
 }
 
 fn do_char(scene: &mut Scene, value: u16)
-    ensures { scene.new ≡ (if nat_le 1 value && nat_le value 255 then with_p1 value scene.old else scene.old) }
+    ensures { scene.new
+        ≡ (if nat_le 1 value && nat_le value 255 then with_p1 value scene.old else scene.old) }
 {
     if 1 <= value && value <= 255 {
         set_p1(scene, value as u8);
@@ -270,7 +280,8 @@ fn own_reached(scene: &Scene, alloc: Global, word: &[u8]) -> Result<bool, AllocE
 }
 
 fn do_send(scene: &mut Scene, alloc: Global, word: &[u8]) -> Result<Next, AllocError>
-    ensures { IfOk result (λ n. messaged (own_reached word.now scene.old) (sent word.now scene.old) ≡ (n, scene.new)) }
+    ensures { IfOk result (λ n.
+        messaged (own_reached word.now scene.old) (sent word.now scene.old) ≡ (n, scene.new)) }
 {
     let own = own_reached(scene, alloc, word)?;
     send(scene, alloc, word)?;
@@ -278,7 +289,9 @@ fn do_send(scene: &mut Scene, alloc: Global, word: &[u8]) -> Result<Next, AllocE
 }
 
 fn do_other(scene: &mut Scene, alloc: Global, word: &[u8]) -> Result<Next, AllocError>
-    ensures { IfOk result (λ n. messaged_or_error (own_reached word.now scene.old) (has_colon word.now) (sent word.now scene.old) ≡ (n, scene.new)) }
+    ensures { IfOk result (λ n. messaged_or_error
+        (own_reached word.now scene.old) (has_colon word.now) (sent word.now scene.old)
+        ≡ (n, scene.new)) }
 {
     let own = own_reached(scene, alloc, word)?;
     send(scene, alloc, word)?;
@@ -311,7 +324,8 @@ pub(crate) fn perform(
     stat: Stat,
     words: &mut Words,
 ) -> Result<Next, OopError>
-    ensures { Performs result scene.new words.new (effect command.now start stat scene.old words.old) }
+    ensures { Performs result scene.new words.new
+        (effect command.now start stat scene.old words.old) }
 {
     match command {
         Command::Go(heading) => do_go(scene, heading, start, stat, words),

@@ -56,7 +56,9 @@ fn fail(alloc: Global, scene: &mut Scene, lines: &mut Seq<Bytes>) -> Result<(), 
 
 /// Makes a step, which is after_try again at one place and passed at another.
 fn finish_step(scene: &mut Scene, from: Place, step: Step, again: usize, next: usize)
-    ensures { (ws : List ℕ) → (ls : List (List ℕ)) → stepped again next (try_move from step scene.old) (state scene.old ws ls) ≡ ends (state scene.new ws ls) }
+    ensures { (ws : List ℕ) → (ls : List (List ℕ))
+        → stepped again next (try_move from step scene.old) (state scene.old ws ls)
+        ≡ ends (state scene.new ws ls) }
 {
     if scene.try_move(from, step) {
         go_to(scene, Some(next));
@@ -75,7 +77,8 @@ fn do_step(
     words: &mut Words,
     lines: &mut Seq<Bytes>,
 ) -> Result<(), OopError>
-    ensures { DoesStep result heading.now stat again next (state scene.old words.old lines.old) (state scene.new words.new lines.new) }
+    ensures { DoesStep result heading.now stat again next
+        (state scene.old words.old lines.old) (state scene.new words.new lines.new) }
 {
     match led(scene, heading, stat, words)? {
         Some(step) => finish_step(scene, stat.place, step, again, next),
@@ -95,7 +98,9 @@ fn instruct(
     words: &mut Words,
     lines: &mut Seq<Bytes>,
 ) -> Result<After, OopError>
-    ensures { Comes result (instructed instruction at next stat (state scene.old words.old lines.old)) (state scene.new words.new lines.new) }
+    ensures { Comes result
+        (instructed instruction at next stat (state scene.old words.old lines.old))
+        (state scene.new words.new lines.new) }
 {
     match instruction {
         Instruction::End => {
@@ -138,7 +143,9 @@ fn settle(
     next: Next,
     lines: &mut Seq<Bytes>,
 ) -> Result<After, AllocError>
-    ensures { (ws : List ℕ) → IfOk result (λ a. settled start next (state scene.old ws lines.old) ≡ after a (state scene.new ws lines.new)) }
+    ensures { (ws : List ℕ) → IfOk result (λ a.
+        settled start next (state scene.old ws lines.old)
+        ≡ after a (state scene.new ws lines.new)) }
 {
     match next {
         Next::Skip => {
@@ -170,7 +177,9 @@ fn command_with(
     words: &mut Words,
     lines: &mut Seq<Bytes>,
 ) -> Result<After, OopError>
-    ensures { Comes result (commanded command start next stat (state scene.old words.old lines.old)) (state scene.new words.new lines.new) }
+    ensures { Comes result
+        (commanded command start next stat (state scene.old words.old lines.old))
+        (state scene.new words.new lines.new) }
 {
     go_to(scene, Some(next));
     match command {
@@ -190,7 +199,8 @@ fn one_step(
     words: &mut Words,
     lines: &mut Seq<Bytes>,
 ) -> Result<After, OopError>
-    ensures steps { StepsTo result reading (state scene.old words.old lines.old) (state scene.new words.new lines.new) }
+    ensures steps { StepsTo result reading
+        (state scene.old words.old lines.old) (state scene.new words.new lines.new) }
     ensures nearer { IfOk result (λ a. IsNearer a reading scene.old scene.new) }
 {
     let stat = match scene.own() {
@@ -221,7 +231,8 @@ fn run_on(
     words: &mut Words,
     lines: &mut Seq<Bytes>,
 ) -> Result<Option<Reading>, OopError>
-    ensures { Runs result reading (state scene.old words.old lines.old) (state scene.new words.new lines.new) }
+    ensures { Runs result reading
+        (state scene.old words.old lines.old) (state scene.new words.new lines.new) }
 {
     let mut next = reading;
     loop {
@@ -238,7 +249,8 @@ fn run_on(
 
 /// Skips the rest of the line in place of a command that may not be read any more.
 fn finish(scene: &mut Scene, reading: Reading)
-    ensures { (ws : List ℕ) (ls : List (List ℕ)) → state scene.new ws ls ≡ finished reading (state scene.old ws ls) }
+    ensures { (ws : List ℕ) (ls : List (List ℕ))
+        → state scene.new ws ls ≡ finished reading (state scene.old ws ls) }
 {
     if let Reading::Commanding(_) = reading {
         skip_line(scene);
