@@ -38,7 +38,8 @@ fn target_has_size(target: ThirdParameter)
 }
 
 fn header_setting_has_size(setting: &HeaderSetting)
-    ensures { AreStamped (header_names setting.now) → is_header_in_range setting.now ≡ true → IsHeaderSetting setting.now }
+    ensures { AreStamped (header_names setting.now)
+        → is_header_in_range setting.now ≡ true → IsHeaderSetting setting.now }
 {
     match setting {
         HeaderSetting::Number(_, number) => {
@@ -51,7 +52,8 @@ fn header_setting_has_size(setting: &HeaderSetting)
 }
 
 fn board_setting_has_size(setting: &BoardSetting)
-    ensures { AreStamped (board_names setting.now) → is_property_in_range setting.now ≡ true → IsBoardSetting setting.now }
+    ensures { AreStamped (board_names setting.now)
+        → is_property_in_range setting.now ≡ true → IsBoardSetting setting.now }
 {
     match setting {
         BoardSetting::Byte(_, byte) => {
