@@ -39,7 +39,8 @@ fn next_tick(tick: u16) -> u16
 impl Play {
     /// A playtest before its first step.
     pub(crate) fn begin(alloc: Global, game: Game, bounds: Bounds, tick: u16) -> Play
-        ensures result { result ≡ record { game = game; bounds = bounds; tick = tick; ending = None } }
+        ensures result { result
+            ≡ record { game = game; bounds = bounds; tick = tick; ending = None } }
     {
         Play {
             alloc,
@@ -62,7 +63,11 @@ impl Play {
 
     /// The board after the looks of a step.
     fn stepped(&self, key: Key, words: &mut Words) -> Result<Game, OopError>
-        ensures result { MatchResult result (λ g. Looks (asked key self.now) 1024 (from_first self.now.game) words.old (Some (g, words.new))) (λ e. (e ≡ Memory) ⊎ ((e ≡ NoWords) × Looks (asked key self.now) 1024 (from_first self.now.game) words.old None)) }
+        ensures result { MatchResult result
+            (λ g. Looks (asked key self.now) 1024 (from_first self.now.game) words.old
+            (Some (g, words.new)))
+            (λ e. (e ≡ Memory) ⊎ ((e ≡ NoWords)
+            × Looks (asked key self.now) 1024 (from_first self.now.game) words.old None)) }
     {
         let mut game = self.game.copy(self.alloc)?;
         game.scene.set_ticking(0);

@@ -79,7 +79,8 @@ impl Game {
         from: Place,
         words: &mut Words,
     ) -> Result<(), OopError>
-        ensures { Answers result (GoesTo to side bounds from self.old words.old) self.new words.new }
+        ensures { Answers result
+            (GoesTo to side bounds from self.old words.old) self.new words.new }
     {
         match to {
             None => {
@@ -103,7 +104,8 @@ impl Game {
         from: Place,
         words: &mut Words,
     ) -> Result<(), OopError>
-        ensures { Answers result (PlayerDoes deed bounds from self.old words.old) self.new words.new }
+        ensures { Answers result
+            (PlayerDoes deed bounds from self.old words.old) self.new words.new }
     {
         match deed {
             Deed::Nothing => Ok(()),
