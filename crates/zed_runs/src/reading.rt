@@ -27,7 +27,8 @@ pub fn read_runs(bytes: &[u8]) -> Result<([Tile; TILES], usize), RunsError>
     // Each text of runs at the front is read as what it stands for.
     ensures reads { EachFront bytes.now (λ tiles len. result ≡ Ok (tiles, len)) }
     ensures exact_fault { OnErr result (tiles_at TILES bytes.now ≡ None) }
-    ensures none { OnErr result ((tiles : List Tile) (len : ℕ) → Runs tiles (take len bytes.now) → ⊥) }
+    ensures none { OnErr result ((tiles : List Tile) (len : ℕ)
+        → Runs tiles (take len bytes.now) → ⊥) }
     ensures truncated { IfErr result (λ e. e ≡ RunsError.Truncated) }
 {
     let mut tiles = [Tile {

@@ -30,7 +30,8 @@ fn run_len(tiles: &[Tile], tile: Tile) -> usize
 /// Appends one run.
 fn push_run(len: usize, tile: Tile, out: &mut Vec<u8>) -> Result<(), AllocError>
     requires { len ≤ 255 }
-    ensures ok { OnOk result (out.new.items ≡ out.old.items ++ len ∷ tile.element ∷ tile.colour ∷ []) }
+    ensures ok { OnOk result
+        (out.new.items ≡ out.old.items ++ len ∷ tile.element ∷ tile.colour ∷ []) }
     ensures err { OnErr result (out.new.items ≡ out.old.items) }
     ensures full { OnErr result (vec_capacity out.old < vec_len out.old + 3) }
     ensures capacity { vec_capacity out.old ≤ vec_capacity out.new }
@@ -42,7 +43,8 @@ fn push_run(len: usize, tile: Tile, out: &mut Vec<u8>) -> Result<(), AllocError>
 fn push_runs(tiles: &[Tile], out: &mut Vec<u8>) -> Result<(), AllocError>
     ensures ok { OnOk result (out.new.items ≡ out.old.items ++ greedy tiles.now) }
     ensures err { OnErr result ((bytes : List ℕ) × (out.new.items ≡ out.old.items ++ bytes)) }
-    ensures full { OnErr result (vec_capacity out.old < vec_len out.old + length (greedy tiles.now)) }
+    ensures full { OnErr result
+        (vec_capacity out.old < vec_len out.old + length (greedy tiles.now)) }
 {
     let mut rest = tiles;
     while let Some(tile) = rest.first() {
@@ -77,7 +79,8 @@ pub fn write_runs(tiles: &[Tile; TILES], out: &mut Vec<u8>) -> Result<(), RunsEr
     ensures kept { OnErr result (out.new.items ≡ out.old.items) }
 
     // Only where the vector had no room for the text.
-    ensures memory_only_when { OnErr result (NoRoomForGreedy tiles.now (vec_capacity out.old) (vec_len out.old)) }
+    ensures memory_only_when { OnErr result
+        (NoRoomForGreedy tiles.now (vec_capacity out.old) (vec_len out.old)) }
 {
     let before = out.len();
     match push_runs(tiles, out) {
