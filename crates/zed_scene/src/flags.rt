@@ -66,7 +66,8 @@ fn empty_flags(alloc: Global, flags: &mut [Bytes], word: &[u8])
 impl Scene {
     /// Puts a word, cut to 20 bytes, into the first empty flag, if none has it.
     pub fn set_flag(&mut self, alloc: Global, word: &[u8]) -> Result<(), AllocError>
-        ensures result { OnOk result (self.new ≡ with_flags (flagged (cut word.now) self.old.flags) self.old) }
+        ensures result { OnOk result
+            (self.new ≡ with_flags (flagged (cut word.now) self.old.flags) self.old) }
         ensures kept { OnErr result (self.new ≡ self.old) }
     {
         let short = cut(alloc, word)?;
@@ -76,7 +77,8 @@ impl Scene {
 
     /// Empties each flag that has a word, cut to 20 bytes.
     pub fn clear_flag(&mut self, alloc: Global, word: &[u8]) -> Result<(), AllocError>
-        ensures result { OnOk result (self.new ≡ with_flags (unflagged (cut word.now) self.old.flags) self.old) }
+        ensures result { OnOk result
+            (self.new ≡ with_flags (unflagged (cut word.now) self.old.flags) self.old) }
         ensures kept { OnErr result (self.new ≡ self.old) }
     {
         let short = cut(alloc, word)?;

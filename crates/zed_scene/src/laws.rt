@@ -8,5 +8,6 @@ ghost use Rattle.zed_scene.specs.Trying.{is_nowhere, push_rule};
 
 /// However long a row is that is pushed, all of it is: no bound is felt.
 pub fn reach_suffices()
-    ensures result { (p : Place) (d : Step) (s : Scene) → is_nowhere d ≡ false → pushed p d s ≡ push_rule p d s }
+    ensures result { (p : Place) (d : Step) (s : Scene) → is_nowhere d ≡ false
+        → pushed p d s ≡ push_rule p d s }
 {}
