@@ -12,21 +12,26 @@ ghost use Rattle.zed_script.specs.Line.{InstructionAt};
 /// A direction stands at each place, known or not, and no other does there, nor one that ends elsewhere.
 pub fn one_direction()
     ensures stands { (p : List ℕ) (at : ℕ) → (h : Heading) × ((end : ℕ) × DirectionAt p at h end) }
-    ensures alone { (p : List ℕ) (at : ℕ) (h g : Heading) (m n : ℕ) → DirectionAt p at h m → DirectionAt p at g n → (h ≡ g) × (m ≡ n) }
+    ensures alone { (p : List ℕ) (at : ℕ) (h g : Heading) (m n : ℕ)
+        → DirectionAt p at h m → DirectionAt p at g n → (h ≡ g) × (m ≡ n) }
 {}
 
 /// At most one condition stands at a place, and it ends at one place.
 pub fn one_condition()
-    ensures alone { (p : List ℕ) (at : ℕ) (q r : Query) (m n : ℕ) → QueryAt p at q m → QueryAt p at r n → (q ≡ r) × (m ≡ n) }
+    ensures alone { (p : List ℕ) (at : ℕ) (q r : Query) (m n : ℕ)
+        → QueryAt p at q m → QueryAt p at r n → (q ≡ r) × (m ≡ n) }
 {}
 
 /// At most one command stands at a place, or no word does, and it ends at one place.
 pub fn one_command()
-    ensures alone { (p : List ℕ) (at : ℕ) (c d : Option Command) (m n : ℕ) → CommandAt p at c m → CommandAt p at d n → (c ≡ d) × (m ≡ n) }
+    ensures alone { (p : List ℕ) (at : ℕ) (c d : Option Command) (m n : ℕ)
+        → CommandAt p at c m → CommandAt p at d n → (c ≡ d) × (m ≡ n) }
 {}
 
 /// An instruction stands at each place, and no other does there, nor one behind which the program goes on elsewhere.
 pub fn one_instruction()
-    ensures stands { (p : List ℕ) (at : ℕ) → (i : Instruction) × ((next : ℕ) × InstructionAt p at i next) }
-    ensures alone { (p : List ℕ) (at : ℕ) (i j : Instruction) (m n : ℕ) → InstructionAt p at i m → InstructionAt p at j n → (i ≡ j) × (m ≡ n) }
+    ensures stands { (p : List ℕ) (at : ℕ)
+        → (i : Instruction) × ((next : ℕ) × InstructionAt p at i next) }
+    ensures alone { (p : List ℕ) (at : ℕ) (i j : Instruction) (m n : ℕ)
+        → InstructionAt p at i m → InstructionAt p at j n → (i ≡ j) × (m ≡ n) }
 {}
