@@ -37,7 +37,8 @@ pub(crate) fn count_of(
 }
 
 fn tiles_of(bytes: &[u8]) -> Result<([Tile; TILES], &[u8]), WorldError>
-    ensures { Gives (λ x. (x.0, x.1.now)) result (found_or WorldError.Truncated (tiles_at TILES bytes.now)) }
+    ensures { Gives (λ x. (x.0, x.1.now)) result
+        (found_or WorldError.Truncated (tiles_at TILES bytes.now)) }
 {
     let found = read_runs(bytes)?;
     let tiles = found.0;

@@ -18,7 +18,8 @@ use zed_types::{BOARDS_LIMIT, Seq};
 #[tactic(auto, unfolding(crate::specs::Reading::contents_at))]
 fn contents_of(alloc: Global, bytes: &[u8]) -> Result<(Header, Seq<BoardData>), WorldError>
     requires { 512 ≤ length bytes.now }
-    ensures result { Gives (λ x. record { header = x.0; boards = x.1 }) result (contents_at bytes.now) }
+    ensures result { Gives (λ x. record { header = x.0; boards = x.1 }) result
+        (contents_at bytes.now) }
     ensures memory_only_when { IfErr result (λ e. e ≡ WorldError.Memory → CountsBoards bytes.now) }
 {
     let others = count_of(BOARDS_LIMIT, WorldError::TooManyBoards, bytes, 2)?;

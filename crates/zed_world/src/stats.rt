@@ -43,7 +43,8 @@ fn program_of<'a>(
 ) -> Result<(Code, &'a [u8]), WorldError>
     requires few { length done.now ≤ 151 }
     requires long { 33 ≤ length bytes.now }
-    ensures { Gives (λ x. (x.0, x.1.now)) result (code_at done.now (integer_at bytes.now 23) (drop 33 bytes.now)) }
+    ensures { Gives (λ x. (x.0, x.1.now)) result
+        (code_at done.now (integer_at bytes.now 23) (drop 33 bytes.now)) }
 {
     let len = integer_of(bytes, 23);
     let (_, rest) = bytes.split_at(33);
@@ -108,7 +109,8 @@ fn next_stat<'a>(
 ) -> Result<(StatData, &'a [u8]), WorldError>
     requires few { stats ≤ 151 }
     requires before { length done.now ≤ 151 }
-    ensures { Gives (λ x. (x.0, x.1.now)) result (stat_at boards stats tiles.now done.now bytes.now) }
+    ensures { Gives (λ x. (x.0, x.1.now)) result
+        (stat_at boards stats tiles.now done.now bytes.now) }
 {
     if bytes.len() < 33 {
         return Err(WorldError::Truncated);

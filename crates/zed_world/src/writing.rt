@@ -93,7 +93,8 @@ fn text_of(alloc: Global, header: &Header, boards: &[BoardData]) -> Result<Vec<u
     requires parts { HasNormalParts (record { header = header.now; boards = boards.now }) }
     requires writable { AllByRecursion IsWritable boards.now }
     requires short { AllByRecursion HasShortBody boards.now }
-    ensures result { IfOk result (λ v. v.items ≡ world_text (record { header = header.now; boards = boards.now })) }
+    ensures result { IfOk result (λ v.
+        v.items ≡ world_text (record { header = header.now; boards = boards.now })) }
     ensures only_memory { IfErr result (λ e. e ≡ WorldError.Memory) }
 {
     let mut out = Vec::new(alloc);
