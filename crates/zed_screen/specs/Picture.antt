@@ -60,6 +60,7 @@ p1_of (Some a) = Some a.p1
 abbrev pub p1_at : Scene → Place → Option ℕ
 p1_at s p = p1_of (find (λ a. same_place a.place p) s.stats)
 
+-- what the screen shows at its place k of a board in play
 unfoldable pub scene_cell : Scene → ℕ → Cell
 scene_cell s k = if is_beside k then side else cell_of (tile_at s.tiles (place_of k)) (p1_at s (place_of k))
 
@@ -67,9 +68,11 @@ scene_cell s k = if is_beside k then side else cell_of (tile_at s.tiles (place_o
 abbrev pub stands_at : Place → StatData → Bool
 stands_at p s = s.x == p.x && s.y == p.y
 
+-- the first parameter of a stat of a world's board, if there is a stat
 abbrev pub data_p1 : Option StatData → Option ℕ
 data_p1 None = None
 data_p1 (Some s) = Some s.p1
 
+-- what the screen shows at its place k of a board of a world
 unfoldable pub data_cell : BoardData → ℕ → Cell
 data_cell b k = if is_beside k then side else cell_of (tile_at b.tiles (place_of k)) (data_p1 (find (stands_at (place_of k)) b.stats))
