@@ -26,7 +26,7 @@ use Rattle.zed_edit.specs.Board.{new_board, empty_tile}
 use Rattle.zed_document.specs.declared.view.MadeBoard.{MadeBoard}
 use Rattle.zed_document.specs.declared.view.MadeStat.{MadeStat}
 
--- a board and a stat to speak of where a number is past the end
+-- a stat to speak of where a number is past the end
 abbrev pub no_stat : Stat
 no_stat = new_stat (stat_of title.name.stamp 0) true player_fields
 

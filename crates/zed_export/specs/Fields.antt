@@ -48,7 +48,7 @@ pub record FitsWorld (w : Contents) : Type 0 where
   pub header : FitsHeader w.header
   pub boards : AllByRecursion FitsBoard w.boards
 
--- the names of the boards and of the stats that aren't removed, by number
+-- the names of the boards that aren't removed, by number
 abbrev pub board_names : Plain → List BoardId
 board_names p = map (λ b. b.id) (alive_boards p)
 

@@ -74,7 +74,7 @@ abbrev pub stepped_by : Drawn (Option Way) → Place → ℕ → ℕ → State �
 stepped_by None here again next t = lacks
 stepped_by (Some d) here again next t = stepped_if here again next d.0 (record t { left = d.1 })
 
--- what comes of an instruction that stands at a place and before `next`: `/` is after_try again where it isn't done, `?` isn't
+-- what comes of an instruction that stands at a place and before `next`: `/` is tried again where it isn't done, `?` isn't
 abbrev pub instructed : Instruction → ℕ → ℕ → Stat → State → Outcome
 instructed End at next a t = ends (to_place None t)
 instructed Skipped at next a t = goes Instructing (to_place (Some next) t)
@@ -119,7 +119,7 @@ position_of (Some a) = a.position
 
 -- one instruction, or one command
 pub data Does : Reading → State → Outcome → Type 0 where
-  -- the stat is after_go, or its program has ended
+  -- the stat is gone, or its program has ended
   over : (r : Reading) (t : State) → position_of (own t.scene) ≡ None → Does r t (ends t)
   instructs : (t : State) (a : Stat) (at : ℕ) (i : Instruction) (next : ℕ) → Stands t.scene a at → InstructionAt (program_of t.scene a.program) at i next → Does Instructing t (instructed i at next a t)
   commands : (start : ℕ) (t : State) (a : Stat) (at : ℕ) (c : Option Command) (next : ℕ) → Stands t.scene a at → CommandAt (program_of t.scene a.program) at c next → Does (Commanding start) t (commanded c start next a t)
@@ -137,7 +137,7 @@ pub data Chain : ℕ → Reading → State → Option State → Type 0 where
   went_on : (n : ℕ) (r q : Reading) (t u : State) (e : Option State) → Does r t (goes q u) → Chain (suc n) q u e → Chain (suc n) r t e
   counted : (n : ℕ) (r q : Reading) (t u : State) (e : Option State) → Does r t (counts q u) → Chain n q u e → Chain (suc n) r t e
 
--- a turn of stat i with these words
+-- where a turn of stat i with these words begins
 abbrev pub start_of : Scene → ℕ → List ℕ → State
 start_of s i ws = record { scene = record s { running = there s i }; left = ws; lines = [] }
 

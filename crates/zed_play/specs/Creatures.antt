@@ -38,7 +38,7 @@ lion a s ws = do
 
 -- ---- the tiger
 
--- a creature's shot along the row or the column of the player, where the other differs by at most 2
+-- whether two columns, or two rows, differ by at most 2
 abbrev pub up_to_two : ℕ → ℕ → Bool
 up_to_two a b = nat_le (apart a b) 2
 

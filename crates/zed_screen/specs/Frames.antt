@@ -21,7 +21,7 @@ Shows frame f = (k : ℕ) → k < 2000 → slice_get frame.cells k ≡ Some (f k
 abbrev pub printable : ℕ → ℕ
 printable b = if nat_le 32 b && nat_le b 126 then b else 63
 
--- the byte at column x of line y
+-- the printable byte of a cell
 abbrev pub ascii_of : Cell → ℕ
 ascii_of c = printable c.character
 

@@ -31,7 +31,7 @@ follows p at l =
 unfoldable pub label_at : ℕ → List ℕ → List ℕ → ℕ → Bool
 label_at mark p l at = (not (at == 0) && byte_is p (at - 1) 13 && byte_is p at mark) && follows p (at + 1) l
 
--- the least number below n that passes a test
+-- the first of two, where there is one, else the second
 abbrev pub or_else : Option ℕ → Option ℕ → Option ℕ
 or_else None o = o
 or_else (Some n) o = Some n

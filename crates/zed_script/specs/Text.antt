@@ -58,7 +58,7 @@ value_end p at = run_end Digit p (value_start p at)
 unfoldable pub value_at : List ℕ → ℕ → ℕ
 value_at p at = min (number 0 (slice_range p (value_start p at) (value_end p at))) 32767
 
--- the place behind the line: past its byte 13, if it has one
+-- where the line at a place ends: at its byte 13, or at the end of the program
 unfoldable pub line_end : List ℕ → ℕ → ℕ
 line_end p at = run_end Line p at
 
