@@ -44,6 +44,7 @@ refusal_of document.ClockSpent = ClockSpent
 -- ---- what the numbers of an action name
 
 infixl 10 ◌>>=◌
+-- what follows of a value; a refusal stays
 abbrev pub ◌>>=◌ : {A B : Type 0} → Result A ActionError → (A → Result B ActionError) → Result B ActionError
 (Ok x) >>= f = f x
 (Err e) >>= f = Err e
@@ -53,6 +54,7 @@ abbrev pub found : {X : Type 0} → Option X → Result X ActionError
 found None = Err NoSuch
 found (Some x) = Ok x
 
+-- the board of number n, or NoSuch
 abbrev pub board_in : Plain → ℕ → Result BoardId ActionError
 board_in p n = found (board_numbered p n)
 
@@ -97,6 +99,7 @@ insertion_of s (Some text) position bytes = Ok (Insert text position bytes)
 insertion_of s None zero bytes = Ok (Start s bytes)
 insertion_of s None (suc n) bytes = Err OutOfRange
 
+-- bytes go out of the text of a stat; NoSuch where it has none
 abbrev pub deletion_of : Option TextId → ℕ → ℕ → Result Deed ActionError
 deletion_of None from to = Err NoSuch
 deletion_of (Some text) from to = Ok (Delete text from to)
@@ -107,6 +110,7 @@ insertion_in p b s position bytes = do
   it ← stat_in p b s
   insertion_of it (text_of p it) position bytes
 
+-- bytes go out of the text of a stat, by the numbers of board and stat
 abbrev pub deletion_in : Plain → ℕ → ℕ → ℕ → ℕ → Result Deed ActionError
 deletion_in p b s from to = do
   it ← stat_in p b s
@@ -143,6 +147,7 @@ abbrev pub told : {X : Type 0} → List Edit → Result X DocumentError → Made
 told es (Ok x) = Ok es
 told es (Err e) = Err (refusal_of e)
 
+-- a replica with these edits in place of its own
 abbrev pub with_edits : List Edit → Replica → Replica
 with_edits es d = record d { edits = es }
 
@@ -177,16 +182,19 @@ Starts d replica s bytes made =
     (λ es. InTurn (Inserts (with_edits es d) replica (next_text d replica) 0 bytes)
     (λ fs. Authors (with_edits fs d) replica (op.SetStat s (stat_setting.Text (Some (next_text d replica)))))) made
 
+-- what is made by a deed: an edit, bytes inserted, a text with its first bytes, or bytes deleted
 abbrev pub Performs : Replica → ℕ → Deed → Made → Type 0
 Performs d replica (Make o) made = Authors d replica o made
 Performs d replica (Insert t position bytes) made = Inserts d replica t position bytes made
 Performs d replica (Start s bytes) made = Starts d replica s bytes made
 Performs d replica (Delete t from to) made = Deletes d replica t from to made
 
+-- what is made by a deed, or a refusal in place of it
 abbrev pub Does : Replica → ℕ → Result Deed ActionError → Made → Type 0
 Does d replica (Err e) made = made ≡ Err e
 Does d replica (Ok deed) made = Performs d replica deed made
 
+-- what is made by an action on what the document shows; words that are none are a BadAction
 abbrev pub ActsOn : Replica → ℕ → Option Action → Made → Type 0
 ActsOn d replica None made = made ≡ Err BadAction
 ActsOn d replica (Some a) made = Does d replica (deed_of (replay d.edits) a) made

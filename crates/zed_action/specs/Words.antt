@@ -15,12 +15,15 @@ use Rattle.zed_action.specs.declared.action.Action.{Action}
 use Rattle.zed_action.specs.declared.action.Action.TheVariants.{BoardAdd, BoardRemove, BoardName, Exit, Cells, StatAdd, StatRemove, Insert, Delete}
 
 infixl 10 ◌>>=◌
+-- what follows of a value, if there is one
 abbrev pub ◌>>=◌ : {A B : Type 0} → Option A → (A → Option B) → Option B
 o >>= f = option_and_then f o
 
+-- one of an action's words, its bytes
 abbrev pub Word : Type 0
 Word = List ℕ
 
+-- the words that a caller lends
 abbrev pub words_of : List (Bor Word) → List Word
 words_of = map (λ s. s.now)
 
@@ -46,9 +49,11 @@ short_of word = number_of 65535 word
 abbrev pub long_of : Word → Option ℕ
 long_of word = number_of 4294967295 word
 
+-- a cycle: a number up to 32,767
 abbrev pub cycle_of : Word → Option ℤ
 cycle_of word = option_map pos (number_of 32767 word)
 
+-- the side of a board that a word names
 abbrev pub side_of : Word → Option Side
 side_of word =
     if bytes_eq word (codes "north") then Some North else
@@ -56,6 +61,7 @@ side_of word =
     if bytes_eq word (codes "west") then Some West else
     if bytes_eq word (codes "east") then Some East else None
 
+-- a rectangle: its left column, top row, right column and bottom row
 abbrev pub rectangle_of : Word → Word → Word → Word → Option Rectangle
 rectangle_of x0 y0 x1 y1 = do
   left ← byte_of x0
@@ -64,6 +70,7 @@ rectangle_of x0 y0 x1 y1 = do
   bottom ← byte_of y1
   Some (record { left = left; top = top; right = right; bottom = bottom })
 
+-- a tile: its element and its colour
 abbrev pub tile_of : Word → Word → Option Tile
 tile_of element colour = do
   e ← byte_of element
@@ -88,18 +95,22 @@ with_line_ends word = map end_for word
 
 -- ---- actions, by the words behind the first
 
+-- `board-add`: the name of the new board
 abbrev pub board_add_of : List Word → Option Action
 board_add_of (name ∷ []) = Some (BoardAdd name)
 board_add_of _ = None
 
+-- `board-remove`: the number of a board
 abbrev pub board_remove_of : List Word → Option Action
 board_remove_of (b ∷ []) = option_map BoardRemove (short_of b)
 board_remove_of _ = None
 
+-- `board-name`: a board, and the name that it gets
 abbrev pub board_name_of : List Word → Option Action
 board_name_of (b ∷ name ∷ []) = option_map (λ board. BoardName board name) (short_of b)
 board_name_of _ = None
 
+-- `exit`: a board, a side, and the board to that side, 0 for none
 abbrev pub exit_of : List Word → Option Action
 exit_of (b ∷ s ∷ t ∷ []) = do
   board ← short_of b
@@ -108,6 +119,7 @@ exit_of (b ∷ s ∷ t ∷ []) = do
   Some (Exit board side to)
 exit_of _ = None
 
+-- `cells`: a board, a rectangle, and the tile that fills it
 abbrev pub cells_of : List Word → Option Action
 cells_of (b ∷ x0 ∷ y0 ∷ x1 ∷ y1 ∷ element ∷ colour ∷ []) = do
   board ← short_of b
@@ -116,6 +128,7 @@ cells_of (b ∷ x0 ∷ y0 ∷ x1 ∷ y1 ∷ element ∷ colour ∷ []) = do
   Some (Cells board cells tile)
 cells_of _ = None
 
+-- `stat-add`: a board, a column, a row, and a cycle
 abbrev pub stat_add_of : List Word → Option Action
 stat_add_of (b ∷ x ∷ y ∷ c ∷ []) = do
   board ← short_of b
@@ -125,6 +138,7 @@ stat_add_of (b ∷ x ∷ y ∷ c ∷ []) = do
   Some (StatAdd board column row cycle)
 stat_add_of _ = None
 
+-- `stat-remove`: a board, and one of its stats
 abbrev pub stat_remove_of : List Word → Option Action
 stat_remove_of (b ∷ s ∷ []) = do
   board ← short_of b
@@ -132,12 +146,14 @@ stat_remove_of (b ∷ s ∷ []) = do
   Some (StatRemove board stat)
 stat_remove_of _ = None
 
+-- `insert`: a board, a stat, a position in its program, and the bytes that go in there
 abbrev pub insert_of : List Word → Option Action
 insert_of (b ∷ s ∷ p ∷ text ∷ []) = do
   spot ← spot_of b s p
   Some (Insert spot.0 spot.1 spot.2 (with_line_ends text))
 insert_of _ = None
 
+-- `delete`: a board, a stat, and the positions in its program between which the bytes go out
 abbrev pub delete_of : List Word → Option Action
 delete_of (b ∷ s ∷ f ∷ t ∷ []) = do
   spot ← spot_of b s f

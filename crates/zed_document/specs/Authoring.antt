@@ -117,6 +117,7 @@ pub record MayTakeMemoryAt (d : Replica) (replica : ℕ) (t : TextId) (p : ℕ) 
 abbrev pub goes_before : ElemId → ByteRange → Bool
 goes_before a r = same_stamp a.name.stamp r.stamp && (a.name.index + 1) == r.first
 
+-- the stretch that holds this one byte
 abbrev pub alone : ElemId → ByteRange
 alone a = record { stamp = a.name.stamp; first = a.name.index; last = a.name.index }
 

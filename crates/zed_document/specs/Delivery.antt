@@ -38,6 +38,7 @@ abbrev pub AnswersAt : Option Edit → List Edit → Edit → Result Delivered D
 AnswersAt None es e r = IsOkAnd r (λ d. TellsNew es (with_edit e es) e d)
 AnswersAt (Some f) es e r = ((f ≡ e) × IsOkAnd r (λ d. Tells Known 0 d)) ⊎ ((f ≢ e) × (r ≡ Err (Clash e.stamp)))
 
+-- an edit with a fault is refused for it; else it counts which edit has its stamp, if any
 abbrev pub AnswersFit : Option Cause → List Edit → Edit → Result Delivered DocumentError → Type 0
 AnswersFit (Some c) es e r = r ≡ Err (BadEdit c)
 AnswersFit None es e r = AnswersAt (edit_with e.stamp es) es e r

@@ -29,6 +29,7 @@ below s es = filter (λ e. before e.stamp s) es
 abbrev pub AllFrom : Stamp → List Edit → Type 0
 AllFrom s es = AllByRecursion (λ e. before e.stamp s ≡ false) es
 
+-- what a merge answers: that it was done, or why not
 abbrev pub Merged : Type 0
 Merged = Result (Unit {0}) DocumentError
 

@@ -27,6 +27,7 @@ unless_no_text d t x = if d.is_stale then Err Stale else (if has_text d t then O
 abbrev pub TellsOfText : Replica → TextId → {X : Type 0} → (Result X DocumentError → Type 0) → Result X DocumentError → Type 0
 TellsOfText d t P r = MatchBool d.is_stale (r ≡ Err Stale) (MatchBool (has_text d t) (P r) (r ≡ Err NoSuch))
 
+-- what a register holds: none where there is no register, or where it is empty
 abbrev pub joined : {X : Type 0} → Option (Option X) → Option X
 joined None = None
 joined (Some x) = x

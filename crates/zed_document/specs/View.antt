@@ -26,10 +26,11 @@ use Rattle.zed_edit.specs.Board.{new_board, empty_tile}
 use Rattle.zed_document.specs.declared.view.MadeBoard.{MadeBoard}
 use Rattle.zed_document.specs.declared.view.MadeStat.{MadeStat}
 
--- a board and a stat to speak of where a number is past the end
+-- a stat to speak of where a number is past the end
 abbrev pub no_stat : Stat
 no_stat = new_stat (stat_of title.name.stamp 0) true player_fields
 
+-- the board to speak of where the number of a board is past the end
 unfoldable pub no_board : Board
 no_board = new_board title no_stat.id []
 
@@ -53,9 +54,11 @@ text_at p k = slice_index_or p.texts k no_text
 abbrev pub tile_at : List Tile → Place → Tile
 tile_at tiles place = slice_index_or tiles (index_of place) empty_tile
 
+-- what a view lists of a board: the name under which it was made, and whether it was removed
 abbrev pub made_board : Board → MadeBoard
 made_board b = record { id = b.id; removed = b.removed }
 
+-- what a view lists of a stat: the name under which it was made, and whether it was removed
 abbrev pub made_stat : Stat → MadeStat
 made_stat s = record { id = s.id; removed = s.removed }
 

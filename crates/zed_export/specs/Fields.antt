@@ -48,10 +48,11 @@ pub record FitsWorld (w : Contents) : Type 0 where
   pub header : FitsHeader w.header
   pub boards : AllByRecursion FitsBoard w.boards
 
--- the names of the boards and of the stats that aren't removed, by number
+-- the names of the boards that aren't removed, by number
 abbrev pub board_names : Plain → List BoardId
 board_names p = map (λ b. b.id) (alive_boards p)
 
+-- the names of the stats of a board that aren't removed, by number
 abbrev pub stat_names : Board → List StatId
 stat_names b = map (λ s. s.id) (alive_stats b)
 
@@ -59,6 +60,7 @@ stat_names b = map (λ s. s.id) (alive_stats b)
 abbrev pub place_or_0 : List BoardId → BoardId → ℕ
 place_or_0 names b = unwrap_or (position (λ x. same_board x b) names) 0
 
+-- the place of the board behind an exit among these; 0 for no exit or for a board that isn't there
 abbrev pub exit_place : List BoardId → Option BoardId → ℕ
 exit_place names None = 0
 exit_place names (Some b) = place_or_0 names b

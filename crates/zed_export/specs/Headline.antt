@@ -70,5 +70,6 @@ abbrev pub MergingRepeats : Type 0
 MergingRepeats = (d o one again : Replica)
     → IsMergeOf d o one → IsMergeOf one o again → HaveAcceptedTheSame again one
 
+-- a replica that takes in itself is as it was
 abbrev pub MergingItself : Type 0
 MergingItself = (d one : Replica) → d.is_stale ≡ false → IsMergeOf d d one → HaveAcceptedTheSame one d

@@ -25,6 +25,7 @@ told n = min n (2 ^ 64 - 1)
 abbrev pub goes_on : ℕ → Tile → Tile → Bool
 goes_on count tile next = next.element == tile.element && next.colour == tile.colour && nat_lt count 255
 
+-- the first refusal, or the other where there is none
 abbrev pub or_else : Option ExportError → Option ExportError → Option ExportError
 or_else None other = other
 or_else (Some e) other = Some e
@@ -58,6 +59,7 @@ title_refusal p = if has p (thing.Board title) then None else Some NoWorld
 abbrev pub refusal_of : ℕ → Plain → Option ExportError
 refusal_of limit p = or_else (title_refusal p) (or_else (count_refusal (length (alive_boards p))) (boards_refusal limit 0 (exported_boards p)))
 
+-- a value, or the refusal where a limit is gone over
 abbrev pub unless_over : {Y : Type 0} → Option ExportError → Y → Result Y ExportError
 unless_over None y = Ok y
 unless_over (Some e) y = Err e

@@ -8,9 +8,11 @@ use Rattle.zed_world.specs.declared.stat.StatData.{StatData}
 use Rattle.zed_export.specs.declared.warning.Warning.{Warning}
 use Rattle.zed_export.specs.declared.warning.Warning.TheVariants.{PlayerTile, OffBoard, SamePlace}
 
+-- whether a column and a row are in the table
 abbrev pub is_in_table : ℕ → ℕ → Bool
 is_in_table x y = nat_le 1 x && nat_le x 60 && nat_le 1 y && nat_le y 25
 
+-- whether there is a tile, and it is the player's
 abbrev pub is_player : Option Tile → Bool
 is_player None = false
 is_player (Some tile) = tile.element == 4
@@ -39,6 +41,7 @@ abbrev pub place_warnings : ℕ → List StatData → List StatData → List War
 place_warnings n lower [] = []
 place_warnings n lower (s ∷ ss) = place_warning n lower s ++ place_warnings n (lower ++ s ∷ []) ss
 
+-- board n: whether its player stands on a player tile, and then the places of its stats
 abbrev pub board_warnings : ℕ → BoardData → List Warning
 board_warnings n b = player_warning n b b.stats ++ place_warnings n [] b.stats
 
@@ -47,5 +50,6 @@ abbrev pub boards_warnings : ℕ → List BoardData → List Warning
 boards_warnings n [] = []
 boards_warnings n (b ∷ bs) = board_warnings n b ++ boards_warnings (n + 1) bs
 
+-- what is odd about a world, board by board
 abbrev pub warnings_of : Contents → List Warning
 warnings_of w = boards_warnings 0 w.boards

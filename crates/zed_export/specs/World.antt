@@ -38,6 +38,7 @@ abbrev pub exit_number : Plain → Option BoardId → ℕ
 exit_number p None = 0
 exit_number p (Some b) = number_or_0 p b
 
+-- the header of the world, its current board by number
 abbrev pub exported_header : Plain → world_header.Header
 exported_header p = record {
   ammo = header_number Ammo p.header;
@@ -56,6 +57,7 @@ exported_header p = record {
   saved = p.header.saved;
 }
 
+-- the properties of a board, its exits by number
 abbrev pub exported_properties : Plain → Properties → world_properties.Properties
 exported_properties p q = record {
   max_shots = board_byte MaxShots q;
@@ -78,6 +80,7 @@ parameter p on_passage (third.Byte n) = if on_passage then number_of_world (leng
 
 -- ---- programs
 
+-- whether there is a text, and it is t
 abbrev pub is_of : TextId → Option TextId → Bool
 is_of t None = false
 is_of t (Some u) = same_text u t
@@ -127,6 +130,7 @@ abbrev pub exported_above : Plain → Board → List (Option TextId) → List St
 exported_above p b lower [] = []
 exported_above p b lower (s ∷ ss) = exported_stat p b lower s ∷ exported_above p b (lower ++ s.fields.text ∷ []) ss
 
+-- a board with its stats that aren't removed
 abbrev pub exported_board : Plain → Board → BoardData
 exported_board p b = record {
   name = board_text Name b.properties;
@@ -135,8 +139,10 @@ exported_board p b = record {
   stats = exported_above p b [] (alive_stats b);
 }
 
+-- the boards that aren't removed, by number
 abbrev pub exported_boards : Plain → List BoardData
 exported_boards p = map (exported_board p) (alive_boards p)
 
+-- the world that a document exports: its header and its boards
 abbrev pub world_of : Plain → Contents
 world_of p = record { header = exported_header p; boards = exported_boards p }

@@ -30,6 +30,7 @@ use Rattle.zed_scene.specs.Words.{Drawn, ◌>>=◌}
 abbrev pub Outcome : Type 0
 Outcome = Next × Scene
 
+-- what follows of what a program asks for; ERR where there is no such thing
 abbrev pub known_or_error : {X : Type 0} → (X → Scene → Outcome) → Option X → Scene → Outcome
 known_or_error f None s = (Error, s)
 known_or_error f (Some x) s = f x s
@@ -40,45 +41,56 @@ with_drawn f s drawn = do
   d ← drawn
   Some (known_or_error f d.0 s, d.1)
 
+-- what follows of the step to which a direction leads; ERR where it is no direction
 abbrev pub along : Heading → (Step → Scene → Outcome) → Stat → Scene → List ℕ → Drawn Outcome
 along h f a s ws = with_drawn f s (led h.turns h.course a s ws)
 
 -- ---- the rows
 
+-- after GO: the rest of the line is skipped, or if it wasn't done, the position is its `#`; the turn ends
 abbrev pub after_go : ℕ → Bool × Scene → Outcome
 after_go start (true, s) = (SkipAndEnd, s)
 after_go start (false, s) = (EndNext, with_position (Some start) s)
 
+-- after TRY: the rest of the line is skipped and the turn ends; where it wasn't done a command follows
 abbrev pub after_try : Bool × Scene → Outcome
 after_try (true, s) = (SkipAndEnd, s)
 after_try (false, s) = (CommandNext, s)
 
+-- after IF: a command follows where it is true, else the rest of the line is skipped
 abbrev pub if_true : Bool → Scene → Outcome
 if_true true s = (CommandNext, s)
 if_true false s = (Skip, s)
 
+-- after TAKE: the rest of the line is skipped; where there wasn't so much a command follows
 abbrev pub or_command : Bool × Scene → Outcome
 or_command (true, s) = (Skip, s)
 or_command (false, s) = (CommandNext, s)
 
+-- after BIND: the turn goes on in the new program, or where no stat is named so, behind the line
 abbrev pub bound_or_skip : Bool × Scene → Outcome
 bound_or_skip (true, s) = (Stay, s)
 bound_or_skip (false, s) = (Skip, s)
 
+-- after SEND: the turn goes on where the own position was set to, or else behind the line
 abbrev pub messaged : Bool → Scene → Outcome
 messaged own s = if own then (Stay, s) else (Skip, s)
 
+-- after a word that is no command: as SEND, but ERR if it has no colon and the own position wasn't set
 abbrev pub messaged_or_error : Bool → Bool → Scene → Outcome
 messaged_or_error own colon s = if own then (Stay, s) else if colon then (Skip, s) else (Error, s)
 
+-- the turn goes on behind the rest of the line
 abbrev pub skips : Scene → Outcome
 skips s = (Skip, s)
 
+-- by CHANGE tiles of the first kind become the second; ERR where one of the kinds is none
 abbrev pub change : Option TileKind → Option TileKind → Scene → Outcome
 change None k s = (Error, s)
 change (Some j) None s = (Error, s)
 change (Some j) (Some k) s = (Skip, converted j k s)
 
+-- by PUT a kind is put ahead along a step; ERR where the kind is none
 abbrev pub put_kind : Place → Option TileKind → Step → Scene → Outcome
 put_kind here None d s = (Error, s)
 put_kind here (Some k) d s = (Skip, put_ahead here d k s)

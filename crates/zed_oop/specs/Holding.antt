@@ -7,6 +7,7 @@ use Rattle.zed_scene.specs.declared.counters.Counters.{Counters}
 use Rattle.zed_scene.specs.Scene.{Scene}
 use Rattle.zed_scene.specs.Flags.{has_flag}
 
+-- how much is in a counter
 abbrev pub in_counter : Counter → Counters → ℤ
 in_counter Health c = c.health
 in_counter Ammo c = c.ammo
@@ -15,6 +16,7 @@ in_counter Torches c = c.torches
 in_counter Score c = c.score
 in_counter Time c = c.time
 
+-- the counters, one of them with this number
 abbrev pub with_counter : Counter → ℤ → Counters → Counters
 with_counter Health n c = record c { health = n }
 with_counter Ammo n c = record c { ammo = n }
@@ -31,9 +33,11 @@ added n v = if int_lt (pos 32767) (n +ℤ pos v) then pos 32767 else n +ℤ pos 
 abbrev pub taken : ℤ → ℕ → Option ℤ
 taken n v = if int_lt (n -ℤ pos v) (pos 0) then None else Some (n -ℤ pos v)
 
+-- a counter rises by so much, and stops at 32,767
 abbrev pub given : Counter → ℕ → Scene → Scene
 given k v s = record s { counters = with_counter k (added (in_counter k s.counters) v) s.counters }
 
+-- whether there was so much in a counter, and the board with what is left in it
 abbrev pub left_in : Counter → Option ℤ → Scene → Bool × Scene
 left_in k None s = (false, s)
 left_in k (Some n) s = (true, record s { counters = with_counter k n s.counters })

@@ -27,6 +27,7 @@ turned_all (t ∷ ts) d ws = do
   e ← turned_all ts d ws
   turned t e.0 e.1
 
+-- 0 is north, 1 east
 abbrev pub north_or_east : List ℕ → Drawn Step
 north_or_east ws = do
   r ← draw 2 ws

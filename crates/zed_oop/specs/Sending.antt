@@ -12,6 +12,7 @@ abbrev pub for_each : {X : Type 0} → (ℕ → X → X) → ℕ → X → X
 for_each f zero x = x
 for_each f (suc n) x = f n (for_each f n x)
 
+-- whether a byte is a colon
 abbrev pub is_colon : ℕ → Bool
 is_colon b = b == 58
 
@@ -20,9 +21,11 @@ abbrev pub target_before : List ℕ → Option ℕ → Option (List ℕ)
 target_before w None = None
 target_before w (Some i) = Some (take i w)
 
+-- of a word `T:L` the target T, none without a colon
 unfoldable pub target_of : List ℕ → Option (List ℕ)
 target_of w = target_before w (position is_colon w)
 
+-- of a word `T:L` the label L, by the place of the colon; without one the whole word
 abbrev pub label_behind : List ℕ → Option ℕ → List ℕ
 label_behind w None = w
 label_behind w (Some i) = drop (i + 1) w
@@ -35,6 +38,7 @@ label_of w = label_behind w (position is_colon w)
 unfoldable pub is_named : List ℕ → List ℕ → Bool
 is_named p name = byte_is p 0 64 && bytes_eq (word_at p 1) name
 
+-- whether there is a number, and it is i
 abbrev pub is_number : ℕ → Option ℕ → Bool
 is_number i None = false
 is_number i (Some n) = n == i
@@ -50,6 +54,7 @@ is_meant p name i own =
     if bytes_eq name (codes "OTHERS") then nat_le 1 i && not own else
     if bytes_eq name (codes "SELF") then own else nat_le 1 i && is_named p name
 
+-- whether stat i is meant by a target, or where there is none, is the one that sends
 abbrev pub is_target_of : List ℕ → Option (List ℕ) → ℕ → Bool → Bool
 is_target_of p None i own = own
 is_target_of p (Some name) i own = is_meant p name i own
@@ -62,10 +67,12 @@ is_target p w i own = is_target_of p (target_of w) i own
 abbrev pub is_reached : List ℕ → List ℕ → ℕ → Bool → Stat → Bool
 is_reached p w i own a = is_target p w i own && (a.p2 == 0 || own)
 
+-- stat i goes on at this place of its program; where there is none it stays as it is
 abbrev pub set_to : ℕ → Stat → Option ℕ → Scene → Scene
 set_to i a None s = s
 set_to i a (Some at) s = put_stat i (record a { position = Some at }) s
 
+-- a word comes to stat i: if it reaches the stat and the label is there, the stat goes on at it
 abbrev pub sent_to : List ℕ → ℕ → Option Stat → Scene → Scene
 sent_to w i None s = s
 sent_to w i (Some a) s =
@@ -83,6 +90,7 @@ sent_alone_to l i None s = s
 sent_alone_to l i (Some a) s =
     if a.p2 == 0 then set_to i a (label_place (program_of s a.program) l) s else s
 
+-- a label is sent to stat i alone, if there is one and it isn't locked
 abbrev pub sent_alone : List ℕ → ℕ → Scene → Scene
 sent_alone l i s = sent_alone_to l i (slice_get s.stats i) s
 
@@ -94,6 +102,7 @@ sent w s = for_each (send_one w) (length s.stats) s
 unfoldable pub reaches_itself : List ℕ → ℕ → List ℕ → Bool
 reaches_itself p i w = is_target p w i true && is_some (label_place p (label_of w))
 
+-- whether a word that is sent sets the position of this stat; of one that is gone it doesn't
 abbrev pub reached_as : List ℕ → Scene → Option ℕ → Option Stat → Bool
 reached_as w s None o = false
 reached_as w s (Some i) None = false
@@ -103,11 +112,13 @@ reached_as w s (Some i) (Some a) = reaches_itself (program_of s a.program) i w
 abbrev pub own_reached : List ℕ → Scene → Bool
 own_reached w s = reached_as w s s.running (own s)
 
+-- whether a colon is in a word, so that it names a target
 abbrev pub has_colon : List ℕ → Bool
 has_colon w = list_any is_colon w
 
 -- ---- ZAP and RESTORE
 
+-- a program with a byte put at a place; as it is where there is no place
 abbrev pub with_byte : ℕ → List ℕ → Option ℕ → List ℕ
 with_byte b p None = p
 with_byte b p (Some at) = slice_set p at b
@@ -116,6 +127,7 @@ with_byte b p (Some at) = slice_set p at b
 abbrev pub zapped_in : List ℕ → List ℕ → List ℕ
 zapped_in label p = if is_restart label then p else with_byte 39 p (first_label p label)
 
+-- a hidden label of this word at a place is shown again: `:`, 58, stands for its `'`
 abbrev pub restore_at : List ℕ → ℕ → List ℕ → List ℕ
 restore_at label at p = if nat_lt at (length p) && label_at 39 p label at then slice_set p at 58 else p
 
@@ -128,21 +140,26 @@ abbrev pub changed_at : (List ℕ → List ℕ) → ℕ → Option (List ℕ) �
 changed_at f k None ps = ps
 changed_at f k (Some p) ps = slice_set ps k (f p)
 
+-- program k changes, if there is one
 abbrev pub changed_in : (List ℕ → List ℕ) → ℕ → List (List ℕ) → List (List ℕ)
 changed_in f k ps = changed_at f k (slice_get ps k) ps
 
+-- the program of a number changes, if there is one, for all the stats that share it
 abbrev pub changed_program : (List ℕ → List ℕ) → Option ℕ → Scene → Scene
 changed_program f None s = s
 changed_program f (Some k) s = record s { programs = changed_in f k s.programs }
 
+-- the program of stat i changes, if there is this stat and a word is sent to it
 abbrev pub changed_of : (List ℕ → List ℕ) → List ℕ → ℕ → Option Stat → Scene → Scene
 changed_of f w i None s = s
 changed_of f w i (Some a) s =
     if is_target (program_of s a.program) w i (is_own s i) then changed_program f a.program s else s
 
+-- the first label L in the program of stat i is hidden, if a word `T:L` is sent to it
 unfoldable pub zap_one : List ℕ → ℕ → Scene → Scene
 zap_one w i s = changed_of (zapped_in (label_of w)) w i (slice_get s.stats i) s
 
+-- each hidden label L in the program of stat i is shown again, if a word `T:L` is sent to it
 unfoldable pub restore_one : List ℕ → ℕ → Scene → Scene
 restore_one w i s = changed_of (restored_in (label_of w)) w i (slice_get s.stats i) s
 
@@ -150,5 +167,6 @@ restore_one w i s = changed_of (restored_in (label_of w)) w i (slice_get s.stats
 unfoldable pub zapped : List ℕ → Scene → Scene
 zapped w s = for_each (zap_one w) (length s.stats) s
 
+-- in each target of a word `T:L` the hidden labels L are shown again
 unfoldable pub restored : List ℕ → Scene → Scene
 restored w s = for_each (restore_one w) (length s.stats) s

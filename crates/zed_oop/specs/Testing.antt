@@ -21,6 +21,7 @@ use Rattle.zed_scene.specs.Seeking.{place_of}
 use Rattle.zed_scene.specs.Flags.{has_flag}
 use Rattle.zed_scene.specs.Words.{Drawn, ◌>>=◌}
 
+-- whether two places are in one column or in one row
 abbrev pub is_aligned : Place → Place → Bool
 is_aligned a b = a.x == b.x || a.y == b.y
 
@@ -28,12 +29,15 @@ is_aligned a b = a.x == b.x || a.y == b.y
 abbrev pub apart : ℕ → ℕ → ℕ
 apart a b = if nat_lt a b then b - a else a - b
 
+-- whether two places are next to each other in a column or a row
 abbrev pub is_in_contact : Place → Place → Bool
 is_in_contact a b = apart a.x b.x + apart a.y b.y == 1
 
+-- whether one of these tiles is of a kind
 abbrev pub is_any : TileKind → List Tile → Bool
 is_any k tiles = list_any (matches k) tiles
 
+-- whether what is ahead of a stat along a step can't be walked on; none without a step
 abbrev pub is_way_blocked : Stat → Scene → Option Step → Option Bool
 is_way_blocked a s None = None
 is_way_blocked a s (Some d) = Some (not (is_walkable (element_ahead s (ahead a.place d))))
@@ -44,13 +48,16 @@ blocked h a s ws = do
   d ← led h.turns h.course a s ws
   Some (is_way_blocked a s d.0, d.1)
 
+-- where the player is, or the place given where there is no player
 abbrev pub player_place : Scene → Place → Place
 player_place s p = place_of p (slice_get s.stats 0)
 
+-- whether one of these tiles is of a kind; none where the kind is none
 abbrev pub any_of : List Tile → Option TileKind → Option Bool
 any_of tiles None = None
 any_of tiles (Some k) = Some (is_any k tiles)
 
+-- whether a test holds, any NOT aside; none where it has a direction or a kind that there isn't
 abbrev pub tested : Test → Stat → Scene → List ℕ → Drawn (Option Bool)
 tested Aligned a s ws = Some (Some (is_aligned a.place (player_place s a.place)), ws)
 tested Contact a s ws = Some (Some (is_in_contact a.place (player_place s a.place)), ws)
@@ -59,6 +66,7 @@ tested (Any k) a s ws = Some (any_of s.tiles k, ws)
 tested Energized a s ws = Some (Some false, ws)
 tested (Flag w) a s ws = Some (Some (has_flag s.flags w), ws)
 
+-- a truth, turned where it is negated; none stays none
 abbrev pub negated_if : Bool → Option Bool → Option Bool
 negated_if negated None = None
 negated_if negated (Some truth) = Some (flipped negated truth)

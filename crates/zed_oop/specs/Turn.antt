@@ -41,9 +41,11 @@ pub data Outcome : Type 0 where
   -- a word of chance is lacking
   lacks : Outcome
 
+-- a turn with one message more
 abbrev pub with_line : List ℕ → State → State
 with_line m t = record t { lines = t.lines ++ m ∷ [] }
 
+-- a turn with this board
 abbrev pub with_scene : Scene → State → State
 with_scene s t = record t { scene = s }
 
@@ -53,6 +55,7 @@ failed t = with_line (codes "ERR") (with_scene (with_position None t.scene) t)
 
 -- ---- instructions
 
+-- the own stat goes on at this place of its program, or at none: its program has ended
 abbrev pub to_place : Option ℕ → State → State
 to_place o t = with_scene (with_position o t.scene) t
 
@@ -61,15 +64,17 @@ abbrev pub stepped : ℕ → ℕ → Bool × Scene → State → Outcome
 stepped again next moved t =
     if moved.0 then ends (to_place (Some next) (with_scene moved.1 t)) else ends (to_place (Some again) (with_scene moved.1 t))
 
+-- a step is tried from `here`, by `/` or `?`; ERR where the direction was none
 abbrev pub stepped_if : Place → ℕ → ℕ → Option Way → State → Outcome
 stepped_if here again next None t = ends (failed t)
 stepped_if here again next (Some d) t = stepped again next (try_move here d t.scene) t
 
+-- a step that a direction drew is tried; none drawn means that a word of chance is lacking
 abbrev pub stepped_by : Drawn (Option Way) → Place → ℕ → ℕ → State → Outcome
 stepped_by None here again next t = lacks
 stepped_by (Some d) here again next t = stepped_if here again next d.0 (record t { left = d.1 })
 
--- what comes of an instruction that stands at a place and before `next`: `/` is after_try again where it isn't done, `?` isn't
+-- what comes of an instruction that stands at a place and before `next`: `/` is tried again where it isn't done, `?` isn't
 abbrev pub instructed : Instruction → ℕ → ℕ → Stat → State → Outcome
 instructed End at next a t = ends (to_place None t)
 instructed Skipped at next a t = goes Instructing (to_place (Some next) t)
@@ -81,6 +86,7 @@ instructed (Attempt h) at next a t = stepped_by (led h.turns h.course a t.scene 
 
 -- ---- commands
 
+-- how the turn goes on after a command that began with the `#` at `start`
 abbrev pub settled : ℕ → Next → State → Outcome
 settled start Skip t = counts Instructing (with_scene (skip_line t.scene) t)
 settled start Stay t = counts Instructing t
@@ -89,6 +95,7 @@ settled start SkipAndEnd t = ends (with_scene (skip_line t.scene) t)
 settled start EndNext t = ends t
 settled start Error t = ends (failed t)
 
+-- what comes of a command that may draw words: how the turn goes on, or that one is lacking
 abbrev pub settled_by : ℕ → Drawn (Next × Scene) → State → Outcome
 settled_by start None t = lacks
 settled_by start (Some d) t = settled start d.0.0 (record t { scene = d.0.1; left = d.1 })
@@ -105,13 +112,14 @@ commanded (Some c) start next a t =
 abbrev pub Stands : Scene → Stat → ℕ → Type 0
 Stands s a at = (own s ≡ Some a) × (a.position ≡ Some at)
 
+-- the place of a stat in its program; none where it has ended or the stat is gone
 abbrev pub position_of : Option Stat → Option ℕ
 position_of None = None
 position_of (Some a) = a.position
 
 -- one instruction, or one command
 pub data Does : Reading → State → Outcome → Type 0 where
-  -- the stat is after_go, or its program has ended
+  -- the stat is gone, or its program has ended
   over : (r : Reading) (t : State) → position_of (own t.scene) ≡ None → Does r t (ends t)
   instructs : (t : State) (a : Stat) (at : ℕ) (i : Instruction) (next : ℕ) → Stands t.scene a at → InstructionAt (program_of t.scene a.program) at i next → Does Instructing t (instructed i at next a t)
   commands : (start : ℕ) (t : State) (a : Stat) (at : ℕ) (c : Option Command) (next : ℕ) → Stands t.scene a at → CommandAt (program_of t.scene a.program) at c next → Does (Commanding start) t (commanded c start next a t)
@@ -129,31 +137,37 @@ pub data Chain : ℕ → Reading → State → Option State → Type 0 where
   went_on : (n : ℕ) (r q : Reading) (t u : State) (e : Option State) → Does r t (goes q u) → Chain (suc n) q u e → Chain (suc n) r t e
   counted : (n : ℕ) (r q : Reading) (t u : State) (e : Option State) → Does r t (counts q u) → Chain n q u e → Chain (suc n) r t e
 
--- a turn of stat i with these words
+-- where a turn of stat i with these words begins
 abbrev pub start_of : Scene → ℕ → List ℕ → State
 start_of s i ws = record { scene = record s { running = there s i }; left = ws; lines = [] }
 
+-- where a turn of stat i ends, 33 command words at most; none where a word of chance is lacking
 abbrev pub Turn : Scene → ℕ → List ℕ → Option State → Type 0
 Turn s i ws e = Chain 33 Instructing (start_of s i ws) e
 
 -- ---- what calls answer
 
+-- a turn with this board, these words of chance left, and these messages so far
 abbrev pub state : Scene → List ℕ → List (List ℕ) → State
 state s ws ls = record { scene = s; left = ws; lines = ls }
 
+-- what came of an instruction: how the turn goes on, and from what state
 abbrev pub after : After → State → Outcome
 after Ends t = ends t
 after (Goes r) t = goes r t
 after (Counts r) t = counts r t
 
+-- one instruction or command was done, or a word of chance is lacking, or memory was refused
 abbrev pub StepsTo : Result After OopError → Reading → State → State → Type 0
 StepsTo result r t u =
     MatchResult result (λ a. Does r t (after a u)) (λ e. (e ≡ Memory) ⊎ ((e ≡ NoWords) × Does r t lacks))
 
+-- this is what came of an instruction, with this state; or a word is lacking, or memory was refused
 abbrev pub Comes : Result After OopError → Outcome → State → Type 0
 Comes result outcome u =
     MatchResult result (λ a. outcome ≡ after a u) (λ e. (e ≡ Memory) ⊎ ((e ≡ NoWords) × (outcome ≡ lacks)))
 
+-- the step of `/` or `?` was tried, and the turn ends; or a word is lacking, or memory was refused
 abbrev pub DoesStep : {X : Type 0} → Result X OopError → Heading → Stat → ℕ → ℕ → State → State → Type 0
 DoesStep result h a again next t u =
     let outcome = stepped_by (led h.turns h.course a t.scene t.left) a.place again next t in
@@ -179,13 +193,16 @@ room_at r n None = 0
 room_at Instructing n (Some at) = 2 * (n - at)
 room_at (Commanding start) n (Some at) = 2 * (n - at) + 1
 
+-- how far a reading is from the end of this stat's program; 0 where the stat is gone
 abbrev pub room_of : Reading → Option Stat → Scene → ℕ
 room_of r None s = 0
 room_of r (Some a) s = room_at r (length (program_of s a.program)) a.position
 
+-- how far a reading is from the end of the program that has its turn
 abbrev pub room : Reading → Scene → ℕ
 room r s = room_of r (own s) s
 
+-- where the turn goes on and no command word was read, the end of the program is nearer
 abbrev pub IsNearer : After → Reading → Scene → Scene → Type 0
 IsNearer Ends r s t = Unit {0}
 IsNearer (Goes q) r s t = room q t < room r s

@@ -17,6 +17,7 @@ abbrev pub acting_moves : Option ℕ → Place → Scene → Scene
 acting_moves None n s = s
 acting_moves (Some i) n s = shift i n s
 
+-- the stat that acts moves to a place, unless it is gone
 abbrev pub moves : Place → Scene → Scene
 moves n s = acting_moves s.acting n s
 
@@ -25,6 +26,7 @@ abbrev pub acting_attacks : Option ℕ → Place → Scene → Scene
 acting_attacks None n s = s
 acting_attacks (Some i) n s = attack i n s
 
+-- the stat that acts attacks a place, unless it is gone
 abbrev pub attacks : Place → Scene → Scene
 attacks n s = acting_attacks s.acting n s
 

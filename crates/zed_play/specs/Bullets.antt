@@ -14,6 +14,7 @@ abbrev pub told_at : List ℕ → Option ℕ → Scene → Scene
 told_at l None s = s
 told_at l (Some i) s = sent_alone l i s
 
+-- a label is sent to the lowest stat at a place, if there is one
 abbrev pub tells : List ℕ → Place → Scene → Scene
 tells l n s = told_at l (stat_at s.stats n) s
 
@@ -38,10 +39,12 @@ meets p1 n s =
     else if is_struck p1 e then attacks n s
     else if e == 36 then tells (codes "SHOT") n (vanishes s) else vanishes s
 
+-- a bullet whose P1 is this meets what is ahead; off the table it is taken away
 abbrev pub flies : ℕ → Option Place → Scene → Scene
 flies p1 None s = vanishes s
 flies p1 (Some n) s = meets p1 n s
 
+-- a stat with its step turned round
 abbrev pub turned_back : Stat → Stat
 turned_back a = record a { step = opposite a.step }
 

@@ -30,6 +30,7 @@ prowls None s = s
 prowls (Some n) s =
     if is_walkable (element_at s n) then moves n s else if element_at s n == 4 then attacks n s else s
 
+-- a lion's tick: it takes a step by chance or towards the player, and prowls along it
 unfoldable pub lion : Stat → Scene → List ℕ → Drawn Scene
 lion a s ws = do
   d ← lion_step a s ws
@@ -37,13 +38,15 @@ lion a s ws = do
 
 -- ---- the tiger
 
--- a creature's shot along the row or the column of the player, where the other differs by at most 2
+-- whether two columns, or two rows, differ by at most 2
 abbrev pub up_to_two : ℕ → ℕ → Bool
 up_to_two a b = nat_le (apart a b) 2
 
+-- a creature's shot up or down towards the player: whether it didn't fail, and the board after it
 abbrev pub shot_in_column : Place → Place → Scene → Bool × Scene
 shot_in_column from to s = shot from (record { x = pos 0; y = sign_of to.y from.y }) Creature s
 
+-- a creature's shot left or right towards the player: whether it didn't fail, and the board after it
 abbrev pub shot_in_row : Place → Place → Scene → Bool × Scene
 shot_in_row from to s = shot from (record { x = sign_of to.x from.x; y = pos 0 }) Creature s
 
@@ -52,6 +55,7 @@ abbrev pub or_in_row : Place → Place → Bool × Scene → Scene
 or_in_row from to first =
     if first.0 then first.1 else if up_to_two to.y from.y then (shot_in_row from to first.1).1 else first.1
 
+-- a tiger shoots up or down if the columns are near; if it doesn't or fails, sideways if the rows are
 unfoldable pub tiger_shots : Place → Place → Scene → Scene
 tiger_shots from to s =
     if up_to_two to.x from.x then or_in_row from to (shot_in_column from to s)
@@ -74,6 +78,7 @@ tiger a s ws = do
 abbrev pub is_felt : ℕ → ℕ → ℕ → Bool
 is_felt p1 a b = nat_le (apart a b + p1) 8
 
+-- sideways if the columns differ and the player's row is felt; else up or down if its column is felt
 abbrev pub bear_step : Place → Stat → Step
 bear_step to a =
     if not (to.x == a.place.x) && is_felt a.p1 to.y a.place.y then record { x = sign_of to.x a.place.x; y = pos 0 }
@@ -88,5 +93,6 @@ charges (Some n) s =
     else if element_at s n == 4 then attacks n s
     else if element_at s n == 23 then attacks n s else s
 
+-- a bear's tick: it charges along its step to the player
 unfoldable pub bear : Stat → Scene → Scene
 bear a s = charges (ahead a.place (bear_step (player_place a.place s) a)) s

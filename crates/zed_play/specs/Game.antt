@@ -7,6 +7,7 @@ use Rattle.zed_oop.specs.Turn.{State, Turn}
 use Rattle.zed_scene.specs.Words.{Drawn}
 use Rattle.zed_play.specs.declared.game.Game.{Game}
 
+-- a game with this board
 abbrev pub with_scene : Scene → Game → Game
 with_scene s g = record g { scene = s }
 
@@ -14,6 +15,7 @@ with_scene s g = record g { scene = s }
 abbrev pub kept : List (List ℕ) → List (List ℕ)
 kept lines = drop (length lines - 64) lines
 
+-- the board that the player left for first: the one that there was, or else b
 abbrev pub first_left : ℕ → Option ℕ → Option ℕ
 first_left b None = Some b
 first_left b (Some a) = Some a
@@ -36,6 +38,7 @@ abbrev pub done : (Game → Game) → Drawn Game → Drawn Game
 done f None = None
 done f (Some x) = Some (f x.0, x.1)
 
+-- what comes of something that may lack a word, with this done after it
 abbrev pub Then : (Game → Game) → (Drawn Game → Type 0) → Drawn Game → Type 0
 Then f R e = (o : Drawn Game) × (R o × (e ≡ done f o))
 
@@ -44,5 +47,6 @@ abbrev pub Answers : {X : Type 0} → Result X OopError → (Drawn Game → Type
 Answers result R g left =
     MatchResult result (λ _. R (Some (g, left))) (λ e. (e ≡ Memory) ⊎ ((e ≡ NoWords) × R None))
 
+-- stat i had a turn of its program, and left these words; or one is lacking, or memory was refused
 abbrev pub HasTurn : {X : Type 0} → Result X OopError → ℕ → Game → List ℕ → Game → List ℕ → Type 0
 HasTurn result i g ws h left = Answers result (TurnOf i g ws) h left

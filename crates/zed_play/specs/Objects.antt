@@ -21,6 +21,7 @@ abbrev pub bumps : Option Place → Scene → Scene
 bumps None s = thuds s
 bumps (Some n) s = if is_walkable (element_at s n) then moves n s else thuds s
 
+-- a stat that is an object with a step goes along it, or is told that it bumped; others stay
 abbrev pub drifts : Option Stat → Scene → Scene
 drifts None s = s
 drifts (Some a) s =

@@ -31,14 +31,17 @@ program_at i code.None = None
 program_at i (code.Own bytes) = Some i
 program_at i (code.Same n) = Some n
 
+-- the bytes of a program that a stat owns; none where it is another's, or there is none
 abbrev pub own_bytes : Code → List ℕ
 own_bytes code.None = []
 own_bytes (code.Own bytes) = bytes
 own_bytes (code.Same n) = []
 
+-- the bytes of the program that a stat owns, none where it shares another's or has none
 abbrev pub bytes_of : StatData → List ℕ
 bytes_of s = own_bytes s.code
 
+-- a stat of a world as it stands in play, under the number i
 abbrev pub stat_from : ℕ → StatData → Stat
 stat_from i s =
     record {
@@ -60,6 +63,7 @@ abbrev pub stats_from : ℕ → List StatData → List Stat
 stats_from i [] = []
 stats_from i (s ∷ ss) = stat_from i s ∷ stats_from (i + 1) ss
 
+-- a board of a world in play, with the counters and flags that the world has
 abbrev pub scene_of : Header → BoardData → Scene
 scene_of h b =
     record {
@@ -81,6 +85,7 @@ scene_of h b =
       running = None;
     }
 
+-- what bounds the player on a board: its shots at a time, and the boards to its sides
 abbrev pub bounds_of : Properties → Bounds
 bounds_of b =
     record { max_shots = b.max_shots; north = b.north; south = b.south; west = b.west; east = b.east }
@@ -89,6 +94,7 @@ bounds_of b =
 abbrev pub game_of : Header → BoardData → Game
 game_of h b = record { scene = scene_of h b; keys = h.keys; left = None; messages = [] }
 
+-- a playtest of a board of a world at a tick, before its first step
 abbrev pub play_of : Header → BoardData → ℕ → Playtest
 play_of h b tick = record { game = game_of h b; bounds = bounds_of b.properties; tick = tick; ending = None }
 

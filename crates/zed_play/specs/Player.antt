@@ -22,6 +22,7 @@ use Rattle.zed_play.specs.Acts.{moves}
 use Rattle.zed_play.specs.Game.{Then, leaves, with_scene}
 use Rattle.zed_play.specs.Touch.{Touches}
 
+-- the step towards a side
 abbrev pub step_of : Side → Step
 step_of North = north
 step_of South = south
@@ -34,6 +35,7 @@ step_of East = east
 abbrev pub is_flying : Scene → Stat → Bool
 is_flying s a = a.p1 == 0 && element_at s a.place == 18
 
+-- how many bullets of the player's fly
 abbrev pub flying : Scene → ℕ
 flying s = length (filter (is_flying s) s.stats)
 
@@ -48,12 +50,14 @@ fires most from d s =
 
 -- ---- moves
 
+-- the board to a side, 0 for none
 abbrev pub exit_of : Side → Bounds → ℕ
 exit_of North b = b.north
 exit_of South b = b.south
 exit_of West b = b.west
 exit_of East b = b.east
 
+-- the player leaves for the board of an exit; 0 is none
 abbrev pub goes_out : ℕ → Game → Game
 goes_out exit g = if exit == 0 then g else leaves exit g
 
@@ -62,15 +66,18 @@ abbrev pub goes_on : Place → Place → Option Stat → Scene → Scene
 goes_on from n None s = s
 goes_on from n (Some a) s = if same_place a.place from && is_walkable (element_at s n) then moves n s else s
 
+-- the player goes on to a place, if it is where it was and may
 abbrev pub walks : Place → Place → Game → Game
 walks from n g = with_scene (goes_on from n (actor g.scene) g.scene) g
 
+-- a move: past the edge through that side's exit, else a touch of the place and then a step onto it
 abbrev pub GoesTo : Option Place → Side → Bounds → Place → Game → List ℕ → Drawn Game → Type 0
 GoesTo None side b from g ws e = e ≡ Some (goes_out (exit_of side b) g, ws)
 GoesTo (Some n) side b from g ws e = Then (walks from n) (Touches n (step_of side) g ws) e
 
 -- ---- the player
 
+-- what the player does in its tick: nothing, a shot to a side, or a move to a side
 abbrev pub PlayerDoes : Deed → Bounds → Place → Game → List ℕ → Drawn Game → Type 0
 PlayerDoes Nothing b from g ws e = e ≡ Some (g, ws)
 PlayerDoes (Shoots side) b from g ws e = e ≡ Some (with_scene (fires b.max_shots from (step_of side) g.scene) g, ws)

@@ -25,5 +25,6 @@ abbrev pub presses : Step → Option Place → Scene → Scene
 presses d None s = s
 presses d (Some n) s = goes n (way_made n d s)
 
+-- a pusher's tick: it presses along its step, if that is one of the four directions
 unfoldable pub pusher : Stat → Scene → Scene
 pusher a s = if is_direction a.step then presses a.step (ahead a.place a.step) s else s

@@ -20,6 +20,7 @@ use Rattle.zed_play.specs.Game.{with_scene}
 use Rattle.zed_play.specs.Playtest.{Playtest}
 use Rattle.zed_play.specs.Tick.{LooksAt}
 
+-- what the player does by a key
 abbrev pub deed_of : Key → Deed
 deed_of Wait = Nothing
 deed_of North = Goes ToNorth
@@ -39,6 +40,7 @@ looked_at g = slice_get g.scene.stats g.scene.ticking
 abbrev pub next_in : Scene → Scene
 next_in s = if nat_lt s.ticking (length s.stats) then record s { ticking = s.ticking + 1 } else s
 
+-- on to the next stat of a game, if there may be one
 abbrev pub next : Game → Game
 next g = with_scene (next_in g.scene) g
 
@@ -55,9 +57,11 @@ pub data Looks : Asked → ℕ → Game → List ℕ → Drawn Game → Type 0 w
 abbrev pub next_tick : ℕ → ℕ
 next_tick t = if nat_le 420 t then 1 else t + 1
 
+-- the player has died where its health is 0 or below
 abbrev pub died : ℤ → Option Ending
 died health = if int_lt (pos 0) health then None else Some Died
 
+-- how the playtest has ended, if it has: the player left for a board, or else died
 abbrev pub ending_by : Option ℕ → ℤ → Option Ending
 ending_by (Some board) health = Some (Left board)
 ending_by None health = died health
@@ -66,13 +70,16 @@ ending_by None health = died health
 abbrev pub from_first : Game → Game
 from_first g = with_scene (record g.scene { ticking = 0 }) g
 
+-- a playtest after a step that came to this game: a tick later, and ended if it is over
 abbrev pub closed_with : Game → Playtest → Playtest
 closed_with g p = record p { game = g; tick = next_tick p.tick; ending = ending_by g.left g.scene.counters.health }
 
+-- a playtest after its step, with the words that are left; none where a word is lacking
 abbrev pub closed_by : Playtest → Drawn Game → Option (Playtest × List ℕ)
 closed_by p None = None
 closed_by p (Some x) = Some (closed_with x.0 p, x.1)
 
+-- what a step is made with: the tick, what the key asks for, and what bounds the player
 abbrev pub asked : Key → Playtest → Asked
 asked key p = record { tick = p.tick; deed = deed_of key; bounds = p.bounds }
 

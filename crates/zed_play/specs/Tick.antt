@@ -35,6 +35,7 @@ TickAs _ k i a g ws e = e ≡ Some (g, ws)
 abbrev pub takes_turn : ℕ → Game → Game
 takes_turn i g = with_scene (record g.scene { acting = Some i }) g
 
+-- stat i has its tick, as the thing that stands at its place
 abbrev pub Ticks : Asked → ℕ → Stat → Game → List ℕ → Drawn Game → Type 0
 Ticks k i a g ws e = TickAs (thing (element_at g.scene a.place)) k i a (takes_turn i g) ws e
 
@@ -42,6 +43,7 @@ Ticks k i a g ws e = TickAs (thing (element_at g.scene a.place)) k i a (takes_tu
 abbrev pub is_due : ℕ → ℕ → ℕ → Bool
 is_due tick i cycle = not (cycle == 0) && tick % cycle == i % cycle
 
+-- a stat ticks if it is due, and else nothing is done
 abbrev pub LookAs : Bool → Asked → ℕ → Stat → Game → List ℕ → Drawn Game → Type 0
 LookAs true k i a g ws e = Ticks k i a g ws e
 LookAs false k i a g ws e = e ≡ Some (g, ws)

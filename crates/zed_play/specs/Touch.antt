@@ -18,20 +18,25 @@ use Rattle.zed_play.specs.Bullets.{taken_away, tells}
 use Rattle.zed_play.specs.Game.{Then, TurnOf, leaves, with_scene}
 use Rattle.zed_play.specs.Things.{thing}
 
+-- a counter of the player's rises by so much, and stops at 32,767
 abbrev pub gives : Counter → ℕ → Game → Game
 gives k v g = with_scene (given k v g.scene) g
 
+-- a tile is put at a place of the board
 abbrev pub puts : Place → Tile → Game → Game
 puts n t g = with_scene (put n t g.scene) g
 
+-- what is at a place is taken from the board: the tile there is empty then
 abbrev pub takes : Place → Game → Game
 takes n g = puts n empty_tile g
 
 -- ---- keys and doors, of colours 1 to 7
 
+-- whether the player holds the key of colour k
 abbrev pub has_key : ℕ → Game → Bool
 has_key k g = slice_index_or g.keys (k - 1) false
 
+-- the player holds the key of colour k from now on, or doesn't
 abbrev pub with_key : ℕ → Bool → Game → Game
 with_key k b g = record g { keys = slice_set g.keys (k - 1) b }
 
@@ -45,16 +50,19 @@ door_opened k n g = if nat_le 1 k && has_key k g then takes n (with_key k false 
 
 -- ---- passages
 
+-- the player leaves for the board that a passage's stat has in P3; without a stat it stays
 abbrev pub passed_to : Option Stat → Game → Game
 passed_to None g = g
 passed_to (Some a) g = leaves a.p3 g
 
+-- the player leaves by the stat of this number, a passage's; without one it stays
 abbrev pub passed_by : Option ℕ → Game → Game
 passed_by None g = g
 passed_by (Some i) g = passed_to (slice_get g.scene.stats i) g
 
 -- ---- a line for each thing that is touched at a place, along a step
 
+-- what comes of a touch along a step of a thing at a place, any but a scroll that has a stat
 unfoldable pub touched : Thing → Tile → Place → Step → Game → Game
 touched AmmoThing t n d g = takes n (gives Ammo 5 g)
 touched Gem t n d g = takes n (gives Score 10 (gives Health 1 (gives Gems 1 g)))
@@ -76,6 +84,7 @@ touched _ t n d g = g
 
 -- ---- scrolls
 
+-- the number of the stat of a scroll at a place, if one stands there
 abbrev pub scroll_at : Place → Scene → Option ℕ
 scroll_at n s = if element_at s n == 10 then stat_at s.stats n else None
 
@@ -84,9 +93,11 @@ abbrev pub begun : ℕ → Option Stat → Scene → Scene
 begun i None s = s
 begun i (Some a) s = put_stat i (record a { position = Some 0 }) s
 
+-- the program of stat i, a scroll, is begun anew
 abbrev pub opened : ℕ → Game → Game
 opened i g = with_scene (begun i (slice_get g.scene.stats i) g.scene) g
 
+-- the stat that had its turn is taken away, if it still is a scroll
 abbrev pub rolled : Option Stat → Scene → Scene
 rolled None s = s
 rolled (Some a) s = if element_at s a.place == 10 then taken_away s.running s else s
@@ -97,9 +108,11 @@ closed g = with_scene (rolled (own g.scene) g.scene) g
 
 -- ---- the touch
 
+-- a touch of a place: the scroll there, of this number, has one turn; else the thing is touched
 abbrev pub TouchesAs : Option ℕ → Place → Step → Game → List ℕ → Drawn Game → Type 0
 TouchesAs None n d g ws e = e ≡ Some (touched (thing (element_at g.scene n)) (tile_at g.scene.tiles n) n d g, ws)
 TouchesAs (Some i) n d g ws e = Then closed (TurnOf i (opened i g) ws) e
 
+-- the player touches what is at a place, coming along a step
 abbrev pub Touches : Place → Step → Game → List ℕ → Drawn Game → Type 0
 Touches n d g ws e = TouchesAs (scroll_at n g.scene) n d g ws e

@@ -12,12 +12,15 @@ use Rattle.zed_scene.specs.Places.{ahead}
 use Rattle.zed_scene.specs.Scene.{Scene, element_at, empty_tile, put, put_stat, stat_at, tile_at}
 use Rattle.zed_scene.specs.Removing.{damage}
 
+-- whether an element can be walked on
 unfoldable pub is_walkable : ℕ → Bool
 is_walkable n = (row_of n).walkable
 
+-- whether an element can be destroyed
 unfoldable pub is_destructible : ℕ → Bool
 is_destructible n = (row_of n).destructible
 
+-- whether what can be pushed in this way goes along a step: never, always, or along one axis alone
 abbrev pub gives_way : Push → Step → Bool
 gives_way Not d = false
 gives_way Any d = true
@@ -38,6 +41,7 @@ shifted i to None s = s
 shifted i to (Some a) s =
     put_stat i (record a { place = to; under = tile_at s.tiles to }) (put a.place a.under (put to (tile_at s.tiles a.place) s))
 
+-- stat i moves to a place, if there is a stat of this number
 abbrev pub shift : ℕ → Place → Scene → Scene
 shift i to s = shifted i to (slice_get s.stats i) s
 
@@ -46,6 +50,7 @@ abbrev pub carried_as : Option ℕ → Place → Place → Scene → Scene
 carried_as None from to s = put from empty_tile (put to (tile_at s.tiles from) s)
 carried_as (Some i) from to s = shift i to s
 
+-- what is at a place moves to another: the lowest stat there, or without one the tile alone
 abbrev pub carried : Place → Place → Scene → Scene
 carried from to s = carried_as (stat_at s.stats from) from to s
 
@@ -67,5 +72,6 @@ pushed_by (suc reach) p d s =
     elim (ahead p d) [ None ↦ s | Some n ↦ pushed_onto p n (if element_at s n == 0 then s else pushed_by reach n d s) ]
     else s
 
+-- what is at a place is pushed along a step, after what is in its way; no line is longer than 60
 unfoldable pub pushed : Place → Step → Scene → Scene
 pushed p d s = pushed_by 60 p d s

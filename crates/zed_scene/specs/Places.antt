@@ -4,9 +4,11 @@ use Rattle.zed_types.specs.declared.tile.Place.{Place}
 use Rattle.zed_scene.specs.declared.step.Step.{Step}
 
 infixl 10 ◌>>=◌
+-- what follows of a value, if there is one
 abbrev pub ◌>>=◌ : {A B : Type 0} → Option A → (A → Option B) → Option B
 o >>= f = option_and_then f o
 
+-- whether a place is in the table: columns 1 to 60, rows 1 to 25
 abbrev pub is_on_board : Place → Bool
 is_on_board p = nat_le 1 p.x && nat_le p.x 60 && nat_le 1 p.y && nat_le p.y 25
 
@@ -32,12 +34,15 @@ negated (pos zero) = pos zero
 negated (pos (suc k)) = negsuc k
 negated (negsuc k) = if k == 32767 then pos 32767 else pos (suc k)
 
+-- a step a quarter to the right: north becomes east
 abbrev pub clockwise : Step → Step
 clockwise d = record { x = negated d.y; y = d.x }
 
+-- a step a quarter to the left: north becomes west
 abbrev pub counter_clockwise : Step → Step
 counter_clockwise d = record { x = d.y; y = negated d.x }
 
+-- a step turned round: north becomes south
 abbrev pub opposite : Step → Step
 opposite d = record { x = negated d.x; y = negated d.y }
 

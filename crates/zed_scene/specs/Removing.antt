@@ -9,10 +9,12 @@ use Rattle.zed_scene.specs.Scene.{Scene, empty_tile, put, stat_at}
 abbrev pub after_removal : ℕ → ℕ → Option ℕ
 after_removal i n = if n == i then None else if nat_lt i n then Some (n - 1) else Some n
 
+-- the number of a stat, if one is named, after stat i is removed; none where it is that one
 abbrev pub one_less : ℕ → Option ℕ → Option ℕ
 one_less i None = None
 one_less i (Some n) = after_removal i n
 
+-- a stat after stat i is removed: its follower and leader go by their new numbers
 abbrev pub renumbered : ℕ → Stat → Stat
 renumbered i a = record a { follower = one_less i a.follower; leader = one_less i a.leader }
 
@@ -35,6 +37,7 @@ gone_from i (Some gone) s = put gone.place gone.under (without i s)
 abbrev pub remove_stat : ℕ → Scene → Scene
 remove_stat i s = if i == 0 then s else gone_from i (slice_get s.stats i) s
 
+-- a board in play where the player has this health
 abbrev pub with_health : ℤ → Scene → Scene
 with_health n s = record s { counters = record s.counters { health = n } }
 
@@ -46,6 +49,7 @@ hurt s = with_health (if int_lt (pos 10) s.counters.health then s.counters.healt
 abbrev pub damage_stat : ℕ → Scene → Scene
 damage_stat i s = if i == 0 then hurt s else remove_stat i s
 
+-- damage at a place with this lowest stat: the stat takes it, or without one the tile is emptied
 abbrev pub damage_found : Place → Option ℕ → Scene → Scene
 damage_found p None s = put p empty_tile s
 damage_found p (Some i) s = damage_stat i s

@@ -26,6 +26,7 @@ pub record Scene : Type 0 where
 abbrev pub edge : Tile
 edge = record { element = 1; colour = 0 }
 
+-- the tile where nothing is: element 0, colour 0
 abbrev pub empty_tile : Tile
 empty_tile = record { element = 0; colour = 0 }
 
@@ -37,6 +38,7 @@ tile_at tiles p = if is_on_board p then slice_index_or tiles (index_of p) edge e
 abbrev pub with_tile : List Tile → Place → Tile → List Tile
 with_tile tiles p t = if is_on_board p then slice_set tiles (index_of p) t else tiles
 
+-- whether two places are of one column and one row
 abbrev pub same_place : Place → Place → Bool
 same_place p q = p.x == q.x && p.y == q.y
 
@@ -44,6 +46,7 @@ same_place p q = p.x == q.x && p.y == q.y
 abbrev pub stat_at : List Stat → Place → Option ℕ
 stat_at stats p = position (λ a. same_place a.place p) stats
 
+-- the element of the tile at a place, 1 outside of the table
 abbrev pub element_at : Scene → Place → ℕ
 element_at s p = (tile_at s.tiles p).element
 
@@ -52,9 +55,11 @@ abbrev pub element_ahead : Scene → Option Place → ℕ
 element_ahead s None = 1
 element_ahead s (Some p) = element_at s p
 
+-- a board in play with a tile put at a place; outside of the table nothing is written
 abbrev pub put : Place → Tile → Scene → Scene
 put p t s = record s { tiles = with_tile s.tiles p t }
 
+-- stat i becomes this one
 abbrev pub put_stat : ℕ → Stat → Scene → Scene
 put_stat i a s = record s { stats = slice_set s.stats i a }
 
@@ -63,6 +68,7 @@ abbrev pub stat_of : Scene → Option ℕ → Option Stat
 stat_of s None = None
 stat_of s (Some i) = slice_get s.stats i
 
+-- the stat of a number becomes this one; without a number nothing changes
 abbrev pub put_at : Option ℕ → Stat → Scene → Scene
 put_at None a s = s
 put_at (Some i) a s = put_stat i a s
@@ -71,6 +77,7 @@ put_at (Some i) a s = put_stat i a s
 abbrev pub actor : Scene → Option Stat
 actor s = stat_of s s.acting
 
+-- the stat that acts becomes this one, unless it is gone
 abbrev pub put_actor : Stat → Scene → Scene
 put_actor a s = put_at s.acting a s
 
@@ -78,9 +85,11 @@ put_actor a s = put_at s.acting a s
 abbrev pub own : Scene → Option Stat
 own s = stat_of s s.running
 
+-- the stat whose program has its turn becomes this one, unless it is gone
 abbrev pub put_own : Stat → Scene → Scene
 put_own a s = put_at s.running a s
 
+-- the bytes of a program, no bytes where there is none
 abbrev pub or_empty : Option (List ℕ) → List ℕ
 or_empty None = []
 or_empty (Some p) = p
@@ -90,6 +99,7 @@ abbrev pub program_of : Scene → Option ℕ → List ℕ
 program_of s None = []
 program_of s (Some k) = or_empty (slice_get s.programs k)
 
+-- program k gets these bytes, for all the stats that share it
 abbrev pub put_program : ℕ → List ℕ → Scene → Scene
 put_program k p s = record s { programs = slice_set s.programs k p }
 

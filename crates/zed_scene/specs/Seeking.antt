@@ -8,18 +8,23 @@ use Rattle.zed_scene.specs.Places.{sign_of}
 use Rattle.zed_scene.specs.Scene.{Scene}
 use Rattle.zed_scene.specs.Words.{Drawn, draw, ◌>>=◌}
 
+-- the step that leads nowhere
 abbrev pub still : Step
 still = record { x = pos 0; y = pos 0 }
 
+-- the step one row up
 abbrev pub north : Step
 north = record { x = pos 0; y = negsuc 0 }
 
+-- the step one row down
 abbrev pub south : Step
 south = record { x = pos 0; y = pos 1 }
 
+-- the step one column to the right
 abbrev pub east : Step
 east = record { x = pos 1; y = pos 0 }
 
+-- the step one column to the left
 abbrev pub west : Step
 west = record { x = negsuc 0; y = pos 0 }
 
@@ -29,6 +34,7 @@ towards from to columns =
     let x : ℤ = if columns || from.y == to.y then sign_of to.x from.x else pos 0 in
     if int_eq x (pos 0) then record { x = pos 0; y = sign_of to.y from.y } else record { x = x; y = pos 0 }
 
+-- where a stat is, or the place given where there is no stat
 abbrev pub place_of : Place → Option Stat → Place
 place_of p None = p
 place_of p (Some a) = a.place

@@ -11,6 +11,7 @@ use Rattle.zed_scene.specs.Scene.{Scene, element_at, put, tile_at}
 use Rattle.zed_scene.specs.Removing.{damage}
 use Rattle.zed_scene.specs.Moving.{is_walkable, is_destructible}
 
+-- by whom a bullet was shot, as its P1 tells: 0 the player, 1 a creature
 abbrev pub p1_of : Shooter → ℕ
 p1_of Player = 0
 p1_of Creature = 1
@@ -20,6 +21,7 @@ abbrev pub is_hit : ℕ → Shooter → Bool
 is_hit n Player = n == 23 || (is_destructible n && not (n == 4))
 is_hit n Creature = n == 23 || (is_destructible n && n == 4)
 
+-- a new bullet at a place, which flies along a step in each tick, over the tile that was there
 abbrev pub bullet : Place → Step → Shooter → Tile → Stat
 bullet p d shooter under =
     record {
@@ -46,6 +48,7 @@ fired n d shooter s =
     if nat_le 151 (length s.stats) then (false, s)
     else (true, put n (record { element = 18; colour = 15 }) (with_stat (bullet n d shooter (tile_at s.tiles n)) s))
 
+-- a shot at what is ahead: it flies there, or damages what it hits, or fails, as it does off the table
 abbrev pub shot_onto : Option Place → Step → Shooter → Scene → Bool × Scene
 shot_onto None d shooter s = (false, s)
 shot_onto (Some n) d shooter s =

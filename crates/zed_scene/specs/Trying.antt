@@ -7,6 +7,7 @@ use Rattle.zed_scene.specs.Moving.{is_pushable, is_walkable, pushed, pushed_onto
 use Rattle.zed_scene.specs.Places.{ahead}
 use Rattle.zed_scene.specs.Scene.{Scene, element_at}
 
+-- the stat of a number moves to a place; without a number nothing moves
 abbrev pub shift_at : Option ℕ → Place → Scene → Scene
 shift_at None to s = s
 shift_at (Some i) to s = shift i to s
@@ -19,10 +20,12 @@ walk_on to s = if is_walkable (element_at s to) then (true, shift_at s.running t
 abbrev pub way_made : Place → Step → Scene → Scene
 way_made to d s = if is_walkable (element_at s to) then s else pushed to d s
 
+-- whether the own stat gets to the place ahead, pushing what is there; off the table it doesn't
 abbrev pub moved_to : Step → Option Place → Scene → Bool × Scene
 moved_to d None s = (false, s)
 moved_to d (Some to) s = walk_on to (way_made to d s)
 
+-- whether a step leads nowhere
 abbrev pub is_nowhere : Step → Bool
 is_nowhere d = int_eq d.x (pos 0) && int_eq d.y (pos 0)
 

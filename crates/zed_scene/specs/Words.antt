@@ -8,6 +8,7 @@ abbrev pub Drawn : Type 0 → Type 0
 Drawn X = Option (X × List ℕ)
 
 infixl 10 ◌>>=◌
+-- what follows of what was drawn, by the words that it left; none where a word is lacking
 abbrev pub ◌>>=◌ : {A B : Type 0} → Drawn A → (A × List ℕ → Drawn B) → Drawn B
 None >>= f = None
 (Some x) >>= f = f x

@@ -21,13 +21,15 @@ Shows frame f = (k : ℕ) → k < 2000 → slice_get frame.cells k ≡ Some (f k
 abbrev pub printable : ℕ → ℕ
 printable b = if nat_le 32 b && nat_le b 126 then b else 63
 
--- the byte at column x of line y
+-- the printable byte of a cell
 abbrev pub ascii_of : Cell → ℕ
 ascii_of c = printable c.character
 
+-- the byte that is shown at column x of row y of a frame, both counted from 0
 unfoldable pub line_byte : Frame → ℕ → ℕ → ℕ
 line_byte f y x = ascii_of (slice_index_or f.cells (80 * y + x) side)
 
+-- a line begins with the 80 bytes that are shown in row y of a frame
 abbrev pub IsLine : Frame → ℕ → List ℕ → Type 0
 IsLine f y line = (x : ℕ) → x < 80 → slice_get line x ≡ Some (line_byte f y x)
 

@@ -27,6 +27,7 @@ abbrev pub size_of : ℤ → ℕ
 size_of (pos n) = n
 size_of (negsuc n) = suc n
 
+-- whether a number has a minus sign
 abbrev pub is_below_zero : ℤ → Bool
 is_below_zero (pos n) = false
 is_below_zero (negsuc n) = true

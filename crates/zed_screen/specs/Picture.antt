@@ -15,7 +15,7 @@ use Rattle.zed_screen.specs.declared.frame.Cell.{Cell}
 unfoldable pub look_of : ℕ → Look
 look_of n = (row_of n).look
 
--- what is shown of a tile with the P1 of the lowest stat at its place; `?` without a stat
+-- the first parameter of a stat as a character; `?` without a stat
 abbrev pub or_mark : Option ℕ → ℕ
 or_mark None = 63
 or_mark (Some p1) = p1
@@ -51,7 +51,7 @@ place_of k = record { x = k % 80 + 1; y = k / 80 + 1 }
 abbrev pub is_beside : ℕ → Bool
 is_beside k = nat_le 60 (k % 80)
 
--- of a board in play
+-- the first parameter of a stat of a board in play, if there is a stat
 abbrev pub p1_of : Option Stat → Option ℕ
 p1_of None = None
 p1_of (Some a) = Some a.p1
@@ -60,16 +60,19 @@ p1_of (Some a) = Some a.p1
 abbrev pub p1_at : Scene → Place → Option ℕ
 p1_at s p = p1_of (find (λ a. same_place a.place p) s.stats)
 
+-- what the screen shows at its place k of a board in play
 unfoldable pub scene_cell : Scene → ℕ → Cell
 scene_cell s k = if is_beside k then side else cell_of (tile_at s.tiles (place_of k)) (p1_at s (place_of k))
 
--- of a board of a world
+-- whether a stat of a world's board stands at a place
 abbrev pub stands_at : Place → StatData → Bool
 stands_at p s = s.x == p.x && s.y == p.y
 
+-- the first parameter of a stat of a world's board, if there is a stat
 abbrev pub data_p1 : Option StatData → Option ℕ
 data_p1 None = None
 data_p1 (Some s) = Some s.p1
 
+-- what the screen shows at its place k of a board of a world
 unfoldable pub data_cell : BoardData → ℕ → Cell
 data_cell b k = if is_beside k then side else cell_of (tile_at b.tiles (place_of k)) (data_p1 (find (stands_at (place_of k)) b.stats))

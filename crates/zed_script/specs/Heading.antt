@@ -8,6 +8,7 @@ use Rattle.zed_script.specs.declared.heading.Turning.{Turning}
 use Rattle.zed_script.specs.declared.heading.Turning.TheVariants.{Clockwise, CounterClockwise, Opposite, Sideways}
 use Rattle.zed_script.specs.Text.{word_at, word_end}
 
+-- how a word turns the direction behind it, if it does
 unfoldable pub turning_of : List ℕ → Option Turning
 turning_of w =
     if bytes_eq w (codes "CW") then Some Clockwise else

@@ -19,6 +19,7 @@ matches k t = t.element == k.element && has_colour k.colour t.colour
 abbrev pub tile_of : TileKind → ℕ → Tile
 tile_of k colour = record { element = k.element; colour = unwrap_or k.colour colour }
 
+-- the colour of a colour word: 9 to 15
 unfoldable pub colour_of : List ℕ → Option ℕ
 colour_of w =
     if bytes_eq w (codes "BLUE") then Some 9 else
@@ -42,13 +43,16 @@ element_below (suc n) w = if is_element w n then Some n else element_below n w
 unfoldable pub element_of : List ℕ → Option ℕ
 element_of w = if length w == 0 then None else element_below 54 w
 
+-- a kind, but none for the player where it isn't allowed
 abbrev pub allowed : TileKind → Bool → Option TileKind
 allowed k player = if k.element == 4 && not player then None else Some k
 
+-- the kind of a colour, if any, and an element; none without one, or for a player that isn't allowed
 abbrev pub kind_with : Option ℕ → Bool → Option ℕ → Option TileKind
 kind_with colour player None = None
 kind_with colour player (Some n) = allowed (record { colour = colour; element = n }) player
 
+-- the kind of a colour, if any, and an element's word; none for no element, or a player not allowed
 abbrev pub kind_of : Option ℕ → List ℕ → Bool → Option TileKind
 kind_of colour w player = kind_with colour player (element_of w)
 

@@ -7,10 +7,12 @@ use Rattle.std.specs.Str.{bytes_eq}
 unfoldable pub one_word : List ℕ → List ℕ → Bool
 one_word a b = bytes_eq (map to_ascii_lowercase a) (map to_ascii_lowercase b)
 
+-- whether there is a byte, and it is b
 abbrev pub is_this : ℕ → Option ℕ → Bool
 is_this b None = false
 is_this b (Some c) = c == b
 
+-- whether the byte b stands at a place
 abbrev pub byte_is : List ℕ → ℕ → ℕ → Bool
 byte_is p at b = is_this b (slice_get p at)
 
@@ -29,11 +31,12 @@ follows p at l =
 unfoldable pub label_at : ℕ → List ℕ → List ℕ → ℕ → Bool
 label_at mark p l at = (not (at == 0) && byte_is p (at - 1) 13 && byte_is p at mark) && follows p (at + 1) l
 
--- the least number below n that passes a test
+-- the first of two, where there is one, else the second
 abbrev pub or_else : Option ℕ → Option ℕ → Option ℕ
 or_else None o = o
 or_else (Some n) o = Some n
 
+-- the least number below n that passes a test, if one does
 abbrev pub least : (ℕ → Bool) → ℕ → Option ℕ
 least test zero = None
 least test (suc n) = or_else (least test n) (if test n then Some n else None)
@@ -42,6 +45,7 @@ least test (suc n) = or_else (least test n) (if test n then Some n else None)
 unfoldable pub first_label : List ℕ → List ℕ → Option ℕ
 first_label p l = least (label_at 58 p l) (length p)
 
+-- whether a label is RESTART, which leads to the beginning of a program
 abbrev pub is_restart : List ℕ → Bool
 is_restart l = bytes_eq l (codes "RESTART")
 

@@ -19,6 +19,7 @@ begun_by (Some b) =
     if b == 63 then AttemptKind else
     if b == 35 then CommandKind else MessageKind
 
+-- what the byte at a place begins; where there is none, the end
 abbrev pub begun_at : List ℕ → ℕ → LineKind
 begun_at p at = begun_by (slice_get p at)
 

@@ -5,6 +5,7 @@ use Rattle.std.specs.Char.{is_ascii_digit, is_ascii_alphanumeric, to_ascii_upper
 use Rattle.zed_script.specs.declared.text.Class.{Class}
 use Rattle.zed_script.specs.declared.text.Class.TheVariants.{Space, Digit, Word, Line}
 
+-- whether a byte is of a class: a space, a digit, a byte of words, or any but the end of a line
 abbrev pub is_of : Class → ℕ → Bool
 is_of Space b = b == 32
 is_of Digit b = is_ascii_digit b
@@ -24,9 +25,11 @@ abbrev pub end_by_first : List ℕ → ℕ → Option ℕ → ℕ
 end_by_first p from None = from
 end_by_first p from (Some b) = if is_ascii_digit b then from else run_end Word p from
 
+-- where the word behind the spaces at a place ends, be it empty
 unfoldable pub word_end : List ℕ → ℕ → ℕ
 word_end p at = end_by_first p (word_start p at) (slice_get p (word_start p at))
 
+-- bytes with each letter in upper case
 abbrev pub upper : List ℕ → List ℕ
 upper = map to_ascii_uppercase
 
@@ -43,9 +46,11 @@ number n (d ∷ ds) = number (n * 10 + (d - 48)) ds
 abbrev pub with_digit : ℕ → ℕ → ℕ
 with_digit n d = if nat_lt 3276 n then 32767 else n * 10 + (d - 48)
 
+-- a value stands after spaces
 abbrev pub value_start : List ℕ → ℕ → ℕ
 value_start p at = run_end Space p at
 
+-- where the digits of the value at a place end
 unfoldable pub value_end : List ℕ → ℕ → ℕ
 value_end p at = run_end Digit p (value_start p at)
 
@@ -53,9 +58,10 @@ value_end p at = run_end Digit p (value_start p at)
 unfoldable pub value_at : List ℕ → ℕ → ℕ
 value_at p at = min (number 0 (slice_range p (value_start p at) (value_end p at))) 32767
 
--- the place behind the line: past its byte 13, if it has one
+-- where the line at a place ends: at its byte 13, or at the end of the program
 unfoldable pub line_end : List ℕ → ℕ → ℕ
 line_end p at = run_end Line p at
 
+-- where the line after the one at a place begins; where there is none, the end of the program
 unfoldable pub line_after : List ℕ → ℕ → ℕ
 line_after p at = if nat_lt (line_end p at) (length p) then line_end p at + 1 else line_end p at

@@ -34,6 +34,7 @@ abbrev pub BlockedAt : List ℕ → ℕ → Option Test → ℕ → Type 0
 BlockedAt p at (Some (BlockedTest h)) end = DirectionAt p at h end
 BlockedAt p at _ end = ⊥
 
+-- the kind behind ANY, which may be the player
 abbrev pub AnyAt : List ℕ → ℕ → Option Test → ℕ → Type 0
 AnyAt p at (Some (AnyTest k)) end = kind_at p at true ≡ (k, end)
 AnyAt p at _ end = ⊥
@@ -51,6 +52,7 @@ deed_word Take = codes "TAKE"
 deed_word Cycle = codes "CYCLE"
 deed_word Char = codes "CHAR"
 
+-- which command that does, asks or counts a word is, if it is one
 abbrev pub IsDeed : List ℕ → Option Deed → Type 0
 IsDeed w None = is_deed w ≡ false
 IsDeed w (Some v) = w ≡ deed_word v
@@ -66,6 +68,7 @@ naming_word Bind = codes "BIND"
 naming_word Become = codes "BECOME"
 naming_word Change = codes "CHANGE"
 
+-- which command that names something a word is, if it is one
 abbrev pub IsNaming : List ℕ → Option Naming → Type 0
 IsNaming w None = is_naming w ≡ false
 IsNaming w (Some v) = w ≡ naming_word v
@@ -82,6 +85,7 @@ bare_word Die = codes "DIE"
 bare_word Play = codes "PLAY"
 bare_word ThrowStar = codes "THROWSTAR"
 
+-- which command that stands alone a word is, if it is one
 abbrev pub IsBare : List ℕ → Option Bare → Type 0
 IsBare w None = is_bare w ≡ false
 IsBare w (Some v) = w ≡ bare_word v

@@ -14,6 +14,7 @@ pub record Row : Type 0 where
   pub push : Push
   pub destructible : Bool
 
+-- a row by its columns: the word, the look, whether walkable, how pushed, whether destructible
 abbrev pub row : List ℕ → Look → Bool → Push → Bool → Row
 row word look walkable push destructible =
     record { word = word; look = look; walkable = walkable; push = push; destructible = destructible }

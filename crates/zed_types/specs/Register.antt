@@ -18,6 +18,7 @@ abbrev pub last_value : {V : Type 0} → V → List (Written V) → V
 last_value v [] = v
 last_value v (w ∷ ws) = last_value w.value ws
 
+-- the value that is kept, or this one where nothing was written
 abbrev pub value_or : {V : Type 0} → V → Option (Written V) → V
 value_or v None = v
 value_or v (Some w) = w.value

@@ -32,6 +32,7 @@ put_after a run xs = from_place a (λ rest. run ++ rest) xs
 abbrev pub is_within : ByteRange → ElemId → Bool
 is_within r a = same_stamp a.name.stamp r.stamp && (nat_le r.first a.name.index && nat_le a.name.index r.last)
 
+-- a byte is dead where a range holds it, and else as it was
 abbrev pub kill_within : ByteRange → TextByte → TextByte
 kill_within r x = record x { alive = x.alive && not (is_within r x.id) }
 
