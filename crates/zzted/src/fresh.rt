@@ -13,6 +13,9 @@ const TRIES: u32 = 1024;
 /// The bits of a mode that are permissions.
 const PERMISSIONS: u32 = 0o7777;
 
+/// Those of its group.
+const GROUP: u32 = 0o070;
+
 /// The permissions of a new file before it has those of the old one: nobody else reads it.
 const OWN: u32 = 0o600;
 
@@ -60,23 +63,25 @@ fn make_fresh(rt: &HostRuntime, path: &str, mode: u32) -> io::Result<File> {
     Err(io::Error::from(ErrorKind::ResourceBusy))
 }
 
-// Gives a new file the owner and the group of the old one, where the system lets it, or the group alone.
-fn keep_owner(file: &File, old: &Metadata) {
-    if fchown(file, Some(old.uid()), Some(old.gid())).is_err() {
-        let _ = fchown(file, None, Some(old.gid()));
-    }
+// Gives a new file the owner and the group of the old one, where the system lets it, or the group alone. Tells whether it has the group.
+fn takes_group(file: &File, old: &Metadata) -> bool {
+    fchown(file, Some(old.uid()), Some(old.gid())).is_ok()
+        || fchown(file, None, Some(old.gid())).is_ok()
 }
 
-// Gives a new file the owner and the permissions of the old one.
+// Gives a new file the owner and the permissions of the old one. What its group might do is not for the author's own group.
 fn keep(file: &File, old: &Metadata) -> io::Result<()> {
     let made = file.metadata()?;
-    if made.uid() != old.uid() || made.gid() != old.gid() {
-        keep_owner(file, old);
-    }
-    if made.mode() == old.mode() {
+    let is_owned = made.uid() == old.uid() && made.gid() == old.gid();
+    let mode = if is_owned || takes_group(file, old) {
+        old.mode() & PERMISSIONS
+    } else {
+        old.mode() & PERMISSIONS & !GROUP
+    };
+    if made.mode() & PERMISSIONS == mode {
         return Ok(());
     }
-    file.set_permissions(Permissions::from_mode(old.mode() & PERMISSIONS))
+    file.set_permissions(Permissions::from_mode(mode))
 }
 
 fn missing() -> io::Error {

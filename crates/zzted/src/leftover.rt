@@ -22,8 +22,8 @@ fn are_numerals(bytes: &[u8]) -> bool
     bytes.iter().all(|byte| is_numeral(*byte))
 }
 
-// Whether a file's name is one that this program gives to new files.
-fn is_new_name(name: &[u8]) -> bool
+/// Whether a file's name is one that this program gives to new files.
+pub fn is_new_name(name: &[u8]) -> bool
     ensures { result ≡ is_new_name name.now }
 {
     let beginning = BEGINNING.as_bytes();

@@ -2,7 +2,7 @@
 //! its place.
 ghost use Rattle.std.specs.Io.{StartsWith};
 
-use crate::leftover::{BEGINNING, clear};
+use crate::leftover::{BEGINNING, clear, is_new_name};
 use std::fs::{self, File, Metadata};
 use std::io::{self, ErrorKind};
 use std::os::unix::fs::MetadataExt;
@@ -106,6 +106,11 @@ fn fresh_in(rt: &HostRuntime, folder: &str) -> io::Result<String> {
 fn find(rt: &HostRuntime, name: &str) -> io::Result<Spot> {
     let path = followed(rt, name)?;
     let folder = folder_of(path.as_str());
+    let file = path.as_str().strip_prefix(folder).unwrap_or("");
+    if is_new_name(file.as_bytes()) {
+        // Such a file would be taken for what an ended process left.
+        return Err(io::Error::from(ErrorKind::InvalidFilename));
+    }
     let folder = String::from_str(rt.alloc(), if folder.is_empty() { "./" } else { folder })?;
     clear(rt, folder.as_str())?;
     let fresh = fresh_in(rt, folder.as_str())?;

@@ -1,6 +1,6 @@
 //! How a file takes its place: whole, or not at all.
 ghost use Rattle.std.specs.Prelude.{◌≡◌, ◌⊎◌, IfSome, OnErr, OnOk, None, Option, option_map};
-ghost use Rattle.zzted.specs.Held.{Held, IsWhole, beside_of, none_beside, place_of, replaced_by, with_beside, with_empty, with_place, with_synced};
+ghost use Rattle.zzted.specs.Held.{Held, IsWhole, beside_of, none_beside, place_of, renamed_by, replaced_by, with_beside, with_empty, with_more, with_place, with_settled, with_synced};
 
 use std::io;
 
@@ -17,7 +17,7 @@ pub trait Folder {
     /// Gives the new file its bytes.
     fn fill(&mut self, bytes: &[u8]) -> io::Result<()>
         ensures result { OnOk result
-            (told self.new ≡ option_map (with_beside bytes.now) (told self.old)) }
+            (told self.new ≡ option_map (with_more bytes.now) (told self.old)) }
         ensures kept { option_map place_of (told self.new) ≡ option_map place_of (told self.old) };
 
     /// Brings the new file onto the disk.
@@ -37,7 +37,8 @@ pub trait Folder {
 
     /// Brings onto the disk what stands in the place.
     fn sync_place(&mut self) -> io::Result<()>
-        ensures kept { told self.new ≡ told self.old };
+        ensures result { OnOk result (told self.new ≡ option_map with_settled (told self.old)) }
+        ensures kept { OnErr result (told self.new ≡ told self.old) };
 }
 
 // Makes the new file with all its bytes, on the disk.
@@ -55,7 +56,7 @@ fn make<F: Folder>(folder: &mut F, bytes: &[u8]) -> io::Result<()>
 // Makes the new file and puts it into the place.
 fn take_place<F: Folder>(folder: &mut F, bytes: &[u8]) -> io::Result<()>
     ensures result { OnOk result
-        (F.told folder.new ≡ option_map (replaced_by bytes.now) (F.told folder.old)) }
+        (F.told folder.new ≡ option_map (renamed_by bytes.now) (F.told folder.old)) }
     ensures kept { OnErr result
         (option_map place_of (F.told folder.new) ≡ option_map place_of (F.told folder.old)) }
 {
@@ -70,7 +71,7 @@ pub fn replace<F: Folder>(folder: &mut F, bytes: &[u8]) -> io::Result<()>
         (F.told folder.new ≡ option_map (replaced_by bytes.now) (F.told folder.old)) }
     ensures kept { OnErr result
         ((option_map place_of (F.told folder.new) ≡ option_map place_of (F.told folder.old))
-        ⊎ (F.told folder.new ≡ option_map (replaced_by bytes.now) (F.told folder.old))) }
+        ⊎ (F.told folder.new ≡ option_map (renamed_by bytes.now) (F.told folder.old))) }
     ensures cleared { option_map beside_of (F.told folder.new)
         ≡ option_map (λ h. None) (F.told folder.old) }
 {
