@@ -9,9 +9,8 @@ use Rattle.zed_world.specs.declared.error.WorldError.{WorldError}
 use Rattle.zed_world.specs.declared.header.Header.{Header}
 use Rattle.zed_world.specs.declared.board.Properties.{Properties}
 use Rattle.zed_world.specs.declared.board.BoardData.{BoardData}
-use Rattle.zed_world.specs.declared.stat.Code.TheVariants as code
 use Rattle.zed_world.specs.declared.stat.StatData.{StatData}
-use Rattle.zed_world.specs.Contents.{Contents}
+use Rattle.zed_world.specs.Contents.{Contents, standing}
 use Rattle.zed_world.specs.Reading.{world_at}
 use Rattle.zed_world.specs.Writing.{written}
 use Rattle.zed_program.specs.declared.refusal.Refusal.{Refusal}
@@ -55,21 +54,7 @@ fresh_properties = record {
 
 -- the player in the middle
 abbrev pub fresh_player : StatData
-fresh_player = record {
-  x = 30;
-  y = 12;
-  step_x = pos 0;
-  step_y = pos 0;
-  cycle = pos 1;
-  p1 = 0;
-  p2 = 0;
-  p3 = 0;
-  follower = None;
-  leader = None;
-  under = empty_tile;
-  position = pos 0;
-  code = code.None;
-}
+fresh_player = standing 30 12
 
 -- a title of these tiles
 abbrev pub title_of : List Tile → BoardData

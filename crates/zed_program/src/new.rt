@@ -3,7 +3,7 @@ ghost use Rattle.std.specs.Prelude.{◌≡◌, ◌≤◌, ◌∷◌, [], ◌⊎�
 ghost use Rattle.zed_edit.specs.Board.{new_table as table};
 ghost use Rattle.zed_editfile.specs.Spelling.{file_text};
 ghost use Rattle.zed_world.specs.Canonical.{IsCanonical};
-ghost use Rattle.zed_program.specs.Fresh.{fresh_header, fresh_player, fresh_properties, fresh_world, genesis_of, made_by, name_or_none, refused_as, rewritten, taken_from, title_of};
+ghost use Rattle.zed_program.specs.Fresh.{fresh_header, fresh_properties, fresh_world, genesis_of, made_by, name_or_none, refused_as, rewritten, taken_from, title_of};
 ghost use Rattle.zed_world.specs.Writing.{written};
 ghost use Rattle.zed_world.specs.Reading.{world_at};
 ghost use Rattle.zed_program.specs.Outcome.{Ends, IsFirstWorld, text_in};
@@ -17,8 +17,8 @@ use crate::refusal::{Refusal, edits_told, of_file, of_world};
 use std::alloc::{AllocError, Global};
 use zed_edit::{Edit, Op, new_table};
 use zed_editfile::{write_edit, write_head};
-use zed_types::{Bytes, READ_BODY_LIMIT, Seq, Stamp, Tile};
-use zed_world::{BoardData, Code, Header, Properties, StatData, World, read_world, write_world};
+use zed_types::{Bytes, READ_BODY_LIMIT, Seq, Stamp};
+use zed_world::{BoardData, Header, Properties, StatData, World, read_world, write_world};
 
 /// Most bytes of the name of a world.
 const MOST_OF_NAME: usize = 20;
@@ -93,32 +93,12 @@ fn properties(alloc: Global) -> Properties
     }
 }
 
-fn player() -> StatData
-    ensures { result ≡ fresh_player }
-{
-    StatData {
-        x: 30,
-        y: 12,
-        step_x: 0,
-        step_y: 0,
-        cycle: 1,
-        p1: 0,
-        p2: 0,
-        p3: 0,
-        follower: None,
-        leader: None,
-        under: Tile::EMPTY,
-        position: 0,
-        code: Code::None,
-    }
-}
-
 fn title(alloc: Global) -> Result<BoardData, AllocError>
     ensures { IfOk result (λ board. board ≡ title_of table) }
 {
     let name = Vec::from_slice(alloc, b"Title")?;
     let mut stats = Seq::new(alloc);
-    stats.push(player())?;
+    stats.push(StatData::standing(30, 12))?;
     Ok(BoardData {
         name: Bytes::new(name),
         tiles: new_table(),

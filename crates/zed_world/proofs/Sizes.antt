@@ -4,14 +4,14 @@ use Rattle.std.specs.List.{flat_map}
 use Rattle.std.proofs.lemmas.List.{length-replicate}
 use Rattle.zed_runs.specs.Runs.{greedy}
 use Rattle.zed_world.specs.Fields.{integer, flag, zeros, string, number_or_none}
-use Rattle.zed_world.specs.Writing.{properties_text, code_length, code_text, stat_text, body_text}
+use Rattle.zed_world.specs.Writing.{properties_text, code_length, code_text, parameters_text, stat_text, body_text}
 use Rattle.zed_world.specs.declared.board.Properties.{Properties}
 use Rattle.zed_world.specs.declared.board.BoardData.{BoardData}
 use Rattle.zed_world.specs.declared.stat.StatData.{StatData}
 
 -- a stat and its program
 front_of : StatData → List ℕ
-front_of s = (s.x ∷ s.y ∷ []) ++ integer s.step_x ++ integer s.step_y ++ integer s.cycle ++ (s.p1 ∷ s.p2 ∷ s.p3 ∷ []) ++ integer (number_or_none s.follower) ++ integer (number_or_none s.leader) ++ (s.under.element ∷ s.under.colour ∷ []) ++ zeros 4 ++ integer s.position ++ integer (code_length s.code) ++ zeros 8
+front_of s = (s.x ∷ s.y ∷ []) ++ integer s.step_x ++ integer s.step_y ++ integer s.cycle ++ parameters_text s ++ integer (number_or_none s.follower) ++ integer (number_or_none s.leader) ++ (s.under.element ∷ s.under.colour ∷ []) ++ zeros 4 ++ integer s.position ++ integer (code_length s.code) ++ zeros 8
 
 length_front : (s : StatData) → length (front_of s) ≡ 33
 unfolding front_of integer zeros

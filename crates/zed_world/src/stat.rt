@@ -1,3 +1,7 @@
+//! Stats as a world file has them.
+ghost use Rattle.std.specs.Prelude.{◌≡◌};
+ghost use Rattle.zed_world.specs.Contents.{standing};
+
 use zed_types::{Bytes, Tile};
 
 /// The program of a stat.
@@ -35,4 +39,27 @@ pub struct StatData {
     /// Where in its program the stat is; -1 after its end.
     pub position: i16,
     pub code: Code,
+}
+
+impl StatData {
+    /// A stat at a place that stands on an empty tile and acts in every tick. It has no step, parameters, neighbours or program.
+    pub fn standing(x: u8, y: u8) -> StatData
+        ensures result { result ≡ standing x y }
+    {
+        StatData {
+            x,
+            y,
+            step_x: 0,
+            step_y: 0,
+            cycle: 1,
+            p1: 0,
+            p2: 0,
+            p3: 0,
+            follower: None,
+            leader: None,
+            under: Tile::EMPTY,
+            position: 0,
+            code: Code::None,
+        }
+    }
 }
