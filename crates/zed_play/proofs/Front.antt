@@ -35,7 +35,7 @@ front_lion_step a s = front_bind (draw 10) (λ r ws. if nat_lt a.p1 r then rando
 
 front_lion : (a : Stat) (s : Scene) → Front (Is (lion a s))
 unfolding lion
-front_lion a s = front_bind (lion_step a s) (λ d ws. Some (prowls (ahead a.place d) s, ws)) (front_lion_step a s) (λ d. front_none (prowls (ahead a.place d) s))
+front_lion a s = front_bind (lion_step a s) (λ d ws. Some (prowls false (ahead a.place d) s, ws)) (front_lion_step a s) (λ d. front_none (prowls false (ahead a.place d) s))
 
 front_tiger : (a : Stat) (s : Scene) → Front (Is (tiger a s))
 unfolding tiger

@@ -1,5 +1,5 @@
 -- Lions, tigers and bears.
-use Rattle.std.specs.Prelude.{ℕ, pos, ◌+◌, ◌*◌, ◌%◌, Bool, ◌&&◌, not, ◌==◌, nat_le, nat_lt, if◌then◌else◌, List, slice_get, Option, Some, None}
+use Rattle.std.specs.Prelude.{ℕ, pos, ◌+◌, ◌*◌, ◌%◌, Bool, true, false, ◌&&◌, ◌||◌, not, ◌==◌, nat_le, nat_lt, if◌then◌else◌, List, slice_get, Option, Some, None}
 use Rattle.zed_types.specs.declared.tile.Place.{Place}
 use Rattle.zed_scene.specs.declared.stat.Stat.{Stat}
 use Rattle.zed_scene.specs.Scene.{Scene, element_at}
@@ -16,6 +16,16 @@ use Rattle.zed_play.specs.Acts.{apart, attacks, moves}
 abbrev pub player_place : Place → Scene → Place
 player_place from s = place_of from (slice_get s.stats 0)
 
+-- whether a creature attacks an element: the player, and breakable walls if it breaks them
+abbrev pub is_prey : Bool → ℕ → Bool
+is_prey breaks e = e == 4 || (breaks && e == 23)
+
+-- a creature that breaks walls or doesn't goes where it may, and attacks its prey
+abbrev pub prowls : Bool → Option Place → Scene → Scene
+prowls breaks None s = s
+prowls breaks (Some n) s =
+    if is_walkable (element_at s n) then moves n s else if is_prey breaks (element_at s n) then attacks n s else s
+
 -- ---- the lion
 
 -- by chance where P1 is below a number below 10, else towards the player
@@ -24,17 +34,11 @@ lion_step a s ws = do
   r ← draw 10 ws
   if nat_lt a.p1 r.0 then random_step r.1 else sought a.place s r.1
 
--- it goes where it may, and attacks the player
-abbrev pub prowls : Option Place → Scene → Scene
-prowls None s = s
-prowls (Some n) s =
-    if is_walkable (element_at s n) then moves n s else if element_at s n == 4 then attacks n s else s
-
 -- a lion's tick: it takes a step by chance or towards the player, and prowls along it
 unfoldable pub lion : Stat → Scene → List ℕ → Drawn Scene
 lion a s ws = do
   d ← lion_step a s ws
-  Some (prowls (ahead a.place d.0) s, d.1)
+  Some (prowls false (ahead a.place d.0) s, d.1)
 
 -- ---- the tiger
 
@@ -85,14 +89,6 @@ bear_step to a =
     else if is_felt a.p1 to.x a.place.x then record { x = pos 0; y = sign_of to.y a.place.y }
     else still
 
--- it goes where it may, and attacks the player and breakable walls
-abbrev pub charges : Option Place → Scene → Scene
-charges None s = s
-charges (Some n) s =
-    if is_walkable (element_at s n) then moves n s
-    else if element_at s n == 4 then attacks n s
-    else if element_at s n == 23 then attacks n s else s
-
--- a bear's tick: it charges along its step to the player
+-- a bear's tick: it prowls along its step to the player, and breaks walls
 unfoldable pub bear : Stat → Scene → Scene
-bear a s = charges (ahead a.place (bear_step (player_place a.place s) a)) s
+bear a s = prowls true (ahead a.place (bear_step (player_place a.place s) a)) s

@@ -1,5 +1,6 @@
 -- The playtest of a board of a world, before its first step.
 use Rattle.std.specs.Prelude.{◌≡◌, ℕ, ℤ, pos, negsuc, true, false, List, [], ◌∷◌, ◌+◌, map, slice_get, Option, Some, None, is_some, Result, Ok, Err}
+use Rattle.zed_scene.specs.declared.counters.Counters.{Counters}
 use Rattle.zed_scene.specs.declared.stat.Stat.{Stat}
 use Rattle.zed_scene.specs.Scene.{Scene}
 use Rattle.zed_world.specs.declared.board.BoardData.{BoardData}
@@ -63,6 +64,10 @@ abbrev pub stats_from : ℕ → List StatData → List Stat
 stats_from i [] = []
 stats_from i (s ∷ ss) = stat_from i s ∷ stats_from (i + 1) ss
 
+-- the counters that a world begins with
+abbrev pub counters_in : Header → Counters
+counters_in h = record { health = h.health; ammo = h.ammo; gems = h.gems; torches = h.torches; score = h.score; time = h.time_passed }
+
 -- a board of a world in play, with the counters and flags that the world has
 abbrev pub scene_of : Header → BoardData → Scene
 scene_of h b =
@@ -70,15 +75,7 @@ scene_of h b =
       tiles = b.tiles;
       stats = stats_from 0 b.stats;
       programs = map bytes_of b.stats;
-      counters =
-          record {
-            health = h.health;
-            ammo = h.ammo;
-            gems = h.gems;
-            torches = h.torches;
-            score = h.score;
-            time = h.time_passed;
-          };
+      counters = counters_in h;
       flags = h.flags;
       ticking = 0;
       acting = None;

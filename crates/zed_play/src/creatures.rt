@@ -2,7 +2,7 @@
 ghost use Rattle.std.specs.Prelude.{◌≡◌, IfOk, OnOk};
 ghost use Rattle.zed_scene.specs.Words.{Draws};
 ghost use Rattle.zed_play.specs.Acts.{Acts, Grows};
-ghost use Rattle.zed_play.specs.Creatures.{bear, bear_step, charges, is_felt, lion, lion_step, player_place, prowls, shot_in_column, shot_in_row, tiger, tiger_fires, tiger_shots, up_to_two};
+ghost use Rattle.zed_play.specs.Creatures.{bear, bear_step, is_felt, is_prey, lion, lion_step, player_place, prowls, shot_in_column, shot_in_row, tiger, tiger_fires, tiger_shots, up_to_two};
 
 use crate::acts::{BREAKABLE, PLAYER, apart, attacks, moves};
 use std::alloc::AllocError;
@@ -30,14 +30,22 @@ fn lion_step(scene: &Scene, stat: Stat, words: &mut Words) -> Result<Step, OopEr
     }
 }
 
-fn prowl(scene: &mut Scene, to: Option<Place>)
-    ensures { scene.new ≡ prowls to scene.old }
+/// Whether a creature attacks an element: the player, and breakable walls if it breaks them.
+fn is_prey(breaks: bool, n: u8) -> bool
+    ensures { result ≡ is_prey breaks n }
+{
+    n == PLAYER || (breaks && n == BREAKABLE)
+}
+
+/// The stat that acts goes where it may, and attacks its prey.
+fn prowl(scene: &mut Scene, breaks: bool, to: Option<Place>)
+    ensures { scene.new ≡ prowls breaks to scene.old }
 {
     if let Some(to) = to {
         let there = scene.tile(to).element;
         if is_walkable(there) {
             moves(scene, to);
-        } else if there == PLAYER {
+        } else if is_prey(breaks, there) {
             attacks(scene, to);
         }
     }
@@ -49,7 +57,7 @@ pub(crate) fn act_as_lion(scene: &mut Scene, stat: Stat, words: &mut Words) -> R
     ensures { Acts result scene.new words.new (lion stat scene.old words.old) }
 {
     let step = lion_step(scene, stat, words)?;
-    prowl(scene, ahead(stat.place, step));
+    prowl(scene, false, ahead(stat.place, step));
     Ok(())
 }
 
@@ -142,26 +150,11 @@ fn bear_step(to: Place, stat: Stat) -> Step
     }
 }
 
-fn charge(scene: &mut Scene, to: Option<Place>)
-    ensures { scene.new ≡ charges to scene.old }
-{
-    if let Some(to) = to {
-        let there = scene.tile(to).element;
-        if is_walkable(there) {
-            moves(scene, to);
-        } else if there == PLAYER {
-            attacks(scene, to);
-        } else if there == BREAKABLE {
-            attacks(scene, to);
-        }
-    }
-}
-
 /// A bear goes towards the player that it feels, and attacks the player and breakable walls.
 #[tactic(auto, unfolding(crate::specs::Creatures::bear))]
 pub(crate) fn act_as_bear(scene: &mut Scene, stat: Stat)
     ensures { scene.new ≡ bear stat scene.old }
 {
     let to = player_place(scene, stat.place);
-    charge(scene, ahead(stat.place, bear_step(to, stat)));
+    prowl(scene, true, ahead(stat.place, bear_step(to, stat)));
 }

@@ -1,3 +1,4 @@
+//! How playtests end.
 ghost use Rattle.std.specs.Prelude.{◌≡◌};
 ghost use Rattle.zed_play.specs.Step.{ending_by};
 

@@ -1,6 +1,6 @@
 //! The playtest of a board of a world.
 ghost use Rattle.std.specs.Prelude.{◌≡◌, IfOk, length, map};
-ghost use Rattle.zed_play.specs.Opening.{Opens, stat_from, stats_from, bounds_of, bytes_of, cycle_in, own_bytes, play_of, position_in, program_at, scene_of};
+ghost use Rattle.zed_play.specs.Opening.{Opens, stat_from, stats_from, bounds_of, bytes_of, counters_in, cycle_in, own_bytes, play_of, position_in, program_at, scene_of};
 
 use crate::error::PlayError;
 use crate::game::{Game, copy_lines};
@@ -99,6 +99,19 @@ fn programs_of(alloc: Global, stats: &[StatData]) -> Result<Seq<Bytes>, AllocErr
     Ok(out)
 }
 
+fn counters_in(header: &Header) -> Counters
+    ensures { result ≡ counters_in header.now }
+{
+    Counters {
+        health: header.health,
+        ammo: header.ammo,
+        gems: header.gems,
+        torches: header.torches,
+        score: header.score,
+        time: header.time_passed,
+    }
+}
+
 fn scene_of(alloc: Global, header: &Header, board: &BoardData) -> Result<Scene, AllocError>
     requires { length header.now.flags ≡ 10 }
     ensures { IfOk result (λ s. s ≡ scene_of header.now board.now) }
@@ -106,15 +119,7 @@ fn scene_of(alloc: Global, header: &Header, board: &BoardData) -> Result<Scene, 
     let stats = stats_of(alloc, board.stats.as_slice())?;
     let programs = programs_of(alloc, board.stats.as_slice())?;
     let flags = copy_lines(alloc, header.flags.as_slice())?;
-    let counters = Counters {
-        health: header.health,
-        ammo: header.ammo,
-        gems: header.gems,
-        torches: header.torches,
-        score: header.score,
-        time: header.time_passed,
-    };
-    Ok(Scene::new(board.tiles, stats, programs, counters, flags))
+    Ok(Scene::new(board.tiles, stats, programs, counters_in(header), flags))
 }
 
 fn bounds_of(properties: &Properties) -> Bounds

@@ -1,30 +1,6 @@
+//! What acts, and what can be touched.
 ghost use Rattle.std.specs.Prelude.{◌≡◌};
 ghost use Rattle.zed_play.specs.Things.{thing};
-
-/// What a tile is, as far as it acts or can be touched.
-#[derive(Clone, Copy, Debug, PartialEq, Eq)]
-pub enum Thing {
-    Player,
-    Ammo,
-    Torch,
-    Gem,
-    Key,
-    Door,
-    Scroll,
-    Passage,
-    Energizer,
-    Bullet,
-    Forest,
-    Boulder,
-    Slider,
-    Invisible,
-    Bear,
-    Object,
-    Pusher,
-    Lion,
-    Tiger,
-    Other,
-}
 
 /// What an element is.
 #[tactic(auto, unfolding(crate::specs::Things::thing))]
@@ -54,4 +30,29 @@ pub(crate) fn thing_of(element: u8) -> Thing
         42 => Thing::Tiger,
         _ => Thing::Other,
     }
+}
+
+/// What a tile is, as far as it acts or can be touched.
+#[derive(Clone, Copy, Debug, PartialEq, Eq)]
+pub enum Thing {
+    Player,
+    Ammo,
+    Torch,
+    Gem,
+    Key,
+    Door,
+    Scroll,
+    Passage,
+    Energizer,
+    Bullet,
+    Forest,
+    Boulder,
+    Slider,
+    Invisible,
+    Bear,
+    Object,
+    Pusher,
+    Lion,
+    Tiger,
+    Other,
 }

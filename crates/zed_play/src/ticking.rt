@@ -1,7 +1,7 @@
 //! A tick of one stat.
 ghost use Rattle.std.specs.Prelude.{◌≡◌};
 ghost use Rattle.zed_play.specs.Game.{Answers};
-ghost use Rattle.zed_play.specs.Tick.{LooksAt, TickAs, Ticks, is_due, takes_turn};
+ghost use Rattle.zed_play.specs.Tick.{LooksAt, TickAs, is_due, takes_turn};
 
 use crate::bullets::fly;
 use crate::creatures::{act_as_bear, act_as_lion, act_as_tiger};
@@ -58,21 +58,6 @@ impl Game {
         self.scene.set_acting(Some(i));
     }
 
-    fn tick(
-        &mut self,
-        alloc: Global,
-        asked: Asked,
-        i: usize,
-        stat: Stat,
-        words: &mut Words,
-    ) -> Result<(), OopError>
-        ensures { Answers result (Ticks asked i stat self.old words.old) self.new words.new }
-    {
-        let thing = thing_of(self.scene.tile(stat.place).element);
-        self.take_turn(i);
-        self.tick_as(alloc, thing, asked, i, stat, words)
-    }
-
     /// Looks at a stat, which acts where it ticks.
     pub(crate) fn look_at(
         &mut self,
@@ -84,10 +69,11 @@ impl Game {
     ) -> Result<(), OopError>
         ensures { Answers result (LooksAt asked i stat self.old words.old) self.new words.new }
     {
-        if is_due(asked.tick, i, stat.cycle) {
-            self.tick(alloc, asked, i, stat, words)
-        } else {
-            Ok(())
+        if !is_due(asked.tick, i, stat.cycle) {
+            return Ok(());
         }
+        let thing = thing_of(self.scene.tile(stat.place).element);
+        self.take_turn(i);
+        self.tick_as(alloc, thing, asked, i, stat, words)
     }
 }

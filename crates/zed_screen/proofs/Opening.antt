@@ -10,7 +10,7 @@ use Rattle.zed_scene.specs.Scene.{same_place, tile_at}
 use Rattle.zed_play.specs.Opening.{play_of, scene_of, stat_from, stats_from}
 use Rattle.zed_screen.specs.declared.frame.Cell.{Cell}
 use Rattle.zed_screen.specs.Panel.{is_on_panel, play_cell}
-use Rattle.zed_screen.specs.Picture.{cell_of, data_cell, data_p1, is_beside, p1_of, place_of, scene_cell, side, stands_at}
+use Rattle.zed_screen.specs.Picture.{data_cell, data_p1, p1_of, place_of, scene_cell, shown_in, stands_at}
 
 first_of : (b : Bool) (a : Stat) (s : StatData) (r : Option Stat) (t : Option StatData) → a.p1 ≡ s.p1 → p1_of r ≡ data_p1 t → p1_of (if b then Some a else r) ≡ data_p1 (if b then Some s else t)
 first_of true a s r t same rest = ap (λ n. Some n) same
@@ -24,7 +24,7 @@ same_p1 p i (s ∷ ss) =
 
 scene_shows : (h : Header) (b : BoardData) (k : ℕ) → scene_cell (scene_of h b) k ≡ data_cell b k
 unfolding scene_cell data_cell
-scene_shows h b k = ap (λ p1. if is_beside k then side else cell_of (tile_at b.tiles (place_of k)) p1) (same_p1 (place_of k) 0 b.stats)
+scene_shows h b k = ap (λ p1. shown_in (k % 80) (tile_at b.tiles (place_of (k % 80) (k / 80))) p1) (same_p1 (place_of (k % 80) (k / 80)) 0 b.stats)
 
 unless : (c : Bool) (x y z : Cell) → c ≡ false → y ≡ z → (if c then x else y) ≡ z
 unless true x y z e h = absurd (cc)

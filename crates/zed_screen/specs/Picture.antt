@@ -43,13 +43,17 @@ side = record { character = 32; attribute = 31 }
 
 -- ---- the place k of the screen, counted row by row
 
--- the place of the table that is shown there
-abbrev pub place_of : ℕ → Place
-place_of k = record { x = k % 80 + 1; y = k / 80 + 1 }
+-- the place of the table that is shown in a column and a row of the screen, both counted from 0
+abbrev pub place_of : ℕ → ℕ → Place
+place_of column row = record { x = column + 1; y = row + 1 }
 
--- whether that is beside the table
+-- whether a column is beside the table
 abbrev pub is_beside : ℕ → Bool
-is_beside k = nat_le 60 (k % 80)
+is_beside column = nat_le 60 column
+
+-- what is shown in a column, of a tile and the first parameter of the lowest stat at its place
+abbrev pub shown_in : ℕ → Tile → Option ℕ → Cell
+shown_in column t p1 = if is_beside column then side else cell_of t p1
 
 -- the first parameter of a stat of a board in play, if there is a stat
 abbrev pub p1_of : Option Stat → Option ℕ
@@ -62,7 +66,7 @@ p1_at s p = p1_of (find (λ a. same_place a.place p) s.stats)
 
 -- what the screen shows at its place k of a board in play
 unfoldable pub scene_cell : Scene → ℕ → Cell
-scene_cell s k = if is_beside k then side else cell_of (tile_at s.tiles (place_of k)) (p1_at s (place_of k))
+scene_cell s k = let p = place_of (k % 80) (k / 80) in shown_in (k % 80) (tile_at s.tiles p) (p1_at s p)
 
 -- whether a stat of a world's board stands at a place
 abbrev pub stands_at : Place → StatData → Bool
@@ -75,4 +79,4 @@ data_p1 (Some s) = Some s.p1
 
 -- what the screen shows at its place k of a board of a world
 unfoldable pub data_cell : BoardData → ℕ → Cell
-data_cell b k = if is_beside k then side else cell_of (tile_at b.tiles (place_of k)) (data_p1 (find (stands_at (place_of k)) b.stats))
+data_cell b k = let p = place_of (k % 80) (k / 80) in shown_in (k % 80) (tile_at b.tiles p) (data_p1 (find (stands_at p) b.stats))

@@ -1,6 +1,6 @@
 //! What is shown of a board.
 ghost use Rattle.std.specs.Prelude.{◌≡◌, ◌<◌, find};
-ghost use Rattle.zed_screen.specs.Picture.{attribute_of, cell_of, character_as, data_cell, data_p1, look_of, p1_at, place_of, scene_cell, stands_at};
+ghost use Rattle.zed_screen.specs.Picture.{attribute_of, cell_of, character_as, data_cell, data_p1, look_of, p1_at, place_of, scene_cell, shown_in, stands_at};
 
 use crate::frame::{Cell, SIDE};
 use zed_oop::{Scene, tile_in};
@@ -48,13 +48,26 @@ fn cell_of(tile: Tile, p1: Option<u8>) -> Cell
     }
 }
 
-fn place_of(k: u16) -> Place
-    requires { k < 2000 }
-    ensures { result ≡ place_of k }
+/// The place of the table that is shown in a column and a row of the screen.
+fn place_of(column: u16, row: u16) -> Place
+    requires column { column < 80 }
+    requires row { row < 25 }
+    ensures { result ≡ place_of column row }
 {
     Place {
-        x: (k % 80 + 1) as u8,
-        y: (k / 80 + 1) as u8,
+        x: (column + 1) as u8,
+        y: (row + 1) as u8,
+    }
+}
+
+/// What is shown in a column, of a tile and the first parameter of the lowest stat at its place.
+fn shown_in(column: u16, tile: Tile, p1: Option<u8>) -> Cell
+    ensures { result ≡ shown_in column tile p1 }
+{
+    if column >= 60 {
+        SIDE
+    } else {
+        cell_of(tile, p1)
     }
 }
 
@@ -62,11 +75,8 @@ fn place_of(k: u16) -> Place
 fn p1_at(scene: &Scene, place: Place) -> Option<u8>
     ensures { result ≡ p1_at scene.now place }
 {
-    match scene
-        .stats()
-        .iter()
-        .find(|s| s.place.x == place.x && s.place.y == place.y)
-    {
+    let mut stats = scene.stats().iter();
+    match stats.find(|s| s.place.x == place.x && s.place.y == place.y) {
         Some(stat) => Some(stat.p1),
         None => None,
     }
@@ -78,12 +88,19 @@ pub(crate) fn scene_cell(scene: &Scene, k: u16) -> Cell
     requires { k < 2000 }
     ensures { result ≡ scene_cell scene.now k }
 {
-    if k % 80 >= 60 {
-        SIDE
-    } else {
-        let place = place_of(k);
-        cell_of(scene.tile(place), p1_at(scene, place))
-    }
+    let place = place_of(k % 80, k / 80);
+    shown_in(k % 80, scene.tile(place), p1_at(scene, place))
+}
+
+/// The place `k` of the screen for a board of a world.
+#[tactic(auto, unfolding(crate::specs::Picture::data_cell))]
+pub(crate) fn data_cell(board: &BoardData, k: u16) -> Cell
+    requires { k < 2000 }
+    ensures { result ≡ data_cell board.now k }
+{
+    let place = place_of(k % 80, k / 80);
+    let tile = tile_in(&board.tiles, place);
+    shown_in(k % 80, tile, p1_in(board.stats.as_slice(), place))
 }
 
 /// The first parameter of the lowest stat at a place.
@@ -93,22 +110,5 @@ fn p1_in(stats: &[StatData], place: Place) -> Option<u8>
     match stats.iter().find(|s| s.x == place.x && s.y == place.y) {
         Some(stat) => Some(stat.p1),
         None => None,
-    }
-}
-
-/// The place `k` of the screen for a board of a world.
-#[tactic(auto, unfolding(crate::specs::Picture::data_cell))]
-pub(crate) fn data_cell(board: &BoardData, k: u16) -> Cell
-    requires { k < 2000 }
-    ensures { result ≡ data_cell board.now k }
-{
-    if k % 80 >= 60 {
-        SIDE
-    } else {
-        let place = place_of(k);
-        cell_of(
-            tile_in(&board.tiles, place),
-            p1_in(board.stats.as_slice(), place),
-        )
     }
 }
