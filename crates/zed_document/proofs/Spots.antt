@@ -1,8 +1,9 @@
 -- Where an edit with a stamp stands in a log, or belongs.
-use Rattle.std.proofs.Common.{◌≡◌, ℕ, zero, suc, ◌<◌, ◌≤◌, ◌-◌, true, false, List, [], ◌∷◌, ◌++◌, Some, None, take, drop, length, refl, ap, sym, subst, ◌∙◌, arith}
+use Rattle.std.proofs.Common.{◌≡◌, ℕ, zero, suc, ◌<◌, ◌≤◌, ◌-◌, Bool, true, false, get_or, List, [], ◌∷◌, ◌++◌, Some, None, take, drop, length, refl, ap, sym, subst, ◌∙◌, arith}
 use Rattle.std.proofs.lemmas.List.{take-append-drop}
-use Rattle.std.specs.Prelude.{insert}
-use Rattle.std.specs.List.{AllByRecursion}
+use Rattle.std.specs.Prelude.{insert, not}
+use Rattle.std.specs.List.{AllByRecursion, AllWithin}
+use Rattle.std.specs.List.Sorted.{IsPartitionedBy}
 use Rattle.std.specs.Prelude.{slice_get, slice_index_or, IfSome}
 use Rattle.zed_types.specs.declared.stamp.Stamp.{Stamp}
 use Rattle.zed_types.specs.Stamp.{before, same_stamp}
@@ -79,6 +80,46 @@ below_of : (s : Stamp) (es : List Edit) (i : ℕ) → IfSome (slice_get es i) (�
 below_of s [] i b d = b
 below_of s (x ∷ xs) zero b d = grind (arith)
 below_of s (x ∷ xs) (suc i) b d = below_of s xs i b d
+
+-- what comes after a stamp comes before all that is later
+not_after : (s t u : Stamp) → before t u ≡ true → not (before s u) ≡ true → not (before s t) ≡ true
+not_after s t u later h = grind (arith)
+
+-- in a rising log the edits that don't come after a stamp stand at the front
+pub partitioned : (s : Stamp) (es : List Edit) → IsRising es → IsPartitionedBy (λ e. not (before s e.stamp)) es
+partitioned s [] r i j d le lt h = absurd (omega arith)
+partitioned s (x ∷ xs) r zero zero d le lt h = h
+partitioned s (x ∷ xs) r (suc i) zero d le lt h = absurd (omega arith)
+partitioned s (x ∷ xs) r (suc i) (suc j) d le lt h = partitioned s xs r.1 i j d (omega arith) (omega arith) h
+partitioned s (x ∷ xs) r zero (suc j) d le lt h = not_after s x.stamp (get_or xs j d).stamp (later xs j r.0 (omega arith)) h
+  where
+    later : (ys : List Edit) (k : ℕ) → AllByRecursion (λ f. before x.stamp f.stamp ≡ true) ys → k < length ys → before x.stamp (get_or ys k d).stamp ≡ true
+    later [] k a lt = absurd (omega arith)
+    later (y ∷ ys) zero a lt = a.0
+    later (y ∷ ys) (suc k) a lt = later ys k a.1 (omega arith)
+
+not_false : (b : Bool) → not b ≡ false → b ≡ true
+not_false true h = refl
+not_false false h = absurd (let bad : true ≡ false = h in cc)
+
+not_true : (b : Bool) → not b ≡ true → b ≡ false
+not_true true h = absurd (let bad : false ≡ true = h in cc)
+not_true false h = refl
+
+pub parted-above : (s : Stamp) (es : List Edit) (i : ℕ) → AllWithin (λ e. not (before s e.stamp) ≡ false) es i (length es) → AllAbove s (drop i es)
+parted-above s [] zero h = tt
+parted-above s [] (suc i) h = tt
+parted-above s (x ∷ xs) zero h = (not_false (before s x.stamp) (h 0 x (omega arith) (omega arith)), parted-above s xs zero (λ k d le lt. h (suc k) d (omega arith) (omega arith)))
+parted-above s (x ∷ xs) (suc i) h = parted-above s xs i (λ k d le lt. h (suc k) d (omega arith) (omega arith))
+
+-- the last of those that don't come after a stamp
+last_below : (s : Stamp) (es : List Edit) (i : ℕ) → ((d : Edit) → not (before s (get_or es i d).stamp) ≡ true) → IfSome (slice_get es i) (λ f. before s f.stamp ≡ false)
+last_below s [] i h = tt
+last_below s (x ∷ xs) zero h = not_true (before s x.stamp) (h x)
+last_below s (x ∷ xs) (suc i) h = last_below s xs i h
+
+pub parted-below : (s : Stamp) (es : List Edit) (i : ℕ) → AllWithin (λ e. not (before s e.stamp) ≡ true) es 0 i → 0 < i → i ≤ length es → IfSome (slice_get es (i - 1)) (λ f. before s f.stamp ≡ false)
+parted-below s es i h some within = last_below s es (i - 1) (λ d. h (i - 1) d (omega arith) (omega arith))
 
 abbrev pub IsSpot : Stamp → List Edit → ℕ → Type 0
 IsSpot s es p = (p ≤ length es) × AllAbove s (drop p es) × (0 < p → IfSome (slice_get es (p - 1)) (λ f. before s f.stamp ≡ false)) × (0 < p → IfSome (slice_get es (p - 1)) (λ f. same_stamp s f.stamp ≡ false))

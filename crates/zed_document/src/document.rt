@@ -11,7 +11,7 @@ use std::alloc::Global;
 use std::marker::Model;
 use zed_edit::{Edit, Plain, check, replay, step};
 use zed_laws::replay_goes_edit_by_edit;
-use zed_op::{rising_lists_are_sets, sets_rise, sets_stay_fit};
+use zed_op::{edit_has_sizes, edits_have_sizes, rising_lists_are_sets, sets_rise, sets_stay_fit};
 use zed_types::Stamp;
 
 /// A replica of a world. Contracts see the number of its world, its edits in rising stamp order, and whether it is stale.
@@ -41,6 +41,7 @@ impl Document {
     ghost use Rattle.zed_edit.specs.Replay.{replay};
     ghost use Rattle.zed_op.specs.Fit.{Fits};
     ghost use Rattle.zed_op.specs.Set.{AllFit, IsRising, union, with_edit};
+    ghost use Rattle.zed_op.specs.Sizes.{HaveSizes};
     ghost use Rattle.zed_document.specs.Merge.{AnswersMerge, below};
     ghost use Rattle.zed_types.specs.declared.stamp.Stamp.{Stamp as TheStamp};
 
@@ -67,6 +68,7 @@ impl Document {
     pub fn edits(&self) -> &[Edit]
         ensures all { result.now ≡ self.now.edits }
         ensures fit { AllFit self.now.edits }
+        ensures sizes { HaveSizes self.now.edits }
         ensures rising { IsRising self.now.edits }
     {
         self.edits.as_slice()
@@ -218,6 +220,7 @@ impl Document {
         replay_goes_edit_by_edit();
         sets_rise();
         sets_stay_fit();
+        edit_has_sizes(&edit);
         let is_held = before < self.plain.held().len();
         self.edits.push(edit).unwrap();
         Ok(Delivered {
@@ -242,6 +245,7 @@ impl Document {
     {
         let alloc = *self.edits.allocator();
         let stamp = edit.stamp;
+        edit_has_sizes(&edit);
         if self.edits.insert(place, edit).is_err() {
             return Err(DocumentError::Memory);
         }
@@ -337,6 +341,7 @@ impl Document {
         let Ok(plain) = replay(*self.edits.allocator(), &edits) else {
             return Err(DocumentError::Memory);
         };
+        edits_have_sizes(&edits);
         self.edits = edits;
         self.plain = plain;
         Ok(())

@@ -1,4 +1,4 @@
-ghost use Rattle.std.specs.Prelude.{◌≡◌, ◌≤◌, ◌<◌, ◌-◌, true, false, None, Some, length, take, drop, insert, slice_get, IfSome, IfOk, IfErr, OnOk, OnErr};
+ghost use Rattle.std.specs.Prelude.{◌≡◌, ◌≤◌, ◌<◌, ◌-◌, true, false, not, None, Some, length, take, drop, insert, slice_get, IfSome, IfOk, IfErr, OnOk, OnErr};
 ghost use Rattle.std.specs.Bool.{OnTrue, OnFalse};
 ghost use Rattle.std.specs.List.{AllByRecursion};
 ghost use Rattle.zed_types.specs.Stamp.{before, same_stamp};
@@ -10,18 +10,22 @@ ghost use Rattle.zed_document.specs.Kept.{AllBelow};
 use zed_edit::Edit;
 use zed_types::Stamp;
 
-/// How many edits of a log do not come after a stamp. Most edits come in their order, so this is sought from the end.
+/// Whether an edit doesn't come after a stamp.
+fn is_up_to(edit: &Edit, stamp: Stamp) -> bool
+    ensures { result ≡ not (before stamp edit.now.stamp) }
+{
+    !stamp.is_before(edit.stamp)
+}
+
+/// How many edits of a log do not come after a stamp. The stamps of a log rise, so this is sought by halves.
 fn place_of(edits: &[Edit], stamp: Stamp) -> usize
+    requires { IsRising edits.now }
     ensures within { result ≤ length edits.now }
     ensures above { AllByRecursion (λ e. before stamp e.stamp ≡ true) (drop result edits.now) }
     ensures below { 0 < result
         → IfSome (slice_get edits.now (result - 1)) (λ e. before stamp e.stamp ≡ false) }
 {
-    let mut place = edits.len();
-    while place > 0 && stamp.is_before(edits[place - 1].stamp) {
-        place -= 1;
-    }
-    place
+    edits.partition_point(|edit| is_up_to(edit, stamp))
 }
 
 /// Whether the edit before a place of a log has a stamp.

@@ -14,7 +14,7 @@ invariant_of-self-2 c =
     let items : c.insert.new.self.items ≡ insert c.self.inside.edits.items c.args.place c.args.edit = search rules in
     let is : with_edit c.args.edit c.self.inside.edits.items ≡ c.insert.new.self.items = rw v (c.requires.belongs ∙ sym (items ∙ ap (λ es. insert es c.args.place c.args.edit) v)) in
     let made : c.in-Ok.plain ≡ replay c.insert.new.self.items = search rules in
-    kept-insert c.sets_rise.ensures.edit c.sets_stay_fit.ensures.edit c.self.inside.edits.items c.insert.new.self.items c.args.edit c.self.inside.plain c.in-Ok.plain c.self.inside.is_stale c.self.invariant c.requires.fits is made
+    kept-insert c.sets_rise.ensures.edit c.sets_stay_fit.ensures.edit c.self.inside.edits.items c.insert.new.self.items c.args.edit c.self.inside.plain c.in-Ok.plain c.self.inside.is_stale c.self.invariant c.requires.fits (c.edit_has_sizes.ensures c.requires.fits) is made
 
 pub returns-clause-tells : goal.returns-clause-tells
 returns-clause-tells c =
