@@ -4,7 +4,7 @@ ghost use Rattle.zed_action.specs.Deeds.{Acts, Authors, Deletes, Ends, Inserts, 
 ghost use Rattle.zed_action.specs.Words.{words_of};
 
 use crate::deed::{Deed, deed_of};
-use crate::error::{ActionError, of_document};
+use crate::error::ActionError;
 use crate::parsing::parse;
 use std::alloc::Global;
 use zed_document::Document;
@@ -21,10 +21,8 @@ fn author(document: &mut Document, replica: u16, op: Op) -> Result<Edit, ActionE
     ensures stale { (result ≢ Err ActionError.Memory) → document.new.is_stale ≡ false }
     ensures world { document.new.world ≡ document.old.world }
 {
-    match document.author(replica, op) {
-        Ok(edit) => Ok(edit),
-        Err(error) => Err(of_document(error)),
-    }
+    let edit = document.author(replica, op)?;
+    Ok(edit)
 }
 
 /// Puts bytes into a text.
@@ -43,10 +41,8 @@ fn insert(
     ensures stale { (result ≢ Err ActionError.Memory) → document.new.is_stale ≡ false }
     ensures world { document.new.world ≡ document.old.world }
 {
-    match document.insert_text(replica, text, position as usize, bytes) {
-        Ok(_) => Ok(()),
-        Err(error) => Err(of_document(error)),
-    }
+    document.insert_text(replica, text, position as usize, bytes)?;
+    Ok(())
 }
 
 /// Deletes bytes of a text.
@@ -65,10 +61,7 @@ fn delete(
     ensures stale { (result ≢ Err ActionError.Memory) → document.new.is_stale ≡ false }
     ensures world { document.new.world ≡ document.old.world }
 {
-    match document.delete_text(replica, text, from as usize, to as usize) {
-        Ok(_) => {}
-        Err(error) => return Err(of_document(error)),
-    }
+    document.delete_text(replica, text, from as usize, to as usize)?;
     Ok(())
 }
 

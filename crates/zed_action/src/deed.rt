@@ -5,7 +5,7 @@ ghost use Rattle.zed_document.specs.Reading.{text_of};
 ghost use Rattle.zed_action.specs.Deeds.{board_in, deed_of, deletion_in, exit_in, fields_of, insertion_in, name_in, stat_in, target_in};
 
 use crate::action::Action;
-use crate::error::{ActionError, of_document};
+use crate::error::ActionError;
 use zed_document::Document;
 use zed_edit::Op;
 use zed_types::{
@@ -29,10 +29,9 @@ fn board_in(document: &Document, number: u16) -> Result<BoardId, ActionError>
     requires { document.now.is_stale ≡ false }
     ensures { result ≡ board_in (replay document.now.edits) number }
 {
-    match document.board(usize::from(number)) {
-        Ok(Some(board)) => Ok(board),
-        Ok(None) => Err(ActionError::NoSuch),
-        Err(error) => Err(of_document(error)),
+    match document.board(usize::from(number))? {
+        Some(board) => Ok(board),
+        None => Err(ActionError::NoSuch),
     }
 }
 
@@ -41,10 +40,9 @@ fn stat_in(document: &Document, board: u16, number: u16) -> Result<StatId, Actio
     ensures { result ≡ stat_in (replay document.now.edits) board number }
 {
     let board = board_in(document, board)?;
-    match document.stat(board, usize::from(number)) {
-        Ok(Some(stat)) => Ok(stat),
-        Ok(None) => Err(ActionError::NoSuch),
-        Err(error) => Err(of_document(error)),
+    match document.stat(board, usize::from(number))? {
+        Some(stat) => Ok(stat),
+        None => Err(ActionError::NoSuch),
     }
 }
 
@@ -52,7 +50,8 @@ fn text_in(document: &Document, stat: StatId) -> Result<Option<TextId>, ActionEr
     requires { document.now.is_stale ≡ false }
     ensures { result ≡ Ok (text_of (replay document.now.edits) stat) }
 {
-    document.text_of(stat).map_err(of_document)
+    let text = document.text_of(stat)?;
+    Ok(text)
 }
 
 /// The board that an exit leads to; 0 is none.

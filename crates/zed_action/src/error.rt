@@ -31,19 +31,20 @@ pub enum ActionError {
     Stale,
 }
 
-/// The refusal of an action for one of a document.
-pub(crate) fn of_document(error: DocumentError) -> ActionError
-    ensures { result ≡ refusal_of error }
-{
-    match error {
-        DocumentError::Memory => ActionError::Memory,
-        DocumentError::OtherWorld => ActionError::OtherWorld,
-        DocumentError::BadEdit(cause) => ActionError::BadEdit(cause),
-        DocumentError::Clash(stamp) => ActionError::Clash(stamp),
-        DocumentError::Stale => ActionError::Stale,
-        DocumentError::NoSuch => ActionError::NoSuch,
-        DocumentError::OutOfRange => ActionError::OutOfRange,
-        DocumentError::ClockSpent => ActionError::ClockSpent,
+impl From<DocumentError> for ActionError {
+    ghost from_gives = { λ error refusal. refusal ≡ refusal_of error };
+
+    fn from(error: DocumentError) -> ActionError {
+        match error {
+            DocumentError::Memory => ActionError::Memory,
+            DocumentError::OtherWorld => ActionError::OtherWorld,
+            DocumentError::BadEdit(cause) => ActionError::BadEdit(cause),
+            DocumentError::Clash(stamp) => ActionError::Clash(stamp),
+            DocumentError::Stale => ActionError::Stale,
+            DocumentError::NoSuch => ActionError::NoSuch,
+            DocumentError::OutOfRange => ActionError::OutOfRange,
+            DocumentError::ClockSpent => ActionError::ClockSpent,
+        }
     }
 }
 

@@ -2,12 +2,14 @@
 use Rattle.std.proofs.Common.{◌≡◌, ℕ, cond, eqb, List, [], ◌∷◌, ◌++◌, Ok, Err, subst, arith, refl, sym, ap, ◌∙◌, append_assoc}
 use Rattle.std.proofs.lemmas.Bool.{eqb-true}
 use Rattle.std.proofs.lemmas.List.{append-nil}
+use Rattle.zed_types.specs.declared.names.TextId.{TextId}
+use Rattle.zed_types.specs.declared.text.ByteRange.{ByteRange}
 use Rattle.zed_op.specs.declared.cause.Cause.TheVariants.{Op as BadOp}
 use Rattle.zed_op.specs.declared.op.Op.{Op}
 use Rattle.zed_op.specs.declared.op.Op.TheVariants.{Genesis, SetHeader, BoardAdd, BoardRemove, SetBoard, SetCells, StatAdd, StatRemove, SetStat, TextAdd, TextInsert, TextDelete}
 use Rattle.zed_editfile.specs.declared.error.EditFileError.TheVariants.{BadEdit}
 use Rattle.zed_editfile.specs.Spelling.{stamp, number, board_name, stat_name, text_name, element_name, optional, tile, rectangle, board_setting, stat_setting, stat_fields, op_text}
-use Rattle.zed_editfile.specs.Reading.{◌>>=◌, Field, mapped, byte_at, string_at, board_name_at, stat_name_at, header_setting_at, set_board_at, set_cells_at, stat_add_at, set_stat_at, text_insert_at, text_delete_at, op_at}
+use Rattle.zed_editfile.specs.Reading.{◌>>=◌, Field, mapped, pair_at, byte_at, string_at, board_name_at, stat_name_at, header_setting_at, set_board_at, set_cells_at, stat_add_at, set_stat_at, text_insert_at, text_delete_at, op_at}
 use Rattle.zed_op.specs.Sizes.{IsOp}
 use Rattle.zed_editfile.proofs.Numbers.{IsBytes}
 use Rattle.zed_editfile.proofs.Codec.{IsField, Completes, ok_is, takes_then, takes_end, takes_mapped, takes_choice, takes_none, again_then, string_field, tile_field, rectangle_field}
@@ -18,12 +20,18 @@ use Rattle.zed_editfile.proofs.Registers.{header_setting_field, board_setting_fi
 abbrev front : ℕ → List ℕ → List ℕ
 front n t = n ∷ t
 
+-- an op of two fields
+pair_completes : {A B : Type 0} {good_a : A → Type 0} {spell_a : A → List ℕ} {read_a : List ℕ → Field A} {good_b : B → Type 0} {spell_b : B → List ℕ} {read_b : List ℕ → Field B} (first : IsField good_a spell_a read_a) (second : IsField good_b spell_b read_b) (n : ℕ) (make : A → B → Op)
+    → ((a : A) (b : B) → good_a a → good_b b → IsOp (make a b)) → ((a : A) (b : B) → op_text (make a b) ≡ front n (spell_a a ++ spell_b b)) → Completes IsOp op_text (front n) (pair_at make read_a read_b)
+pair_completes {A} {B} {good_a} {spell_a} {read_a} {good_b} {spell_b} {read_b} first second n make good same =
+    takes_then first IsOp op_text (front n) _
+    (λ a ga. takes_then second IsOp op_text (λ t. front n (spell_a a ++ t)) _
+    (λ b gb. takes_end IsOp op_text (λ t. front n (spell_a a ++ (spell_b b ++ t))) (make a b) (good a b ga gb)
+    (λ t. ap (front n) (sym (append_assoc (spell_a a) (spell_b b) t)) ∙ ap (λ (x : List ℕ). x ++ t) (sym (same a b)))))
+
 set_board_completes : Completes IsOp op_text (front 5) set_board_at
 unfolding set_board_at
-set_board_completes =
-    takes_then board_name_field IsOp op_text (front 5) _
-    (λ b gb. takes_then board_setting_field IsOp op_text (λ t. 5 ∷ (board_name b ++ t)) _
-    (λ s gs. takes_end IsOp op_text (λ t. 5 ∷ (board_name b ++ (board_setting s ++ t))) (SetBoard b s) (gb, gs) (λ t. ap (front 5) (sym (append_assoc (board_name b) (board_setting s) t)))))
+set_board_completes = pair_completes board_name_field board_setting_field 5 SetBoard (λ b s gb gs. (gb, gs)) (λ b s. refl)
 
 set_cells_completes : Completes IsOp op_text (front 6) set_cells_at
 unfolding set_cells_at
@@ -36,28 +44,21 @@ set_cells_completes =
 
 stat_add_completes : Completes IsOp op_text (front 7) stat_add_at
 unfolding stat_add_at
-stat_add_completes =
-    takes_then board_name_field IsOp op_text (front 7) _
-    (λ b gb. takes_then stat_fields_field IsOp op_text (λ t. 7 ∷ (board_name b ++ t)) _
-    (λ f gf. takes_end IsOp op_text (λ t. 7 ∷ (board_name b ++ (stat_fields f ++ t))) (StatAdd b f) (gb, gf) (λ t. ap (front 7) (sym (append_assoc (board_name b) (stat_fields f) t)))))
+stat_add_completes = pair_completes board_name_field stat_fields_field 7 StatAdd (λ b f gb gf. (gb, gf)) (λ b f. refl)
 
 set_stat_completes : Completes IsOp op_text (front 9) set_stat_at
 unfolding set_stat_at
-set_stat_completes =
-    takes_then stat_name_field IsOp op_text (front 9) _
-    (λ b gb. takes_then stat_setting_field IsOp op_text (λ t. 9 ∷ (stat_name b ++ t)) _
-    (λ s gs. takes_end IsOp op_text (λ t. 9 ∷ (stat_name b ++ (stat_setting s ++ t))) (SetStat b s) (gb, gs) (λ t. ap (front 9) (sym (append_assoc (stat_name b) (stat_setting s) t)))))
+set_stat_completes = pair_completes stat_name_field stat_setting_field 9 SetStat (λ s v gs gv. (gs, gv)) (λ s v. refl)
+
+-- a text and a range of its bytes, spelled one behind the other
+range_behind : (t : TextId) (r : ByteRange) → text_name t ++ stamp r.stamp ++ number 4 r.first ++ number 4 r.last ≡ text_name t ++ range_text r
+range_behind t r =
+    append_assoc (text_name t ++ stamp r.stamp) (number 4 r.first) (number 4 r.last) ∙ append_assoc (text_name t) (stamp r.stamp) (number 4 r.first ++ number 4 r.last)
+    ∙ ap (λ (x : List ℕ). text_name t ++ x) (sym (append_assoc (stamp r.stamp) (number 4 r.first) (number 4 r.last)))
 
 text_delete_completes : Completes IsOp op_text (front 12) text_delete_at
 unfolding text_delete_at
-text_delete_completes =
-    takes_then text_name_field IsOp op_text (front 12) _
-    (λ b gb. takes_then range_field IsOp op_text (λ t. 12 ∷ (text_name b ++ t)) _
-    (λ r gr. takes_end IsOp op_text (λ t. 12 ∷ (text_name b ++ (range_text r ++ t))) (TextDelete b r) (gb, gr)
-    (λ t.
-    ap (λ (x : List ℕ). 12 ∷ x)
-    (sym (append_assoc (((text_name b ++ stamp r.stamp) ++ number 4 r.first)) (number 4 r.last) t ∙ append_assoc (text_name b ++ stamp r.stamp) (number 4 r.first) (number 4 r.last ++ t) ∙ append_assoc (text_name b) (stamp r.stamp) (number 4 r.first ++ (number 4 r.last ++ t))
-    ∙ ap (λ (x : List ℕ). text_name b ++ x) (sym (append_assoc (stamp r.stamp ++ number 4 r.first) (number 4 r.last) t ∙ append_assoc (stamp r.stamp) (number 4 r.first) (number 4 r.last ++ t))))))))
+text_delete_completes = pair_completes text_name_field range_field 12 TextDelete (λ t r gt gr. (gt, gr)) (λ t r. ap (front 12) (range_behind t r))
 
 -- an op that takes all the bytes
 takes_whole : (n : ℕ) (build : List ℕ → Op) → ((t : List ℕ) → IsOp (build t)) → ((t : List ℕ) → front n t ≡ op_text (build t)) → Completes IsOp op_text (front n) (λ bytes. Ok (build bytes, []))
@@ -164,5 +165,5 @@ op_again (TextInsert t a bytes) g =
     ap text_insert_at (append_assoc (text_name t) (optional element_name a) bytes)
     ∙ again_then text_name_field _ (optional element_name a ++ bytes) (Ok (TextInsert t a bytes, [])) t g.0 (again_then (optional_field element_name_field) _ bytes (Ok (TextInsert t a bytes, [])) a g.1 refl)
 op_again (TextDelete t r) g =
-    ap text_delete_at (append_assoc (text_name t ++ stamp r.stamp) (number 4 r.first) (number 4 r.last) ∙ append_assoc (text_name t) (stamp r.stamp) (number 4 r.first ++ number 4 r.last) ∙ ap (λ (x : List ℕ). text_name t ++ x) (sym (append_assoc (stamp r.stamp) (number 4 r.first) (number 4 r.last))))
+    ap text_delete_at (range_behind t r)
     ∙ last_two text_name_field range_field TextDelete t r g.0 g.1

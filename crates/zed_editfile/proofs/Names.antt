@@ -1,5 +1,5 @@
 -- Names, optional names, ranges of bytes and third parameters: what is read is spelled so, and what is spelled is read again.
-use Rattle.std.proofs.Common.{◌≡◌, ℕ, Bool, true, false, cond, List, ◌∷◌, ◌++◌, Option, Some, None, Ok, Err, refl, sym, ap, ◌∙◌, append_assoc}
+use Rattle.std.proofs.Common.{◌≡◌, ℕ, Bool, true, false, cond, List, ◌∷◌, ◌++◌, Option, Some, None, Ok, Err, refl, sym, ap, subst, ◌∙◌, append_assoc}
 use Rattle.std.specs.Prelude.{IfSome}
 use Rattle.std.specs.Option.{option_map}
 use Rattle.zed_types.specs.declared.names.Name.{Name}
@@ -43,33 +43,29 @@ name_again n rest g =
 name_field : IsField IsName name name_at
 name_field = record { again = name_again; takes = takes_all IsName name name_at name_completes }
 
+-- a name, as that of one kind of things
+kind_field : {A : Type 0} (make : Name → A) (named : A → Name) → ((a : A) → make (named a) ≡ a) → ((n : Name) → named (make n) ≡ n) → IsField (λ a. IsName (named a)) (λ a. name (named a)) (λ bytes. mapped make (name_at bytes))
+kind_field {A} make named back forth = record {
+  again = λ a rest g. again_mapped name_field make rest (named a) g ∙ ap (λ (x : A). Ok (x, rest)) (back a);
+  takes = takes_all (λ a. IsName (named a)) (λ a. name (named a)) (λ bytes. mapped make (name_at bytes))
+      (takes_mapped name_field (λ a. IsName (named a)) (λ a. name (named a)) (λ t. t) make (λ n g. subst IsName (sym (forth n)) g) (λ n t. ap (λ (m : Name). name m ++ t) (sym (forth n))));
+}
+
 pub board_name_field : IsField IsBoardName board_name board_name_at
 unfolding board_name_at
-board_name_field = record {
-  again = λ a rest g. again_mapped name_field board_with rest a.name g;
-  takes = takes_all IsBoardName board_name board_name_at (takes_mapped name_field IsBoardName board_name (λ t. t) board_with (λ n g. g) (λ n t. refl));
-}
+board_name_field = kind_field board_with (λ b. b.name) (λ b. refl) (λ n. refl)
 
 pub stat_name_field : IsField IsStatName stat_name stat_name_at
 unfolding stat_name_at
-stat_name_field = record {
-  again = λ a rest g. again_mapped name_field stat_with rest a.name g;
-  takes = takes_all IsStatName stat_name stat_name_at (takes_mapped name_field IsStatName stat_name (λ t. t) stat_with (λ n g. g) (λ n t. refl));
-}
+stat_name_field = kind_field stat_with (λ s. s.name) (λ s. refl) (λ n. refl)
 
 pub text_name_field : IsField IsTextName text_name text_name_at
 unfolding text_name_at
-text_name_field = record {
-  again = λ a rest g. again_mapped name_field text_with rest a.name g;
-  takes = takes_all IsTextName text_name text_name_at (takes_mapped name_field IsTextName text_name (λ t. t) text_with (λ n g. g) (λ n t. refl));
-}
+text_name_field = kind_field text_with (λ t. t.name) (λ t. refl) (λ n. refl)
 
 pub element_name_field : IsField IsElementName element_name element_name_at
 unfolding element_name_at
-element_name_field = record {
-  again = λ a rest g. again_mapped name_field element_with rest a.name g;
-  takes = takes_all IsElementName element_name element_name_at (takes_mapped name_field IsElementName element_name (λ t. t) element_with (λ n g. g) (λ n t. refl));
-}
+element_name_field = kind_field element_with (λ a. a.name) (λ a. refl) (λ n. refl)
 
 optional_completes : {A : Type 0} {good : A → Type 0} {spell : A → List ℕ} {read : List ℕ → Field A} → IsField good spell read → Completes (λ o. IfSome o good) (optional spell) (λ t. t) (optional_at read)
 unfolding optional_at

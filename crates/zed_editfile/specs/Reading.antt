@@ -243,12 +243,16 @@ stat_fields_at bytes = do
 
 -- ---- ops
 
+-- what is made of two fields, one after the other
+abbrev pub pair_at : {A B : Type 0} → (A → B → Op) → (List ℕ → Field A) → (List ℕ → Field B) → List ℕ → Field Op
+pair_at make first second bytes = do
+  a ← first bytes
+  b ← second a.1
+  Ok (make a.0 b.0, b.1)
+
 -- a board, and a register of it
 unfoldable pub set_board_at : List ℕ → Field Op
-set_board_at bytes = do
-  b ← board_name_at bytes
-  setting ← board_setting_at b.1
-  Ok (SetBoard b.0 setting.0, setting.1)
+set_board_at bytes = pair_at SetBoard board_name_at board_setting_at bytes
 
 -- a board, a rectangle and a tile
 unfoldable pub set_cells_at : List ℕ → Field Op
@@ -260,17 +264,11 @@ set_cells_at bytes = do
 
 -- a board, and what a new stat is given
 unfoldable pub stat_add_at : List ℕ → Field Op
-stat_add_at bytes = do
-  b ← board_name_at bytes
-  fields ← stat_fields_at b.1
-  Ok (StatAdd b.0 fields.0, fields.1)
+stat_add_at bytes = pair_at StatAdd board_name_at stat_fields_at bytes
 
 -- a stat, and a register of it
 unfoldable pub set_stat_at : List ℕ → Field Op
-set_stat_at bytes = do
-  s ← stat_name_at bytes
-  setting ← stat_setting_at s.1
-  Ok (SetStat s.0 setting.0, setting.1)
+set_stat_at bytes = pair_at SetStat stat_name_at stat_setting_at bytes
 
 -- the inserted bytes are all that is left
 unfoldable pub text_insert_at : List ℕ → Field Op
@@ -289,10 +287,7 @@ range_at bytes = do
 
 -- a text, and a range of bytes
 unfoldable pub text_delete_at : List ℕ → Field Op
-text_delete_at bytes = do
-  t ← text_name_at bytes
-  r ← range_at t.1
-  Ok (TextDelete t.0 r.0, r.1)
+text_delete_at bytes = pair_at TextDelete text_name_at range_at bytes
 
 -- the op of a number, by the fields behind it
 unfoldable pub op_at : ℕ → List ℕ → Field Op

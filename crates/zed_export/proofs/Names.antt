@@ -7,7 +7,8 @@ use Rattle.zed_types.specs.declared.names.BoardId.{BoardId}
 use Rattle.zed_types.specs.declared.names.StatId.{StatId}
 use Rattle.zed_types.specs.declared.stat_field.ThirdParameter.{ThirdParameter}
 use Rattle.zed_types.specs.declared.stat_field.ThirdParameter.TheVariants as third
-use Rattle.zed_types.specs.Names.{same_board, same_stat}
+use Rattle.zed_types.specs.declared.names.Name.{Name}
+use Rattle.zed_types.specs.Names.{same_name}
 use Rattle.zed_edit.specs.declared.plain.Board.{Board}
 use Rattle.zed_edit.specs.declared.plain.Stat.{Stat}
 use Rattle.zed_edit.specs.declared.plain.Plain.{Plain}
@@ -24,7 +25,7 @@ pub position_mapped : {X Y : Type 0} (f : X → Y) (test : Y → Bool) (xs : Lis
 position_mapped f test xs = rw (front_mapped f (λ y. not (test y)) xs, length-map xs f) refl
 
 pub board_place : (p : Plain) (b : BoardId) → place_or_0 (board_names p) b ≡ number_or_0 p b
-board_place p b = rw (position_mapped (λ (x : Board). x.id) (λ (x : BoardId). same_board x b) (alive_boards p)) refl
+board_place p b = rw (position_mapped (λ (x : Board). x.id.name) (λ (x : Name). same_name x b.name) (alive_boards p)) refl
 
 pub exit_places : (p : Plain) (o : Option BoardId) → exit_place (board_names p) o ≡ exit_number p o
 exit_places p None = refl
@@ -32,8 +33,8 @@ exit_places p (Some b) = board_place p b
 
 pub parameter_places : (p : Plain) (on_passage : Bool) (x : ThirdParameter) → place_parameter (board_names p) on_passage x ≡ parameter p on_passage x
 parameter_places p on_passage (third.Board b) = board_place p b
-parameter_places p on_passage (third.Byte n) = rw (length-map (alive_boards p) (λ (b : Board). b.id)) refl
+parameter_places p on_passage (third.Byte n) = rw (length-map (alive_boards p) (λ (b : Board). b.id.name)) refl
 
 pub stat_places : (b : Board) (o : Option StatId) → stat_place (stat_names b) o ≡ option_and_then (stat_number b) o
 stat_places b None = refl
-stat_places b (Some s) = position_mapped (λ (x : Stat). x.id) (λ (x : StatId). same_stat x s) (alive_stats b)
+stat_places b (Some s) = position_mapped (λ (x : Stat). x.id.name) (λ (x : Name). same_name x s.name) (alive_stats b)

@@ -27,7 +27,7 @@ use Rattle.zed_export.specs.Fields.{FitsStat, FitsBoard, FitsHeader, IsOwned}
 use Rattle.zed_export.specs.Limits.{boards_refusal, board_refusal, refusal_of}
 use Rattle.zed_export.proofs.Each.{each_filtered}
 use Rattle.zed_export.proofs.Searching.{found_within, found_or_0}
-use Rattle.zed_export.proofs.Sizes.{length_body}
+use Rattle.zed_world.proofs.Sizes.{length_body}
 use Rattle.zed_export.proofs.Boards.{length_above}
 use Rattle.zed_export.proofs.Shares.{owned_first, owned_more, code_normal}
 use Rattle.zed_export.proofs.Within.{neither, board_within, boards_within, count_within, title_within, some_board, some_stat, programs_below}

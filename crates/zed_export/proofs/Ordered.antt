@@ -41,8 +41,8 @@ rise-map : {X Y : Type 0} (f : X → Y) (name : Y → Name) (xs : List X) → Na
 rise-map f name [] h = tt
 rise-map f name (x ∷ xs) h = (all-map (λ y. is_earlier (name (f x)) (name y) ≡ true) f xs h.0, rise-map f name xs h.1)
 
-pub board_names_rise : (p : Plain) → IsOrdered p → NamesRise (λ b. b.name) (board_names p)
-board_names_rise p h = rise-map (λ (b : Board). b.id) (λ b. b.name) _ (rise-filter (λ (b : Board). b.id.name) (λ (b : Board). not b.removed) p.boards h.boards)
+pub board_names_rise : (p : Plain) → IsOrdered p → NamesRise (λ n. n) (board_names p)
+board_names_rise p h = rise-map (λ (b : Board). b.id.name) (λ n. n) _ (rise-filter (λ (b : Board). b.id.name) (λ (b : Board). not b.removed) p.boards h.boards)
 
-pub stat_names_rise : (b : Board) → NamesRise (λ s. s.id.name) b.stats → NamesRise (λ s. s.name) (stat_names b)
-stat_names_rise b h = rise-map (λ (s : Stat). s.id) (λ s. s.name) _ (rise-filter (λ (s : Stat). s.id.name) (λ (s : Stat). not s.removed) b.stats h)
+pub stat_names_rise : (b : Board) → NamesRise (λ s. s.id.name) b.stats → NamesRise (λ n. n) (stat_names b)
+stat_names_rise b h = rise-map (λ (s : Stat). s.id.name) (λ n. n) _ (rise-filter (λ (s : Stat). s.id.name) (λ (s : Stat). not s.removed) b.stats h)

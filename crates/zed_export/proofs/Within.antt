@@ -20,7 +20,7 @@ use Rattle.zed_export.specs.declared.error.ExportError.{ExportError}
 use Rattle.zed_export.specs.World.{exported_board, exported_boards}
 use Rattle.zed_export.specs.Limits.{or_else, stats_refusal, body_refusal, board_refusal, boards_refusal, count_refusal, title_refusal, refusal_of}
 use Rattle.zed_export.proofs.Boards.{length_above}
-use Rattle.zed_export.proofs.Sizes.{length_stat}
+use Rattle.zed_world.proofs.Sizes.{length_stat}
 
 pub neither : (a b : Option ExportError) → or_else a b ≡ None → (a ≡ None) × (b ≡ None)
 neither None b e = (refl, e)

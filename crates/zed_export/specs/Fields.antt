@@ -1,12 +1,13 @@
 -- The numbers of a world that stand in fields of sixteen bits, and how things are numbered by lists of names.
 use Rattle.std.specs.Prelude.{ℕ, Bool, if◌then◌else◌, List, length, map, position, unwrap_or, Option, Some, None, ◌≡◌, slice_get, IsSomeAnd}
 use Rattle.std.specs.List.{AllByRecursion}
+use Rattle.zed_types.specs.declared.names.Name.{Name}
 use Rattle.zed_types.specs.declared.names.BoardId.{BoardId}
 use Rattle.zed_types.specs.declared.names.StatId.{StatId}
 use Rattle.zed_types.specs.declared.names.TextId.{TextId}
 use Rattle.zed_types.specs.declared.stat_field.ThirdParameter.{ThirdParameter}
 use Rattle.zed_types.specs.declared.stat_field.ThirdParameter.TheVariants as third
-use Rattle.zed_types.specs.Names.{same_board, same_stat}
+use Rattle.zed_types.specs.Names.{same_name}
 use Rattle.zed_world.specs.Contents.{Contents}
 use Rattle.zed_world.specs.Fields.{board_number}
 use Rattle.zed_world.specs.Normal.{IsInteger}
@@ -49,31 +50,35 @@ pub record FitsWorld (w : Contents) : Type 0 where
   pub boards : AllByRecursion FitsBoard w.boards
 
 -- the names of the boards that aren't removed, by number
-abbrev pub board_names : Plain → List BoardId
-board_names p = map (λ b. b.id) (alive_boards p)
+abbrev pub board_names : Plain → List Name
+board_names p = map (λ b. b.id.name) (alive_boards p)
 
 -- the names of the stats of a board that aren't removed, by number
-abbrev pub stat_names : Board → List StatId
-stat_names b = map (λ s. s.id) (alive_stats b)
+abbrev pub stat_names : Board → List Name
+stat_names b = map (λ s. s.id.name) (alive_stats b)
+
+-- the place of a name among these
+abbrev pub place_among : List Name → Name → Option ℕ
+place_among names name = position (λ x. same_name x name) names
 
 -- the place of a board among these, or 0
-abbrev pub place_or_0 : List BoardId → BoardId → ℕ
-place_or_0 names b = unwrap_or (position (λ x. same_board x b) names) 0
+abbrev pub place_or_0 : List Name → BoardId → ℕ
+place_or_0 names b = unwrap_or (place_among names b.name) 0
 
 -- the place of the board behind an exit among these; 0 for no exit or for a board that isn't there
-abbrev pub exit_place : List BoardId → Option BoardId → ℕ
+abbrev pub exit_place : List Name → Option BoardId → ℕ
 exit_place names None = 0
 exit_place names (Some b) = place_or_0 names b
 
 -- a third parameter, in a world whose boards have these names
-abbrev pub place_parameter : List BoardId → Bool → ThirdParameter → ℕ
+abbrev pub place_parameter : List Name → Bool → ThirdParameter → ℕ
 place_parameter names on_passage (third.Board b) = place_or_0 names b
 place_parameter names on_passage (third.Byte n) = if on_passage then board_number (length names) n else n
 
 -- the place of a stat among these
-abbrev pub stat_place : List StatId → Option StatId → Option ℕ
+abbrev pub stat_place : List Name → Option StatId → Option ℕ
 stat_place names None = None
-stat_place names (Some s) = position (λ x. same_stat x s) names
+stat_place names (Some s) = place_among names s.name
 
 -- of stats with these texts, the lowest past the player that uses a text has its bytes for a program
 abbrev pub IsOwned : Plain → List (Option TextId) → List StatData → Type 0

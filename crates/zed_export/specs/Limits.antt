@@ -1,6 +1,5 @@
 -- The limits of a world file, and what an export and a save answer.
-use Rattle.std.specs.Prelude.{◌≡◌, ℕ, ◌+◌, ◌-◌, ◌^◌, ◌≤◌, min, Bool, ◌&&◌, ◌==◌, nat_lt, if◌then◌else◌, List, [], ◌∷◌, length, Option, Some, None, Result, Ok, Err, MatchResult}
-use Rattle.zed_types.specs.declared.tile.Tile.{Tile}
+use Rattle.std.specs.Prelude.{◌≡◌, ◌⊎◌, true, false, ℕ, ◌+◌, ◌-◌, ◌^◌, ◌≤◌, min, nat_lt, if◌then◌else◌, List, [], ◌∷◌, length, Option, Some, None, Result, Ok, Err, MatchResult}
 use Rattle.zed_world.specs.declared.board.BoardData.{BoardData}
 use Rattle.zed_world.specs.Contents.{Contents}
 use Rattle.zed_world.specs.Reading.{world_at}
@@ -12,6 +11,8 @@ use Rattle.zed_types.specs.Names.{title}
 use Rattle.zed_edit.specs.Document.{has}
 use Rattle.zed_edit.specs.Numbers.{alive_boards}
 use Rattle.zed_edit.specs.Replay.{replay}
+use Rattle.zed_laws.specs.NameOrder.{IsOrdered}
+use Rattle.zed_laws.specs.Regular.{IsRegular}
 use Rattle.zed_document.specs.Replica.{Replica}
 use Rattle.zed_export.specs.declared.error.ExportError.{ExportError}
 use Rattle.zed_export.specs.declared.error.ExportError.TheVariants.{Memory, Stale, NoWorld, BoardsOver, StatsOver, BoardOver}
@@ -20,10 +21,6 @@ use Rattle.zed_export.specs.World.{exported_boards, world_of}
 -- a count that doesn't fit in a number is told as the greatest that does
 abbrev pub told : ℕ → ℕ
 told n = min n (2 ^ 64 - 1)
-
--- whether the next tile still belongs to a run of so many
-abbrev pub goes_on : ℕ → Tile → Tile → Bool
-goes_on count tile next = next.element == tile.element && next.colour == tile.colour && nat_lt count 255
 
 -- the first refusal, or the other where there is none
 abbrev pub or_else : Option ExportError → Option ExportError → Option ExportError
@@ -75,6 +72,19 @@ saved limit p = unless_over (refusal_of limit p) (world_text (world_of p))
 -- a stale document gives nothing, any other what its edits make
 abbrev pub unless_stale : {Y : Type 0} → Replica → (Plain → Result Y ExportError) → Result Y ExportError
 unless_stale d gives = if d.is_stale then Err Stale else gives (replay d.edits)
+
+-- a document isn't stale, shows this and goes over no limit
+pub record IsShown (limit : ℕ) (d : Replica) (p : Plain) : Type 0 where
+  pub sound : d.is_stale ≡ false
+  pub shows : p ≡ replay d.edits
+  pub within : refusal_of limit p ≡ None
+  pub regular : IsRegular p
+  pub ordered : IsOrdered p
+
+-- a document is stale, or goes over this limit first
+abbrev pub IsRefusal : ℕ → Replica → ExportError → Type 0
+IsRefusal limit d e =
+    ((d.is_stale ≡ true) × (e ≡ Stale)) ⊎ ((d.is_stale ≡ false) × (refusal_of limit (replay d.edits) ≡ Some e))
 
 -- What a call answers: the refusal where there is one, else the value, or Memory.
 abbrev pub Answers : {X Y : Type 0} → (X → Y) → Result Y ExportError → Result X ExportError → Type 0

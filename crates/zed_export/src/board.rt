@@ -8,7 +8,7 @@ ghost use Rattle.zed_export.specs.World.{stat_with, exported_above, exported_pro
 ghost use Rattle.zed_export.specs.Fields.{board_names as names_of_boards, stat_names as names_of_stats, place_parameter, FitsStat, FitsBoard};
 
 use crate::header::copy_of;
-use crate::numbers::{BoardNames, StatNames, board_number, exit_number, stat_names, stat_number};
+use crate::numbers::{Names, board_number, exit_number, stat_names, stat_number};
 use crate::program::program_of;
 use std::alloc::{AllocError, Global};
 use zed_document::View;
@@ -18,7 +18,7 @@ use zed_types::{
 use zed_world::{BoardData, Code, Properties, StatData, is_passage};
 
 /// The third parameter of a stat that stands on a passage or not, in a world whose boards have these names.
-fn parameter_of(boards: &BoardNames, on_passage: bool, parameter: ThirdParameter) -> u8
+fn parameter_of(boards: &Names, on_passage: bool, parameter: ThirdParameter) -> u8
     requires { length boards.now ≤ 101 }
     ensures { result ≡ place_parameter boards.now on_passage parameter }
 {
@@ -35,14 +35,7 @@ fn parameter_of(boards: &BoardNames, on_passage: bool, parameter: ThirdParameter
 }
 
 /// Stat `j` of board `i`, with this program.
-fn stat_of(
-    view: &View,
-    boards: &BoardNames,
-    stats: &StatNames,
-    i: usize,
-    j: usize,
-    code: Code,
-) -> StatData
+fn stat_of(view: &View, boards: &Names, stats: &Names, i: usize, j: usize, code: Code) -> StatData
     requires board { i < length view.now.boards }
     requires stat { j < length (board_at view.now i).stats }
     requires boards { boards.now ≡ names_of_boards view.now }
@@ -79,7 +72,7 @@ fn stat_of(
 fn properties_of(
     alloc: Global,
     view: &View,
-    boards: &BoardNames,
+    boards: &Names,
     i: usize,
 ) -> Result<Properties, AllocError>
     requires board { i < length view.now.boards }
@@ -117,8 +110,8 @@ fn is_there(view: &View, i: usize, j: usize) -> bool
 fn stats_of(
     alloc: Global,
     view: &View,
-    boards: &BoardNames,
-    stats: &StatNames,
+    boards: &Names,
+    stats: &Names,
     i: usize,
 ) -> Result<Seq<StatData>, AllocError>
     requires board { i < length view.now.boards }
@@ -148,7 +141,7 @@ fn stats_of(
 pub(crate) fn board_of(
     alloc: Global,
     view: &View,
-    boards: &BoardNames,
+    boards: &Names,
     i: usize,
 ) -> Result<BoardData, AllocError>
     requires board { i < length view.now.boards }

@@ -1,3 +1,8 @@
+//! Why a document can't be exported.
+ghost use Rattle.std.specs.Prelude.{◌≡◌};
+ghost use Rattle.zed_export.specs.declared.error.ExportError.TheVariants.{Memory};
+
+use std::alloc::AllocError;
 use thiserror::Error;
 
 /// Why a document can't be exported.
@@ -15,4 +20,12 @@ pub enum ExportError {
     StatsOver { board: usize, stats: usize },
     #[error("board {board} has {bytes} bytes")]
     BoardOver { board: usize, bytes: usize },
+}
+
+impl From<AllocError> for ExportError {
+    ghost from_gives = { λ _ e. e ≡ Memory };
+
+    fn from(_error: AllocError) -> ExportError {
+        ExportError::Memory
+    }
 }

@@ -1,4 +1,4 @@
-ghost use Rattle.std.specs.Prelude.{◌≡◌, ◌≤◌, None, Ok, IfOk, MatchResult, length};
+ghost use Rattle.std.specs.Prelude.{◌≡◌, ◌≤◌, None, Ok, IfErr, IfOk, MatchResult, length};
 ghost use Rattle.std.specs.List.{AllByRecursion};
 ghost use Rattle.zed_world.specs.Reading.{world_at};
 ghost use Rattle.zed_world.specs.Writing.{world_text};
@@ -9,13 +9,13 @@ ghost use Rattle.zed_laws.specs.NameOrder.{IsOrdered};
 ghost use Rattle.zed_edit.specs.Replay.{replay};
 ghost use Rattle.zed_export.specs.World.{exported_boards, world_of};
 ghost use Rattle.zed_export.specs.Fields.{board_names as names_of_boards, FitsBoard};
-ghost use Rattle.zed_export.specs.Limits.{Answers, exported, refusal_of, saved, unless_stale};
+ghost use Rattle.zed_export.specs.Limits.{Answers, IsRefusal, IsShown, exported, refusal_of, saved, unless_stale};
 
 use crate::board::board_of;
 use crate::error::ExportError;
 use crate::header::header_of;
 use crate::limits::first_limit;
-use crate::numbers::{BoardNames, board_names};
+use crate::numbers::{Names, board_names};
 use std::alloc::{AllocError, Global};
 use zed_document::{Document, View};
 use zed_laws::{replay_is_ordered, replay_is_regular};
@@ -23,7 +23,7 @@ use zed_types::Seq;
 use zed_world::{BoardData, World, write_world};
 
 /// The boards of the world, which have these names.
-fn boards_of(alloc: Global, view: &View, names: &BoardNames) -> Result<Seq<BoardData>, AllocError>
+fn boards_of(alloc: Global, view: &View, names: &Names) -> Result<Seq<BoardData>, AllocError>
     requires ordered { IsOrdered view.now }
     requires named { names.now ≡ names_of_boards view.now }
     requires few { length names.now ≤ 101 }
@@ -67,13 +67,33 @@ fn file_within(alloc: Global, view: &View, limit: usize) -> Result<Vec<u8>, Expo
         (λ e. e ≡ ExportError.Memory) }
     ensures back { IfOk result (λ file. world_at file.items ≡ Ok (world_of view.now)) }
 {
-    let Ok(world) = world_within(alloc, view, limit) else {
-        return Err(ExportError::Memory);
-    };
+    let world = world_within(alloc, view, limit)?;
     // No body is over the limit, so the writer can lack nothing but memory.
     match write_world(alloc, &world, limit) {
         Ok(file) => Ok(file),
         Err(_) => Err(ExportError::Memory),
+    }
+}
+
+/// What a document shows, where it goes over no limit.
+fn shown_within<'d>(
+    alloc: Global,
+    document: &'d Document,
+    limit: usize,
+) -> Result<View<'d>, ExportError>
+    requires { limit ≤ 32767 }
+    ensures ok { IfOk result (λ p. IsShown limit document.entry.now p) }
+    ensures err { IfErr result (λ e. IsRefusal limit document.entry.now e) }
+{
+    let Ok(view) = document.view() else {
+        return Err(ExportError::Stale);
+    };
+    document.edits();
+    replay_is_regular();
+    replay_is_ordered();
+    match first_limit(alloc, &view, limit) {
+        Some(refusal) => Err(refusal),
+        None => Ok(view),
     }
 }
 
@@ -85,19 +105,8 @@ pub fn export(alloc: Global, document: &Document, limit: usize) -> Result<World,
     ensures exact { Answers (λ world. world) (unless_stale document.now (exported limit)) result }
     ensures normal { IfOk result (λ world. IsNormal world) }
 {
-    let Ok(view) = document.view() else {
-        return Err(ExportError::Stale);
-    };
-    document.edits();
-    replay_is_regular();
-    replay_is_ordered();
-    if let Some(refusal) = first_limit(alloc, &view, limit) {
-        return Err(refusal);
-    }
-    match world_within(alloc, &view, limit) {
-        Ok(world) => Ok(world),
-        Err(_) => Err(ExportError::Memory),
-    }
+    let view = shown_within(alloc, document, limit)?;
+    Ok(world_within(alloc, &view, limit)?)
 }
 
 /// The file of the world that a document shows, with the refusals of `export` in their order.
@@ -109,14 +118,6 @@ pub fn save(alloc: Global, document: &Document, limit: usize) -> Result<Vec<u8>,
     ensures back { IfOk result (λ file.
         world_at file.items ≡ Ok (world_of (replay document.now.edits))) }
 {
-    let Ok(view) = document.view() else {
-        return Err(ExportError::Stale);
-    };
-    document.edits();
-    replay_is_regular();
-    replay_is_ordered();
-    if let Some(refusal) = first_limit(alloc, &view, limit) {
-        return Err(refusal);
-    }
+    let view = shown_within(alloc, document, limit)?;
     file_within(alloc, &view, limit)
 }

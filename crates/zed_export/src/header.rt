@@ -3,7 +3,7 @@ ghost use Rattle.zed_laws.specs.Regular.{IsRegular};
 ghost use Rattle.zed_export.specs.World.{exported_header};
 ghost use Rattle.zed_export.specs.Fields.{board_names, FitsHeader};
 
-use crate::numbers::{BoardNames, board_number};
+use crate::numbers::{Names, board_number};
 use std::alloc::{AllocError, Global};
 use zed_document::View;
 use zed_types::{Bytes, FlagSlot, HeaderNumber, KeyColour, Seq};
@@ -57,11 +57,7 @@ fn flags_of(alloc: Global, view: &View) -> Result<Seq<Bytes>, AllocError>
 }
 
 /// The header of the world, whose boards have these names.
-pub(crate) fn header_of(
-    alloc: Global,
-    view: &View,
-    boards: &BoardNames,
-) -> Result<Header, AllocError>
+pub(crate) fn header_of(alloc: Global, view: &View, boards: &Names) -> Result<Header, AllocError>
     requires regular { IsRegular view.now }
     requires named { boards.now ≡ board_names view.now }
     requires few { length boards.now ≤ 101 }

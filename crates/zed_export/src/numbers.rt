@@ -1,77 +1,50 @@
-ghost use Rattle.std.specs.Prelude.{◌≡◌, ◌<◌, ◌≤◌, length, position, IfOk, IfSome};
-ghost use Rattle.zed_types.specs.Names.{same_board, same_stat};
+//! The numbers that the things of an exported world have.
+ghost use Rattle.std.specs.Prelude.{◌≡◌, ◌<◌, ◌≤◌, length, IfOk, IfSome};
 ghost use Rattle.zed_laws.specs.NameOrder.{IsOrdered};
 ghost use Rattle.zed_document.specs.View.{board_at};
-ghost use Rattle.zed_export.specs.Fields.{board_names as names_of_boards, stat_names as names_of_stats, place_or_0, exit_place, stat_place};
+ghost use Rattle.zed_export.specs.Fields.{board_names as names_of_boards, stat_names as names_of_stats, place_among, place_or_0, exit_place, stat_place};
 
 use std::alloc::{AllocError, Global};
 use std::marker::Model;
 use zed_document::View;
-use zed_types::{BoardId, StatId};
+use zed_types::{BoardId, Name, StatId};
 
-/// The names of the boards that aren't removed, by number. Contracts see the list. It is in the order of names, so a name is sought by
-/// halves.
+/// The names of things that aren't removed, by number: of the boards, or of the stats of a board. Contracts see the list. It is in the
+/// order of names, so a name is sought by halves.
 #[derive(Drop)]
-pub(crate) struct BoardNames {
-    names: Vec<BoardId>,
+pub(crate) struct Names {
+    names: Vec<Name>,
 }
 
-impl Model for BoardNames {
+impl Model for Names {
     ghost use Rattle.std.specs.Prelude.{List};
-    ghost use Rattle.zed_types.specs.declared.names.BoardId.{BoardId as TheBoardId};
+    ghost use Rattle.zed_types.specs.declared.names.Name.{Name as TheName};
     ghost use Rattle.zed_laws.specs.NameOrder.{NamesRise};
 
-    ghost Value = { List TheBoardId };
+    ghost Value = { List TheName };
 
     ghost view = { λ n. n.names.items };
 
-    ghost invariant = { λ n. NamesRise (λ b. b.name) n.names.items };
+    ghost invariant = { λ n. NamesRise (λ name. name) n.names.items };
 }
 
-impl BoardNames {
+impl Names {
     pub(crate) fn len(&self) -> usize
         ensures { result ≡ length self.now }
     {
         self.names.len()
     }
 
-    fn place_of(&self, board: BoardId) -> Option<usize>
-        ensures is { result ≡ position (λ x. same_board x board) self.now }
+    fn place_of(&self, name: Name) -> Option<usize>
+        ensures is { result ≡ place_among self.now name }
         ensures within { IfSome result (λ n. n < length self.now) }
     {
-        self.names.binary_search(&board).ok()
-    }
-}
-
-/// The names of the stats of a board that aren't removed, by number, in the same way.
-#[derive(Drop)]
-pub(crate) struct StatNames {
-    names: Vec<StatId>,
-}
-
-impl Model for StatNames {
-    ghost use Rattle.std.specs.Prelude.{List};
-    ghost use Rattle.zed_types.specs.declared.names.StatId.{StatId as TheStatId};
-    ghost use Rattle.zed_laws.specs.NameOrder.{NamesRise};
-
-    ghost Value = { List TheStatId };
-
-    ghost view = { λ n. n.names.items };
-
-    ghost invariant = { λ n. NamesRise (λ s. s.name) n.names.items };
-}
-
-impl StatNames {
-    fn place_of(&self, stat: StatId) -> Option<usize>
-        ensures is { result ≡ position (λ x. same_stat x stat) self.now }
-        ensures within { IfSome result (λ n. n < length self.now) }
-    {
-        self.names.binary_search(&stat).ok()
+        self.names.binary_search(&name).ok()
     }
 }
 
 /// The names of the boards that aren't removed, by number.
-pub(crate) fn board_names(alloc: Global, view: &View) -> Result<BoardNames, AllocError>
+pub(crate) fn board_names(alloc: Global, view: &View) -> Result<Names, AllocError>
     requires { IsOrdered view.now }
     ensures { IfOk result (λ names. names ≡ names_of_boards view.now) }
 {
@@ -79,14 +52,14 @@ pub(crate) fn board_names(alloc: Global, view: &View) -> Result<BoardNames, Allo
     for i in 0..view.boards() {
         let board = view.board(i);
         if !board.removed {
-            names.push(board.id)?;
+            names.push(board.id.name)?;
         }
     }
-    Ok(BoardNames { names })
+    Ok(Names { names })
 }
 
 /// The names of the stats of a board that aren't removed, by number.
-pub(crate) fn stat_names(alloc: Global, view: &View, i: usize) -> Result<StatNames, AllocError>
+pub(crate) fn stat_names(alloc: Global, view: &View, i: usize) -> Result<Names, AllocError>
     requires board { i < length view.now.boards }
     requires ordered { IsOrdered view.now }
     ensures { IfOk result (λ names. names ≡ names_of_stats (board_at view.now i)) }
@@ -95,25 +68,25 @@ pub(crate) fn stat_names(alloc: Global, view: &View, i: usize) -> Result<StatNam
     for j in 0..view.stats(i) {
         let stat = view.stat(i, j);
         if !stat.removed {
-            names.push(stat.id)?;
+            names.push(stat.id.name)?;
         }
     }
-    Ok(StatNames { names })
+    Ok(Names { names })
 }
 
 /// The number of a board, or 0 where it is removed.
-pub(crate) fn board_number(names: &BoardNames, board: BoardId) -> u8
+pub(crate) fn board_number(names: &Names, board: BoardId) -> u8
     requires { length names.now ≤ 101 }
     ensures { result ≡ place_or_0 names.now board }
 {
-    match names.place_of(board) {
+    match names.place_of(board.name) {
         Some(place) => place as u8,
         None => 0,
     }
 }
 
 /// The number of the board behind an exit, or 0 where there is none.
-pub(crate) fn exit_number(names: &BoardNames, exit: Option<BoardId>) -> u8
+pub(crate) fn exit_number(names: &Names, exit: Option<BoardId>) -> u8
     requires { length names.now ≤ 101 }
     ensures { result ≡ exit_place names.now exit }
 {
@@ -124,11 +97,11 @@ pub(crate) fn exit_number(names: &BoardNames, exit: Option<BoardId>) -> u8
 }
 
 /// The number of a stat on its board, if it is there.
-pub(crate) fn stat_number(names: &StatNames, stat: Option<StatId>) -> Option<u8>
+pub(crate) fn stat_number(names: &Names, stat: Option<StatId>) -> Option<u8>
     requires { length names.now ≤ 151 }
     ensures { result ≡ stat_place names.now stat }
 {
-    match names.place_of(stat?) {
+    match names.place_of(stat?.name) {
         Some(place) => Some(place as u8),
         None => None,
     }

@@ -7,12 +7,13 @@ ghost use Rattle.zed_laws.specs.NameOrder.{IsOrdered};
 ghost use Rattle.zed_types.specs.declared.property.BoardText.TheVariants.{Name, Message};
 ghost use Rattle.zed_document.specs.View.{board_at, board_text};
 ghost use Rattle.zed_export.specs.World.{exported_code, exported_above, exported_board};
-ghost use Rattle.zed_export.specs.Limits.{told, goes_on};
+ghost use Rattle.zed_export.specs.Limits.{told};
 
 use crate::program::{text_length, user_of};
 use smallvec::SmallVec;
 use std::alloc::Global;
 use zed_document::View;
+use zed_runs::{greedy_is_the_one, runs_len};
 use zed_types::{TILES, TextId, Tile};
 
 /// The bytes of a body beside its runs and its stats: the name, the properties, the number of stats.
@@ -21,34 +22,13 @@ const FRAME: usize = 51 + 86 + 2;
 /// The bytes of a stat beside its program.
 const STAT: usize = 33;
 
-/// Tiles of a run at most.
-const LONGEST: usize = 255;
-
-/// Whether the next tile still belongs to a run of so many.
-fn goes_on(count: usize, tile: Tile, next: Tile) -> bool
-    ensures { result ≡ goes_on count tile next }
-{
-    next.element == tile.element && next.colour == tile.colour && count < LONGEST
-}
-
 /// How many bytes the runs of a board take.
 fn runs_bytes(tiles: &[Tile; TILES]) -> usize
     ensures is { result ≡ length (greedy tiles.now) }
-    ensures within { result ≤ 4503 }
+    ensures within { result ≤ 4500 }
 {
-    let mut tile = tiles[0];
-    let mut count = 0;
-    let mut bytes = 3;
-    for next in tiles {
-        if goes_on(count, tile, *next) {
-            count += 1;
-        } else {
-            bytes += 3;
-            count = 1;
-            tile = *next;
-        }
-    }
-    bytes
+    greedy_is_the_one();
+    runs_len(tiles)
 }
 
 /// How many bytes the program of a stat takes above stats with these texts.

@@ -4,6 +4,7 @@ use Rattle.zed_types.specs.declared.property.Side.TheVariants.{North, South, Wes
 use Rattle.zed_types.specs.declared.property.BoardText.TheVariants.{Message}
 use Rattle.zed_document.specs.View.{board_at, exit, board_text}
 use Rattle.zed_export.specs.World.{exit_number}
+use Rattle.zed_types.specs.declared.names.Name.{Name}
 use Rattle.zed_export.specs.Fields.{exit_place, board_names}
 use Rattle.zed_export.proofs.Names.{exit_places}
 use Rattle.zed_export.proofs.Numbers16.{kept}
@@ -14,7 +15,7 @@ returns-clause-is c =
     let p = c.args.view.now in
     let q = (board_at p c.args.i).properties in
     let number : (n : ℕ) (x o : Option BoardId) → n ≡ exit_place c.args.boards.now x → x ≡ o → n ≡ exit_number p o
-    = λ n x o e f. e ∙ ap (λ (names : List BoardId). exit_place names x) c.requires.boards ∙ ap (exit_place (board_names p)) f ∙ exit_places p o in
+    = λ n x o e f. e ∙ ap (λ (names : List Name). exit_place names x) c.requires.boards ∙ ap (exit_place (board_names p)) f ∙ exit_places p o in
     let north = number c.exit_number.result c.exit.result (exit North q) c.exit_number.ensures c.exit.ensures in
     let south = number c.exit_number-2.result c.exit-2.result (exit South q) c.exit_number-2.ensures c.exit-2.ensures in
     let west = number c.exit_number-3.result c.exit-3.result (exit West q) c.exit_number-3.ensures c.exit-3.ensures in

@@ -1,5 +1,4 @@
 use Rattle.std.proofs.Common.{◌≡◌, ℕ, List, Bool, Option, rules, ap, ◌∙◌, refl}
-use Rattle.zed_types.specs.declared.names.BoardId.{BoardId}
 use Rattle.zed_types.specs.declared.names.StatId.{StatId}
 use Rattle.zed_types.specs.declared.tile.Tile.{Tile}
 use Rattle.zed_world.specs.Offsets.{is_passage_at}
@@ -9,6 +8,7 @@ use Rattle.zed_types.specs.declared.stat_field.StatByte.TheVariants.{X, Y}
 use Rattle.zed_types.specs.declared.stat_field.StatNumber.TheVariants.{StepX, StepY, Cycle, Position}
 use Rattle.zed_document.specs.View.{board_at, stat_at, stat_byte, stat_number}
 use Rattle.zed_export.specs.World.{parameter}
+use Rattle.zed_types.specs.declared.names.Name.{Name}
 use Rattle.zed_export.specs.Fields.{place_parameter, board_names, stat_place, stat_names}
 use Rattle.zed_export.proofs.Names.{parameter_places, stat_places}
 use Rattle.zed_export.proofs.Numbers16.{kept}
@@ -20,13 +20,13 @@ returns-clause-is c =
     let b = board_at p c.args.i in
     let s = stat_at b c.args.j in
     let number : (n x o : Option StatId) → x ≡ o → stat_place c.args.stats.now x ≡ option_and_then (number_of_stat b) o
-    = λ n x o f. ap (λ (names : List StatId). stat_place names x) c.requires.stats ∙ ap (stat_place (stat_names b)) f ∙ stat_places b o in
+    = λ n x o f. ap (λ (names : List Name). stat_place names x) c.requires.stats ∙ ap (stat_place (stat_names b)) f ∙ stat_places b o in
     let follower = c.stat_number-4.ensures ∙ number s.follower c.follower.result s.follower c.follower.ensures in
     let leader = c.stat_number-5.ensures ∙ number s.leader c.leader.result s.leader c.leader.ensures in
     let passage : c.is_passage-on_passage.result ≡ is_passage_at b.tiles (stat_byte X s) (stat_byte Y s)
     = c.is_passage-on_passage.ensures ∙ ap (λ (ts : List Tile). is_passage_at ts c.stat_byte-x.result c.stat_byte-y.result) c.table.ensures ∙ ap (λ (x : ℕ). is_passage_at b.tiles x c.stat_byte-y.result) c.stat_byte-x.ensures ∙ ap (is_passage_at b.tiles (stat_byte X s)) c.stat_byte-y.ensures in
     let p3 : c.parameter_of.result ≡ parameter p (is_passage_at b.tiles (stat_byte X s) (stat_byte Y s)) s.fields.p3
-    = c.parameter_of.ensures ∙ ap (λ (names : List BoardId). place_parameter names c.is_passage-on_passage.result c.third_parameter.result) c.requires.boards
+    = c.parameter_of.ensures ∙ ap (λ (names : List Name). place_parameter names c.is_passage-on_passage.result c.third_parameter.result) c.requires.boards
     ∙ ap (λ (t : Bool). place_parameter (board_names p) t c.third_parameter.result) passage
     ∙ ap (place_parameter (board_names p) (is_passage_at b.tiles (stat_byte X s) (stat_byte Y s))) c.third_parameter.ensures
     ∙ parameter_places p (is_passage_at b.tiles (stat_byte X s) (stat_byte Y s)) s.fields.p3 in

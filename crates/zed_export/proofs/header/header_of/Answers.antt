@@ -1,8 +1,8 @@
 use Rattle.std.proofs.Common.{◌≡◌, List, rules, ap, ◌∙◌, refl}
-use Rattle.zed_types.specs.declared.names.BoardId.{BoardId}
 use Rattle.zed_types.specs.declared.header.HeaderNumber.TheVariants.{Ammo, Gems, Health, Torches, TorchTicks, EnergizerTicks, Score, TimePassed, Hundredths}
 use Rattle.zed_document.specs.View.{header_number}
 use Rattle.zed_export.specs.World.{number_or_0}
+use Rattle.zed_types.specs.declared.names.Name.{Name}
 use Rattle.zed_export.specs.Fields.{place_or_0, board_names}
 use Rattle.zed_export.proofs.Names.{board_place}
 use Rattle.zed_export.proofs.Numbers16.{kept}
@@ -22,6 +22,6 @@ returns-clause-is c =
     let time_passed = kept c.header_number-8.result (header_number TimePassed h) (search rules) c.header_number-8.ensures in
     let hundredths = kept c.header_number-9.result (header_number Hundredths h) (search rules) c.header_number-9.ensures in
     let board : c.board_number.result ≡ number_or_0 p h.current_board
-    = c.board_number.ensures ∙ ap (λ (names : List BoardId). place_or_0 names c.current_board.result) c.requires.named ∙ ap (place_or_0 (board_names p)) c.current_board.ensures ∙ board_place p h.current_board in
+    = c.board_number.ensures ∙ ap (λ (names : List Name). place_or_0 names c.current_board.result) c.requires.named ∙ ap (place_or_0 (board_names p)) c.current_board.ensures ∙ board_place p h.current_board in
     let name : c.in_ok-copy_of.field-0 ≡ h.world_name = c.in_ok-copy_of.ensures ∙ c.world_name.ensures in
     rw (ammo, gems, health, torches, torch_ticks, energizer_ticks, score, time_passed, hundredths, board, name, c.keys_of.ensures, c.in_ok-flags_of.ensures, c.is_saved.ensures) refl

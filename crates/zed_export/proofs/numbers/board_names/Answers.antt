@@ -10,6 +10,6 @@ pub invariant_of-result : goal.invariant_of-result
 invariant_of-result c =
     let items = c.loop-i.names.items in
     let bs = c.args.view.now.boards in
-    let rest = λ (left : List Board). items ++ map (λ b. b.id) (filter (λ b. not b.removed) left) in
+    let rest = λ (left : List Board). items ++ map (λ b. b.id.name) (filter (λ b. not b.removed) left) in
     let all : items ≡ board_names c.args.view.now = sym (append-nil items) ∙ ap rest (sym (drop_all c.loop-i.i bs (omega (arith, c.boards-i-end.ensures)))) ∙ c.loop-i.invariant in
     rw all (board_names_rise c.args.view.now c.requires)

@@ -5,4 +5,4 @@ use Rattle.zed_export.proofs.numbers.board_names.Given as goal
 
 -- the names so far, with those of the rest, are all
 abbrev pub invariant-loop-i : goal.invariant-loop-i
-invariant-loop-i l = l.names.items ++ map (λ b. b.id) (filter (λ b. not b.removed) (drop l.i l.view.boards)) ≡ board_names l.view
+invariant-loop-i l = l.names.items ++ map (λ b. b.id.name) (filter (λ b. not b.removed) (drop l.i l.view.boards)) ≡ board_names l.view

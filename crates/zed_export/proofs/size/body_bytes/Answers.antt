@@ -6,7 +6,7 @@ use Rattle.zed_world.specs.Writing.{stat_text}
 use Rattle.zed_document.specs.View.{board_at}
 use Rattle.zed_export.specs.World.{exported_board}
 use Rattle.zed_export.specs.Limits.{told}
-use Rattle.zed_export.proofs.Sizes.{length_body}
+use Rattle.zed_world.proofs.Sizes.{length_body}
 use Rattle.zed_export.proofs.size.body_bytes.Goals as goal
 
 pub returns : goal.returns
