@@ -5,3 +5,5 @@ pub mod RoomLemmas
 pub mod ChainLemmas
 pub mod ProgramLemmas
 pub mod OneTurn
+pub mod Drawing
+pub mod TurnFront

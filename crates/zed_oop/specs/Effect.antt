@@ -1,6 +1,9 @@
 -- What each command does: a row each.
 use Rattle.std.specs.Prelude.{◌≡◌, ◌⊎◌, ℕ, pos, Bool, true, false, ◌&&◌, not, nat_le, if◌then◌else◌, List, Option, Some, None, Result, MatchResult}
 use Rattle.zed_types.specs.declared.tile.Place.{Place}
+use Rattle.zed_oop.specs.declared.programs.Relabelling.TheVariants.{Hide, Show}
+use Rattle.zed_oop.specs.declared.performing.Motion.{Motion}
+use Rattle.zed_oop.specs.declared.performing.Motion.TheVariants.{Go as GoAlong, Try as TryAlong, Walk as WalkAlong, Shoot as ShootAlong, Put as PutAlong}
 use Rattle.zed_oop.specs.declared.acting.Next.{Next}
 use Rattle.zed_oop.specs.declared.acting.Next.TheVariants.{Skip, Stay, Command as CommandNext, SkipAndEnd, End as EndNext, Error}
 use Rattle.zed_scene.specs.declared.stat.Stat.{Stat}
@@ -21,7 +24,7 @@ use Rattle.zed_oop.specs.Holding.{given, taken_from}
 use Rattle.zed_oop.specs.Leading.{led}
 use Rattle.zed_oop.specs.Making.{became, bound, converted, put_ahead}
 use Rattle.zed_scene.specs.Removing.{with_health}
-use Rattle.zed_oop.specs.Sending.{has_colon, own_reached, restored, sent, zapped}
+use Rattle.zed_oop.specs.Sending.{Sent, has_colon, relabelled, sent}
 use Rattle.zed_scene.specs.Shooting.{shot}
 use Rattle.zed_oop.specs.Testing.{holds}
 use Rattle.zed_scene.specs.Words.{Drawn, ◌>>=◌}
@@ -73,12 +76,13 @@ bound_or_skip (true, s) = (Stay, s)
 bound_or_skip (false, s) = (Skip, s)
 
 -- after SEND: the turn goes on where the own position was set to, or else behind the line
-abbrev pub messaged : Bool → Scene → Outcome
-messaged own s = if own then (Stay, s) else (Skip, s)
+abbrev pub messaged : Sent → Outcome
+messaged t = if t.to_itself then (Stay, t.scene) else (Skip, t.scene)
 
 -- after a word that is no command: as SEND, but ERR if it has no colon and the own position wasn't set
-abbrev pub messaged_or_error : Bool → Bool → Scene → Outcome
-messaged_or_error own colon s = if own then (Stay, s) else if colon then (Skip, s) else (Error, s)
+abbrev pub messaged_or_error : Bool → Sent → Outcome
+messaged_or_error colon t =
+    if t.to_itself then (Stay, t.scene) else if colon then (Skip, t.scene) else (Error, t.scene)
 
 -- the turn goes on behind the rest of the line
 abbrev pub skips : Scene → Outcome
@@ -111,9 +115,9 @@ effect End start a s ws = Some ((EndNext, with_position None s), ws)
 effect EndGame start a s ws = Some (skips (with_health (pos 0) s), ws)
 effect Idle start a s ws = Some ((SkipAndEnd, s), ws)
 effect Restart start a s ws = Some ((Stay, with_position (Some 0) s), ws)
-effect (Send w) start a s ws = Some (messaged (own_reached w s) (sent w s), ws)
-effect (Zap w) start a s ws = Some (skips (zapped w s), ws)
-effect (Restore w) start a s ws = Some (skips (restored w s), ws)
+effect (Send w) start a s ws = Some (messaged (sent w s), ws)
+effect (Zap w) start a s ws = Some (skips (relabelled Hide w s), ws)
+effect (Restore w) start a s ws = Some (skips (relabelled Show w s), ws)
 effect Lock start a s ws = Some (skips (with_p2 1 s), ws)
 effect Unlock start a s ws = Some (skips (with_p2 0 s), ws)
 effect (Become k) start a s ws = Some (known_or_error (λ j t. (SkipAndEnd, became j a.place t)) k s, ws)
@@ -123,7 +127,15 @@ effect (Cycle v) start a s ws = Some (skips (if nat_le 1 v then with_cycle v s e
 effect (Char v) start a s ws = Some (skips (if nat_le 1 v && nat_le v 255 then with_p1 v s else s), ws)
 effect (Bind w) start a s ws = Some (bound_or_skip (bound w s), ws)
 effect Nothing start a s ws = Some (skips s, ws)
-effect (Other w) start a s ws = Some (messaged_or_error (own_reached w s) (has_colon w) (sent w s), ws)
+effect (Other w) start a s ws = Some (messaged_or_error (has_colon w) (sent w s), ws)
+
+-- what a command that has a direction does along its step, which only the contracts of its code cite
+abbrev pub done_along : Motion → ℕ → Stat → Step → Scene → Outcome
+done_along GoAlong start a d s = after_go start (try_move a.place d s)
+done_along TryAlong start a d s = after_try (try_move a.place d s)
+done_along WalkAlong start a d s = (Skip, with_step d s)
+done_along ShootAlong start a d s = (SkipAndEnd, (shot a.place d Creature s).1)
+done_along (PutAlong k) start a d s = put_kind a.place k d s
 
 -- a call did this and left these words, or told that a word is lacking, or that memory was refused
 abbrev pub Performs : {X : Type 0} → Result X OopError → Scene → List ℕ → Drawn (X × Scene) → Type 0

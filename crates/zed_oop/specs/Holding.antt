@@ -1,4 +1,4 @@
--- Flags and counters.
+-- Counters.
 use Rattle.std.specs.Prelude.{ℕ, ℤ, pos, ◌+ℤ◌, ◌-ℤ◌, int_lt, Bool, true, false, ◌==◌, if◌then◌else◌, List, [], length, take, map, slice_set, position, Option, Some, None}
 use Rattle.std.specs.Str.{bytes_eq}
 use Rattle.zed_script.specs.declared.commands.Counter.{Counter}
@@ -45,5 +45,3 @@ left_in k (Some n) s = (true, record s { counters = with_counter k n s.counters 
 -- whether a counter has so much, and the board without it
 abbrev pub taken_from : Counter → ℕ → Scene → Bool × Scene
 taken_from k v s = left_in k (taken (in_counter k s.counters) v) s
-
--- ---- flags

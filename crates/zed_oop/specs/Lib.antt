@@ -6,3 +6,4 @@ pub mod Sending
 pub mod Making
 pub mod Effect
 pub mod Turn
+pub mod Laws

@@ -4,6 +4,8 @@ use Rattle.std.specs.List.{list_any}
 use Rattle.std.specs.Str.{bytes_eq}
 use Rattle.zed_scene.specs.declared.stat.Stat.{Stat}
 use Rattle.zed_scene.specs.Scene.{Scene, own, program_of, put_stat}
+use Rattle.zed_oop.specs.declared.programs.Relabelling.{Relabelling}
+use Rattle.zed_oop.specs.declared.programs.Relabelling.TheVariants.{Hide, Show}
 use Rattle.zed_script.specs.Label.{byte_is, first_label, is_restart, label_at, label_place}
 use Rattle.zed_script.specs.Text.{word_at}
 
@@ -72,17 +74,32 @@ abbrev pub set_to : ℕ → Stat → Option ℕ → Scene → Scene
 set_to i a None s = s
 set_to i a (Some at) s = put_stat i (record a { position = Some at }) s
 
+-- what a word leaves that was sent to some stats
+pub record Sent : Type 0 where
+  pub scene : Scene
+  -- whether it set the own position
+  pub to_itself : Bool
+
+-- a board on which the own position was set by now, or wasn't
+abbrev pub so_far : Scene → Bool → Sent
+so_far s b = record { scene = s; to_itself = b }
+
+-- stat i goes on at this place of its program; where there is none it stays as it is
+abbrev pub arrived : ℕ → Stat → Option ℕ → Sent → Sent
+arrived i a None t = t
+arrived i a (Some at) t = so_far (set_to i a (Some at) t.scene) (t.to_itself || is_own t.scene i)
+
 -- a word comes to stat i: if it reaches the stat and the label is there, the stat goes on at it
-abbrev pub sent_to : List ℕ → ℕ → Option Stat → Scene → Scene
-sent_to w i None s = s
-sent_to w i (Some a) s =
-    if is_reached (program_of s a.program) w i (is_own s i) a
-    then set_to i a (label_place (program_of s a.program) (label_of w)) s
-    else s
+abbrev pub sent_to : List ℕ → ℕ → Option Stat → Sent → Sent
+sent_to w i None t = t
+sent_to w i (Some a) t =
+    if is_reached (program_of t.scene a.program) w i (is_own t.scene i) a
+    then arrived i a (label_place (program_of t.scene a.program) (label_of w)) t
+    else t
 
 -- a message to stat i, if it is a target
-unfoldable pub send_one : List ℕ → ℕ → Scene → Scene
-send_one w i s = sent_to w i (slice_get s.stats i) s
+unfoldable pub send_one : List ℕ → ℕ → Sent → Sent
+send_one w i t = sent_to w i (slice_get t.scene.stats i) t
 
 -- a label is sent to stat i alone, if it isn't locked
 abbrev pub sent_alone_to : List ℕ → ℕ → Option Stat → Scene → Scene
@@ -95,22 +112,8 @@ abbrev pub sent_alone : List ℕ → ℕ → Scene → Scene
 sent_alone l i s = sent_alone_to l i (slice_get s.stats i) s
 
 -- a word `T:L` is sent: the position of each target that has the label is set to it
-unfoldable pub sent : List ℕ → Scene → Scene
-sent w s = for_each (send_one w) (length s.stats) s
-
--- whether the own position was set
-unfoldable pub reaches_itself : List ℕ → ℕ → List ℕ → Bool
-reaches_itself p i w = is_target p w i true && is_some (label_place p (label_of w))
-
--- whether a word that is sent sets the position of this stat; of one that is gone it doesn't
-abbrev pub reached_as : List ℕ → Scene → Option ℕ → Option Stat → Bool
-reached_as w s None o = false
-reached_as w s (Some i) None = false
-reached_as w s (Some i) (Some a) = reaches_itself (program_of s a.program) i w
-
--- whether a word that is sent sets the position of the stat whose turn it is
-abbrev pub own_reached : List ℕ → Scene → Bool
-own_reached w s = reached_as w s s.running (own s)
+unfoldable pub sent : List ℕ → Scene → Sent
+sent w s = for_each (send_one w) (length s.stats) (so_far s false)
 
 -- whether a colon is in a word, so that it names a target
 abbrev pub has_colon : List ℕ → Bool
@@ -135,6 +138,11 @@ restore_at label at p = if nat_lt at (length p) && label_at 39 p label at then s
 abbrev pub restored_in : List ℕ → List ℕ → List ℕ
 restored_in label p = if is_restart label then p else for_each (restore_at label) (length p) p
 
+-- a program whose first label is hidden, or whose hidden labels are shown
+abbrev pub relabelled_in : Relabelling → List ℕ → List ℕ → List ℕ
+relabelled_in Hide label p = zapped_in label p
+relabelled_in Show label p = restored_in label p
+
 -- a program changes; the stats that share it share the change
 abbrev pub changed_at : (List ℕ → List ℕ) → ℕ → Option (List ℕ) → List (List ℕ) → List (List ℕ)
 changed_at f k None ps = ps
@@ -155,18 +163,10 @@ changed_of f w i None s = s
 changed_of f w i (Some a) s =
     if is_target (program_of s a.program) w i (is_own s i) then changed_program f a.program s else s
 
--- the first label L in the program of stat i is hidden, if a word `T:L` is sent to it
-unfoldable pub zap_one : List ℕ → ℕ → Scene → Scene
-zap_one w i s = changed_of (zapped_in (label_of w)) w i (slice_get s.stats i) s
+-- in the program of stat i the labels L are hidden or shown, if a word `T:L` is sent to it
+unfoldable pub relabel_one : Relabelling → List ℕ → ℕ → Scene → Scene
+relabel_one r w i s = changed_of (relabelled_in r (label_of w)) w i (slice_get s.stats i) s
 
--- each hidden label L in the program of stat i is shown again, if a word `T:L` is sent to it
-unfoldable pub restore_one : List ℕ → ℕ → Scene → Scene
-restore_one w i s = changed_of (restored_in (label_of w)) w i (slice_get s.stats i) s
-
--- each target of a word `T:L` is zapped, and restored
-unfoldable pub zapped : List ℕ → Scene → Scene
-zapped w s = for_each (zap_one w) (length s.stats) s
-
--- in each target of a word `T:L` the hidden labels L are shown again
-unfoldable pub restored : List ℕ → Scene → Scene
-restored w s = for_each (restore_one w) (length s.stats) s
+-- in each target of a word `T:L` the labels L are hidden, or shown
+unfoldable pub relabelled : Relabelling → List ℕ → Scene → Scene
+relabelled r w s = for_each (relabel_one r w) (length s.stats) s

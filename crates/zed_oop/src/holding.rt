@@ -21,32 +21,16 @@ fn in_counter(counters: Counters, counter: Counter) -> i16
 fn with_counter(counters: Counters, counter: Counter, n: i16) -> Counters
     ensures { result ≡ with_counter counter n counters }
 {
+    let mut changed = counters;
     match counter {
-        Counter::Health => Counters {
-            health: n,
-            ..counters
-        },
-        Counter::Ammo => Counters {
-            ammo: n,
-            ..counters
-        },
-        Counter::Gems => Counters {
-            gems: n,
-            ..counters
-        },
-        Counter::Torches => Counters {
-            torches: n,
-            ..counters
-        },
-        Counter::Score => Counters {
-            score: n,
-            ..counters
-        },
-        Counter::Time => Counters {
-            time: n,
-            ..counters
-        },
+        Counter::Health => changed.health = n,
+        Counter::Ammo => changed.ammo = n,
+        Counter::Gems => changed.gems = n,
+        Counter::Torches => changed.torches = n,
+        Counter::Score => changed.score = n,
+        Counter::Time => changed.time = n,
     }
+    changed
 }
 
 /// A counter with a value more, which stops at 32,767.

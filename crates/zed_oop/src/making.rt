@@ -1,11 +1,10 @@
 //! Tiles that programs make.
-ghost use Rattle.std.specs.Prelude.{◌≡◌, ◌<◌, ◌≤◌, IfOk, slice_get};
+ghost use Rattle.std.specs.Prelude.{◌≡◌, ◌<◌, ◌≤◌, slice_get};
 ghost use Rattle.zed_oop.specs.Making.{became, bound, bound_to, converted_to, has_name, named, changed_place, changed_tile, cleared_below, cleared_one, converted, is_there, put_ahead, put_if_walkable, without_own};
 ghost use Rattle.zed_types.specs.Table.{place_at};
 
 use crate::acting::go_to;
 use crate::sending::is_named;
-use std::alloc::{AllocError, Global};
 use zed_scene::{Scene, Stat, Step, ahead, is_walkable};
 use zed_script::TileKind;
 use zed_types::Place;
@@ -130,31 +129,26 @@ pub(crate) fn convert(scene: &mut Scene, first: TileKind, second: TileKind)
 }
 
 /// Whether stat i, past the player, has a program of this name.
-fn has_name(scene: &Scene, alloc: Global, name: &[u8], i: usize) -> Result<bool, AllocError>
-    ensures { IfOk result (λ b. b ≡ has_name scene.now name.now i (slice_get scene.now.stats i)) }
+fn has_name(scene: &Scene, name: &[u8], i: usize) -> bool
+    ensures { result ≡ has_name scene.now name.now i (slice_get scene.now.stats i) }
 {
     match scene.stat(i) {
-        Some(stat) => {
-            if i == 0 {
-                return Ok(false);
-            }
-            is_named(alloc, scene.program(stat.program), name)
-        }
-        None => Ok(false),
+        Some(stat) => 1 <= i && is_named(scene.program(stat.program), name),
+        None => false,
     }
 }
 
 /// The first stat past the player whose program has this name.
 #[tactic(auto, unfolding(crate::specs::Making::named))]
-fn named(scene: &Scene, alloc: Global, name: &[u8]) -> Result<Option<usize>, AllocError>
-    ensures { IfOk result (λ r. r ≡ named name.now scene.now) }
+fn named(scene: &Scene, name: &[u8]) -> Option<usize>
+    ensures { result ≡ named name.now scene.now }
 {
     for i in 0..scene.stats().len() {
-        if has_name(scene, alloc, name, i)? {
-            return Ok(Some(i));
+        if has_name(scene, name, i) {
+            return Some(i);
         }
     }
-    Ok(None)
+    None
 }
 
 fn bind_to(scene: &mut Scene, other: Option<Stat>)
@@ -171,15 +165,15 @@ fn bind_to(scene: &mut Scene, other: Option<Stat>)
 }
 
 /// Gives the stat whose turn it is the program of the first stat of this name, and tells whether there is one.
-pub(crate) fn bind(scene: &mut Scene, alloc: Global, name: &[u8]) -> Result<bool, AllocError>
-    ensures { IfOk result (λ b. bound name.now scene.old ≡ (b, scene.new)) }
+pub(crate) fn bind(scene: &mut Scene, name: &[u8]) -> bool
+    ensures { bound name.now scene.old ≡ (result, scene.new) }
 {
-    match named(scene, alloc, name)? {
+    match named(scene, name) {
         Some(i) => {
             let other = scene.stat(i);
             bind_to(scene, other);
-            Ok(true)
+            true
         }
-        None => Ok(false),
+        None => false,
     }
 }

@@ -2,24 +2,24 @@
 ghost use Rattle.std.specs.Prelude.{◌≡◌, ◌&&◌, IfOk, Some, nat_le, pos, if◌then◌else◌};
 ghost use Rattle.zed_scene.specs.Trying.{try_move};
 ghost use Rattle.zed_oop.specs.Acting.{with_cycle, with_p1};
-ghost use Rattle.zed_oop.specs.Effect.{Performs, bound_or_skip, change, effect, after_go, known_or_error, messaged, messaged_or_error, or_command, put_kind, skips, after_try};
+ghost use Rattle.zed_oop.specs.Effect.{Performs, along, bound_or_skip, done_along, change, effect, after_go, known_or_error, messaged, messaged_or_error, or_command, put_kind, skips, after_try};
 ghost use Rattle.zed_oop.specs.Holding.{given, taken_from};
 ghost use Rattle.zed_oop.specs.Making.{became, bound};
 ghost use Rattle.zed_scene.specs.Removing.{with_health};
-ghost use Rattle.zed_oop.specs.Sending.{has_colon, own_reached, sent};
+ghost use Rattle.zed_oop.specs.Sending.{has_colon, sent};
 ghost use Rattle.zed_oop.specs.declared.acting.Next.TheVariants.{SkipAndEnd};
-ghost use Rattle.zed_script.specs.declared.commands.Command.TheVariants.{Go, Try, Walk, Shoot, Put, If};
+ghost use Rattle.zed_script.specs.declared.commands.Command.TheVariants.{If};
 
 use crate::acting::{Next, go_to, set_cycle, set_p1, set_p2, set_step};
 use crate::holding::{give, take};
 use crate::leading::led;
 use crate::making::{become_kind, bind, convert, put_ahead};
-use crate::programs::{restore_all, zap_all};
-use crate::sending::{is_target, label_of, send};
+use crate::programs::{Relabelling, relabel_all};
+use crate::sending::send;
 use crate::testing::holds;
 use std::alloc::{AllocError, Global};
 use zed_scene::{Counters, OopError, Scene, Shooter, Stat, Step, Words};
-use zed_script::{Command, Counter, Heading, Query, TileKind, label_place};
+use zed_script::{Command, Counter, Heading, Query, TileKind};
 use zed_types::Place;
 
 /// Nothing at all, of any colour.
@@ -27,6 +27,16 @@ const EMPTY: TileKind = TileKind {
     colour: None,
     element: 0,
 };
+
+/// A command that has a direction.
+#[derive(Clone, Copy, Debug)]
+enum Motion {
+    Go,
+    Try,
+    Walk,
+    Shoot,
+    Put(Option<TileKind>),
+}
 
 fn finish_go(scene: &mut Scene, start: usize, from: Place, step: Step) -> Next
     ensures { after_go start (try_move from step scene.old) ≡ (result, scene.new) }
@@ -49,80 +59,6 @@ fn finish_try(scene: &mut Scene, from: Place, step: Step) -> Next
     }
 }
 
-#[tactic(auto, unfolding(crate::specs::Effect::effect))]
-fn do_go(
-    scene: &mut Scene,
-    heading: &Heading,
-    start: usize,
-    stat: Stat,
-    words: &mut Words,
-) -> Result<Next, OopError>
-    ensures { Performs result scene.new words.new
-        (effect (Go heading.now) start stat scene.old words.old) }
-{
-    match led(scene, heading, stat, words)? {
-        Some(step) => Ok(finish_go(scene, start, stat.place, step)),
-        None => Ok(Next::Error),
-    }
-}
-
-#[tactic(auto, unfolding(crate::specs::Effect::effect))]
-fn do_try(
-    scene: &mut Scene,
-    heading: &Heading,
-    start: usize,
-    stat: Stat,
-    words: &mut Words,
-) -> Result<Next, OopError>
-    ensures { Performs result scene.new words.new
-        (effect (Try heading.now) start stat scene.old words.old) }
-{
-    match led(scene, heading, stat, words)? {
-        Some(step) => Ok(finish_try(scene, stat.place, step)),
-        None => Ok(Next::Error),
-    }
-}
-
-#[tactic(auto, unfolding(crate::specs::Effect::effect))]
-fn do_walk(
-    scene: &mut Scene,
-    heading: &Heading,
-    start: usize,
-    stat: Stat,
-    words: &mut Words,
-) -> Result<Next, OopError>
-    ensures { Performs result scene.new words.new
-        (effect (Walk heading.now) start stat scene.old words.old) }
-{
-    match led(scene, heading, stat, words)? {
-        Some(step) => {
-            set_step(scene, step);
-            Ok(Next::Skip)
-        }
-        None => Ok(Next::Error),
-    }
-}
-
-#[tactic(auto, unfolding(crate::specs::Effect::effect))]
-fn do_shoot(
-    scene: &mut Scene,
-    heading: &Heading,
-    start: usize,
-    stat: Stat,
-    words: &mut Words,
-) -> Result<Next, OopError>
-    ensures { Performs result scene.new words.new
-        (effect (Shoot heading.now) start stat scene.old words.old) }
-{
-    match led(scene, heading, stat, words)? {
-        Some(step) => {
-            let _shot = scene.shoot(stat.place, step, Shooter::Creature)?;
-            Ok(Next::SkipAndEnd)
-        }
-        None => Ok(Next::Error),
-    }
-}
-
 fn finish_put(scene: &mut Scene, from: Place, kind: Option<TileKind>, step: Step) -> Next
     ensures { put_kind from kind step scene.old ≡ (result, scene.new) }
 {
@@ -135,20 +71,46 @@ fn finish_put(scene: &mut Scene, from: Place, kind: Option<TileKind>, step: Step
     }
 }
 
-#[tactic(auto, unfolding(crate::specs::Effect::effect))]
-fn do_put(
+/// What such a command does along a step.
+fn go_along(
+    scene: &mut Scene,
+    motion: Motion,
+    start: usize,
+    stat: Stat,
+    step: Step,
+) -> Result<Next, AllocError>
+    ensures { IfOk result (λ n.
+        done_along motion start stat step scene.old ≡ (n, scene.new)) }
+{
+    match motion {
+        Motion::Go => Ok(finish_go(scene, start, stat.place, step)),
+        Motion::Try => Ok(finish_try(scene, stat.place, step)),
+        Motion::Walk => {
+            set_step(scene, step);
+            Ok(Next::Skip)
+        }
+        Motion::Shoot => {
+            let _shot = scene.shoot(stat.place, step, Shooter::Creature)?;
+            Ok(Next::SkipAndEnd)
+        }
+        Motion::Put(kind) => Ok(finish_put(scene, stat.place, kind, step)),
+    }
+}
+
+/// Does a command that has a direction.
+fn do_along(
     scene: &mut Scene,
     heading: &Heading,
-    kind: Option<TileKind>,
+    motion: Motion,
     start: usize,
     stat: Stat,
     words: &mut Words,
 ) -> Result<Next, OopError>
     ensures { Performs result scene.new words.new
-        (effect (Put heading.now kind) start stat scene.old words.old) }
+        (along heading.now (λ d t. done_along motion start stat d t) stat scene.old words.old) }
 {
     match led(scene, heading, stat, words)? {
-        Some(step) => Ok(finish_put(scene, stat.place, kind, step)),
+        Some(step) => Ok(go_along(scene, motion, start, stat, step)?),
         None => Ok(Next::Error),
     }
 }
@@ -260,57 +222,36 @@ fn end_game(scene: &mut Scene)
     });
 }
 
-/// Whether a word that is sent sets the own position.
-#[tactic(auto, unfolding(crate::specs::Sending::reaches_itself))]
-fn own_reached(scene: &Scene, alloc: Global, word: &[u8]) -> Result<bool, AllocError>
-    ensures { IfOk result (λ b. b ≡ own_reached word.now scene.now) }
+fn do_send(scene: &mut Scene, word: &[u8]) -> Next
+    ensures { messaged (sent word.now scene.old) ≡ (result, scene.new) }
 {
-    let i = match scene.running() {
-        Some(i) => i,
-        None => return Ok(false),
-    };
-    match scene.stat(i) {
-        Some(stat) => {
-            let program = scene.program(stat.program);
-            let meant = is_target(alloc, program, word, i, true)?;
-            Ok(meant && label_place(program, label_of(word)).is_some())
-        }
-        None => Ok(false),
+    if send(scene, word) {
+        Next::Stay
+    } else {
+        Next::Skip
     }
 }
 
-fn do_send(scene: &mut Scene, alloc: Global, word: &[u8]) -> Result<Next, AllocError>
-    ensures { IfOk result (λ n.
-        messaged (own_reached word.now scene.old) (sent word.now scene.old) ≡ (n, scene.new)) }
+fn do_other(scene: &mut Scene, word: &[u8]) -> Next
+    ensures { messaged_or_error (has_colon word.now) (sent word.now scene.old)
+        ≡ (result, scene.new) }
 {
-    let own = own_reached(scene, alloc, word)?;
-    send(scene, alloc, word)?;
-    if own { Ok(Next::Stay) } else { Ok(Next::Skip) }
-}
-
-fn do_other(scene: &mut Scene, alloc: Global, word: &[u8]) -> Result<Next, AllocError>
-    ensures { IfOk result (λ n. messaged_or_error
-        (own_reached word.now scene.old) (has_colon word.now) (sent word.now scene.old)
-        ≡ (n, scene.new)) }
-{
-    let own = own_reached(scene, alloc, word)?;
-    send(scene, alloc, word)?;
-    if own {
-        Ok(Next::Stay)
+    if send(scene, word) {
+        Next::Stay
     } else if has_colon(word) {
-        Ok(Next::Skip)
+        Next::Skip
     } else {
-        Ok(Next::Error)
+        Next::Error
     }
 }
 
-fn do_bind(scene: &mut Scene, alloc: Global, word: &[u8]) -> Result<Next, AllocError>
-    ensures { IfOk result (λ n. bound_or_skip (bound word.now scene.old) ≡ (n, scene.new)) }
+fn do_bind(scene: &mut Scene, word: &[u8]) -> Next
+    ensures { bound_or_skip (bound word.now scene.old) ≡ (result, scene.new) }
 {
-    if bind(scene, alloc, word)? {
-        Ok(Next::Stay)
+    if bind(scene, word) {
+        Next::Stay
     } else {
-        Ok(Next::Skip)
+        Next::Skip
     }
 }
 
@@ -328,11 +269,13 @@ pub(crate) fn perform(
         (effect command.now start stat scene.old words.old) }
 {
     match command {
-        Command::Go(heading) => do_go(scene, heading, start, stat, words),
-        Command::Try(heading) => do_try(scene, heading, start, stat, words),
-        Command::Walk(heading) => do_walk(scene, heading, start, stat, words),
-        Command::Shoot(heading) => do_shoot(scene, heading, start, stat, words),
-        Command::Put(heading, kind) => do_put(scene, heading, *kind, start, stat, words),
+        Command::Go(heading) => do_along(scene, heading, Motion::Go, start, stat, words),
+        Command::Try(heading) => do_along(scene, heading, Motion::Try, start, stat, words),
+        Command::Walk(heading) => do_along(scene, heading, Motion::Walk, start, stat, words),
+        Command::Shoot(heading) => do_along(scene, heading, Motion::Shoot, start, stat, words),
+        Command::Put(heading, kind) => {
+            do_along(scene, heading, Motion::Put(*kind), start, stat, words)
+        }
         Command::If(query) => do_if(scene, query, start, stat, words),
         Command::Set(word) => {
             scene.set_flag(alloc, word.as_slice())?;
@@ -344,17 +287,17 @@ pub(crate) fn perform(
         }
         Command::Give(counter, value) => Ok(do_give(scene, *counter, *value)),
         Command::Take(counter, value) => Ok(do_take(scene, *counter, *value)),
-        Command::Send(word) => Ok(do_send(scene, alloc, word.as_slice())?),
+        Command::Send(word) => Ok(do_send(scene, word.as_slice())),
         Command::Zap(word) => {
-            zap_all(scene, alloc, word.as_slice())?;
+            relabel_all(scene, alloc, Relabelling::Hide, word.as_slice());
             Ok(Next::Skip)
         }
         Command::Restore(word) => {
-            restore_all(scene, alloc, word.as_slice())?;
+            relabel_all(scene, alloc, Relabelling::Show, word.as_slice());
             Ok(Next::Skip)
         }
-        Command::Bind(word) => Ok(do_bind(scene, alloc, word.as_slice())?),
-        Command::Other(word) => Ok(do_other(scene, alloc, word.as_slice())?),
+        Command::Bind(word) => Ok(do_bind(scene, word.as_slice())),
+        Command::Other(word) => Ok(do_other(scene, word.as_slice())),
         Command::End => {
             go_to(scene, None);
             Ok(Next::End)

@@ -1,11 +1,9 @@
 //! Messages to labels, and labels that are hidden and shown again.
-ghost use Rattle.std.specs.Prelude.{◌≡◌, IfOk, OnOk, ◌<◌, length, position};
-ghost use Rattle.zed_scene.specs.Scene.{program_of};
-ghost use Rattle.zed_oop.specs.Sending.{for_each, is_colon, is_meant, is_named, is_number, is_own, is_target, label_of, reaches_itself, restore_at, restore_one, restored, restored_in, send_one, sent, sent_alone, set_to, zap_one, zapped, zapped_in};
+ghost use Rattle.std.specs.Prelude.{◌≡◌, position};
+ghost use Rattle.zed_oop.specs.Sending.{arrived, is_colon, is_meant, is_named, is_number, is_own, is_reached, is_target, label_of, restore_at, restored_in, send_one, sent, sent_alone, set_to, so_far, zapped_in};
 
-use std::alloc::{AllocError, Global};
 use zed_scene::{Scene, Stat};
-use zed_script::{byte_is, first_label, is_restart, is_word, label_at, label_place, word_at};
+use zed_script::{byte_is, first_label, is_restart, is_word, is_word_at, label_at, label_place};
 use zed_types::Bytes;
 
 /// Where the target of a word ends.
@@ -28,55 +26,36 @@ pub(crate) fn label_of(word: &[u8]) -> &[u8]
 
 /// Whether a program has this name.
 #[tactic(auto, unfolding(crate::specs::Sending::is_named))]
-pub(crate) fn is_named(alloc: Global, program: &[u8], name: &[u8]) -> Result<bool, AllocError>
-    ensures { IfOk result (λ b. b ≡ is_named program.now name.now) }
+pub(crate) fn is_named(program: &[u8], name: &[u8]) -> bool
+    ensures { result ≡ is_named program.now name.now }
 {
-    if !byte_is(program, 0, b'@') {
-        return Ok(false);
-    }
-    let own = word_at(alloc, program, 1)?;
-    Ok(own.as_slice() == name)
+    byte_is(program, 0, b'@') && is_word_at(program, 1, name)
 }
 
 /// Whether stat i, whose program this is, is meant by a name.
-fn is_meant(
-    alloc: Global,
-    program: &[u8],
-    name: &[u8],
-    i: usize,
-    own: bool,
-) -> Result<bool, AllocError>
-    ensures { IfOk result (λ b. b ≡ is_meant program.now name.now i own) }
+fn is_meant(program: &[u8], name: &[u8], i: usize, own: bool) -> bool
+    ensures { result ≡ is_meant program.now name.now i own }
 {
     if is_word(name, "ALL") {
-        return Ok(1 <= i);
+        return 1 <= i;
     }
     if is_word(name, "OTHERS") {
-        return Ok(1 <= i && !own);
+        return 1 <= i && !own;
     }
     if is_word(name, "SELF") {
-        return Ok(own);
+        return own;
     }
-    if i == 0 {
-        return Ok(false);
-    }
-    is_named(alloc, program, name)
+    1 <= i && is_named(program, name)
 }
 
 /// Whether a word is sent to stat i, whose program this is.
 #[tactic(auto, unfolding(crate::specs::Sending::is_target, crate::specs::Sending::target_of))]
-pub(crate) fn is_target(
-    alloc: Global,
-    program: &[u8],
-    word: &[u8],
-    i: usize,
-    own: bool,
-) -> Result<bool, AllocError>
-    ensures { IfOk result (λ b. b ≡ is_target program.now word.now i own) }
+pub(crate) fn is_target(program: &[u8], word: &[u8], i: usize, own: bool) -> bool
+    ensures { result ≡ is_target program.now word.now i own }
 {
     match colon(word) {
-        Some(k) => is_meant(alloc, program, &word[..k], i, own),
-        None => Ok(own),
+        Some(k) => is_meant(program, &word[..k], i, own),
+        None => own,
     }
 }
 
@@ -137,38 +116,63 @@ fn set_to(scene: &mut Scene, i: usize, stat: Stat, place: Option<usize>)
     }
 }
 
-/// Sends a word to stat i, if it is a target.
-#[tactic(auto, unfolding(crate::specs::Sending::send_one))]
-fn send_one(scene: &mut Scene, alloc: Global, word: &[u8], i: usize) -> Result<(), AllocError>
-    ensures { OnOk result (scene.new ≡ send_one word.now i scene.old) }
+/// Whether a word that is sent reaches stat i, whose program this is.
+fn is_reached(program: &[u8], word: &[u8], i: usize, own: bool, stat: Stat) -> bool
+    ensures { result ≡ is_reached program.now word.now i own stat }
 {
-    if let Some(stat) = scene.stat(i) {
-        let own = is_own(scene, i);
-        let program = scene.program(stat.program);
-        let meant = is_target(alloc, program, word, i, own)?;
-        if meant && (stat.p2 == 0 || own) {
-            let place = label_place(program, label_of(word));
-            set_to(scene, i, stat, place);
-        }
-    }
-    Ok(())
+    is_target(program, word, i, own) && (stat.p2 == 0 || own)
 }
 
-/// Sends a word: the position of each target that has the label is set to it.
+/// Lets stat i go on at a place, and tells whether the own position was set by now.
+fn arrive(scene: &mut Scene, i: usize, stat: Stat, place: Option<usize>, before: bool) -> bool
+    ensures { so_far scene.new result ≡ arrived i stat place (so_far scene.old before) }
+{
+    match place {
+        Some(_) => {
+            let own = is_own(scene, i);
+            set_to(scene, i, stat, place);
+            before || own
+        }
+        None => before,
+    }
+}
+
+/// Sends a word to stat i, if it is a target, and tells whether the own position was set by now.
+#[tactic(auto, unfolding(crate::specs::Sending::send_one))]
+fn send_one(scene: &mut Scene, word: &[u8], i: usize, before: bool) -> bool
+    ensures { so_far scene.new result ≡ send_one word.now i (so_far scene.old before) }
+{
+    match scene.stat(i) {
+        Some(stat) => {
+            let own = is_own(scene, i);
+            let program = scene.program(stat.program);
+            if is_reached(program, word, i, own, stat) {
+                let place = label_place(program, label_of(word));
+                arrive(scene, i, stat, place, before)
+            } else {
+                before
+            }
+        }
+        None => before,
+    }
+}
+
+/// Sends a word: the position of each target that has the label is set to it. Tells whether the own one was.
 #[tactic(auto, unfolding(crate::specs::Sending::sent))]
-pub(crate) fn send(scene: &mut Scene, alloc: Global, word: &[u8]) -> Result<(), AllocError>
-    ensures { OnOk result (scene.new ≡ sent word.now scene.old) }
+pub(crate) fn send(scene: &mut Scene, word: &[u8]) -> bool
+    ensures { sent word.now scene.old ≡ so_far scene.new result }
 {
     let n = scene.stats().len();
+    let mut own = false;
     for i in 0..n {
-        send_one(scene, alloc, word, i)?;
+        own = send_one(scene, word, i, own);
     }
-    Ok(())
+    own
 }
 
 /// Sends a label to stat i alone, if it isn't locked.
 pub fn send_alone(scene: &mut Scene, i: usize, label: &[u8])
-    ensures { scene.new ≡ sent_alone label.now i scene.old }
+    ensures result { scene.new ≡ sent_alone label.now i scene.old }
 {
     if let Some(stat) = scene.stat(i) {
         if stat.p2 == 0 {

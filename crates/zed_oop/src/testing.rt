@@ -1,11 +1,11 @@
 //! Whether conditions hold.
 ghost use Rattle.std.specs.Prelude.{◌≡◌};
-ghost use Rattle.zed_oop.specs.Testing.{apart, blocked, player_place, holds, is_any, is_aligned, is_in_contact, tested};
+ghost use Rattle.zed_oop.specs.Testing.{apart, player_place, holds, is_any, is_aligned, is_in_contact, is_way_blocked, tested};
 ghost use Rattle.zed_scene.specs.Words.{Draws};
 
 use crate::leading::led;
-use zed_scene::{OopError, Scene, Stat, Words, ahead, has_flag, is_walkable};
-use zed_script::{Heading, Query, Test, TileKind};
+use zed_scene::{OopError, Scene, Stat, Step, Words, ahead, has_flag, is_walkable};
+use zed_script::{Query, Test, TileKind};
 use zed_types::{Place, Tile};
 
 fn is_aligned(a: Place, b: Place) -> bool
@@ -33,19 +33,13 @@ fn is_any(kind: TileKind, tiles: &[Tile]) -> bool
     tiles.iter().any(|t| kind.matches(*t))
 }
 
-#[tactic(auto, unfolding(crate::specs::Testing::blocked))]
-/// Whether what is ahead can't be walked on; None where the direction is none.
-fn blocked(
-    scene: &Scene,
-    heading: &Heading,
-    stat: Stat,
-    words: &mut Words,
-) -> Result<Option<bool>, OopError>
-    ensures { Draws result words.new (blocked heading.now stat scene.now words.old) }
+/// Whether what is ahead can't be walked on; None without a step.
+fn is_way_blocked(scene: &Scene, stat: Stat, step: Option<Step>) -> Option<bool>
+    ensures { result ≡ is_way_blocked stat scene.now step }
 {
-    match led(scene, heading, stat, words)? {
-        Some(step) => Ok(Some(!is_walkable(scene.element(ahead(stat.place, step))))),
-        None => Ok(None),
+    match step {
+        Some(step) => Some(!is_walkable(scene.element(ahead(stat.place, step)))),
+        None => None,
     }
 }
 
@@ -59,6 +53,8 @@ fn player_place(scene: &Scene, other: Place) -> Place
     }
 }
 
+#[tactic(auto, unfolding(crate::specs::Testing::blocked))]
+/// Whether a test holds, any NOT aside; None where it has a direction or a kind that there isn't.
 fn tested(
     scene: &Scene,
     test: &Test,
@@ -70,7 +66,10 @@ fn tested(
     match test {
         Test::Aligned => Ok(Some(is_aligned(stat.place, player_place(scene, stat.place)))),
         Test::Contact => Ok(Some(is_in_contact(stat.place, player_place(scene, stat.place)))),
-        Test::Blocked(heading) => blocked(scene, heading, stat, words),
+        Test::Blocked(heading) => {
+            let step = led(scene, heading, stat, words)?;
+            Ok(is_way_blocked(scene, stat, step))
+        }
         Test::Any(kind) => match kind {
             Some(kind) => Ok(Some(is_any(*kind, scene.tiles()))),
             None => Ok(None),

@@ -8,8 +8,8 @@ use Rattle.zed_scene.specs.declared.step.Step.{Step as Way}
 use Rattle.zed_scene.specs.Places.{ahead}
 use Rattle.zed_scene.specs.Seeking.{random_step, sought}
 use Rattle.zed_scene.specs.Words.{Drawn, draw}
-use Rattle.zed_play.proofs.Drawing.{Front, Is, front_bind, front_draw, front_either, front_none, front_random, front_sought}
-use Rattle.zed_play.proofs.TurnFront.{turn_front}
+use Rattle.zed_oop.proofs.Drawing.{Front, Is, front_bind, front_draw, front_either, front_none, front_random, front_sought}
+use Rattle.zed_oop.proofs.TurnFront.{turn_front}
 use Rattle.zed_play.specs.declared.game.Game.{Game}
 use Rattle.zed_play.specs.declared.key.Asked.{Asked}
 use Rattle.zed_play.specs.declared.key.Bounds.{Bounds}

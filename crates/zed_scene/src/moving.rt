@@ -14,7 +14,7 @@ const REACH: u8 = 60;
 /// Whether an element may be walked on.
 #[tactic(auto, unfolding(crate::specs::Moving::is_walkable))]
 pub fn is_walkable(n: u8) -> bool
-    ensures { result ≡ is_walkable n }
+    ensures result { result ≡ is_walkable n }
 {
     element(n).walkable
 }
@@ -22,7 +22,7 @@ pub fn is_walkable(n: u8) -> bool
 /// Whether an element can be destroyed.
 #[tactic(auto, unfolding(crate::specs::Moving::is_destructible))]
 pub fn is_destructible(n: u8) -> bool
-    ensures { result ≡ is_destructible n }
+    ensures result { result ≡ is_destructible n }
 {
     element(n).destructible
 }
@@ -50,7 +50,7 @@ fn is_crushable(n: u8) -> bool
 impl Scene {
     /// Moves a stat to a place, with its tile.
     pub fn shift(&mut self, i: usize, to: Place)
-        ensures { self.new ≡ shift i to self.old }
+        ensures result { self.new ≡ shift i to self.old }
     {
         if let Some(actor) = self.stat(i) {
             let own = self.tile(actor.place);
@@ -116,7 +116,7 @@ impl Scene {
     #[tactic(auto, unfolding(crate::specs::Moving::pushed))]
     /// Pushes what is at a place along a step, and before it what is in the way. The step isn't (0,0).
     pub fn push(&mut self, place: Place, step: Step)
-        ensures { self.new ≡ pushed place step self.old }
+        ensures result { self.new ≡ pushed place step self.old }
     {
         self.push_within(REACH, place, step);
     }

@@ -1,5 +1,5 @@
 ghost use Rattle.std.specs.Prelude.{◌≡◌, map};
-ghost use Rattle.zed_scene.specs.Removing.{after_removal, attack, damage, hurt, remove_stat, renumbered, one_less};
+ghost use Rattle.zed_scene.specs.Removing.{after_removal, attack, damage, damage_stat, hurt, remove_stat, renumbered, one_less};
 
 use crate::scene::Scene;
 use crate::stat::Stat;
@@ -46,7 +46,7 @@ fn renumber(stats: &mut [Stat], i: usize)
 impl Scene {
     /// Takes a stat away, but never the player: what was underneath stands at its place, and the later stats move down by one.
     pub fn remove(&mut self, i: usize)
-        ensures { self.new ≡ remove_stat i self.old }
+        ensures result { self.new ≡ remove_stat i self.old }
     {
         if i == 0 {
             return;
@@ -65,37 +65,37 @@ impl Scene {
 
     /// Health falls by 10, not below 0.
     pub fn hurt(&mut self)
-        ensures { self.new ≡ hurt self.old }
+        ensures result { self.new ≡ hurt self.old }
     {
         let health = self.counters.health;
         self.counters.health = if health > 10 { health - 10 } else { 0 };
     }
 
-    /// Hurts the player, takes another stat away, or clears a place without a stat.
+    /// Hurts the player, or takes another stat away.
+    fn damage_stat(&mut self, i: usize)
+        ensures { self.new ≡ damage_stat i self.old }
+    {
+        match i {
+            0 => self.hurt(),
+            _ => self.remove(i),
+        }
+    }
+
+    /// Damages the lowest stat at a place, or clears a place without one.
     pub fn damage(&mut self, place: Place)
-        ensures { self.new ≡ damage place self.old }
+        ensures result { self.new ≡ damage place self.old }
     {
         match self.stat_at(place) {
             None => self.put(place, Tile::EMPTY),
-            Some(i) => {
-                if i == 0 {
-                    self.hurt();
-                } else {
-                    self.remove(i);
-                }
-            }
+            Some(i) => self.damage_stat(i),
         }
     }
 
     /// A stat attacks what is at a place: both are damaged.
     pub fn attack(&mut self, i: usize, place: Place)
-        ensures { self.new ≡ attack i place self.old }
+        ensures result { self.new ≡ attack i place self.old }
     {
-        if i == 0 {
-            self.hurt();
-        } else {
-            self.remove(i);
-        }
+        self.damage_stat(i);
         self.damage(place);
     }
 }

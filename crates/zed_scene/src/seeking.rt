@@ -30,7 +30,7 @@ fn towards(from: Place, to: Place, columns: bool) -> Step
 impl Scene {
     /// The step towards the player, which takes a word.
     pub fn seek(&self, from: Place, words: &mut Words) -> Result<Step, OopError>
-        ensures { Draws result words.new (sought from self.now words.old) }
+        ensures result { Draws result words.new (sought from self.now words.old) }
     {
         let r = words.random(2)?;
         let to = match self.stat(0) {
@@ -43,7 +43,7 @@ impl Scene {
 
 /// A step in any direction, which takes one word or two.
 pub fn random_step(words: &mut Words) -> Result<Step, OopError>
-    ensures { Draws result words.new (random_step words.old) }
+    ensures result { Draws result words.new (random_step words.old) }
 {
     match words.random(3)? {
         0 => Ok(Step::WEST),
@@ -54,7 +54,7 @@ pub fn random_step(words: &mut Words) -> Result<Step, OopError>
 
 /// A step to the north or the south, which takes a word.
 pub fn up_or_down(words: &mut Words) -> Result<Step, OopError>
-    ensures { Draws result words.new (up_or_down words.old) }
+    ensures result { Draws result words.new (up_or_down words.old) }
 {
     if words.random(2)? == 0 {
         Ok(Step::NORTH)

@@ -24,7 +24,7 @@ impl Step {
 
 /// Whether a place is in the table.
 pub fn is_on_board(place: Place) -> bool
-    ensures { result ≡ is_on_board place }
+    ensures result { result ≡ is_on_board place }
 {
     1 <= place.x && place.x <= 60 && 1 <= place.y && place.y <= 25
 }
@@ -43,7 +43,7 @@ fn moved(from: u8, by: i16, most: u8) -> Option<u8>
 
 /// The place that a step leads to from another, or None where that is outside of the table.
 pub fn ahead(place: Place, step: Step) -> Option<Place>
-    ensures { result ≡ ahead place step }
+    ensures result { result ≡ ahead place step }
 {
     let x = moved(place.x, step.x, 60)?;
     let y = moved(place.y, step.y, 25)?;
@@ -59,7 +59,7 @@ fn negated(n: i16) -> i16
 
 /// A quarter turn to the right.
 pub fn clockwise(step: Step) -> Step
-    ensures { result ≡ clockwise step }
+    ensures result { result ≡ clockwise step }
 {
     Step {
         x: negated(step.y),
@@ -69,7 +69,7 @@ pub fn clockwise(step: Step) -> Step
 
 /// A quarter turn to the left.
 pub fn counter_clockwise(step: Step) -> Step
-    ensures { result ≡ counter_clockwise step }
+    ensures result { result ≡ counter_clockwise step }
 {
     Step {
         x: step.y,
@@ -79,7 +79,7 @@ pub fn counter_clockwise(step: Step) -> Step
 
 /// Half a turn.
 pub fn opposite(step: Step) -> Step
-    ensures { result ≡ opposite step }
+    ensures result { result ≡ opposite step }
 {
     Step {
         x: negated(step.x),
@@ -89,7 +89,7 @@ pub fn opposite(step: Step) -> Step
 
 /// Whether one number is over, at or below another: 1, 0, -1.
 pub fn sign(to: u8, from: u8) -> i16
-    ensures { result ≡ sign_of to from }
+    ensures result { result ≡ sign_of to from }
 {
     if from < to {
         1

@@ -21,14 +21,14 @@ impl<'a> Model for Words<'a> {
 
 impl<'a> Words<'a> {
     pub fn new(words: &'a [u16]) -> Words<'a>
-        ensures { result ≡ words.now }
+        ensures result { result ≡ words.now }
     {
         Words { left: words }
     }
 
     /// How many are left.
     pub fn left(&self) -> usize
-        ensures { result ≡ length self.now }
+        ensures result { result ≡ length self.now }
     {
         self.left.len()
     }
@@ -36,7 +36,7 @@ impl<'a> Words<'a> {
     /// A number below n: the next word, mod n.
     pub fn random(&mut self, n: u16) -> Result<u16, OopError>
         requires { 0 < n }
-        ensures { Draws result self.new (draw n self.old) }
+        ensures result { Draws result self.new (draw n self.old) }
     {
         match self.left.split_first() {
             Some((word, rest)) => {

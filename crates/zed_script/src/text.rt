@@ -112,6 +112,33 @@ pub fn word_at(alloc: Global, program: &[u8], at: usize) -> Result<Bytes, AllocE
     upper(alloc, part(program, from, to))
 }
 
+/// Whether bytes are a word but for the case of their letters, which the word has in upper case.
+fn is_upper_of(bytes: &[u8], word: &[u8]) -> bool
+    ensures { result ≡ bytes_eq (upper bytes.now) word.now }
+{
+    if bytes.len() != word.len() {
+        return false;
+    }
+    let mut i = 0;
+    while i < bytes.len() {
+        if bytes[i].to_ascii_uppercase() != word[i] {
+            return false;
+        }
+        i += 1;
+    }
+    true
+}
+
+#[tactic(auto, unfolding(crate::specs::Text::word_at, crate::specs::Text::word_end))]
+/// Whether the word that stands at a place is this one.
+pub fn is_word_at(program: &[u8], at: usize, word: &[u8]) -> bool
+    ensures result { result ≡ bytes_eq (word_at program.now at) word.now }
+{
+    let from = word_start(program, at);
+    let to = end_of_word(program, from);
+    is_upper_of(part(program, from, to), word)
+}
+
 /// A number with a digit more, or one that is as good where it is over 32,767 by then.
 fn with_digit(n: u32, digit: u8) -> u32
     ensures { result ≡ with_digit n digit }

@@ -31,7 +31,7 @@ use Rattle.zed_oop.specs.Effect.{Outcome as Followed, after_go, after_try, effec
 use Rattle.zed_oop.specs.Leading.{course_led, known, led, turned, turned_all}
 use Rattle.zed_oop.specs.Testing.{blocked, holds, is_way_blocked, negated_if, tested}
 use Rattle.zed_oop.specs.Turn.{Chain, Does, Outcome, State, Turn, after, commanded, commands, counted, counts, ended, ends, finished, goes, instructed, instructs, lacked, lacks, over, settled, settled_by, start_of, state, stepped, stepped_by, stepped_if, used_up, went_on}
-use Rattle.zed_play.proofs.Drawing.{Front, Is, front_bind, front_draw, front_none, front_random, front_same, front_sought, front_up_or_down}
+use Rattle.zed_oop.proofs.Drawing.{Front, Is, front_bind, front_draw, front_none, front_random, front_same, front_sought, front_up_or_down}
 
 -- ---- directions and conditions
 

@@ -1,6 +1,0 @@
-use Rattle.std.proofs.Common.{◌≡◌}
-use Rattle.zed_oop.specs.Sending.{for_each, restore_one}
-use Rattle.zed_oop.proofs.programs.restore_all.Given as goal
-
-abbrev pub invariant-loop-i : goal.invariant-loop-i
-invariant-loop-i l = l.scene ≡ for_each (restore_one l.word) l.i l.fn.scene
