@@ -2,9 +2,6 @@
 use Rattle.std.proofs.Common.{◌≡◌, ◌⊎◌, inl, inr, ℕ, ◌<◌, Bool, true, false, List, [], ◌∷◌, ◌++◌, Option, Some, None, Result, Ok, Err, refl, ap, sym, ◌∙◌, append-nil, arith}
 use Rattle.zed_types.specs.declared.stamp.Stamp.{Stamp}
 use Rattle.zed_types.specs.Stamp.{same_stamp}
-use Rattle.zed_op.specs.declared.cause.Cause.{Cause}
-use Rattle.zed_op.specs.declared.cause.EditError.{EditError}
-use Rattle.zed_op.specs.declared.cause.EditError.TheVariants as edit
 use Rattle.zed_op.specs.declared.op.Op.{Op}
 use Rattle.zed_op.specs.declared.op.Op.TheVariants.{Genesis}
 use Rattle.zed_op.specs.declared.op.Edit.{Edit}
@@ -16,17 +13,14 @@ use Rattle.zed_edit.specs.Replay.{replay, replay_on, step, can, has_all}
 use Rattle.zed_op.specs.Set.{AllFit, with_edit}
 use Rattle.zed_op.specs.SetLaws.{EditKeepsFit}
 use Rattle.zed_laws.specs.Laws.{OneMoreIsOneStep}
-use Rattle.zed_op.specs.Verdict.{verdict, is_genesis, FitIsEachPart}
+use Rattle.zed_op.specs.Verdict.{is_genesis, FitIsEachPart}
 use Rattle.std.proofs.lemmas.Bool.{and_parts}
 use Rattle.zed_document.specs.declared.delivered.Delivered.{Delivered}
 use Rattle.zed_document.specs.declared.error.DocumentError.{DocumentError}
-use Rattle.zed_document.specs.declared.error.DocumentError.TheVariants.{Memory}
 use Rattle.zed_document.specs.Delivery.{AnswersAt}
-use Rattle.zed_document.specs.Errors.{refusal_of}
 use Rattle.zed_document.specs.Held.{held_stamps, is_among}
 use Rattle.zed_document.specs.Kept.{AllBelow}
-use Rattle.zed_document.specs.Authoring.{AnswersMade, AnswersToDo, IsLate, greatest_time, next_time, authored}
-use Rattle.zed_document.proofs.Checked.{Checked}
+use Rattle.zed_document.specs.Authoring.{AnswersMade, IsLate, greatest_time, next_time, authored}
 use Rattle.zed_types.proofs.StampOrder.{same_stamp-true}
 use Rattle.zed_document.proofs.Passed.{do_op-passed, passed-below, below-not_among}
 use Rattle.zed_document.proofs.Spots.{with_edit-between}
@@ -103,13 +97,6 @@ pub made-err : (o : Option Edit) (es : List Edit) (e : Edit) (x : DocumentError)
 made-err None es e x h = absurd h
 made-err (Some f) es e x (inl h) = absurd (h.1)
 made-err (Some f) es e x (inr h) = inr (h.0, (let k = h.1 in cc))
-
-pub refused-made : (f : Option Cause) (es : List Edit) (e : Edit) (r : EditError) (a : Checked) (d : Made) → a ≡ Err r → (a ≡ Err edit.Memory) ⊎ (a ≡ verdict f) → d ≡ Err (refusal_of r) → (d ≡ Err Memory) ⊎ AnswersToDo f es e d
-refused-made f es e edit.Memory a d is h k = inl k
-refused-made None es e (edit.BadEdit c) a d is (inl h) k = absurd (cc)
-refused-made None es e (edit.BadEdit c) a d is (inr h) k = absurd (cc)
-refused-made (Some x) es e (edit.BadEdit c) a d is (inl h) k = absurd (cc)
-refused-made (Some x) es e (edit.BadEdit c) a d is (inr h) k = inr (cc)
 
 -- an edit at the next time is later than all
 pub authored-late : (es : List Edit) (replica : ℕ) (op : Op) → IsLate es (authored es replica op)

@@ -33,6 +33,9 @@ pub record SetsHold : Type 0 where
   pub fits : EditKeepsFit
   pub nothing : EditThereIsNothing
 
+pub laws_of : EditKeepsRising → UnionKeepsRising → RisingIsItsEdits → EditKeepsFit → EditThereIsNothing → SetsHold
+laws_of rises joins known fits nothing = record { rises = rises; joins = joins; known = known; fits = fits; nothing = nothing }
+
 -- what is there under a stamp, in the log or in the map
 abbrev pub there : List Edit → Entries → Stamp → Option Edit
 there log m s = first_of (edit_with s log) (lookup (is_at (stamp_cmp s)) m)

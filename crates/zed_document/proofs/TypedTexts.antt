@@ -203,6 +203,30 @@ made-as es replica t p bytes s after e f =
     ap (λ x. insertion_edit x t after bytes) e
     ∙ ap (λ o. insertion_edit (record { time = next_time es; replica = replica }) t o bytes) f
 
+-- bytes typed at a place that is there, and the edit that is made of them
+pub record Typed (d : Replica) (replica : ℕ) (t : TextId) (p : ℕ) (bytes : List ℕ) (s : Stamp) (after : Option ElemId) : Type 0 where
+  pub sound : d.is_stale ≡ false
+  pub there : has_text d t ≡ true
+  pub within : nat_le p (length (text (replay d.edits) t)) ≡ true
+  pub made : MadeInsertion d.edits t p bytes (authored d.edits replica (insertion_at d.edits t p bytes))
+  pub stamp : s ≡ next_stamp d.edits replica
+  pub is : insertion_edit s t after bytes ≡ authored d.edits replica (insertion_at d.edits t p bytes)
+
+pub typed : OneMoreIsOneStep → ElementsHaveOwnNames → (d : Replica) (replica : ℕ) (t : TextId) (p : ℕ) (bytes : List ℕ) (s : Stamp) (after : Option ElemId) (es : List Edit) → IsRising d.edits → es ≡ d.edits → s ≡ next_stamp es replica
+    → MatchBool d.is_stale (place_of after ≡ Err Stale) (MatchBool (has_text d t) (MatchBool (nat_le p (length (text (replay d.edits) t))) (place_of after ≡ Ok (byte_before (elements (replay d.edits) t) p)) (place_of after ≡ Err OutOfRange)) (place_of after ≡ Err NoSuch))
+    → Typed d replica t p bytes s after
+typed one names d replica t p bytes s after es rising same next place =
+    let q = placed _ _ _ _ _ place in
+    let stamp : s ≡ next_stamp d.edits replica = next ∙ ap (λ fs. next_stamp fs replica) same in
+    record {
+      sound = q.0;
+      there = q.1;
+      within = q.2;
+      made = made_insertion one names d.edits replica t p bytes rising q.1 q.2;
+      stamp = stamp;
+      is = made-as d.edits replica t p bytes s after stamp q.3;
+    }
+
 pub to-fault : (f : Option Cause) (es : List Edit) (e : Edit) (r : Result Edit DocumentError) → can (replay es) e ≡ true → edit_with e.stamp es ≡ None → AnswersToDo f es e r → AnswersFault f e r
 to-fault (Some c) es e r h n a = a
 to-fault None es e r h n a =

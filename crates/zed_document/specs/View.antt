@@ -3,18 +3,15 @@ use Rattle.std.specs.Prelude.{ℕ, ℤ, pos, Bool, true, false, List, [], slice_
 use Rattle.zed_types.specs.declared.names.BoardId.{BoardId}
 use Rattle.zed_types.specs.declared.tile.Tile.{Tile}
 use Rattle.zed_types.specs.declared.tile.Place.{Place}
-use Rattle.zed_types.specs.declared.header.HeaderNumber.{HeaderNumber}
 use Rattle.zed_types.specs.declared.property.Side.{Side}
 use Rattle.zed_types.specs.declared.property.BoardByte.{BoardByte}
 use Rattle.zed_types.specs.declared.property.BoardFlag.{BoardFlag}
 use Rattle.zed_types.specs.declared.property.BoardText.{BoardText}
 use Rattle.zed_types.specs.declared.stat_field.StatByte.{StatByte}
 use Rattle.zed_types.specs.declared.stat_field.StatNumber.{StatNumber}
-use Rattle.zed_types.specs.Header.{header_number_index}
 use Rattle.zed_types.specs.Board.{side_index, board_byte_index, board_flag_index, board_text_index}
 use Rattle.zed_types.specs.Stat.{stat_byte_index, stat_number_index}
 use Rattle.zed_types.specs.Table.{index_of}
-use Rattle.zed_edit.specs.declared.plain.Header.{Header}
 use Rattle.zed_edit.specs.declared.plain.Properties.{Properties}
 use Rattle.zed_edit.specs.declared.plain.Board.{Board}
 use Rattle.zed_edit.specs.declared.plain.Stat.{Stat}
@@ -61,10 +58,6 @@ made_board b = record { id = b.id; removed = b.removed }
 -- what a view lists of a stat: the name under which it was made, and whether it was removed
 abbrev pub made_stat : Stat → MadeStat
 made_stat s = record { id = s.id; removed = s.removed }
-
--- a number of the header
-abbrev pub header_number : HeaderNumber → Header → ℤ
-header_number f h = slice_index_or h.numbers (header_number_index f) (pos 0)
 
 -- a property that is one byte
 abbrev pub board_byte : BoardByte → Properties → ℕ

@@ -1,11 +1,11 @@
 //! Many edits at once: those that join a log, up to the first that clashes.
 
-ghost use Rattle.std.specs.Prelude.{◌≡◌, ◌≢◌, ◌⊎◌, IfErr, IfOk, IsSomeAnd, MatchOption, OnErr, OnOk, [], true};
+ghost use Rattle.std.specs.Prelude.{◌≡◌, ◌≢◌, ◌⊎◌, Err, IfErr, IfOk, IsSomeAnd, MatchOption, OnErr, OnOk, [], true};
 ghost use Rattle.std.specs.BTreeMap.{get, insert_entry};
 ghost use Rattle.zed_types.specs.Stamp.{stamp_cmp};
 ghost use Rattle.std.specs.Map.{values_of};
 ghost use Rattle.zed_op.specs.Set.{AllFit, IsRising};
-ghost use Rattle.zed_document.specs.Batch.{HasNew, IsBatch, IsGathered, first_of};
+ghost use Rattle.zed_document.specs.Batch.{HasNew, IsBatch, IsGathered, first_of, unless_clash};
 ghost use Rattle.zed_document.specs.Delivery.{edit_with};
 
 use crate::error::DocumentError;
@@ -106,4 +106,15 @@ pub(crate) fn gather(alloc: Global, log: &[Edit], edits: Vec<Edit>) -> Result<Ba
     let clash = put_all(log, &mut map, edits)?;
     let edits = edits_of(alloc, map)?;
     Ok(Batch { edits, clash })
+}
+
+/// Ok, or the clash.
+pub(crate) fn unless_clash(clash: Option<Stamp>) -> Result<(), DocumentError>
+    ensures is { result ≡ unless_clash clash }
+    ensures never_memory { result ≢ Err DocumentError.Memory }
+{
+    match clash {
+        Some(stamp) => Err(DocumentError::Clash(stamp)),
+        None => Ok(()),
+    }
 }

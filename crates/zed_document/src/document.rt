@@ -1,6 +1,6 @@
 ghost use Rattle.std.specs.Prelude.{◌≡◌, ◌≢◌, ◌≤◌, ◌⊎◌, [], ◌∷◌, ◌++◌, if◌then◌else◌, length, take, insert, is_ok, true, false, None, Ok, Err, OnOk, OnErr, IfOk, IfErr, IsOkAnd, MatchBool, ◌↔◌};
 
-use crate::batch::{Batch, gather};
+use crate::batch::{Batch, gather, unless_clash};
 use crate::delivered::{Delivered, State};
 use crate::error::{DocumentError, of_edit};
 use crate::held::{count_woken, is_among};
@@ -391,9 +391,6 @@ impl Document {
         let alloc = *self.edits.allocator();
         let Batch { edits, clash } = gather(alloc, &self.edits, edits)?;
         self.take_all(edits)?;
-        match clash {
-            Some(at) => Err(DocumentError::Clash(at)),
-            None => Ok(()),
-        }
+        unless_clash(clash)
     }
 }

@@ -4,7 +4,8 @@ ghost use Rattle.zed_types.specs.Text.{alive_bytes};
 ghost use Rattle.zed_types.specs.Header.{key_index, flag_index};
 ghost use Rattle.zed_edit.specs.Document.{text, find_text, elements};
 ghost use Rattle.zed_laws.specs.NameOrder.{NamesRise, IsOrdered};
-ghost use Rattle.zed_document.specs.View.{board_at, stat_at, no_text, text_at, tile_at, made_board, made_stat, header_number, board_byte, board_flag, exit, board_text, stat_byte, stat_number};
+ghost use Rattle.zed_laws.specs.Registers.{header_number};
+ghost use Rattle.zed_document.specs.View.{board_at, stat_at, no_text, text_at, tile_at, made_board, made_stat, board_byte, board_flag, exit, board_text, stat_byte, stat_number};
 
 use std::alloc::AllocError;
 use std::marker::Model;

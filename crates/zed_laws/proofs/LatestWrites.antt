@@ -67,13 +67,14 @@ pub latest_of-insert : {V : Type 0} (o : Option (Written V)) (w : Written V) (lo
 latest_of-insert o w low high d = rw (latest_of-append, latest_of-append) (latest_of-late (latest_of o low) w high d)
 
 module _ {V : Type 0} (writes : Edit → Option V) where
-  writes-later : (s : Stamp) (es : List Edit) → AllByRecursion (λ e. before s e.stamp ≡ true) es → AllByRecursion (λ w. before s w.stamp ≡ true) (writes_of writes es)
-  writes-later s [] h = tt
-  writes-later s (e ∷ es) h = go (writes e) refl (writes-later s es h.1)
+  -- what holds of the stamps of edits holds of those of their writes
+  writes-all : (P Q : Stamp → Type 0) → ((t : Stamp) → P t → Q t) → (es : List Edit) → AllByRecursion (λ e. P e.stamp) es → AllByRecursion (λ w. Q w.stamp) (writes_of writes es)
+  writes-all P Q law [] h = tt
+  writes-all P Q law (e ∷ es) h = go (writes e) refl (writes-all P Q law es h.1)
     where
-      go : (o : Option V) → writes e ≡ o → AllByRecursion (λ w. before s w.stamp ≡ true) (writes_of writes es) → AllByRecursion (λ w. before s w.stamp ≡ true) (writes_of writes (e ∷ es))
+      go : (o : Option V) → writes e ≡ o → AllByRecursion (λ w. Q w.stamp) (writes_of writes es) → AllByRecursion (λ w. Q w.stamp) (writes_of writes (e ∷ es))
       go None o more = rw o more
-      go (Some v) o more = rw o (h.0, more)
+      go (Some v) o more = rw o (law e.stamp h.0, more)
 
   writes-rising : (es : List Edit) → IsRising es → RisingWrites (writes_of writes es)
   writes-rising [] r = tt
@@ -81,15 +82,7 @@ module _ {V : Type 0} (writes : Edit → Option V) where
     where
       go : (o : Option V) → writes e ≡ o → RisingWrites (writes_of writes es) → RisingWrites (writes_of writes (e ∷ es))
       go None o more = rw o more
-      go (Some v) o more = rw o (writes-later e.stamp es r.0, more)
-
-  writes-differ : (s : Stamp) (es : List Edit) → AllByRecursion (λ e. before s e.stamp ≡ true) es → AllByRecursion (λ w. same_stamp s w.stamp ≡ false) (writes_of writes es)
-  writes-differ s [] h = tt
-  writes-differ s (e ∷ es) h = go (writes e) refl (writes-differ s es h.1)
-    where
-      go : (o : Option V) → writes e ≡ o → AllByRecursion (λ w. same_stamp s w.stamp ≡ false) (writes_of writes es) → AllByRecursion (λ w. same_stamp s w.stamp ≡ false) (writes_of writes (e ∷ es))
-      go None o more = rw o more
-      go (Some v) o more = rw o (before_differs s e.stamp h.0, more)
+      go (Some v) o more = rw o (writes-all (λ t. before e.stamp t ≡ true) (λ t. before e.stamp t ≡ true) (λ t later. later) es r.0, more)
 
   writes-append : (low high : List Edit) → writes_of writes (low ++ high) ≡ writes_of writes low ++ writes_of writes high
   writes-append low high = filter_map-append (λ e. option_map (written_at e.stamp) (writes e)) low high
@@ -103,7 +96,7 @@ module _ {V : Type 0} (writes : Edit → Option V) where
     where
       go : (o : Option V) → writes e ≡ o → latest_of None (writes_of writes low ++ writes_of writes (e ∷ high)) ≡ kept_after e.stamp (latest_of None (writes_of writes low ++ writes_of writes high)) (writes e)
       go None o = rw o refl
-      go (Some v) o = rw o (latest_of-insert None (written_at e.stamp v) (writes_of writes low) (writes_of writes high) (writes-differ e.stamp high h))
+      go (Some v) o = rw o (latest_of-insert None (written_at e.stamp v) (writes_of writes low) (writes_of writes high) (writes-all (λ t. before e.stamp t ≡ true) (λ t. same_stamp e.stamp t ≡ false) (λ t later. before_differs e.stamp t later) high h))
 
   module _ (is_there : Document → Bool) (read : Document → V) (law : IsRegister is_there read writes) where
     read-replay : (p : Document) (es : List Edit) → is_there p ≡ true → read (replay_on p es) ≡ last_value (read p) (writes_of writes (taken_on p es))

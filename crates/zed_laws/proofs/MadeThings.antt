@@ -124,7 +124,7 @@ list_any-add_stat s n b (c ∷ cs) = go (same_board c.id b) (list_any-add_stat s
         ap (λ m. any_stat s c || m) more
         ∙ or_other (any_stat s c) (list_any (λ d. same_board d.id b) cs && same_stat n.id s) (list_any (any_stat s) cs)
 
-set_stat-id : (b : StatId) (setting : StatSetting) (x : Stat) → same_stat (set_stat setting x).id b ≡ same_stat x.id b
+pub set_stat-id : (b : StatId) (setting : StatSetting) (x : Stat) → same_stat (set_stat setting x).id b ≡ same_stat x.id b
 set_stat-id b (Byte f n) x = refl
 set_stat-id b (Number f n) x = with_number-id (stat_number_index f)
   where

@@ -11,6 +11,7 @@ use Rattle.zed_edit.specs.declared.plain.Plain.{Plain as Document}
 use Rattle.zed_edit.specs.Board.{set_board_property, set_board_cells, change_stats, remove_board}
 use Rattle.zed_edit.specs.Stat.{with_number, set_stat, remove_stat}
 use Rattle.zed_edit.specs.Document.{change_such}
+use Rattle.zed_laws.proofs.MadeThings.{set_stat-id}
 use Rattle.zed_laws.specs.Laws.{RemovedBoardIsSet, RemovedBoardIsDrawn, RemovedStatIsSet}
 
 map-swap : {X : Type 0} (f g : X → X) → ((x : X) → f (g x) ≡ g (f x)) → (xs : List X) → map f (map g xs) ≡ map g (map f xs)
@@ -46,15 +47,6 @@ removed_board_is_set p r s b c setting =
 pub removed_board_is_drawn : RemovedBoardIsDrawn
 removed_board_is_drawn p r s b c cells tile =
     ap (with_boards p) (change_such-swap (λ x. same_board x.id c) (λ x. same_board x.id b) (set_board_cells cells tile) remove_board (λ x. refl) (λ x. refl) (λ x. refl) p.boards)
-
-set_stat-id : (b : StatId) (setting : StatSetting) (x : Stat) → same_stat (set_stat setting x).id b ≡ same_stat x.id b
-set_stat-id b (Byte f n) x = refl
-set_stat-id b (Number f n) x = with_number-id (stat_number_index f)
-  where
-    with_number-id : (o : Option ℕ) → same_stat (with_number o n x).id b ≡ same_stat x.id b
-    with_number-id (Some i) = refl
-    with_number-id None = refl
-set_stat-id b _ x = refl
 
 set_stat-removed : (setting : StatSetting) (x : Stat) → set_stat setting (remove_stat x) ≡ remove_stat (set_stat setting x)
 set_stat-removed (Byte f n) x = refl

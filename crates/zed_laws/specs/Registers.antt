@@ -1,5 +1,5 @@
 -- Registers of a document: the greatest stamp wins.
-use Rattle.std.specs.Prelude.{◌≡◌, ℕ, ℤ, Bool, true, ◌&&◌, ◌==◌, if◌then◌else◌, List, ◌∷◌, ◌++◌, filter_map, find, slice_get, is_some, Option, Some, None, option_map, Result, Ok, Err}
+use Rattle.std.specs.Prelude.{◌≡◌, ℕ, ℤ, pos, nat_lt, length, slice_index_or, Bool, true, ◌&&◌, ◌==◌, if◌then◌else◌, List, ◌∷◌, ◌++◌, filter_map, find, slice_get, is_some, Option, Some, None, option_map, Result, Ok, Err}
 use Rattle.zed_types.specs.declared.stamp.Stamp.{Stamp}
 use Rattle.zed_types.specs.declared.written.Written.{Written}
 use Rattle.zed_types.specs.declared.names.BoardId.{BoardId}
@@ -65,29 +65,33 @@ LateWriteIsCompared V =
     → IsRising (low ++ e ∷ high)
     → latest_of None (writes_of writes (low ++ e ∷ high)) ≡ kept_after e.stamp (latest_of None (writes_of writes (low ++ high))) (writes e)
 
--- a number of the header, if it is there
-abbrev pub number : HeaderNumber → Header → Option ℤ
-number f h = slice_get h.numbers (header_number_index f)
+-- a number of the header
+abbrev pub header_number : HeaderNumber → Header → ℤ
+header_number f h = slice_index_or h.numbers (header_number_index f) (pos 0)
+
+-- whether the header has it: every real one has all nine
+abbrev pub has_number : HeaderNumber → Header → Bool
+has_number f h = nat_lt (header_number_index f) (length h.numbers)
 
 -- the number that a setting gives, if it is of this field
-abbrev pub number_set : HeaderNumber → HeaderSetting → Option (Option ℤ)
-number_set f (Number g n) = if header_number_index g == header_number_index f then Some (Some n) else None
+abbrev pub number_set : HeaderNumber → HeaderSetting → Option ℤ
+number_set f (Number g n) = if header_number_index g == header_number_index f then Some n else None
 number_set f _ = None
 
 -- the number that a world file gives, if it is one
-abbrev pub number_read : HeaderNumber → Stamp → Result Contents WorldError → Option (Option ℤ)
-number_read f s (Ok w) = Some (number f (header_of s w.header))
+abbrev pub number_read : HeaderNumber → Stamp → Result Contents WorldError → Option ℤ
+number_read f s (Ok w) = Some (header_number f (header_of s w.header))
 number_read f s (Err e) = None
 
 -- what an edit writes into a number of the header
-abbrev pub number_of_op : HeaderNumber → Stamp → Op → Option (Option ℤ)
+abbrev pub number_of_op : HeaderNumber → Stamp → Op → Option ℤ
 number_of_op f s (Genesis bytes) = number_read f s (world_at bytes)
 number_of_op f s (SetHeader setting) = number_set f setting
 number_of_op f s _ = None
 
 -- each number of the header is a register of every document
 abbrev pub HeaderNumbersAreRegisters : Type 0
-HeaderNumbersAreRegisters = (f : HeaderNumber) → IsRegister (λ p. is_some (number f p.header)) (λ p. number f p.header) (λ e. number_of_op f e.stamp e.op)
+HeaderNumbersAreRegisters = (f : HeaderNumber) → IsRegister (λ p. has_number f p.header) (λ p. header_number f p.header) (λ e. number_of_op f e.stamp e.op)
 
 -- tile i of the table of a board, if there is one
 abbrev pub tile_in : ℕ → Option Board → Option Tile

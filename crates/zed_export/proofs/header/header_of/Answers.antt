@@ -1,6 +1,6 @@
 use Rattle.std.proofs.Common.{◌≡◌, List, rules, ap, ◌∙◌, refl}
 use Rattle.zed_types.specs.declared.header.HeaderNumber.TheVariants.{Ammo, Gems, Health, Torches, TorchTicks, EnergizerTicks, Score, TimePassed, Hundredths}
-use Rattle.zed_document.specs.View.{header_number}
+use Rattle.zed_laws.specs.Registers.{header_number}
 use Rattle.zed_export.specs.World.{number_or_0}
 use Rattle.zed_types.specs.declared.names.Name.{Name}
 use Rattle.zed_export.specs.Fields.{place_or_0, board_names}

@@ -1,4 +1,5 @@
-use Rattle.std.proofs.Common.{◌≡◌, ◌∙◌, ◌<◌, ◌==◌, true, false, length, ap, arith, inr, sym, vec_len}
+use Rattle.std.proofs.Common.{◌≡◌, ◌∙◌, ◌<◌, ◌==◌, true, false, length, ap, arith, inr, sym, subst, vec_len}
+use Rattle.zed_document.specs.Delivery.{DeliversEach}
 use Rattle.zed_document.specs.Replica.{Replica}
 use Rattle.zed_document.proofs.Batches.{batch-each, batch-new, gather-new, not_none, stale-each}
 use Rattle.zed_document.proofs.document.Document.deliver_all.Goals as goal
@@ -23,16 +24,9 @@ returns-in_err-take_all-clause-memory_only_when c = λ _.
     let log = c.deref.ensures.value ∙ ap (λ (r : Replica). r.edits) c.self.view_is in
     batch-new c.args.self.now _ c.args.edits.items _ _ log sound c.requires c.in_ok-edits.ensures.ok c.in_err-take_all.ensures.some
 
-pub returns-in-Some-clause-result : goal.returns-in-Some-clause-result
-returns-in-Some-clause-result c =
+pub returns-clause-result : goal.returns-clause-result
+returns-clause-result c =
     let sound : c.args.self.now.is_stale ≡ false = sym (ap (λ (r : Replica). r.is_stale) c.self.view_is) ∙ c.if-self.false in
     let log = c.deref.ensures.value ∙ ap (λ (r : Replica). r.edits) c.self.view_is in
     let each = batch-each c.args.self.now _ c.args.edits.items _ _ c.take_all.new.self.edits log sound c.requires c.in_ok-edits.ensures.ok c.in_ok-take_all.ensures.edits in
-    inr (rw c.in-Some.is at each)
-
-pub returns-in-None-clause-result : goal.returns-in-None-clause-result
-returns-in-None-clause-result c =
-    let sound : c.args.self.now.is_stale ≡ false = sym (ap (λ (r : Replica). r.is_stale) c.self.view_is) ∙ c.if-self.false in
-    let log = c.deref.ensures.value ∙ ap (λ (r : Replica). r.edits) c.self.view_is in
-    let each = batch-each c.args.self.now _ c.args.edits.items _ _ c.take_all.new.self.edits log sound c.requires c.in_ok-edits.ensures.ok c.in_ok-take_all.ensures.edits in
-    inr (rw c.in-None.is at each)
+    inr (subst (λ r. DeliversEach c.args.self.now c.args.edits.items r c.take_all.new.self.edits) (sym c.unless_clash.ensures.is) each)

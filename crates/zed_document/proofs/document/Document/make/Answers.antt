@@ -1,8 +1,9 @@
 use Rattle.std.proofs.Common.{Err, ap}
 use Rattle.zed_op.specs.Fit.{fault}
-use Rattle.zed_document.proofs.Authored.{refused-made}
+use Rattle.zed_document.specs.Authoring.{AnswersToDo}
+use Rattle.zed_document.proofs.Checked.{refused-answers}
 use Rattle.zed_document.proofs.document.Document.make.Goals as goal
 
 pub returns-in-Err-clause-answers : goal.returns-in-Err-clause-answers
 returns-in-Err-clause-answers c =
-    refused-made (fault c.args.edit) c.args.self.now.edits c.args.edit c.in-Err.error c.check.result (Err c.of_edit.result) c.in-Err.is c.check.ensures.exact (ap Err c.of_edit.ensures)
+    refused-answers (λ f. AnswersToDo f c.args.self.now.edits c.args.edit) (λ x d h. h) (fault c.args.edit) c.in-Err.error c.check.result (Err c.of_edit.result) c.in-Err.is c.check.ensures.exact (ap Err c.of_edit.ensures)
