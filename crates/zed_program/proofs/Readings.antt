@@ -4,7 +4,7 @@ use Rattle.std.specs.Prelude.{option_and_then, option_map, ◌&&◌}
 use Rattle.std.specs.List.{list_all}
 use Rattle.std.specs.Borrow.{Bor}
 use Rattle.std.specs.Char.{digit_value}
-use Rattle.std.specs.Str.Parse.{AllDigits, ParsesUnsigned, digits_value, without_leading_plus}
+use Rattle.std.specs.Str.Parse.{AllDigits, ExplainsUnsignedError, HasUnsignedDigitsIfOk, ParsesUnsigned, digits_value, without_leading_plus}
 use Rattle.clap.specs.Matches.{ReadsOne, first_value, matched_of, one_text, raw_values}
 use Rattle.clap.specs.Walk.{Text, rows_of}
 use Rattle.clap.specs.declared.parser.matches.Found.{Found}
@@ -47,7 +47,7 @@ abbrev is_number : ℕ → List ℕ → Bool
 is_number k ds = nat_lt 0 (length ds) && list_all (λ d. nat_lt (digit_value d) 10) ds && nat_lt (digits_value 10 ds) (2 ^ k)
 
 -- what `parse` reads is the number
-pub number_parsed : {E : Type 0} (k : ℕ) (text : Text) (r : Option ℕ) (G : List ℕ → Result ℕ E → Type 0)
+number_parsed : {E : Type 0} (k : ℕ) (text : Text) (r : Option ℕ) (G : List ℕ → Result ℕ E → Type 0)
     → ((u : List ℕ) (x : Result ℕ E) → G u x → ParsesUnsigned k 10 u x) → ReadsOne G text r → r ≡ number_of k text
 number_parsed k text (Some n) G only g =
     let h = only text (Ok n) g in
@@ -62,12 +62,18 @@ number_parsed k text None G only g = go (is_number k (without_leading_plus text)
         let inner = both _ _ outer.0 in
         absurd (only text (Err g.0) g.1 ((ltb-true _ _ inner.0, digits_from (without_leading_plus text) inner.1), ltb-true _ _ outer.1))
 
-pub number_read : {E : Type 0} (k : ℕ) (o : Option Text) (r : Option ℕ) (G : List ℕ → Result ℕ E → Type 0)
+number_read : {E : Type 0} (k : ℕ) (o : Option Text) (r : Option ℕ) (G : List ℕ → Result ℕ E → Type 0)
     → ((u : List ℕ) (x : Result ℕ E) → G u x → ParsesUnsigned k 10 u x)
     → (o ≡ None → r ≡ None) → ((t : List ℕ) → o ≡ Some t → ReadsOne G t r)
     → r ≡ option_and_then (number_of k) o
 number_read k None r G only none value = none refl
 number_read k (Some t) r G only none value = number_parsed k t r G only (value t refl)
+
+-- the same of numbers without a sign
+pub unsigned_read : (k : ℕ) (o : Option Text) (r : Option ℕ) → (o ≡ None → r ≡ None)
+    → ((t : List ℕ) → o ≡ Some t → ReadsOne (λ bs x. ParsesUnsigned k 10 bs x × ExplainsUnsignedError 10 bs x × HasUnsignedDigitsIfOk bs x) t r)
+    → r ≡ option_and_then (number_of k) o
+unsigned_read k o r none value = number_read k o r (λ bs x. ParsesUnsigned k 10 bs x × ExplainsUnsignedError 10 bs x × HasUnsignedDigitsIfOk bs x) (λ u x g. g.0) none value
 
 abbrev pub made_new : Option Text → Option ℕ → Option Text → Option Text → Option Command
 made_new out world from name = option_and_then (λ o. option_map (λ w. New o w from name) world) out

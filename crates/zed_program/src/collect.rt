@@ -10,7 +10,7 @@ ghost use Rattle.zed_program.specs.Refusals.{is_file_refusal};
 ghost use Rattle.zed_program.specs.HostContents.{Counts, HostContents, IsRead, Rose, file_in};
 
 use crate::host::{Host, ReadError};
-use crate::refusal::{Refusal, of_document, of_file};
+use crate::refusal::Refusal;
 use std::alloc::Global;
 use zed_document::{Document, deliveries_come_to_sets};
 use zed_edit::Edit;
@@ -81,10 +81,8 @@ pub(crate) fn deliver_all(document: &mut Document, edits: Vec<Edit>) -> Result<(
         ⊎ ((s : TheStamp) × IsFirstClash edits.items s × (e ≡ Refusal.Clash s))) }
 {
     deliveries_come_to_sets();
-    match document.deliver_all(edits) {
-        Ok(()) => Ok(()),
-        Err(error) => Err(of_document(error)),
-    }
+    document.deliver_all(edits)?;
+    Ok(())
 }
 
 // Without a file there is no world.
@@ -127,7 +125,7 @@ fn read_all<H: Host>(alloc: Global, host: &mut H, names: &[&str]) -> Result<Stre
                     return Ok(Stream {
                         world: asked,
                         edits,
-                        refusal: Some(of_file(error)),
+                        refusal: Some(Refusal::from(error)),
                     });
                 }
             },

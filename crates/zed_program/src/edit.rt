@@ -13,7 +13,7 @@ ghost use Rattle.zed_program.specs.Commands.{Edit as EditFile};
 use crate::collect::{deliver_all, read_file, read_one};
 use crate::host::Host;
 use crate::output::write_out;
-use crate::refusal::{Refusal, edits_told, of_action, of_file};
+use crate::refusal::{Refusal, edits_told};
 use std::alloc::Global;
 use zed_action::act;
 use zed_document::Document;
@@ -46,7 +46,7 @@ fn opened(alloc: Global, bytes: &[u8]) -> Result<Document, Refusal>
         Err(EditFileError::Memory) => Err(Refusal::Memory),
         Err(error) => {
             collected(alloc, 0, edits)?;
-            Err(of_file(error))
+            Err(Refusal::from(error))
         }
     }
 }
@@ -85,10 +85,8 @@ fn edited<H: Host>(
         return Err(Refusal::BadEdit(Cause::Stamp));
     }
     let mut document = open(alloc, host, file)?;
-    match act(alloc, &mut document, replica, words) {
-        Ok(()) => Ok(document),
-        Err(error) => Err(of_action(error)),
-    }
+    act(alloc, &mut document, replica, words)?;
+    Ok(document)
 }
 
 // Appends the records of edits.
@@ -98,7 +96,7 @@ fn put_all(edits: &[Edit], out: &mut Vec<u8>) -> Result<(), Refusal>
     ensures err { IfErr result (λ e. e ≡ Refusal.Memory) }
 {
     for edit in edits {
-        write_edit(edit, out).map_err(of_file)?;
+        write_edit(edit, out)?;
     }
     Ok(())
 }
@@ -110,7 +108,7 @@ fn file_of(alloc: Global, document: &Document) -> Result<Vec<u8>, Refusal>
     ensures err { IfErr result (λ e. e ≡ Refusal.Memory) }
 {
     let mut file = Vec::new(alloc);
-    write_head(document.world(), &mut file).map_err(of_file)?;
+    write_head(document.world(), &mut file)?;
     put_all(document.edits(), &mut file)?;
     Ok(file)
 }

@@ -1,18 +1,50 @@
 //! What the words of the command line may be.
-ghost use Rattle.std.specs.Prelude.{◌≡◌, codes, false, IfOk};
+ghost use Rattle.std.specs.Prelude.{◌≡◌, false, IfOk};
 ghost use Rattle.clap.specs.Words.{app_of, rule_of, shape_of};
 ghost use Rattle.clap.specs.declared.builder.command.Command.TheViews.{out-Command};
-ghost use Rattle.zed_program.specs.Grammar.{check_shape, create_shape, edit_shape, files_rule, option_rule, replica_rule, required_rule, save_shape, words_rule, world_rule, zzted_app};
+ghost use Rattle.zed_program.specs.Grammar.{check_shape, create_shape, edit_shape, files_rule, option_rule, replica_rule, required_rule, save_shape, several_rule, world_rule, zzted_app};
 
 use clap::{Arg, Command};
 use std::alloc::{AllocError, Global};
+
+// A word that must be there.
+fn required_argument<'a>(alloc: Global, name: &'a str, help: &'a str) -> Arg<'a>
+    ensures rule { rule_of result ≡ required_rule name.entry.now }
+    ensures local { result.global ≡ false }
+{
+    Arg::new(alloc, name).required(true).help(help)
+}
+
+// One word or more.
+fn several_argument<'a>(alloc: Global, name: &'a str, help: &'a str) -> Arg<'a>
+    ensures rule { rule_of result ≡ several_rule name.entry.now }
+    ensures local { result.global ≡ false }
+{
+    Arg::new(alloc, name)
+        .required(true)
+        .num_args(1..)
+        .help(help)
+}
+
+// A word behind a name with two hyphens.
+fn option_argument<'a>(alloc: Global, name: &'a str, value: &'a str, help: &'a str) -> Arg<'a>
+    ensures rule { rule_of result ≡ option_rule name.entry.now }
+    ensures local { result.global ≡ false }
+{
+    Arg::new(alloc, name)
+        .long(name)
+        .value_name(value)
+        .help(help)
+}
 
 // The edit files that a command reads.
 fn files_argument<'a>(alloc: Global) -> Arg<'a>
     ensures rule { rule_of result ≡ files_rule }
     ensures local { result.global ≡ false }
 {
-    Arg::new(alloc, "FILES").required(true).num_args(1..).help(
+    several_argument(
+        alloc,
+        "FILES",
         "Edit files, in the order in which they are read; stdin is standard input",
     )
 }
@@ -22,12 +54,13 @@ fn save_command<'a>(alloc: Global) -> Result<Command<'a>, AllocError>
     ensures shape { IfOk result (λ c. shape_of c ≡ save_shape) }
     ensures local { IfOk result (λ c. (out-Command c).has_globals ≡ false) }
 {
-    let out = Arg::new(alloc, "OUT")
-        .required(true)
-        .help("The world file to write; stdout is standard output");
     Command::new(alloc, "save")
         .about("Write the world file of edit files")
-        .arg(out)?
+        .arg(required_argument(
+            alloc,
+            "OUT",
+            "The world file to write; stdout is standard output",
+        ))?
         .arg(files_argument(alloc))
 }
 
@@ -39,15 +72,6 @@ fn check_command<'a>(alloc: Global) -> Result<Command<'a>, AllocError>
     Command::new(alloc, "check")
         .about("Print what looks wrong in the world of edit files, and its counts")
         .arg(files_argument(alloc))
-}
-
-fn out_argument<'a>(alloc: Global) -> Arg<'a>
-    ensures rule { rule_of result ≡ required_rule (codes "OUT") }
-    ensures local { result.global ≡ false }
-{
-    Arg::new(alloc, "OUT")
-        .required(true)
-        .help("The edit file to write; stdout is standard output")
 }
 
 fn world_argument<'a>(alloc: Global) -> Arg<'a>
@@ -62,24 +86,6 @@ fn world_argument<'a>(alloc: Global) -> Arg<'a>
         .value_parser(clap::value_parser!(u64))
 }
 
-fn from_argument<'a>(alloc: Global) -> Arg<'a>
-    ensures rule { rule_of result ≡ option_rule (codes "from") }
-    ensures local { result.global ≡ false }
-{
-    Arg::new(alloc, "from").long("from").value_name("FILE").help(
-        "A world file to start from; without it there is an empty title board",
-    )
-}
-
-fn name_argument<'a>(alloc: Global) -> Arg<'a>
-    ensures rule { rule_of result ≡ option_rule (codes "name") }
-    ensures local { result.global ≡ false }
-{
-    Arg::new(alloc, "name").long("name").value_name("TEXT").help(
-        "The name of the new world, at most 20 bytes; not for a world file",
-    )
-}
-
 /// `new OUT WORLD [--from FILE] [--name TEXT]`
 fn new_command<'a>(alloc: Global) -> Result<Command<'a>, AllocError>
     ensures shape { IfOk result (λ c. shape_of c ≡ create_shape) }
@@ -87,19 +93,24 @@ fn new_command<'a>(alloc: Global) -> Result<Command<'a>, AllocError>
 {
     Command::new(alloc, "new")
         .about("Make an edit file that makes a world")
-        .arg(out_argument(alloc))?
+        .arg(required_argument(
+            alloc,
+            "OUT",
+            "The edit file to write; stdout is standard output",
+        ))?
         .arg(world_argument(alloc))?
-        .arg(from_argument(alloc))?
-        .arg(name_argument(alloc))
-}
-
-fn file_argument<'a>(alloc: Global) -> Arg<'a>
-    ensures rule { rule_of result ≡ required_rule (codes "FILE") }
-    ensures local { result.global ≡ false }
-{
-    Arg::new(alloc, "FILE")
-        .required(true)
-        .help("The edit file, which is read and written again")
+        .arg(option_argument(
+            alloc,
+            "from",
+            "FILE",
+            "A world file to start from; without it there is an empty title board",
+        ))?
+        .arg(option_argument(
+            alloc,
+            "name",
+            "TEXT",
+            "The name of the new world, at most 20 bytes; not for a world file",
+        ))
 }
 
 fn replica_argument<'a>(alloc: Global) -> Arg<'a>
@@ -112,15 +123,6 @@ fn replica_argument<'a>(alloc: Global) -> Arg<'a>
         .value_parser(clap::value_parser!(u16))
 }
 
-fn words_argument<'a>(alloc: Global) -> Arg<'a>
-    ensures rule { rule_of result ≡ words_rule }
-    ensures local { result.global ≡ false }
-{
-    Arg::new(alloc, "WORDS").required(true).num_args(1..).help(
-        "The action: board-add NAME, board-remove B, board-name B NAME, exit B north|south|west|east TO (0 for none), cells B X0 Y0 X1 Y1 ELEMENT COLOUR, stat-add B X Y CYCLE, stat-remove B S, insert B S POS TEXT (| ends a line) or delete B S FROM TO; B is a board's number, 0 for the title, and S a stat's on it, 0 for the player",
-    )
-}
-
 /// `edit FILE REPLICA WORDS...`
 fn edit_command<'a>(alloc: Global) -> Result<Command<'a>, AllocError>
     ensures shape { IfOk result (λ c. shape_of c ≡ edit_shape) }
@@ -128,9 +130,17 @@ fn edit_command<'a>(alloc: Global) -> Result<Command<'a>, AllocError>
 {
     Command::new(alloc, "edit")
         .about("Add an action of an author to an edit file")
-        .arg(file_argument(alloc))?
+        .arg(required_argument(
+            alloc,
+            "FILE",
+            "The edit file, which is read and written again",
+        ))?
         .arg(replica_argument(alloc))?
-        .arg(words_argument(alloc))
+        .arg(several_argument(
+            alloc,
+            "WORDS",
+            "The action: board-add NAME, board-remove B, board-name B NAME, exit B north|south|west|east TO (0 for none), cells B X0 Y0 X1 Y1 ELEMENT COLOUR, stat-add B X Y CYCLE, stat-remove B S, insert B S POS TEXT (| ends a line) or delete B S FROM TO; B is a board's number, 0 for the title, and S a stat's on it, 0 for the player",
+        ))
 }
 
 /// The words after the program's name.

@@ -13,7 +13,7 @@ ghost use Rattle.zed_program.specs.Commands.{New};
 use crate::collect::read_one;
 use crate::host::Host;
 use crate::output::write_out;
-use crate::refusal::{Refusal, edits_told, of_file, of_world};
+use crate::refusal::{Refusal, edits_told};
 use std::alloc::{AllocError, Global};
 use zed_edit::{Edit, Op, new_table};
 use zed_editfile::{write_edit, write_head};
@@ -125,10 +125,8 @@ fn text_of(alloc: Global, world: &World) -> Result<Vec<u8>, Refusal>
         (λ e. (e ≡ Refusal.Memory) ⊎ (refused_as (written 32767 world.now) ≡ Err e)) }
     ensures canonical { IfOk result (λ bytes. IsCanonical bytes.items) }
 {
-    match write_world(alloc, world, READ_BODY_LIMIT) {
-        Ok(bytes) => Ok(bytes),
-        Err(error) => Err(of_world(error)),
-    }
+    let bytes = write_world(alloc, world, READ_BODY_LIMIT)?;
+    Ok(bytes)
 }
 
 /// A world file, read and written again.
@@ -138,10 +136,8 @@ fn written_again(alloc: Global, bytes: &[u8]) -> Result<Vec<u8>, Refusal>
         (λ e. (e ≡ Refusal.Memory) ⊎ (refused_as (rewritten (world_at bytes.now)) ≡ Err e)) }
     ensures canonical { IfOk result (λ text. IsCanonical text.items) }
 {
-    match read_world(alloc, bytes) {
-        Ok(world) => text_of(alloc, &world),
-        Err(error) => Err(of_world(error)),
-    }
+    let world = read_world(alloc, bytes)?;
+    text_of(alloc, &world)
 }
 
 fn made(alloc: Global, name: Option<&str>) -> Result<Vec<u8>, Refusal>
@@ -190,8 +186,8 @@ fn file_of(alloc: Global, world: u64, bytes: Vec<u8>) -> Result<Vec<u8>, Refusal
         op: Op::Genesis(Bytes::new(bytes)),
     };
     let mut file = Vec::new(alloc);
-    write_head(world, &mut file).map_err(of_file)?;
-    write_edit(&edit, &mut file).map_err(of_file)?;
+    write_head(world, &mut file)?;
+    write_edit(&edit, &mut file)?;
     Ok(file)
 }
 

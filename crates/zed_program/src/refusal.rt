@@ -69,86 +69,91 @@ pub(crate) enum Refusal {
     File,
 }
 
-/// The refusal of a command for one of an edit file.
-pub(crate) fn of_file(error: EditFileError) -> Refusal
-    ensures { result ≡ file_refusal error }
-{
-    match error {
-        EditFileError::Memory => Refusal::Memory,
-        EditFileError::Magic => Refusal::Magic,
-        EditFileError::NewVersion => Refusal::NewVersion,
-        EditFileError::OtherWorld => Refusal::OtherWorld,
-        EditFileError::RecordLength => Refusal::RecordLength,
-        EditFileError::BadEdit(cause) => Refusal::BadEdit(cause),
-        EditFileError::CutShort => Refusal::CutShort,
+impl From<EditFileError> for Refusal {
+    ghost from_gives = { λ error refusal. refusal ≡ file_refusal error };
+
+    fn from(error: EditFileError) -> Refusal {
+        match error {
+            EditFileError::Memory => Refusal::Memory,
+            EditFileError::Magic => Refusal::Magic,
+            EditFileError::NewVersion => Refusal::NewVersion,
+            EditFileError::OtherWorld => Refusal::OtherWorld,
+            EditFileError::RecordLength => Refusal::RecordLength,
+            EditFileError::BadEdit(cause) => Refusal::BadEdit(cause),
+            EditFileError::CutShort => Refusal::CutShort,
+        }
     }
 }
 
-/// The refusal of a command for one of a document.
-pub(crate) fn of_document(error: DocumentError) -> Refusal
-    ensures { result ≡ document_refusal error }
-{
-    match error {
-        DocumentError::Memory => Refusal::Memory,
-        DocumentError::OtherWorld => Refusal::OtherWorld,
-        DocumentError::BadEdit(cause) => Refusal::BadEdit(cause),
-        DocumentError::Clash(stamp) => Refusal::Clash(stamp),
-        DocumentError::Stale => Refusal::Stale,
-        DocumentError::NoSuch => Refusal::NoSuch,
-        DocumentError::OutOfRange => Refusal::OutOfRange,
-        DocumentError::ClockSpent => Refusal::ClockSpent,
+impl From<DocumentError> for Refusal {
+    ghost from_gives = { λ error refusal. refusal ≡ document_refusal error };
+
+    fn from(error: DocumentError) -> Refusal {
+        match error {
+            DocumentError::Memory => Refusal::Memory,
+            DocumentError::OtherWorld => Refusal::OtherWorld,
+            DocumentError::BadEdit(cause) => Refusal::BadEdit(cause),
+            DocumentError::Clash(stamp) => Refusal::Clash(stamp),
+            DocumentError::Stale => Refusal::Stale,
+            DocumentError::NoSuch => Refusal::NoSuch,
+            DocumentError::OutOfRange => Refusal::OutOfRange,
+            DocumentError::ClockSpent => Refusal::ClockSpent,
+        }
     }
 }
 
-/// The refusal of a command for one of a world file.
-pub(crate) fn of_world(error: WorldError) -> Refusal
-    ensures { result ≡ world_refusal error }
-{
-    match error {
-        WorldError::Memory => Refusal::Memory,
-        WorldError::NotZzt => Refusal::NotZzt,
-        WorldError::TooManyBoards => Refusal::TooManyBoards,
-        WorldError::Truncated => Refusal::Truncated,
-        WorldError::BadBoardSize => Refusal::BadBoardSize,
-        WorldError::TooManyStats => Refusal::TooManyStats,
-        WorldError::BadShare => Refusal::BadShare,
-        WorldError::BoardOver { board, bytes } => Refusal::BoardOver { board, bytes },
+impl From<WorldError> for Refusal {
+    ghost from_gives = { λ error refusal. refusal ≡ world_refusal error };
+
+    fn from(error: WorldError) -> Refusal {
+        match error {
+            WorldError::Memory => Refusal::Memory,
+            WorldError::NotZzt => Refusal::NotZzt,
+            WorldError::TooManyBoards => Refusal::TooManyBoards,
+            WorldError::Truncated => Refusal::Truncated,
+            WorldError::BadBoardSize => Refusal::BadBoardSize,
+            WorldError::TooManyStats => Refusal::TooManyStats,
+            WorldError::BadShare => Refusal::BadShare,
+            WorldError::BoardOver { board, bytes } => Refusal::BoardOver { board, bytes },
+        }
     }
 }
 
-/// The refusal of a command for one of an action.
-pub(crate) fn of_action(error: ActionError) -> Refusal
-    ensures { result ≡ action_refusal error }
-{
-    match error {
-        ActionError::Memory => Refusal::Memory,
-        ActionError::BadAction => Refusal::BadAction,
-        ActionError::NoSuch => Refusal::NoSuch,
-        ActionError::OutOfRange => Refusal::OutOfRange,
-        ActionError::ClockSpent => Refusal::ClockSpent,
-        ActionError::BadEdit(cause) => Refusal::BadEdit(cause),
-        ActionError::Clash(stamp) => Refusal::Clash(stamp),
-        ActionError::OtherWorld => Refusal::OtherWorld,
-        ActionError::Stale => Refusal::Stale,
+impl From<ActionError> for Refusal {
+    ghost from_gives = { λ error refusal. refusal ≡ action_refusal error };
+
+    fn from(error: ActionError) -> Refusal {
+        match error {
+            ActionError::Memory => Refusal::Memory,
+            ActionError::BadAction => Refusal::BadAction,
+            ActionError::NoSuch => Refusal::NoSuch,
+            ActionError::OutOfRange => Refusal::OutOfRange,
+            ActionError::ClockSpent => Refusal::ClockSpent,
+            ActionError::BadEdit(cause) => Refusal::BadEdit(cause),
+            ActionError::Clash(stamp) => Refusal::Clash(stamp),
+            ActionError::OtherWorld => Refusal::OtherWorld,
+            ActionError::Stale => Refusal::Stale,
+        }
     }
 }
 
-/// The refusal of a command for one of an export.
-pub(crate) fn of_export(error: ExportError) -> Refusal
-    ensures { result ≡ export_refusal error }
-{
-    match error {
-        ExportError::Memory => Refusal::Memory,
-        ExportError::Stale => Refusal::Stale,
-        ExportError::NoWorld => Refusal::NoWorld,
-        ExportError::BoardsOver(boards) => Refusal::BoardsOver(boards),
-        ExportError::StatsOver { board, stats } => Refusal::StatsOver { board, stats },
-        ExportError::BoardOver { board, bytes } => Refusal::BoardOver { board, bytes },
+impl From<ExportError> for Refusal {
+    ghost from_gives = { λ error refusal. refusal ≡ export_refusal error };
+
+    fn from(error: ExportError) -> Refusal {
+        match error {
+            ExportError::Memory => Refusal::Memory,
+            ExportError::Stale => Refusal::Stale,
+            ExportError::NoWorld => Refusal::NoWorld,
+            ExportError::BoardsOver(boards) => Refusal::BoardsOver(boards),
+            ExportError::StatsOver { board, stats } => Refusal::StatsOver { board, stats },
+            ExportError::BoardOver { board, bytes } => Refusal::BoardOver { board, bytes },
+        }
     }
 }
 
 impl From<WriteError> for Refusal {
-    ghost from_gives = { λ _ r. r ≡ File };
+    ghost from_gives = { λ _ refusal. refusal ≡ File };
 
     fn from(_error: WriteError) -> Refusal {
         Refusal::File
@@ -156,7 +161,7 @@ impl From<WriteError> for Refusal {
 }
 
 impl From<AllocError> for Refusal {
-    ghost from_gives = { λ _ r. r ≡ Memory };
+    ghost from_gives = { λ _ refusal. refusal ≡ Memory };
 
     fn from(_error: AllocError) -> Refusal {
         Refusal::Memory

@@ -4,7 +4,7 @@ ghost use Rattle.std.specs.List.{flat_map};
 ghost use Rattle.zed_program.specs.Lines.{counts_line, warning_line};
 ghost use Rattle.zed_program.specs.Outcome.{file_of, report_on};
 
-use crate::refusal::{Refusal, of_export};
+use crate::refusal::Refusal;
 use std::alloc::{AllocError, Global};
 use zed_document::Document;
 use zed_export::{Warning, export, warnings};
@@ -17,7 +17,8 @@ pub(crate) fn world_file(alloc: Global, document: &Document) -> Result<Vec<u8>, 
         (λ bytes. file_of document.now.edits ≡ Ok bytes.items)
         (λ e. (e ≡ Refusal.Memory) ⊎ (file_of document.now.edits ≡ Err e)) }
 {
-    zed_export::save(alloc, document, BODY_LIMIT).map_err(of_export)
+    let file = zed_export::save(alloc, document, BODY_LIMIT)?;
+    Ok(file)
 }
 
 fn warning_told(alloc: Global, warning: Warning) -> Result<String, AllocError>
@@ -60,9 +61,9 @@ pub(crate) fn report(alloc: Global, document: &Document) -> Result<Vec<u8>, Refu
         (λ text. report_on document.now.edits ≡ Ok text.items)
         (λ e. (e ≡ Refusal.Memory) ⊎ (report_on document.now.edits ≡ Err e)) }
 {
-    let world = export(alloc, document, BODY_LIMIT).map_err(of_export)?;
+    let world = export(alloc, document, BODY_LIMIT)?;
     let file = world_file(alloc, document)?;
-    let warnings = warnings(alloc, &world).map_err(of_export)?;
+    let warnings = warnings(alloc, &world)?;
     let mut text = warnings_told(alloc, warnings.as_slice())?;
     let edits = document.edits().len();
     let boards = world.boards().len();

@@ -1,6 +1,6 @@
-//! Commands whose host fails, or whose growths are refused.
+//! Commands whose growths are refused.
 use crate::growths::{MOST, refuse, was_refused};
-use crate::hosts::{Contents, File, Output, exits, has_written, put_files, words_of};
+use crate::hosts::{Contents, File, Output, has_written, put_files, words_of};
 use crate::rows::{Does, Row};
 use crate::worlds::{EMPTY, ONE_CELL};
 use std::alloc::Global;
@@ -8,9 +8,9 @@ use std::test::Fail;
 use zed_program::{Host, MemoryHost, run};
 use zed_types::Tile;
 
-const TITLE: Row = (1, 0, Does::World(EMPTY));
+pub(crate) const TITLE: Row = (1, 0, Does::World(EMPTY));
 
-const CELL: Row = (2, 1, Does::Cell(5, 5, SOLID));
+pub(crate) const CELL: Row = (2, 1, Does::Cell(5, 5, SOLID));
 
 const SOLID: Tile = Tile {
     element: 21,
@@ -21,30 +21,6 @@ const FILES: &[File] = &[
     ("a", Contents::Edits(&[TITLE])),
     ("b", Contents::Edits(&[CELL])),
 ];
-
-/// Whether `save` ends with status 1 where its host fails.
-fn tells(alloc: Global, host: &mut MemoryHost) -> bool {
-    put_files(alloc, host, FILES)
-        && exits(alloc, host, &["save", "o", "a", "b"], 1)
-        && host.failures() > 0
-}
-
-/// Whether it does where the host fails at the call after so many.
-fn fails_after(alloc: Global, calls: u64) -> bool {
-    let mut host = MemoryHost::new(alloc, calls);
-    tells(alloc, &mut host)
-}
-
-#[test]
-fn tells_a_failure(rt: HostRuntime) -> Result<(), Fail> {
-    // The first two calls put the files there.
-    for calls in 2..5 {
-        if !fails_after(rt.alloc(), calls) {
-            return Err(Fail::new(format_args!("a failure after {calls} calls")));
-        }
-    }
-    Ok(())
-}
 
 /// How a command came out.
 #[derive(Clone, Copy)]

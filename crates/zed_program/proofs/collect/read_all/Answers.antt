@@ -42,7 +42,7 @@ returns-in_default g c =
             let held = c.as_slice.ensures.value in
             let first = c.in-Ok.ensures.bytes t (old.same ∙ at) in
             let others = map (file_in t) (texts_of (drop (c.loop-name.name-index + 1) c.args.names.now)) in
-            rw (file.2, c.of_file.ensures) (last_file (IsStreamIn _ t (texts_of c.args.names.now)) c.loop-name.asked c.in-Ok.bytes.items others _ c.loop-name.edits.items file.0 c.in-Err-read_file.error
+            rw (file.2, c.from.ensures) (last_file (IsStreamIn _ t (texts_of c.args.names.now)) c.loop-name.asked c.in-Ok.bytes.items others _ c.loop-name.edits.items file.0 c.in-Err-read_file.error
             refl (λ s is. old.read t _ (Some c.in-Ok.bytes.items ∷ others) at
             (next_read _ t c.args.names.now c.loop-name.name-index _ (Some c.in-Ok.bytes.items) others c.loop-name-test.true (inl (sym first)) (as_held _ t _)) s is)
             (rw held at file.1));

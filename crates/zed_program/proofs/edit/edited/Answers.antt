@@ -4,15 +4,16 @@ use Rattle.zed_program.specs.Outcome.{texts_of}
 use Rattle.zed_program.proofs.Opened.{edited_done, edited_not_opened, edited_refused}
 use Rattle.zed_program.proofs.edit.edited.Goals as goal
 
-pub returns-in-Err-clause-edited : goal.returns-in-Err-clause-edited
-returns-in-Err-clause-edited g c = λ t at.
-    edited_refused _ t c.args.file.now c.args.replica (texts_of c.args.words.now) c.in_ok-document.document c.in-Err.error c.of_action.result c.if-replica-eq0.false c.in_ok-document.ensures.sound
-    (c.in_ok-document.ensures.opened t at) c.of_action.ensures c.in-Err.ensures.ends
+pub returns-in_err-act-clause-edited : goal.returns-in_err-act-clause-edited
+returns-in_err-act-clause-edited g c = λ t at.
+    let p = err_from_is_err_and c.from_residual-in_err-act.result c.from_residual-in_err-act.ensures.1 in
+    rw p.1 (edited_refused _ t c.args.file.now c.args.replica (texts_of c.args.words.now) c.in_ok-document.document c.in_err-act.field-0.0 p.0 c.if-replica-eq0.false c.in_ok-document.ensures.sound
+    (c.in_ok-document.ensures.opened t at) p.2 c.in_err-act.ensures.ends)
 
-pub returns-in-Ok-clause-edited : goal.returns-in-Ok-clause-edited
-returns-in-Ok-clause-edited g c = λ t at.
+pub returns-clause-edited : goal.returns-clause-edited
+returns-clause-edited g c = λ t at.
     edited_done _ t c.args.file.now c.args.replica (texts_of c.args.words.now) c.in_ok-document.document c.act.new.document c.if-replica-eq0.false c.in_ok-document.ensures.sound
-    (c.in_ok-document.ensures.opened t at) c.act.ensures.world c.in-Ok.ensures.ends
+    (c.in_ok-document.ensures.opened t at) c.act.ensures.world c.in_ok-act.ensures.ends
 
 pub returns-in_err-document-clause-edited : goal.returns-in_err-document-clause-edited
 returns-in_err-document-clause-edited g c = λ t at.

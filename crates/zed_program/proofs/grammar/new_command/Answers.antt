@@ -9,19 +9,19 @@ use Rattle.zed_program.proofs.grammar.new_command.Goals as goal
 pub returns-clause-shape : goal.returns-clause-shape
 returns-clause-shape c =
     let bare : app_of c.about.result ≡ new_app (codes "new") = ap app_of_fields c.about.ensures ∙ c.new.ensures.app in
-    let one = c.in_ok-arg.ensures.shape c.out_argument.ensures.local ∙ ap₂ with_rule bare c.out_argument.ensures.rule in
+    let one = c.in_ok-arg.ensures.shape c.required_argument.ensures.local ∙ ap₂ with_rule bare c.required_argument.ensures.rule in
     let two = c.in_ok-arg-2.ensures.shape c.world_argument.ensures.local ∙ ap₂ with_rule one c.world_argument.ensures.rule in
-    let three = c.in_ok-arg-3.ensures.shape c.from_argument.ensures.local ∙ ap₂ with_rule two c.from_argument.ensures.rule in
-    IfOk-weaker c.arg-4.result _ _ (λ r h. ap (λ (a : App). a.top) (h.shape c.name_argument.ensures.local ∙ ap₂ with_rule three c.name_argument.ensures.rule)) c.arg-4.ensures
+    let three = c.in_ok-arg-3.ensures.shape c.option_argument.ensures.local ∙ ap₂ with_rule two c.option_argument.ensures.rule in
+    IfOk-weaker c.arg-4.result _ _ (λ r h. ap (λ (a : App). a.top) (h.shape c.option_argument-2.ensures.local ∙ ap₂ with_rule three c.option_argument-2.ensures.rule)) c.arg-4.ensures
 
 pub returns-clause-local : goal.returns-clause-local
 returns-clause-local c = IfOk-weaker c.arg-4.result _ _ (λ r h.
     let start = c.new.ensures.local in
     let said = ap (λ (f : Command-F Command). f.has_globals) c.about.ensures in
-    let out = c.out_argument.ensures.local in
+    let out = c.required_argument.ensures.local in
     let world = c.world_argument.ensures.local in
-    let from = c.from_argument.ensures.local in
-    let name = c.name_argument.ensures.local in
+    let from = c.option_argument.ensures.local in
+    let name = c.option_argument-2.ensures.local in
     let one = c.in_ok-arg.ensures.globals in
     let two = c.in_ok-arg-2.ensures.globals in
     let three = c.in_ok-arg-3.ensures.globals in

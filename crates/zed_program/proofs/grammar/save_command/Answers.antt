@@ -1,18 +1,16 @@
 use Rattle.std.proofs.Common.{rules, ap, ap₂, codes, ◌≡◌, ◌∙◌}
 use Rattle.std.proofs.lemmas.Result.{IfOk-weaker}
-use Rattle.clap.specs.Words.{App, app_of, new_app, rule_of, with_rule}
+use Rattle.clap.specs.Words.{App, app_of, new_app, with_rule}
 use Rattle.clap.specs.Simple.{app_of_fields}
 use Rattle.clap.specs.declared.builder.command.Command.{Command}
 use Rattle.clap.specs.declared.builder.command.Command.TheOpen.{Command-F}
-use Rattle.zed_program.specs.Grammar.{required_rule}
 use Rattle.zed_program.proofs.grammar.save_command.Goals as goal
 
 pub returns-clause-shape : goal.returns-clause-shape
 returns-clause-shape c =
-    let out_is : rule_of c.help-out.result ≡ required_rule (codes "OUT") = search rules in
-    let bare : app_of c.about.result ≡ new_app (codes "save") = ap app_of_fields c.about.ensures ∙ c.new-2.ensures.app in
-    let start = c.in_ok-arg.ensures.shape (search rules) ∙ ap₂ with_rule bare out_is in
+    let bare : app_of c.about.result ≡ new_app (codes "save") = ap app_of_fields c.about.ensures ∙ c.new.ensures.app in
+    let start = c.in_ok-arg.ensures.shape c.required_argument.ensures.local ∙ ap₂ with_rule bare c.required_argument.ensures.rule in
     IfOk-weaker c.arg-2.result _ _ (λ r h. ap (λ (a : App). a.top) (h.shape c.files_argument.ensures.local ∙ ap₂ with_rule start c.files_argument.ensures.rule)) c.arg-2.ensures
 
 pub returns-clause-local : goal.returns-clause-local
-returns-clause-local c = IfOk-weaker c.arg-2.result _ _ (λ r h. let start = c.new-2.ensures.local in let said = ap (λ (f : Command-F Command). f.has_globals) c.about.ensures in let first = c.in_ok-arg.ensures.globals in let local = c.files_argument.ensures.local in let second = h.globals in search rules) c.arg-2.ensures
+returns-clause-local c = IfOk-weaker c.arg-2.result _ _ (λ r h. let start = c.new.ensures.local in let said = ap (λ (f : Command-F Command). f.has_globals) c.about.ensures in let first = c.in_ok-arg.ensures.globals in let out = c.required_argument.ensures.local in let local = c.files_argument.ensures.local in let second = h.globals in search rules) c.arg-2.ensures

@@ -1,16 +1,13 @@
 use Rattle.std.proofs.Common.{codes}
-use Rattle.std.specs.Str.Parse.{ExplainsUnsignedError, HasUnsignedDigitsIfOk, ParsesUnsigned}
 use Rattle.clap.specs.Words.{found_of, one_text}
-use Rattle.zed_program.proofs.Readings.{edit_read, number_read}
+use Rattle.zed_program.proofs.Readings.{edit_read, unsigned_read}
 use Rattle.zed_program.proofs.words.edit_in.Goals as goal
 use Rattle.zed_program.proofs.words.edit_in.Goals.{in_default-via-in-Some+in-Some+in_default, in_default-via-in-Some+in_default, in_default-via-in_default}
 
 pub returns-in_ok-words : goal.returns-in_ok-words
 returns-in_ok-words c =
     let f = found_of c.args.matches.now in
-    let replica = number_read 16 (one_text f (codes "REPLICA")) c.get_one-replica.result
-    (λ bs r. ParsesUnsigned 16 10 bs r × ExplainsUnsignedError 10 bs r × HasUnsignedDigitsIfOk bs r) (λ u x g. g.0)
-    c.get_one-replica.ensures.none c.get_one-replica.ensures.value in
+    let replica = unsigned_read 16 (one_text f (codes "REPLICA")) c.get_one-replica.result c.get_one-replica.ensures.none c.get_one-replica.ensures.value in
     let read = edit_read f c.get_str-file.result c.get_one-replica.result c.get_strs-words.result
     c.get_str-file.ensures replica c.get_strs-words.ensures in
     rw c.in_ok-words.ensures.items (rw (c.in-Some-Some-Some.is-0, c.in-Some-Some-Some.is-1, c.in-Some-Some-Some.is-2) at read)
@@ -18,9 +15,7 @@ returns-in_ok-words c =
 pub returns-in_default : goal.returns-in_default
 returns-in_default c =
     let f = found_of c.args.matches.now in
-    let replica = number_read 16 (one_text f (codes "REPLICA")) c.get_one-replica.result
-    (λ bs r. ParsesUnsigned 16 10 bs r × ExplainsUnsignedError 10 bs r × HasUnsignedDigitsIfOk bs r) (λ u x g. g.0)
-    c.get_one-replica.ensures.none c.get_one-replica.ensures.value in
+    let replica = unsigned_read 16 (one_text f (codes "REPLICA")) c.get_one-replica.result c.get_one-replica.ensures.none c.get_one-replica.ensures.value in
     let read = edit_read f c.get_str-file.result c.get_one-replica.result c.get_strs-words.result
     c.get_str-file.ensures replica c.get_strs-words.ensures in
     elim c.in_default.branch [
