@@ -1,3 +1,4 @@
+//! Actions done on a document, by the edits that they come to.
 ghost use Rattle.std.specs.Prelude.{◌≡◌, ◌≢◌, ◌≤◌, Err, false, IfErr, IfOk, OnErr, OnOk};
 ghost use Rattle.zed_document.specs.Authoring.{authored};
 ghost use Rattle.zed_action.specs.Deeds.{Acts, Authors, Deletes, Ends, Inserts, Leaves, LeavesDeletion, LeavesStart, LeavesWords, Performs, Starts};

@@ -1,3 +1,4 @@
+//! The actions of an author.
 use zed_types::{Bytes, Rectangle, Side, Tile};
 
 /// An action of an author. Boards and stats go by the numbers that they have now: boards that aren't removed are numbered from 0 on,

@@ -1,3 +1,4 @@
+//! Why an action is not done.
 ghost use Rattle.std.specs.Prelude.{◌≡◌};
 ghost use Rattle.zed_action.specs.declared.error.ActionError.TheVariants.{Memory};
 ghost use Rattle.zed_action.specs.Deeds.{refusal_of};
@@ -8,7 +9,7 @@ use zed_document::DocumentError;
 use zed_edit::Cause;
 use zed_types::Stamp;
 
-/// Why an action isn't done.
+/// Why an action isn't done. Its texts are for whoever debugs; the program prints none of them.
 #[derive(Clone, Copy, Debug, PartialEq, Eq, Error)]
 pub enum ActionError {
     #[error("out of memory")]

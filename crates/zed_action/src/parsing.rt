@@ -1,3 +1,4 @@
+//! Actions read from words.
 ghost use Rattle.std.specs.Prelude.{◌≡◌, ◌⊎◌, MatchResult, None, Some};
 ghost use Rattle.zed_action.specs.Words.{Says, action_of, board_add_of, board_name_of, board_remove_of, cells_of, delete_of, exit_of, insert_of, numbered_of, spot_of, stat_add_of, stat_remove_of, words_of};
 

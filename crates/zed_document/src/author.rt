@@ -1,3 +1,5 @@
+//! Edits that an author makes, each with the next stamp.
+
 // What an author makes at a replica: edits later than all that it has.
 
 ghost use Rattle.std.specs.Prelude.{◌≡◌, ◌≢◌, ◌⊎◌, if◌then◌else◌, false, true, is_ok, take, Err, OnOk, MatchBool};
@@ -34,7 +36,7 @@ impl Document {
     /// another world was made; Memory. The world is made by replica 0 at time 1; the one that is there already is answered again. The
     /// set of edits is as before on each refusal. After Memory the document may be stale.
     pub fn author(&mut self, replica: u16, op: Op) -> Result<Edit, DocumentError>
-        ensures answers { (result ≡ Err DocumentError.Memory)
+        ensures result { (result ≡ Err DocumentError.Memory)
             ⊎ AnswersAuthor self.old replica op result }
         ensures edits { self.new.edits ≡ (if is_ok result
             then with_edit (authored self.old.edits replica op) self.old.edits
@@ -73,7 +75,7 @@ impl Document {
     pub(crate) fn make(&mut self, edit: Edit) -> Result<Edit, DocumentError>
         requires sound { self.old.is_stale ≡ false }
         requires late { IsLate self.old.edits edit }
-        ensures answers { (result ≡ Err DocumentError.Memory)
+        ensures result { (result ≡ Err DocumentError.Memory)
             ⊎ AnswersToDo (fault edit) self.old.edits edit result }
         ensures edits { self.new.edits
             ≡ (if is_ok result then with_edit edit self.old.edits else self.old.edits) }
@@ -95,7 +97,7 @@ impl Document {
         requires sound { self.old.is_stale ≡ false }
         requires fits { Fits edit }
         requires late { IsLate self.old.edits edit }
-        ensures answers { (result ≡ Err DocumentError.Memory)
+        ensures result { (result ≡ Err DocumentError.Memory)
             ⊎ MatchBool (can (replay self.old.edits) edit)
             (AnswersMade (edit_with edit.stamp self.old.edits) edit result)
             (result ≡ Err DocumentError.NoSuch) }
@@ -121,7 +123,7 @@ impl Document {
         requires fits { Fits edit }
         requires late { IsLate self.old.edits edit }
         requires can { can (replay self.old.edits) edit ≡ true }
-        ensures answers { (result ≡ Err DocumentError.Memory)
+        ensures result { (result ≡ Err DocumentError.Memory)
             ⊎ AnswersMade (edit_with edit.stamp self.old.edits) edit result }
         ensures edits { self.new.edits
             ≡ (if is_ok result then with_edit edit self.old.edits else self.old.edits) }

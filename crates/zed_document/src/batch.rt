@@ -30,7 +30,7 @@ fn put(log: &[Edit], map: &mut BTreeMap<Stamp, Edit>, edit: Edit) -> Result<(), 
         (first_of (edit_with edit.stamp log.now) (get stamp_cmp map.old edit.stamp))
         (map.new.entries ≡ insert_entry stamp_cmp map.old.entries edit.stamp edit)
         (λ f. (f ≡ edit) × (map.new.entries ≡ map.old.entries))) }
-    ensures memory { result ≡ Err DocumentError.Memory
+    ensures err { result ≡ Err DocumentError.Memory
         → first_of (edit_with edit.stamp log.now) (get stamp_cmp map.old edit.stamp) ≡ None }
     ensures clash { IfErr result (λ e. (e ≡ DocumentError.Memory)
         ⊎ ((e ≡ DocumentError.Clash edit.stamp) × (map.new.entries ≡ map.old.entries)
@@ -110,7 +110,7 @@ pub(crate) fn gather(alloc: Global, log: &[Edit], edits: Vec<Edit>) -> Result<Ba
 
 /// Ok, or the clash.
 pub(crate) fn unless_clash(clash: Option<Stamp>) -> Result<(), DocumentError>
-    ensures is { result ≡ unless_clash clash }
+    ensures result { result ≡ unless_clash clash }
     ensures never_memory { result ≢ Err DocumentError.Memory }
 {
     match clash {

@@ -1,3 +1,5 @@
+//! The times that are left for new edits.
+
 // The times that are left for edits that are still to be made.
 
 ghost use Rattle.std.specs.Prelude.{◌≡◌, ◌<◌, ◌+◌, max, nat_lt, true, false, IfSome, IfNone, OnSome};

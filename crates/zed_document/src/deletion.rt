@@ -1,3 +1,5 @@
+//! Deletions from a text by position.
+
 // Bytes that an author deletes from a text.
 
 ghost use Rattle.std.specs.Prelude.{◌≡◌, ◌≢◌, ◌≤◌, ◌⊎◌, ◌++◌, ◌∷◌, ◌-◌, ◌+◌, ◌==◌, ◌&&◌, [], ℕ, false, true, is_ok, length, take, Err, IfOk, IfErr, OnOk, OnErr, IsOkAnd, MatchBool, if◌then◌else◌};
@@ -165,7 +167,7 @@ impl Document {
         from: usize,
         to: usize,
     ) -> Result<Vec<Edit>, DocumentError>
-        ensures answers { (result ≡ Err DocumentError.Memory)
+        ensures result { (result ≡ Err DocumentError.Memory)
             ⊎ AnswersDeletion self.now text from to (λ r. IsOkAnd r (λ v.
             v.items ≡ deletions_of self.now.edits replica text from to)) result }
         ensures memory_only_when { result ≡ Err DocumentError.Memory
@@ -189,7 +191,7 @@ impl Document {
     ) -> Result<Vec<Edit>, DocumentError>
         requires elements { elements.now ≡ elements_of (replay self.now.edits) text }
         requires part { is_part from to (length (text_shown (replay self.now.edits) text)) ≡ true }
-        ensures answers { (result ≡ Err DocumentError.Memory)
+        ensures result { (result ≡ Err DocumentError.Memory)
             ⊎ MatchBool
             (is_spent self.now.edits (length (stretches_of self.now.edits text from to)))
             (result ≡ Err DocumentError.ClockSpent)
@@ -215,9 +217,9 @@ impl Document {
         requires sound { self.old.is_stale ≡ false }
         requires follow { CanFollow self.old.edits edits.now }
         ensures edits { OnOk result (self.new.edits ≡ self.old.edits ++ edits.now) }
-        ensures memory { OnErr result
+        ensures front { OnErr result
             ((n : ℕ) × (self.new.edits ≡ self.old.edits ++ take n edits.now)) }
-        ensures only { IfErr result (λ e. e ≡ DocumentError.Memory) }
+        ensures err { IfErr result (λ e. e ≡ DocumentError.Memory) }
         ensures world { self.new.world ≡ self.old.world }
         ensures sound { OnOk result (self.new.is_stale ≡ false) }
     {
@@ -237,7 +239,7 @@ impl Document {
         requires next { IsNext self.old.edits edit }
         ensures edits { self.new.edits
             ≡ (if is_ok result then self.old.edits ++ edit ∷ [] else self.old.edits) }
-        ensures only { IfErr result (λ e. e ≡ DocumentError.Memory) }
+        ensures err { IfErr result (λ e. e ≡ DocumentError.Memory) }
         ensures world { self.new.world ≡ self.old.world }
         ensures sound { OnOk result (self.new.is_stale ≡ false) }
     {
@@ -258,14 +260,14 @@ impl Document {
         to: usize,
     ) -> Result<Vec<Edit>, DocumentError>
         requires { 1 ≤ replica }
-        ensures answers { (result ≡ Err DocumentError.Memory)
+        ensures result { (result ≡ Err DocumentError.Memory)
             ⊎ AnswersDeletion self.old text from to (λ r. IsOkAnd r (λ v.
             v.items ≡ deletions_of self.old.edits replica text from to)) result }
         ensures edits { OnOk result
             (self.new.edits ≡ self.old.edits ++ deletions_of self.old.edits replica text from to) }
         ensures shows { OnOk result (text_shown (replay self.new.edits) text
             ≡ without from to (text_shown (replay self.old.edits) text)) }
-        ensures memory { result ≡ Err DocumentError.Memory → (n : ℕ) × (self.new.edits
+        ensures err { result ≡ Err DocumentError.Memory → (n : ℕ) × (self.new.edits
             ≡ self.old.edits ++ take n (deletions_of self.old.edits replica text from to)) }
         ensures kept { is_ok result ≡ false → (result ≢ Err DocumentError.Memory)
             → self.new ≡ self.old }

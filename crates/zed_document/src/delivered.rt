@@ -1,3 +1,4 @@
+//! What a delivery tells.
 ghost use Rattle.std.specs.Prelude.{◌≡◌};
 ghost use Rattle.zed_document.specs.Delivery.{state_of};
 

@@ -1,3 +1,4 @@
+//! A document: the edits that a replica accepted, and what they make.
 ghost use Rattle.std.specs.Prelude.{◌≡◌, ◌≢◌, ◌≤◌, ◌⊎◌, [], ◌∷◌, ◌++◌, if◌then◌else◌, length, take, insert, is_ok, true, false, None, Ok, Err, OnOk, OnErr, IfOk, IfErr, IsOkAnd, MatchBool, ◌↔◌};
 
 use crate::batch::{Batch, gather, unless_clash};
@@ -77,7 +78,7 @@ impl Document {
     /// What the document shows. Stale where it is stale.
     pub fn view(&self) -> Result<View<'_>, DocumentError>
         ensures stale { (result ≡ Err DocumentError.Stale) ↔ (self.now.is_stale ≡ true) }
-        ensures only { IfErr result (λ e. e ≡ DocumentError.Stale) }
+        ensures err { IfErr result (λ e. e ≡ DocumentError.Stale) }
         ensures shows { IfOk result (λ v. v ≡ replay self.now.edits) }
     {
         if self.is_stale {
@@ -130,7 +131,7 @@ impl Document {
     /// edit has its stamp, held or taken; Memory. The set of edits is as before on each of them. After Memory the document may be
     /// stale. An edit that is there already takes no memory, but for a Genesis, which is checked anew.
     pub fn deliver(&mut self, edit: Edit) -> Result<Delivered, DocumentError>
-        ensures answers { (result ≡ Err DocumentError.Memory) ⊎ Answers self.old edit result }
+        ensures result { (result ≡ Err DocumentError.Memory) ⊎ Answers self.old edit result }
         ensures edits { self.new.edits
             ≡ (if is_ok result then with_edit edit self.old.edits else self.old.edits) }
         ensures world { self.new.world ≡ self.old.world }
@@ -153,7 +154,7 @@ impl Document {
     pub(crate) fn receive(&mut self, edit: Edit) -> Result<Delivered, DocumentError>
         requires sound { self.old.is_stale ≡ false }
         requires fits { Fits edit }
-        ensures answers { (result ≡ Err DocumentError.Memory)
+        ensures result { (result ≡ Err DocumentError.Memory)
             ⊎ AnswersAt (edit_with edit.stamp self.old.edits) self.old.edits edit result }
         ensures edits { self.new.edits
             ≡ (if is_ok result then with_edit edit self.old.edits else self.old.edits) }
@@ -271,7 +272,7 @@ impl Document {
         ensures edits { self.new.edits ≡ self.old.edits }
         ensures world { self.new.world ≡ self.old.world }
         ensures sound { OnOk result (self.new.is_stale ≡ false) }
-        ensures only { IfErr result (λ e. e ≡ DocumentError.Memory) }
+        ensures err { IfErr result (λ e. e ≡ DocumentError.Memory) }
         ensures kept { OnErr result (self.new ≡ self.old) }
         ensures memory_only_when { self.old.is_stale ≡ false → result ≡ Ok tt }
     {
@@ -289,10 +290,10 @@ impl Document {
     /// different numbers; Clash of the least stamp with which they have different edits; nothing changes on these. On Memory the
     /// document has its own edits and those of the other below some stamp, and may be stale.
     pub fn merge(&mut self, other: &Document) -> Result<(), DocumentError>
-        ensures answers { AnswersMerge self.old other.now result }
+        ensures result { AnswersMerge self.old other.now result }
         ensures edits { OnOk result (self.new.edits ≡ union self.old.edits other.now.edits) }
         ensures kept { OnErr result ((result ≢ Err DocumentError.Memory) → self.new ≡ self.old) }
-        ensures memory { result ≡ Err DocumentError.Memory
+        ensures err { result ≡ Err DocumentError.Memory
             → (s : TheStamp) × (self.new.edits ≡ union self.old.edits (below s other.now.edits)) }
         ensures world { self.new.world ≡ self.old.world }
         ensures sound { OnOk result (self.new.is_stale ≡ false) }
@@ -315,7 +316,7 @@ impl Document {
         requires fit { AllFit other.now }
         requires rising { IsRising other.now }
         ensures edits { OnOk result (self.new.edits ≡ union self.old.edits other.now) }
-        ensures only { IfErr result (λ e. e ≡ DocumentError.Memory) }
+        ensures err { IfErr result (λ e. e ≡ DocumentError.Memory) }
         ensures kept { OnErr result (self.new ≡ self.old) }
         ensures world { self.new.world ≡ self.old.world }
         ensures sound { self.new.is_stale ≡ false }
@@ -333,7 +334,7 @@ impl Document {
         requires fit { AllFit edits.items }
         requires rising { IsRising edits.items }
         ensures edits { OnOk result (self.new.edits ≡ edits.items) }
-        ensures only { IfErr result (λ e. e ≡ DocumentError.Memory) }
+        ensures err { IfErr result (λ e. e ≡ DocumentError.Memory) }
         ensures kept { OnErr result (self.new ≡ self.old) }
         ensures world { self.new.world ≡ self.old.world }
         ensures sound { self.new.is_stale ≡ false }
@@ -353,7 +354,7 @@ impl Document {
         requires fit { AllFit edits.items }
         requires rising { IsRising edits.items }
         ensures edits { OnOk result (self.new.edits ≡ union self.old.edits edits.items) }
-        ensures only { IfErr result (λ e. e ≡ DocumentError.Memory) }
+        ensures err { IfErr result (λ e. e ≡ DocumentError.Memory) }
         ensures some { OnErr result (edits.items ≢ []) }
         ensures kept { OnErr result (self.new ≡ self.old) }
         ensures world { self.new.world ≡ self.old.world }

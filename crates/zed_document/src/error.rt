@@ -1,3 +1,4 @@
+//! Why a document refuses a call.
 ghost use Rattle.std.specs.Prelude.{◌≡◌};
 ghost use Rattle.zed_document.specs.Errors.{refusal_of};
 
@@ -5,7 +6,7 @@ use thiserror::Error;
 use zed_edit::{Cause, EditError};
 use zed_types::Stamp;
 
-/// Why a document refuses a call.
+/// Why a document refuses a call. Its texts are for whoever debugs; the program prints none of them.
 #[derive(Clone, Copy, Debug, PartialEq, Eq, Error)]
 pub enum DocumentError {
     #[error("out of memory")]

@@ -1,3 +1,4 @@
+//! Edits that wait, and those that a delivery woke.
 ghost use Rattle.std.specs.Prelude.{◌≡◌, not, count_by};
 ghost use Rattle.zed_document.specs.Held.{is_among as is_one_of};
 

@@ -1,3 +1,5 @@
+//! Insertions into a text by position.
+
 // Bytes that an author puts into a text.
 
 ghost use Rattle.std.specs.Prelude.{◌≡◌, ◌≢◌, ◌⊎◌, ◌++◌, ◌∷◌, ◌-◌, [], if◌then◌else◌, false, is_ok, length, nat_le, slice_get, option_map, Ok, Err, OnOk, MatchBool};
@@ -73,7 +75,7 @@ impl Document {
         position: usize,
         bytes: Bytes,
     ) -> Result<Edit, DocumentError>
-        ensures answers { (result ≡ Err DocumentError.Memory)
+        ensures result { (result ≡ Err DocumentError.Memory)
             ⊎ AnswersInsertion self.old replica text position bytes result }
         ensures edits { self.new.edits ≡ (if is_ok result
             then self.old.edits ++ authored self.old.edits replica

@@ -1,3 +1,4 @@
+//! What holds of documents, however they came by their edits.
 ghost use Rattle.zed_document.specs.Delivery.{DeliveriesComeToSets};
 ghost use Rattle.zed_document.specs.Laws.{MergeCommutes, MergeAssociates, MergeRepeats, MergeOfItself, EditsDecide, DeliveriesMakeIt, MergeIsDeliveries, OrderNeverCounts};
 

@@ -1,3 +1,5 @@
+//! Two logs joined into one.
+
 // The merge of two logs, each walked once.
 
 ghost use Rattle.std.specs.Prelude.{◌≡◌, ◌≢◌, ◌<◌, ◌≤◌, ◌-◌, ◌++◌, ◌∷◌, [], true, false, None, length, take, drop, slice_get, IfSome, IfNone, IfOk, IfErr, IsSomeAnd, OnOk};

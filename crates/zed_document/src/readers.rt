@@ -1,3 +1,4 @@
+//! What is told of a document by the numbers of boards and stats.
 ghost use Rattle.std.specs.Prelude.{◌≡◌, ◌⊎◌, length, Err, IsOk, IsOkAnd};
 ghost use Rattle.zed_edit.specs.Numbers.{board_numbered, stat_numbered};
 ghost use Rattle.zed_edit.specs.Document.{text as text_shown};

@@ -1,3 +1,4 @@
+//! Whether two documents show and hold the same.
 ghost use Rattle.std.specs.Prelude.{◌≡◌, ◌↔◌, IsTrue};
 ghost use Rattle.std.specs.List.{AllByRecursion};
 ghost use Rattle.zed_edit.specs.Replay.{held as held_of};

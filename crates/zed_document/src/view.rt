@@ -1,3 +1,4 @@
+//! What a document shows, lent to who exports it.
 ghost use Rattle.std.specs.Prelude.{◌≡◌, ◌<◌, ◌≤◌, ◌++◌, [], length, take, slice_get, slice_index_or, false, Some, None, IfSome, MatchOption, OnOk, OnErr};
 ghost use Rattle.std.specs.Option.{option_copied};
 ghost use Rattle.zed_types.specs.Text.{alive_bytes};
@@ -312,7 +313,7 @@ impl<'a> View<'a> {
     /// The number of a text in the order in which texts were made, if it was. It is sought by halves, since in every document that is
     /// the order of their names.
     pub fn text_number(&self, id: TextId) -> Option<usize>
-        ensures is { IsOrdered self.now → MatchOption result
+        ensures result { IsOrdered self.now → MatchOption result
             (find_text id self.now.texts ≡ None)
             (λ k. find_text id self.now.texts ≡ Some (text_at self.now k)) }
         ensures within { IfSome result (λ k. k < length self.now.texts) }
@@ -354,7 +355,7 @@ fn find_made(texts: &[Text], id: TextId) -> Option<&Text>
 
 /// The place of a text among texts in the order of their names.
 fn number_among(texts: &[Text], id: TextId) -> Option<usize>
-    ensures is { NamesRise (λ t. t.id.name) texts.now → MatchOption result
+    ensures result { NamesRise (λ t. t.id.name) texts.now → MatchOption result
         (find_text id texts.now ≡ None)
         (λ k. find_text id texts.now ≡ Some (slice_index_or texts.now k no_text)) }
     ensures within { IfSome result (λ k. k < length texts.now) }

@@ -23,7 +23,7 @@ use zed_types::{BoardId, Bytes, Seq, Stamp, StatFields, StatId, TextId};
 
 fn add_board(alloc: Global, plain: &mut Plain, stamp: Stamp, name: &Bytes) -> Result<(), EditError>
     ensures added { IfOk result (λ _. plain.new ≡ do_op stamp (BoardAdd name.now) plain.old) }
-    ensures memory { IfErr result (λ e. e ≡ EditError.Memory) }
+    ensures err { IfErr result (λ e. e ≡ EditError.Memory) }
     ensures kept { plain.new.held ≡ plain.old.held }
 {
     let id = BoardId::new(stamp, 0);
@@ -39,7 +39,7 @@ fn add_stat(
     fields: StatFields,
 ) -> Result<(), EditError>
     ensures added { IfOk result (λ _. plain.new ≡ do_op stamp (StatAdd b fields) plain.old) }
-    ensures memory { IfErr result (λ e. e ≡ EditError.Memory) }
+    ensures err { IfErr result (λ e. e ≡ EditError.Memory) }
     ensures kept { plain.new.held ≡ plain.old.held }
 {
     let stat = new_stat(StatId::new(stamp, 0), false, fields);
@@ -48,7 +48,7 @@ fn add_stat(
 
 fn add_text(alloc: Global, plain: &mut Plain, stamp: Stamp) -> Result<(), EditError>
     ensures added { IfOk result (λ _. plain.new ≡ do_op stamp TextAdd plain.old) }
-    ensures memory { IfErr result (λ e. e ≡ EditError.Memory) }
+    ensures err { IfErr result (λ e. e ≡ EditError.Memory) }
     ensures kept { plain.new.held ≡ plain.old.held }
 {
     let text = Text {
@@ -62,7 +62,7 @@ fn add_text(alloc: Global, plain: &mut Plain, stamp: Stamp) -> Result<(), EditEr
 fn do_edit(alloc: Global, plain: &mut Plain, edit: &Edit) -> Result<(), EditError>
     requires { IsTrue (is_in_range edit.now.op) }
     ensures made { IfOk result (λ _. plain.new ≡ done plain.old edit.now) }
-    ensures memory { IfErr result (λ e. e ≡ EditError.Memory) }
+    ensures err { IfErr result (λ e. e ≡ EditError.Memory) }
     ensures memory_only_when { IfErr result (λ e. may_grow edit.now.op ≡ true) }
     ensures kept { plain.new.held ≡ plain.old.held }
 {
@@ -89,7 +89,7 @@ fn do_edit(alloc: Global, plain: &mut Plain, edit: &Edit) -> Result<(), EditErro
 
 fn hold(plain: &mut Plain, edit: &Edit) -> Result<(), EditError>
     ensures result { IfOk result (λ _. plain.new ≡ held_back plain.old edit.now) }
-    ensures memory { IfErr result (λ e. e ≡ EditError.Memory) }
+    ensures err { IfErr result (λ e. e ≡ EditError.Memory) }
     ensures kept { OnErr result (plain.new.held ≡ plain.old.held) }
 {
     plain.held.push(edit.stamp).map_err(EditError::of_growth)
@@ -102,7 +102,7 @@ fn hold(plain: &mut Plain, edit: &Edit) -> Result<(), EditError>
 pub fn step(alloc: Global, plain: &mut Plain, edit: &Edit) -> Result<(), EditError>
     requires { Fits edit.now }
     ensures result { IfOk result (λ _. plain.new ≡ stepped plain.old edit.now) }
-    ensures memory { IfErr result (λ e. e ≡ EditError.Memory) }
+    ensures err { IfErr result (λ e. e ≡ EditError.Memory) }
     ensures memory_only_when { IfErr result (λ e. MayGrow plain.old edit.now) }
     ensures kept { OnErr result (plain.new.held ≡ plain.old.held) }
 {
@@ -116,7 +116,7 @@ pub fn step(alloc: Global, plain: &mut Plain, edit: &Edit) -> Result<(), EditErr
 fn replay_on(alloc: Global, plain: &mut Plain, edits: &[Edit]) -> Result<(), EditError>
     requires { AllFit edits.now }
     ensures result { IfOk result (λ _. plain.new ≡ replayed_on plain.old edits.now) }
-    ensures memory { IfErr result (λ e. e ≡ EditError.Memory) }
+    ensures err { IfErr result (λ e. e ≡ EditError.Memory) }
     ensures memory_only_when { IfErr result (λ e. 0 < length edits.now) }
 {
     for edit in edits {
@@ -134,7 +134,7 @@ pub fn replay(alloc: Global, edits: &[Edit]) -> Result<Plain, EditError>
     ensures result { IfOk result (λ p. p ≡ replayed edits.now) }
     ensures held { IfOk result (λ p. p.held ≡ stamps_of (held_of edits.now)) }
     ensures sound { IfOk result (λ p. IsRising edits.now → StampsRise p.held) }
-    ensures memory { IfErr result (λ e. e ≡ EditError.Memory) }
+    ensures err { IfErr result (λ e. e ≡ EditError.Memory) }
     ensures memory_only_when { IfErr result (λ e. 0 < length edits.now) }
 {
     let mut plain = Plain::empty(alloc);

@@ -18,7 +18,7 @@ use zed_types::{BoardId, BoardSetting, Bytes, Rectangle, Seq, StatId, StatSettin
 fn set_if(board: &mut Board, b: BoardId, setting: &BoardSetting) -> Result<(), EditError>
     ensures set { IfOk result (λ _.
         board.new ≡ board_if b (set_board_property setting.now) board.old) }
-    ensures memory { IfErr result (λ e. e ≡ EditError.Memory) }
+    ensures err { IfErr result (λ e. e ≡ EditError.Memory) }
     ensures memory_only_when { IfErr result (λ e. board_has_string setting.now ≡ true) }
 {
     if board.id == b {
@@ -35,7 +35,7 @@ pub(crate) fn set_boards(
 ) -> Result<(), EditError>
     ensures set { IfOk result (λ _.
         boards.new ≡ change_boards b (set_board_property setting.now) boards.old) }
-    ensures memory { IfErr result (λ e. e ≡ EditError.Memory) }
+    ensures err { IfErr result (λ e. e ≡ EditError.Memory) }
     ensures memory_only_when { IfErr result (λ e. board_has_string setting.now ≡ true) }
 {
     for x in boards.iter_mut() {
@@ -81,8 +81,8 @@ pub(crate) fn remove_boards(boards: &mut [Board], b: BoardId)
 }
 
 fn new_properties(alloc: Global, name: &Bytes) -> Result<Properties, EditError>
-    ensures is { IfOk result (λ p. p ≡ properties_of_new name.now) }
-    ensures memory { IfErr result (λ e. e ≡ EditError.Memory) }
+    ensures result { IfOk result (λ p. p ≡ properties_of_new name.now) }
+    ensures err { IfErr result (λ e. e ≡ EditError.Memory) }
 {
     Ok(Properties {
         bytes: [255, 30, 12],
@@ -103,8 +103,8 @@ pub(crate) fn new_board(
     player: StatId,
     name: &Bytes,
 ) -> Result<Board, EditError>
-    ensures is { IfOk result (λ b. b ≡ board_of_new id player name.now) }
-    ensures memory { IfErr result (λ e. e ≡ EditError.Memory) }
+    ensures result { IfOk result (λ b. b ≡ board_of_new id player name.now) }
+    ensures err { IfErr result (λ e. e ≡ EditError.Memory) }
 {
     let properties = new_properties(alloc, name)?;
     let mut stats = Seq::new(alloc);
@@ -122,7 +122,7 @@ pub(crate) fn new_board(
 
 fn add_if(board: &mut Board, b: BoardId, stat: Stat) -> Result<(), EditError>
     ensures added { IfOk result (λ _. board.new ≡ board_if b (add_stat stat) board.old) }
-    ensures memory { IfErr result (λ e. e ≡ EditError.Memory) }
+    ensures err { IfErr result (λ e. e ≡ EditError.Memory) }
 {
     if board.id == b {
         board.stats.push(stat).map_err(EditError::of_growth)?;
@@ -133,7 +133,7 @@ fn add_if(board: &mut Board, b: BoardId, stat: Stat) -> Result<(), EditError>
 /// Adds a stat to the board of a name.
 pub(crate) fn add_to_boards(boards: &mut [Board], b: BoardId, stat: Stat) -> Result<(), EditError>
     ensures added { IfOk result (λ _. boards.new ≡ change_boards b (add_stat stat) boards.old) }
-    ensures memory { IfErr result (λ e. e ≡ EditError.Memory) }
+    ensures err { IfErr result (λ e. e ≡ EditError.Memory) }
 {
     for x in boards.iter_mut() {
         add_if(x, b, stat)?;

@@ -24,7 +24,7 @@ fn open_boards(
     requires few { length boards.now ≤ 101 }
     requires stats { AllByRecursion (λ b. length b.stats ≤ 151) boards.now }
     ensures added { IfOk result (λ _. opened.new ≡ opened.old ++ opened_boards stamp boards.now) }
-    ensures memory { IfErr result (λ e. e ≡ EditError.Memory) }
+    ensures err { IfErr result (λ e. e ≡ EditError.Memory) }
 {
     let mut m = 0;
     let mut t = 0;
@@ -50,7 +50,7 @@ fn open_text(
     ensures added { IfOk result (λ _. texts.new
         ≡ texts.old ++ texts_from stamp t (option_to_list (own_program stat.now))) }
     ensures number { IfOk result (λ u. u ≡ t + length (option_to_list (own_program stat.now))) }
-    ensures memory { IfErr result (λ e. e ≡ EditError.Memory) }
+    ensures err { IfErr result (λ e. e ≡ EditError.Memory) }
 {
     let Code::Own(program) = &stat.code else {
         return Ok(t);
@@ -79,7 +79,7 @@ fn open_texts_of(
         ≡ texts.old ++ texts_from stamp t (filter_map own_program stats.now)) }
     ensures number { IfOk result (λ u. u ≡ t + length (filter_map own_program stats.now)) }
     ensures few { IfOk result (λ u. u ≤ t + 151) }
-    ensures memory { IfErr result (λ e. e ≡ EditError.Memory) }
+    ensures err { IfErr result (λ e. e ≡ EditError.Memory) }
 {
     let mut next = t;
     for stat in stats {
@@ -99,7 +99,7 @@ fn open_texts(
     requires stats { AllByRecursion (λ b. length b.stats ≤ 151) boards.now }
     requires short { AllByRecursion (λ b. HaveShortPrograms b.stats) boards.now }
     ensures added { IfOk result (λ _. texts.new ≡ texts.old ++ opened_texts stamp boards.now) }
-    ensures memory { IfErr result (λ e. e ≡ EditError.Memory) }
+    ensures err { IfErr result (λ e. e ≡ EditError.Memory) }
 {
     let mut t = 0;
     for board in boards {
@@ -115,7 +115,7 @@ fn open_contents(
     world: &World,
 ) -> Result<(), EditError>
     ensures opened { IfOk result (λ _. plain.new ≡ world_opened stamp (Ok world.now) plain.old) }
-    ensures memory { IfErr result (λ e. e ≡ EditError.Memory) }
+    ensures err { IfErr result (λ e. e ≡ EditError.Memory) }
     ensures kept { plain.new.held ≡ plain.old.held }
 {
     let header = world.header();
@@ -134,7 +134,7 @@ pub(crate) fn open_world(
 ) -> Result<(), EditError>
     ensures opened { IfOk result (λ _.
         plain.new ≡ world_opened stamp (world_at bytes.now) plain.old) }
-    ensures memory { IfErr result (λ e. e ≡ EditError.Memory) }
+    ensures err { IfErr result (λ e. e ≡ EditError.Memory) }
     ensures kept { plain.new.held ≡ plain.old.held }
 {
     match read_world(alloc, bytes) {

@@ -49,7 +49,7 @@ pub(crate) fn empty_header(alloc: Global) -> Header
 /// Overwrites the register of a setting.
 pub(crate) fn set_header(header: &mut Header, setting: &HeaderSetting) -> Result<(), EditError>
     ensures set { IfOk result (λ _. header.new ≡ header_with setting.now header.old) }
-    ensures memory { IfErr result (λ e. e ≡ EditError.Memory) }
+    ensures err { IfErr result (λ e. e ≡ EditError.Memory) }
     ensures memory_only_when { IfErr result (λ e. header_has_string setting.now ≡ true) }
 {
     match setting {

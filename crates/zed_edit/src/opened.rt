@@ -22,16 +22,16 @@ fn exit_of(stamp: Stamp, n: u8) -> Option<BoardId>
 }
 
 fn copy_of(bytes: &Bytes) -> Result<Bytes, EditError>
-    ensures is { IfOk result (λ copy. copy ≡ bytes.now) }
-    ensures memory { IfErr result (λ e. e ≡ EditError.Memory) }
+    ensures result { IfOk result (λ copy. copy ≡ bytes.now) }
+    ensures err { IfErr result (λ e. e ≡ EditError.Memory) }
 {
     bytes.copy().map_err(EditError::of_growth)
 }
 
 fn flags_of(flags: &[Bytes]) -> Result<[Bytes; 10], EditError>
     requires { length flags.now ≡ 10 }
-    ensures is { IfOk result (λ fs. fs ≡ flags.now) }
-    ensures memory { IfErr result (λ e. e ≡ EditError.Memory) }
+    ensures result { IfOk result (λ fs. fs ≡ flags.now) }
+    ensures err { IfErr result (λ e. e ≡ EditError.Memory) }
 {
     let [a, b, c, d, e, f, g, h, i, j] = flags else {
         unreachable!()
@@ -52,8 +52,8 @@ fn flags_of(flags: &[Bytes]) -> Result<[Bytes; 10], EditError>
 
 pub(crate) fn header_of(stamp: Stamp, header: &zed_world::Header) -> Result<Header, EditError>
     requires { length header.now.flags ≡ 10 }
-    ensures is { IfOk result (λ h. h ≡ header_in stamp header.now) }
-    ensures memory { IfErr result (λ e. e ≡ EditError.Memory) }
+    ensures result { IfOk result (λ h. h ≡ header_in stamp header.now) }
+    ensures err { IfErr result (λ e. e ≡ EditError.Memory) }
 {
     let flags = flags_of(header.flags.as_slice())?;
     Ok(Header {
@@ -81,8 +81,8 @@ fn properties_of(
     name: &Bytes,
     properties: &zed_world::Properties,
 ) -> Result<Properties, EditError>
-    ensures is { IfOk result (λ p. p ≡ properties_in stamp name.now properties.now) }
-    ensures memory { IfErr result (λ e. e ≡ EditError.Memory) }
+    ensures result { IfOk result (λ p. p ≡ properties_in stamp name.now properties.now) }
+    ensures err { IfErr result (λ e. e ≡ EditError.Memory) }
 {
     Ok(Properties {
         bytes: [properties.max_shots, properties.start_x, properties.start_y],
@@ -107,7 +107,7 @@ fn has_program(stat: &StatData) -> bool
 
 /// How many of the first `n` stats have a program of their own.
 pub(crate) fn programs_before(n: usize, stats: &[StatData]) -> usize
-    ensures is { result ≡ programs_below n stats.now }
+    ensures result { result ≡ programs_below n stats.now }
     ensures few { result ≤ length stats.now }
 {
     stats.iter().take(n).filter(|x| has_program(x)).count()
@@ -180,8 +180,8 @@ fn opened_stats(
     requires few { length board.now.stats ≤ 151 }
     requires stats { m < 2 ^ 31 }
     requires texts { t < 2 ^ 31 }
-    ensures are { IfOk result (λ ss. ss ≡ stats_opened stamp m t board.now) }
-    ensures memory { IfErr result (λ e. e ≡ EditError.Memory) }
+    ensures result { IfOk result (λ ss. ss ≡ stats_opened stamp m t board.now) }
+    ensures err { IfErr result (λ e. e ≡ EditError.Memory) }
 {
     let mut opened = Seq::new(alloc);
     for (j, x) in board.stats.as_slice().iter().enumerate() {
@@ -204,8 +204,8 @@ pub(crate) fn opened_board(
     requires boards { n < 2 ^ 31 }
     requires stats { m < 2 ^ 31 }
     requires texts { t < 2 ^ 31 }
-    ensures is { IfOk result (λ b. b ≡ board_opened stamp n m t board.now) }
-    ensures memory { IfErr result (λ e. e ≡ EditError.Memory) }
+    ensures result { IfOk result (λ b. b ≡ board_opened stamp n m t board.now) }
+    ensures err { IfErr result (λ e. e ≡ EditError.Memory) }
 {
     Ok(Board {
         id: BoardId::new(stamp, n as u32),

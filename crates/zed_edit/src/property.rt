@@ -14,7 +14,7 @@ pub(crate) fn set_property(
     setting: &BoardSetting,
 ) -> Result<(), EditError>
     ensures set { IfOk result (λ _. properties.new ≡ property_with setting.now properties.old) }
-    ensures memory { IfErr result (λ e. e ≡ EditError.Memory) }
+    ensures err { IfErr result (λ e. e ≡ EditError.Memory) }
     ensures memory_only_when { IfErr result (λ e. board_has_string setting.now ≡ true) }
 {
     match setting {

@@ -32,7 +32,7 @@ fn stat_among(boards: &[Board], s: StatId) -> Option<&Stat>
 }
 
 fn alive_bytes(alloc: Global, elements: &[TextByte]) -> Result<Vec<u8>, AllocError>
-    ensures is { IfOk result (λ v. v.items ≡ bytes_alive elements.now) }
+    ensures result { IfOk result (λ v. v.items ≡ bytes_alive elements.now) }
     ensures memory_only_when { IfErr result (λ e. 0 < length (bytes_alive elements.now)) }
 {
     let mut bytes = Vec::new(alloc);
@@ -74,8 +74,8 @@ impl Plain {
 
     /// The alive bytes of a text. A text that was not made has none. `Memory` is the one refusal, and none where there is no alive byte.
     pub fn text(&self, alloc: Global, t: TextId) -> Result<Vec<u8>, EditError>
-        ensures is { IfOk result (λ v. v.items ≡ text_shown self.now t) }
-        ensures memory { IfErr result (λ e. e ≡ EditError.Memory) }
+        ensures result { IfOk result (λ v. v.items ≡ text_shown self.now t) }
+        ensures err { IfErr result (λ e. e ≡ EditError.Memory) }
         ensures memory_only_when { IfErr result (λ e. 0 < length (text_shown self.now t)) }
     {
         match text_named(self, t) {

@@ -64,7 +64,7 @@ fn insert_if(
     requires { length bytes.now < 2 ^ 32 }
     ensures put { IfOk result (λ _.
         text.new ≡ text_if t (put_after after (run_from stamp 0 bytes.now)) text.old) }
-    ensures memory { IfErr result (λ e. e ≡ EditError.Memory) }
+    ensures err { IfErr result (λ e. e ≡ EditError.Memory) }
 {
     if text.id == t {
         let run = run_of(alloc, stamp, bytes).map_err(EditError::of_growth)?;
@@ -85,7 +85,7 @@ pub(crate) fn insert_bytes(
     requires { length bytes.now < 2 ^ 32 }
     ensures put { IfOk result (λ _.
         texts.new ≡ change_texts t (put_after after (run_from stamp 0 bytes.now)) texts.old) }
-    ensures memory { IfErr result (λ e. e ≡ EditError.Memory) }
+    ensures err { IfErr result (λ e. e ≡ EditError.Memory) }
 {
     for x in texts.iter_mut() {
         insert_if(alloc, x, t, after, stamp, bytes)?;

@@ -88,7 +88,7 @@ impl EditReader {
     ///
     /// Answers the fault of an earlier `feed` again; without one `CutShort` where the head or a record is cut.
     pub fn finish(&self) -> Result<(), EditFileError>
-        ensures exact { result ≡ verdict_of (ending self.now) }
+        ensures result { result ≡ verdict_of (ending self.now) }
         // What ends well is the whole text of the edits that were read.
         ensures whole { OnOk result ((bytes : List ℕ) (found : List Edit)
             → Reads bytes found self.now

@@ -53,8 +53,8 @@ fn record_of(alloc: Global, edit: &Edit) -> Result<Vec<u8>, AllocError>
 /// Refused with `Memory` alone; nothing is appended then.
 pub fn write_head(world: u64, out: &mut Vec<u8>) -> Result<(), EditFileError>
     ensures ok { OnOk result (out.new.items ≡ out.old.items ++ head_text world) }
-    ensures memory { IfErr result (λ e. e ≡ EditFileError.Memory) }
-    ensures unchanged { OnErr result (out.new.items ≡ out.old.items) }
+    ensures err { IfErr result (λ e. e ≡ EditFileError.Memory) }
+    ensures kept { OnErr result (out.new.items ≡ out.old.items) }
 {
     let head = head_of(*out.allocator(), world)?;
     out.extend_from_slice(&head)?;
@@ -67,8 +67,8 @@ pub fn write_head(world: u64, out: &mut Vec<u8>) -> Result<(), EditFileError>
 pub fn write_edit(edit: &Edit, out: &mut Vec<u8>) -> Result<(), EditFileError>
     requires { Fits edit.now }
     ensures ok { OnOk result (out.new.items ≡ out.old.items ++ record_text edit.now) }
-    ensures memory { IfErr result (λ e. e ≡ EditFileError.Memory) }
-    ensures unchanged { OnErr result (out.new.items ≡ out.old.items) }
+    ensures err { IfErr result (λ e. e ≡ EditFileError.Memory) }
+    ensures kept { OnErr result (out.new.items ≡ out.old.items) }
 
     // What the laws on records ask.
     ensures record { IsRecord edit.now }

@@ -1,3 +1,4 @@
+//! Boards as a world file has them.
 ghost use Rattle.std.specs.Prelude.{◌≡◌, ◌<◌, ◌≤◌, not, [], IfOk, length};
 ghost use Rattle.std.specs.List.{AllByRecursion};
 ghost use Rattle.zed_world.specs.Normal.{IsInteger};
@@ -42,7 +43,7 @@ fn stat_of(view: &View, boards: &Names, stats: &Names, i: usize, j: usize, code:
     requires few_boards { length boards.now ≤ 101 }
     requires stats { stats.now ≡ names_of_stats (board_at view.now i) }
     requires few_stats { length stats.now ≤ 151 }
-    ensures is { result
+    ensures result { result
         ≡ stat_with view.now (board_at view.now i) (stat_at (board_at view.now i) j) code }
     ensures fits { FitsStat result }
 {
@@ -78,7 +79,7 @@ fn properties_of(
     requires board { i < length view.now.boards }
     requires boards { boards.now ≡ names_of_boards view.now }
     requires few_boards { length boards.now ≤ 101 }
-    ensures is { IfOk result (λ properties.
+    ensures result { IfOk result (λ properties.
         properties ≡ exported_properties view.now (board_at view.now i).properties) }
     ensures fits { IfOk result (λ properties. IsInteger properties.time_limit) }
 {
@@ -120,7 +121,7 @@ fn stats_of(
     requires stats { stats.now ≡ names_of_stats (board_at view.now i) }
     requires few_stats { length stats.now ≤ 151 }
     requires ordered { IsOrdered view.now }
-    ensures is { IfOk result (λ stats. stats
+    ensures result { IfOk result (λ stats. stats
         ≡ exported_above view.now (board_at view.now i) [] (stats_there (board_at view.now i))) }
     ensures fits { IfOk result (λ stats. AllByRecursion FitsStat stats) }
 {
@@ -149,7 +150,7 @@ pub(crate) fn board_of(
     requires few_boards { length boards.now ≤ 101 }
     requires few_stats { length (stats_there (board_at view.now i)) ≤ 151 }
     requires ordered { IsOrdered view.now }
-    ensures is { IfOk result (λ board. board ≡ exported_board view.now (board_at view.now i)) }
+    ensures result { IfOk result (λ board. board ≡ exported_board view.now (board_at view.now i)) }
     ensures fits { IfOk result (λ board. FitsBoard board) }
 {
     let names = stat_names(alloc, view, i)?;

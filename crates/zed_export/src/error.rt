@@ -5,7 +5,7 @@ ghost use Rattle.zed_export.specs.declared.error.ExportError.TheVariants.{Memory
 use std::alloc::AllocError;
 use thiserror::Error;
 
-/// Why a document can't be exported.
+/// Why a document can't be exported. Its texts are for whoever debugs; the program prints none of them.
 #[derive(Clone, Copy, Debug, PartialEq, Eq, Error)]
 pub enum ExportError {
     #[error("out of memory")]

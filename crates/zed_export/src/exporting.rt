@@ -1,3 +1,4 @@
+//! The world that a document shows, and its file.
 ghost use Rattle.std.specs.Prelude.{◌≡◌, ◌≤◌, None, Ok, IfErr, IfOk, MatchResult, length};
 ghost use Rattle.std.specs.List.{AllByRecursion};
 ghost use Rattle.zed_world.specs.Reading.{world_at};
@@ -29,7 +30,7 @@ fn boards_of(alloc: Global, view: &View, names: &Names) -> Result<Seq<BoardData>
     requires few { length names.now ≤ 101 }
     requires few_stats { AllByRecursion
         (λ b. length (stats_there b) ≤ 151) (boards_there view.now) }
-    ensures is { IfOk result (λ boards. boards ≡ exported_boards view.now) }
+    ensures result { IfOk result (λ boards. boards ≡ exported_boards view.now) }
     ensures fits { IfOk result (λ boards. AllByRecursion FitsBoard boards) }
 {
     let mut boards = Vec::new(alloc);
@@ -62,7 +63,7 @@ fn file_within(alloc: Global, view: &View, limit: usize) -> Result<Vec<u8>, Expo
     requires ordered { IsOrdered view.now }
     requires limit { limit ≤ 32767 }
     requires within { refusal_of limit view.now ≡ None }
-    ensures is { MatchResult result
+    ensures result { MatchResult result
         (λ file. file.items ≡ world_text (world_of view.now))
         (λ e. e ≡ ExportError.Memory) }
     ensures back { IfOk result (λ file. world_at file.items ≡ Ok (world_of view.now)) }
@@ -102,7 +103,7 @@ fn shown_within<'d>(
 /// over the limit, in bytes; Memory. None but Memory takes memory. The limit is at most 32,767.
 pub fn export(alloc: Global, document: &Document, limit: usize) -> Result<World, ExportError>
     requires { limit ≤ 32767 }
-    ensures exact { Answers (λ world. world) (unless_stale document.now (exported limit)) result }
+    ensures result { Answers (λ world. world) (unless_stale document.now (exported limit)) result }
     ensures normal { IfOk result (λ world. IsNormal world) }
 {
     let view = shown_within(alloc, document, limit)?;
@@ -112,7 +113,7 @@ pub fn export(alloc: Global, document: &Document, limit: usize) -> Result<World,
 /// The file of the world that a document shows, with the refusals of `export` in their order.
 pub fn save(alloc: Global, document: &Document, limit: usize) -> Result<Vec<u8>, ExportError>
     requires { limit ≤ 32767 }
-    ensures exact { Answers (λ file. file.items) (unless_stale document.now (saved limit)) result }
+    ensures result { Answers (λ file. file.items) (unless_stale document.now (saved limit)) result }
 
     // What is saved is read as the exported world.
     ensures back { IfOk result (λ file.

@@ -1,3 +1,4 @@
+//! The header of the exported world.
 ghost use Rattle.std.specs.Prelude.{◌≡◌, ◌≤◌, IfOk, length};
 ghost use Rattle.zed_laws.specs.Regular.{IsRegular};
 ghost use Rattle.zed_export.specs.World.{exported_header};
@@ -61,7 +62,7 @@ pub(crate) fn header_of(alloc: Global, view: &View, boards: &Names) -> Result<He
     requires regular { IsRegular view.now }
     requires named { boards.now ≡ board_names view.now }
     requires few { length boards.now ≤ 101 }
-    ensures is { IfOk result (λ header. header ≡ exported_header view.now) }
+    ensures result { IfOk result (λ header. header ≡ exported_header view.now) }
     ensures fits { IfOk result (λ header. FitsHeader header) }
 {
     Ok(Header {

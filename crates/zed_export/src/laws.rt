@@ -1,3 +1,4 @@
+//! What holds of every saved file.
 ghost use Rattle.zed_export.specs.Headline.{AuthoredIsRead};
 ghost use Rattle.zed_export.specs.Limits.{SavedIsRead};
 

@@ -1,3 +1,4 @@
+//! Which limit of a world file a document goes over.
 ghost use Rattle.std.specs.Prelude.{◌≡◌, ◌<◌, ◌≤◌, length, None};
 ghost use Rattle.zed_op.specs.declared.thing.Thing.TheVariants as thing;
 ghost use Rattle.zed_types.specs.Names.{title};

@@ -36,7 +36,7 @@ impl Names {
     }
 
     fn place_of(&self, name: Name) -> Option<usize>
-        ensures is { result ≡ place_among self.now name }
+        ensures result { result ≡ place_among self.now name }
         ensures within { IfSome result (λ n. n < length self.now) }
     {
         self.names.binary_search(&name).ok()

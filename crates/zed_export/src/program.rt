@@ -1,3 +1,4 @@
+//! Which stats share a program.
 ghost use Rattle.std.specs.Prelude.{◌≡◌, ◌<◌, ◌≤◌, ℕ, List, length, position, IfOk, IfSome};
 ghost use Rattle.zed_edit.specs.Document.{text as text_shown};
 ghost use Rattle.zed_laws.specs.NameOrder.{IsOrdered};
@@ -20,7 +21,7 @@ fn is_of(text: TextId, other: &Option<TextId>) -> bool
 }
 
 fn place_of(texts: &[Option<TextId>], text: TextId) -> Option<usize>
-    ensures is { result ≡ position (is_text_of text) texts.now }
+    ensures result { result ≡ position (is_text_of text) texts.now }
     ensures within { IfSome result (λ n. n < length texts.now) }
 {
     texts.iter().position(|other| is_of(text, other))
@@ -29,7 +30,7 @@ fn place_of(texts: &[Option<TextId>], text: TextId) -> Option<usize>
 /// The lowest stat past the player that uses a text, of stats with these texts. They are looked at one by one, which takes no memory:
 /// at most 150 stats of a board are exported.
 pub(crate) fn user_of(texts: &[Option<TextId>], text: TextId) -> Option<usize>
-    ensures is { result ≡ lowest_user text texts.now }
+    ensures result { result ≡ lowest_user text texts.now }
     ensures within { IfSome result (λ n. n < length texts.now) }
 {
     match texts.split_first() {

@@ -1,3 +1,4 @@
+//! How many bytes a board takes in a world file.
 ghost use Rattle.std.specs.Prelude.{◌≡◌, ◌+◌, ◌<◌, ◌≤◌, [], length};
 ghost use Rattle.std.specs.List.{flat_map};
 ghost use Rattle.zed_runs.specs.Runs.{greedy};
@@ -24,7 +25,7 @@ const STAT: usize = 33;
 
 /// How many bytes the runs of a board take.
 fn runs_bytes(tiles: &[Tile; TILES]) -> usize
-    ensures is { result ≡ length (greedy tiles.now) }
+    ensures result { result ≡ length (greedy tiles.now) }
     ensures within { result ≤ 4500 }
 {
     greedy_is_the_one();

@@ -1,3 +1,4 @@
+//! What is odd about a world that can be saved.
 ghost use Rattle.std.specs.Prelude.{◌≡◌, ◌++◌, [], OnOk, MatchResult};
 ghost use Rattle.zed_export.specs.Warnings.{is_in_table, is_player_at, has_place, place_warnings, board_warnings, boards_warnings, warnings_of};
 

@@ -1,3 +1,4 @@
+//! What more edits change of a replay, and what stays.
 ghost use Rattle.zed_laws.specs.Laws.{OneMoreIsOneStep, ReplayGoesOn, OneMoreIsTaken, OneMoreIsHeld, HeldAreRemembered, MadeStaysMade, MadeOutlastsEdits, TakenByWhatIsMade, HeldByWhatIsMade, MadeByWhatIsMade, RemovedBoardIsSet, RemovedBoardIsDrawn, RemovedStatIsSet, TakenMakeAll, LateEditHoldsNone, LateEditHoldsNoOther, LateInsertion, LateDeletion};
 ghost use Rattle.zed_laws.specs.Registers.{GreatestStampWins, LateWriteIsCompared, HeaderNumbersAreRegisters, CellsAreRegisters};
 

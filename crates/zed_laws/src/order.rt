@@ -1,3 +1,4 @@
+//! The order of what a replay makes.
 ghost use Rattle.zed_laws.specs.NameOrder.{ReplayIsOrdered};
 
 /// Texts, boards, and the stats of each board stand in the order of their names: by stamp, and then by index.

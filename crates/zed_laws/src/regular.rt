@@ -1,3 +1,4 @@
+//! What every replay keeps to.
 ghost use Rattle.zed_laws.specs.Integers.{ReplayKeepsIntegers};
 ghost use Rattle.zed_laws.specs.Regular.{ReplayIsRegular};
 

@@ -1,3 +1,4 @@
+//! The names of what texts hold.
 ghost use Rattle.zed_laws.specs.TextNames.{ElementsHaveOwnNames, ElementsAreOfEdits, TextsAreOfEdits};
 
 /// The bytes of a text have names of their own. They were made by edits, and so were the texts.

@@ -1,3 +1,4 @@
+//! Why an edit is refused.
 ghost use Rattle.std.specs.Prelude.{◌≡◌};
 
 use std::alloc::AllocError;
@@ -24,7 +25,7 @@ pub enum Cause {
     Genesis,
 }
 
-/// Why an edit can't be checked, copied or replayed.
+/// Why an edit can't be checked, copied or replayed. Its texts are for whoever debugs; the program prints none of them.
 #[derive(Clone, Copy, Debug, PartialEq, Eq, Error)]
 pub enum EditError {
     #[error("out of memory")]

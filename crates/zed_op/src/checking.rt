@@ -1,3 +1,4 @@
+//! Whether an edit fits.
 ghost use Rattle.std.specs.Prelude.{◌≡◌, ◌⊎◌, Err, IfOk, IfErr, true};
 ghost use Rattle.std.specs.List.{list_all};
 ghost use Rattle.zed_op.specs.declared.cause.EditError.TheVariants.{Memory};
@@ -172,9 +173,9 @@ fn has_good_world(alloc: Global, op: &Op) -> Result<bool, EditError>
 /// Whether an edit fits, or the first cause against it: its own stamp and those that it names, then the ranges of its values,
 /// then whether all that it names is earlier, then the bytes of a Genesis. Only a Genesis that has no other fault takes memory.
 pub fn check(alloc: Global, edit: &Edit) -> Result<(), EditError>
-    ensures exact { (result ≡ Err Memory) ⊎ (result ≡ verdict (fault edit.now)) }
+    ensures result { (result ≡ Err Memory) ⊎ (result ≡ verdict (fault edit.now)) }
     ensures fits { IfOk result (λ _. Fits edit.now) }
-    ensures memory { result ≡ Err Memory → HangsOnItsWorld edit.now }
+    ensures err { result ≡ Err Memory → HangsOnItsWorld edit.now }
 {
     if !has_good_stamps(alloc, edit) {
         return Err(EditError::BadEdit(Cause::Stamp));

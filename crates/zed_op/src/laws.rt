@@ -1,3 +1,4 @@
+//! What holds of sets of edits.
 ghost use Rattle.zed_op.specs.Verdict.{FitIsEachPart};
 ghost use Rattle.zed_op.specs.SetLaws.{EditKeepsRising, UnionKeepsRising, SetIsRising, RisingAgrees, RisingIsItsEdits, RisingIsItsSet, SetHasItsEdits, SetIsOfAnyOrder, SetGrowsByEdits, EditIsAdded, EditAgrees, LatestGoesLast, UnionAgrees, EditThereIsNothing, EditHasItsPlace, UnionHasBoth, UnionCommutes, UnionAssociates, UnionOfItsOwn, UnionOfSets, EditKeepsFit, UnionKeepsFit, SetKeepsFit};
 

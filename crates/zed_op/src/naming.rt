@@ -1,3 +1,4 @@
+//! What an edit names.
 ghost use Rattle.std.specs.Prelude.{◌≡◌, ◌++◌};
 ghost use Rattle.std.specs.Option.{option_to_list};
 ghost use Rattle.zed_types.specs.Names.{byte_of as byte_at};
@@ -85,7 +86,7 @@ fn add(things: &mut SmallVec<Thing, 3>, thing: Option<Thing>)
 /// The things that an edit names, at most three, values of registers included; of a range of bytes its ends.
 /// They stand in the value itself, so that nothing can be refused.
 pub fn names(alloc: Global, edit: &Edit) -> SmallVec<Thing, 3>
-    ensures exact { result.items ≡ names_of edit.now.op }
+    ensures result { result.items ≡ names_of edit.now.op }
     ensures inline { result.capacity ≡ 3 }
 {
     let mut things = SmallVec::new(alloc);

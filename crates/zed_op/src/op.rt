@@ -1,3 +1,4 @@
+//! Edits and what they do.
 use zed_types::{
     BoardId, BoardSetting, ByteRange, Bytes, ElemId, HeaderSetting, Rectangle, Stamp, StatFields,
     StatId, StatSetting, TextId, Tile,

@@ -1,3 +1,4 @@
+//! Whether two edits are equal.
 ghost use Rattle.std.specs.Prelude.{◌≡◌, ◌↔◌, IsTrue};
 
 use crate::op::{Edit, Op};

@@ -1,3 +1,4 @@
+//! What edits make and name.
 ghost use Rattle.std.specs.Prelude.{◌≡◌};
 ghost use Rattle.zed_types.specs.Names.{title};
 ghost use Rattle.zed_op.specs.declared.thing.Thing.TheVariants.{Board as board};

@@ -120,7 +120,7 @@ fn world_named(alloc: Global, name: &str) -> Result<World, AllocError>
 
 /// The file of a world.
 fn text_of(alloc: Global, world: &World) -> Result<Vec<u8>, Refusal>
-    ensures is { MatchResult result
+    ensures result { MatchResult result
         (λ bytes. refused_as (written 32767 world.now) ≡ Ok bytes.items)
         (λ e. (e ≡ Refusal.Memory) ⊎ (refused_as (written 32767 world.now) ≡ Err e)) }
     ensures canonical { IfOk result (λ bytes. IsCanonical bytes.items) }
@@ -131,7 +131,7 @@ fn text_of(alloc: Global, world: &World) -> Result<Vec<u8>, Refusal>
 
 /// A world file, read and written again.
 fn written_again(alloc: Global, bytes: &[u8]) -> Result<Vec<u8>, Refusal>
-    ensures is { MatchResult result
+    ensures result { MatchResult result
         (λ text. refused_as (rewritten (world_at bytes.now)) ≡ Ok text.items)
         (λ e. (e ≡ Refusal.Memory) ⊎ (refused_as (rewritten (world_at bytes.now)) ≡ Err e)) }
     ensures canonical { IfOk result (λ text. IsCanonical text.items) }
@@ -141,7 +141,7 @@ fn written_again(alloc: Global, bytes: &[u8]) -> Result<Vec<u8>, Refusal>
 }
 
 fn made(alloc: Global, name: Option<&str>) -> Result<Vec<u8>, Refusal>
-    ensures is { MatchResult result
+    ensures result { MatchResult result
         (λ bytes. made_by (text_in name.entry) ≡ Ok bytes.items)
         (λ e. (e ≡ Refusal.Memory) ⊎ (made_by (text_in name.entry) ≡ Err e)) }
     ensures canonical { IfOk result (λ bytes. IsCanonical bytes.items) }
@@ -157,7 +157,7 @@ fn first<H: Host>(
     from: Option<&str>,
     name: Option<&str>,
 ) -> Result<Vec<u8>, Refusal>
-    ensures is { (t : HostContents) → H.contents host.old ≡ Some t
+    ensures result { (t : HostContents) → H.contents host.old ≡ Some t
         → let failed = Rose (H.faults host.old) (H.faults host.new) in MatchResult result
         (λ bytes. IsFirstWorld failed t (text_in from.entry) (text_in name.entry) (Ok bytes.items))
         (λ e. (e ≡ Refusal.Memory)

@@ -21,7 +21,7 @@ fn tiles_of(count: u8) -> usize
 /// stand for more tiles than are wanted. `Truncated` where the bytes end before the board is full. Takes no memory.
 pub fn read_runs(bytes: &[u8]) -> Result<([Tile; TILES], usize), RunsError>
     ensures within { IfOk result (λ found. found.1 ≤ length bytes.now) }
-    ensures exact { IfOk result (λ x. tiles_at TILES bytes.now ≡ Some (x.0, drop x.1 bytes.now)) }
+    ensures tiles { IfOk result (λ x. tiles_at TILES bytes.now ≡ Some (x.0, drop x.1 bytes.now)) }
     ensures result { IfOk result (λ found. Runs found.0 (take found.1 bytes.now)) }
 
     // Each text of runs at the front is read as what it stands for.

@@ -1,3 +1,4 @@
+//! Runs at their bounds, and each growth refused.
 use crate::{RunsError, read_runs, write_runs};
 use std::alloc::Global;
 use std::test::Fail;

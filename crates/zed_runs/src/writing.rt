@@ -75,7 +75,7 @@ pub fn runs_len(tiles: &[Tile; TILES]) -> usize
 /// `Memory` where a growth was refused; nothing is appended then.
 pub fn write_runs(tiles: &[Tile; TILES], out: &mut Vec<u8>) -> Result<(), RunsError>
     ensures result { OnOk result (AppendsGreedy tiles.now out.old.items out.new.items) }
-    ensures only_memory { IfErr result (λ e. e ≡ RunsError.Memory) }
+    ensures err { IfErr result (λ e. e ≡ RunsError.Memory) }
     ensures kept { OnErr result (out.new.items ≡ out.old.items) }
 
     // Only where the vector had no room for the text.

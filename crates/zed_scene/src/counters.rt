@@ -1,3 +1,5 @@
+//! The counters of a player.
+
 /// Six numbers that programs give and take.
 #[derive(Clone, Copy, Debug, PartialEq, Eq)]
 pub struct Counters {

@@ -1,10 +1,11 @@
+//! Why something is not done on a board in play.
 ghost use Rattle.std.specs.Prelude.{◌≡◌};
 ghost use Rattle.zed_scene.specs.declared.error.OopError.TheVariants.{Memory};
 
 use std::alloc::{AllocError, AllocFailed};
 use thiserror::Error;
 
-/// Why a program can't be read or can't have its turn.
+/// Why a program can't be read or can't have its turn. Its texts are for whoever debugs; the program prints none of them.
 #[derive(Clone, Copy, Debug, PartialEq, Eq, Error)]
 pub enum OopError {
     /// A growth was refused.

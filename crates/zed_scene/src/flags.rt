@@ -24,7 +24,7 @@ fn cut(alloc: Global, word: &[u8]) -> Result<Bytes, AllocError>
 
 /// The first empty flag.
 fn first_free(flags: &[Bytes]) -> Option<usize>
-    ensures is { result ≡ position is_free flags.now }
+    ensures result { result ≡ position is_free flags.now }
     ensures within { IfSome result (λ i. i < length flags.now) }
 {
     flags.iter().position(|f| f.as_slice().is_empty())

@@ -1,3 +1,4 @@
+//! Stats that move, and what they push.
 ghost use Rattle.std.specs.Prelude.{◌≡◌};
 ghost use Rattle.zed_scene.specs.Moving.{carried, cleared, is_crushable, is_destructible, is_pushable, pushed, pushed_by, pushed_onto, shift, is_walkable};
 

@@ -1,3 +1,4 @@
+//! Stats that are taken away, and the numbers that others have then.
 ghost use Rattle.std.specs.Prelude.{◌≡◌, map};
 ghost use Rattle.zed_scene.specs.Removing.{after_removal, attack, damage, damage_stat, hurt, remove_stat, renumbered, one_less};
 

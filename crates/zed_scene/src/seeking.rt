@@ -1,3 +1,4 @@
+//! Steps towards the player, and steps by chance.
 ghost use Rattle.zed_scene.specs.Seeking.{random_step, sought, towards, up_or_down};
 ghost use Rattle.std.specs.Prelude.{◌≡◌};
 ghost use Rattle.zed_scene.specs.Words.{Draws};

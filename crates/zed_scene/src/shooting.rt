@@ -1,3 +1,4 @@
+//! Bullets.
 ghost use Rattle.std.specs.Prelude.{◌≡◌, OnErr, IfOk};
 ghost use Rattle.zed_scene.specs.Shooting.{bullet, is_hit, p1_of, shot};
 

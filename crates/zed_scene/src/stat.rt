@@ -1,3 +1,4 @@
+//! Stats in play.
 use crate::step::Step;
 use zed_types::{Place, Tile};
 

@@ -1,3 +1,4 @@
+//! Steps, and the places that they lead to.
 ghost use Rattle.std.specs.Prelude.{◌≡◌, ℤ};
 ghost use Rattle.zed_scene.specs.Places.{ahead, moved, clockwise, counter_clockwise, negated, opposite, sign_of, is_on_board};
 

@@ -1,3 +1,4 @@
+//! Words of chance.
 ghost use Rattle.std.specs.Prelude.{◌≡◌, ◌<◌, length, drop};
 ghost use Rattle.zed_scene.specs.declared.error.OopError.TheVariants.{NoWords};
 ghost use Rattle.zed_scene.specs.Words.{Draws, draw};

@@ -22,7 +22,7 @@ fn label_of(row: u16) -> &'static [u8]
 /// A power of ten.
 fn power(k: u16) -> u32
     requires { k ≤ 5 }
-    ensures is { result ≡ 10 ^ k }
+    ensures result { result ≡ 10 ^ k }
     ensures positive { 0 < result }
 {
     match k {

@@ -1,3 +1,4 @@
+//! Programs read at their bounds, and each growth refused.
 use crate::text::{value_at, value_end};
 use crate::{
     Course, Instruction, LineKind, Program, TileKind, Turning, condition, direction, first_label,

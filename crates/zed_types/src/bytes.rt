@@ -1,3 +1,4 @@
+//! Strings of bytes.
 ghost use Rattle.std.specs.Prelude.{◌≡◌, IfOk, ◌↔◌, IsTrue, nat_eq, ◌<◌, length, slice_set};
 ghost use Rattle.std.proofs.Common.{rules};
 ghost use Rattle.std.specs.Cmp.Rules.{comparing};

@@ -1,3 +1,4 @@
+//! The table of elements.
 ghost use Rattle.std.specs.Prelude.{◌≡◌};
 ghost use Rattle.zed_types.specs.Elements.{AreRows, IsRow, row_of, rows};
 

@@ -23,7 +23,7 @@ pub enum HeaderNumber {
 impl HeaderNumber {
     /// Its place among the numbers of a header, from 0.
     pub fn index(self) -> u8
-        ensures is { result ≡ header_number_index self }
+        ensures result { result ≡ header_number_index self }
         ensures within { result < 9 }
     {
         match self {
@@ -73,7 +73,7 @@ pub enum KeyColour {
 impl KeyColour {
     /// Which of the seven keys it is, from 0.
     pub fn index(self) -> u8
-        ensures is { result ≡ key_index self }
+        ensures result { result ≡ key_index self }
         ensures within { result < 7 }
     {
         match self {
@@ -106,7 +106,7 @@ pub enum FlagSlot {
 impl FlagSlot {
     /// Which of the ten flags it holds, from 0.
     pub fn index(self) -> u8
-        ensures is { result ≡ flag_index self }
+        ensures result { result ≡ flag_index self }
         ensures within { result < 10 }
     {
         match self {

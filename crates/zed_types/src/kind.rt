@@ -1,3 +1,5 @@
+//! What an element is like.
+
 /// Which way an element may be pushed.
 #[derive(Clone, Copy, Debug, PartialEq, Eq)]
 pub enum Push {

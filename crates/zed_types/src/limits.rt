@@ -1,3 +1,5 @@
+//! The limits of a world file.
+
 /// Most bytes of a board's body that ZZT's own tools take.
 pub const BODY_LIMIT: usize = 20_000;
 

@@ -18,7 +18,7 @@ pub enum Side {
 impl Side {
     /// Its place among the exits of a board, from 0.
     pub fn index(self) -> u8
-        ensures is { result ≡ side_index self }
+        ensures result { result ≡ side_index self }
         ensures within { result < 4 }
     {
         match self {
@@ -66,7 +66,7 @@ pub enum BoardByte {
 impl BoardByte {
     /// Its place among the bytes of a board, from 0.
     pub fn index(self) -> u8
-        ensures is { result ≡ board_byte_index self }
+        ensures result { result ≡ board_byte_index self }
         ensures within { result < 3 }
     {
         match self {
@@ -110,7 +110,7 @@ pub enum BoardFlag {
 impl BoardFlag {
     /// Its place among the flags of a board, from 0.
     pub fn index(self) -> u8
-        ensures is { result ≡ board_flag_index self }
+        ensures result { result ≡ board_flag_index self }
         ensures within { result < 2 }
     {
         match self {
@@ -151,7 +151,7 @@ pub enum BoardText {
 impl BoardText {
     /// Its place among the texts of a board, from 0.
     pub fn index(self) -> u8
-        ensures is { result ≡ board_text_index self }
+        ensures result { result ≡ board_text_index self }
         ensures within { result < 2 }
     {
         match self {

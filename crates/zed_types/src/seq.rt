@@ -1,3 +1,4 @@
+//! Lists that contracts see as lists.
 ghost use Rattle.std.specs.Prelude.{◌≡◌, [], ◌∷◌, ◌++◌, OnOk, OnErr, length, take, drop, ◌≤◌, ◌<◌, ◌-◌, slice_set, slice_get, remove, Some};
 ghost use Rattle.std.specs.Cmp.Lexicographic.{pointwise, lists_per, lists_equiv};
 ghost use Rattle.std.specs.Borrow.{sem};

@@ -1,3 +1,4 @@
+//! Stamps and their order.
 ghost use Rattle.std.specs.Prelude.{◌≡◌, ◌↔◌, true};
 ghost use Rattle.std.specs.Cmp.{IsTotalOrder};
 ghost use Rattle.std.specs.declared.cmp.Ordering.TheVariants.{Less, Equal};
@@ -32,7 +33,7 @@ impl Stamp {
 /// The order of stamps is total, stamps that compare alike are one, and the test of the order says what it decides.
 pub fn one_order()
     ensures total { IsTotalOrder stamp_cmp }
-    ensures exact { (a b : Stamp) → stamp_cmp a b ≡ Equal → a ≡ b }
+    ensures result { (a b : Stamp) → stamp_cmp a b ≡ Equal → a ≡ b }
     ensures same { (a b : Stamp) → (same_stamp a b ≡ true) ↔ (a ≡ b) }
     ensures rule { (a b : Stamp) → (stamp_cmp a b ≡ Less) ↔ (before a b ≡ true) }
 {}

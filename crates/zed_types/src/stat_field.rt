@@ -19,7 +19,7 @@ pub enum StatByte {
 impl StatByte {
     /// Its place among the bytes of a stat, from 0.
     pub fn index(self) -> u8
-        ensures is { result ≡ stat_byte_index self }
+        ensures result { result ≡ stat_byte_index self }
         ensures within { result < 6 }
     {
         match self {
@@ -74,7 +74,7 @@ pub enum StatNumber {
 impl StatNumber {
     /// Its place among the numbers that a new stat is given, from 0. A position is none of them: it begins at 0.
     pub fn index(self) -> Option<u8>
-        ensures is { result ≡ stat_number_index self }
+        ensures result { result ≡ stat_number_index self }
         ensures within { IfSome result (λ i. i < 3) }
     {
         match self {

@@ -1,3 +1,4 @@
+//! Stamps, strings, lists and elements by example.
 use crate::{Bytes, Look, Push, Seq, Stamp, element};
 use std::test::Fail;
 

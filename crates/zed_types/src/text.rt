@@ -1,3 +1,4 @@
+//! What texts are made of.
 use crate::names::ElemId;
 use crate::stamp::Stamp;
 

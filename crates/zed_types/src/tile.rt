@@ -1,3 +1,5 @@
+//! Tiles, and the table of a board.
+
 /// Columns of a board's table.
 pub const COLUMNS: usize = 60;
 

@@ -1,3 +1,4 @@
+//! Registers that keep the stamp of their write.
 use crate::stamp::Stamp;
 
 /// A value of a register, with the stamp of its write.

@@ -1,3 +1,4 @@
+//! The blocks of a world file that have a fixed length.
 ghost use Rattle.std.specs.Prelude.{◌≡◌, ◌+◌, ◌<◌, ◌≤◌, length, IfOk};
 ghost use Rattle.zed_world.specs.Offsets.{keys_at, flags_at, header_at, properties_at};
 

@@ -1,3 +1,4 @@
+//! Boards as a world file has them.
 use crate::stat::StatData;
 use zed_types::{Bytes, Seq, TILES, Tile};
 

@@ -14,7 +14,7 @@ use zed_types::READ_BODY_LIMIT;
 /// A file that is read with leniency isn't canonical, nor one with bytes behind its last board. `Memory` is the only refusal.
 pub fn is_canonical(alloc: Global, bytes: &[u8]) -> Result<bool, WorldError>
     ensures result { IfOk result (λ is. IsTrue is ↔ IsCanonical bytes.now) }
-    ensures only_memory { IfErr result (λ e. e ≡ WorldError.Memory) }
+    ensures err { IfErr result (λ e. e ≡ WorldError.Memory) }
 
     // No growth is needed where the front of the file is at fault already.
     ensures memory_only_when { IfErr result (λ e. BeginsAWorld bytes.now) }

@@ -1,3 +1,4 @@
+//! Fields of a world file, read.
 ghost use Rattle.std.specs.Prelude.{◌≡◌, ◌+◌, ◌<◌, ◌≤◌, length, IfOk};
 ghost use Rattle.zed_world.specs.Fields.{integer_at, flag_at, string_at, board_number, board_integer, stat_integer};
 

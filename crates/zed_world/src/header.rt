@@ -1,3 +1,4 @@
+//! The header of a world.
 use zed_types::{Bytes, Seq};
 
 /// What stands in front of the boards: the player's counters, the flags that programs set, and the name of the world.

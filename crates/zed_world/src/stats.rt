@@ -1,3 +1,4 @@
+//! Stats of a board, read.
 ghost use Rattle.std.specs.Prelude.{◌≡◌, ◌≤◌, length, drop, slice_get, []};
 ghost use Rattle.zed_world.specs.Fields.{integer_at};
 ghost use Rattle.zed_world.specs.Offsets.{is_passage_at, stat_with};

@@ -1,3 +1,5 @@
+//! World files by example.
+
 mod building;
 mod faults;
 mod growths;

@@ -50,7 +50,7 @@ impl World {
 
     /// What stands in front of the boards.
     pub fn header(&self) -> &Header
-        ensures is { result.now ≡ self.now.header }
+        ensures result { result.now ≡ self.now.header }
         ensures normal { HasNormalParts self.now }
     {
         read_is_normal();
@@ -59,7 +59,7 @@ impl World {
 
     /// The boards, 1 to 101, the title first.
     pub fn boards(&self) -> &[BoardData]
-        ensures are { result.now ≡ self.now.boards }
+        ensures result { result.now ≡ self.now.boards }
         ensures normal { HasNormalParts self.now }
     {
         read_is_normal();

@@ -34,7 +34,7 @@ fn put_stats(out: &mut Vec<u8>, stats: &[StatData]) -> Result<(), AllocError>
 /// Appends the greedy runs of a table.
 fn put_tiles(out: &mut Vec<u8>, tiles: &[Tile; TILES]) -> Result<(), WorldError>
     ensures result { OnOk result (out.new.items ≡ out.old.items ++ greedy tiles.now) }
-    ensures only_memory { IfErr result (λ e. e ≡ WorldError.Memory) }
+    ensures err { IfErr result (λ e. e ≡ WorldError.Memory) }
 {
     greedy_is_the_one();
     write_runs(tiles, out)?;
@@ -46,7 +46,7 @@ fn put_tiles(out: &mut Vec<u8>, tiles: &[Tile; TILES]) -> Result<(), WorldError>
 fn put_body(out: &mut Vec<u8>, board: &BoardData) -> Result<(), WorldError>
     requires { IsWritable board.now }
     ensures result { OnOk result (out.new.items ≡ out.old.items ++ body_text board.now) }
-    ensures only_memory { IfErr result (λ e. e ≡ WorldError.Memory) }
+    ensures err { IfErr result (λ e. e ≡ WorldError.Memory) }
 {
     put_string(out, 50, &board.name)?;
     put_tiles(out, &board.tiles)?;
@@ -63,7 +63,7 @@ fn put_board(alloc: Global, out: &mut Vec<u8>, board: &BoardData) -> Result<(), 
     requires writable { IsWritable board.now }
     requires short { HasShortBody board.now }
     ensures result { OnOk result (out.new.items ≡ out.old.items ++ board_text board.now) }
-    ensures only_memory { IfErr result (λ e. e ≡ WorldError.Memory) }
+    ensures err { IfErr result (λ e. e ≡ WorldError.Memory) }
 {
     let mut body = Vec::new(alloc);
     put_body(&mut body, board)?;
@@ -79,7 +79,7 @@ fn put_boards(alloc: Global, out: &mut Vec<u8>, boards: &[BoardData]) -> Result<
     requires writable { AllByRecursion IsWritable boards.now }
     requires short { AllByRecursion HasShortBody boards.now }
     ensures result { OnOk result (out.new.items ≡ out.old.items ++ flat_map board_text boards.now) }
-    ensures only_memory { IfErr result (λ e. e ≡ WorldError.Memory) }
+    ensures err { IfErr result (λ e. e ≡ WorldError.Memory) }
 {
     for board in boards {
         put_board(alloc, out, board)?;
@@ -95,7 +95,7 @@ fn text_of(alloc: Global, header: &Header, boards: &[BoardData]) -> Result<Vec<u
     requires short { AllByRecursion HasShortBody boards.now }
     ensures result { IfOk result (λ v.
         v.items ≡ world_text (record { header = header.now; boards = boards.now })) }
-    ensures only_memory { IfErr result (λ e. e ≡ WorldError.Memory) }
+    ensures err { IfErr result (λ e. e ≡ WorldError.Memory) }
 {
     let mut out = Vec::new(alloc);
     put_header(&mut out, (boards.len() - 1) as u8, header)?;

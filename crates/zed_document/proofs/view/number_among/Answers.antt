@@ -8,8 +8,8 @@ use Rattle.zed_document.proofs.NameSearch.{sought, found_there, name_cmp}
 use Rattle.zed_document.proofs.view.number_among.Goals as goal
 
 -- the closure compares the name of a text with the one that is sought
-pub returns-clause-is : goal.returns-clause-is
-returns-clause-is c = λ rises.
+pub returns-clause-result : goal.returns-clause-result
+returns-clause-result c = λ rises.
     let facts = c.binary_search_by.ensures in
     let by_name = facts.position (λ (t : Text). name_cmp t.id.name c.args.id.name) (always_returns_same _ _ _ (λ a r g called. (search rules, search rules))) in
     let found : c.ok.result ≡ position (λ (t : Text). same_text t.id c.args.id) c.args.texts.now

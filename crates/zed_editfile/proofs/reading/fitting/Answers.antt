@@ -26,7 +26,7 @@ told r o (edit.BadEdit cause) e h v = inr (bad r o cause e h v)
 pub returns-in_err-check : goal.returns-in_err-check
 returns-in_err-check c =
     let p = err_from_is_err_and c.from_residual.result c.from_residual.ensures.1 in
-    rw (p.1, p.2) (told c.check.result (fault c.args.edit) c.in_err-check.field-0.0 c.args.edit c.in_err-check.was c.check.ensures.exact)
+    rw (p.1, p.2) (told c.check.result (fault c.args.edit) c.in_err-check.field-0.0 c.args.edit c.in_err-check.was c.check.ensures.result)
 
 pub returns : goal.returns
-returns c = good c.check.result (fault c.args.edit) c.in_ok-check.field-0 c.args.edit c.in_ok-check.was c.check.ensures.exact
+returns c = good c.check.result (fault c.args.edit) c.in_ok-check.field-0 c.args.edit c.in_ok-check.was c.check.ensures.result

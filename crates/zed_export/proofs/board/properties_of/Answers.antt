@@ -10,8 +10,8 @@ use Rattle.zed_export.proofs.Names.{exit_places}
 use Rattle.zed_export.proofs.Numbers16.{kept}
 use Rattle.zed_export.proofs.board.properties_of.Goals as goal
 
-pub returns-clause-is : goal.returns-clause-is
-returns-clause-is c =
+pub returns-clause-result : goal.returns-clause-result
+returns-clause-result c =
     let p = c.args.view.now in
     let q = (board_at p c.args.i).properties in
     let number : (n : ℕ) (x o : Option BoardId) → n ≡ exit_place c.args.boards.now x → x ≡ o → n ≡ exit_number p o

@@ -14,8 +14,8 @@ use Rattle.zed_export.proofs.Names.{parameter_places, stat_places}
 use Rattle.zed_export.proofs.Numbers16.{kept}
 use Rattle.zed_export.proofs.board.stat_of.Goals as goal
 
-pub returns-clause-is : goal.returns-clause-is
-returns-clause-is c =
+pub returns-clause-result : goal.returns-clause-result
+returns-clause-result c =
     let p = c.args.view.now in
     let b = board_at p c.args.i in
     let s = stat_at b c.args.j in

@@ -34,7 +34,7 @@ loop-j-preserved c =
           let out : c.if-is_there.out.items ≡ done ++ x ∷ [] = cc (w.in_ok-push.ensures.items) in
           let code : w.in_ok-code.code ≡ exported_code p before s.fields.text
           = w.in_ok-code.ensures ∙ ap (λ (texts : List (Option TextId)). exported_code p texts w.text_of-text.result) w.deref.ensures.value ∙ ap (exported_code p before) text in
-          let is : x ≡ exported_stat p b before s = w.stat_of.ensures.is ∙ ap (stat_with p b s) code in
+          let is : x ≡ exported_stat p b before s = w.stat_of.ensures.result ∙ ap (stat_with p b s) code in
           record {
             completes = rw (items, out) (append_assoc done (x ∷ []) rest ∙ ap (λ (y : StatData). done ++ y ∷ rest) is ∙ ap (λ (ss : List Stat). done ++ exported_above p b before ss) (sym next) ∙ c.loop-j.invariant.completes);
             room = rw items (omega (arith, length_push before s.fields.text, ap length next, c.loop-j.invariant.room));

@@ -13,8 +13,8 @@ boards_of-requires-clause-few_stats c = all_few c.args.limit 0 c.args.view.now (
 pub new-requires-clause-parts : goal.new-requires-clause-parts
 new-requires-clause-parts c =
     let p = c.args.view.now in
-    let header : c.in_ok-header.header ≡ exported_header p = c.in_ok-header.ensures.is in
-    let boards : c.in_ok-boards.boards ≡ exported_boards p = c.in_ok-boards.ensures.is in
+    let header : c.in_ok-header.header ≡ exported_header p = c.in_ok-header.ensures.result in
+    let boards : c.in_ok-boards.boards ≡ exported_boards p = c.in_ok-boards.ensures.result in
     let fits_header : FitsHeader (exported_header p) = rw (sym header) c.in_ok-header.ensures.fits in
     let fits_boards : AllByRecursion FitsBoard (exported_boards p) = rw (sym boards) c.in_ok-boards.ensures.fits in
     rw (header, boards) (world_normal c.args.limit p c.requires.regular c.requires.limit c.requires.within fits_header fits_boards)
@@ -22,5 +22,5 @@ new-requires-clause-parts c =
 pub new-requires-clause-bodies : goal.new-requires-clause-bodies
 new-requires-clause-bodies c =
     let p = c.args.view.now in
-    let boards : c.in_ok-boards.boards ≡ exported_boards p = c.in_ok-boards.ensures.is in
+    let boards : c.in_ok-boards.boards ≡ exported_boards p = c.in_ok-boards.ensures.result in
     rw boards (all_readable c.args.limit 0 (exported_boards p) c.requires.limit (boards_within c.args.limit p c.requires.within))

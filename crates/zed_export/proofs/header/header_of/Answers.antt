@@ -8,8 +8,8 @@ use Rattle.zed_export.proofs.Names.{board_place}
 use Rattle.zed_export.proofs.Numbers16.{kept}
 use Rattle.zed_export.proofs.header.header_of.Goals as goal
 
-pub returns-clause-is : goal.returns-clause-is
-returns-clause-is c =
+pub returns-clause-result : goal.returns-clause-result
+returns-clause-result c =
     let p = c.args.view.now in
     let h = p.header in
     let ammo = kept c.header_number.result (header_number Ammo h) (search rules) c.header_number.ensures in

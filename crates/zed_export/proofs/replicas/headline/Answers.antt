@@ -11,12 +11,12 @@ returns-clause-same c =
 
 pub returns-clause-document : goal.returns-clause-document
 returns-clause-document c =
-    shows_one_authors c.rising_lists_are_sets.ensures.known c.args.one.now c.args.one.now.edits c.view.result c.edits.ensures.rising refl c.requires.accepted.sound c.view.ensures.stale c.view.ensures.only c.view.ensures.shows
+    shows_one_authors c.rising_lists_are_sets.ensures.known c.args.one.now c.args.one.now.edits c.view.result c.edits.ensures.rising refl c.requires.accepted.sound c.view.ensures.stale c.view.ensures.err c.view.ensures.shows
 
 pub returns-clause-other_document : goal.returns-clause-other_document
 returns-clause-other_document c =
     let is = same_edits c.rising_lists_are_sets.ensures.known c.args.one.now c.args.other.now c.requires.accepted c.edits.ensures.rising c.edits-2.ensures.rising in
-    shows_one_authors c.rising_lists_are_sets.ensures.known c.args.other.now c.args.one.now.edits c.view-2.result c.edits.ensures.rising (sym is) c.requires.accepted.other_sound c.view-2.ensures.stale c.view-2.ensures.only c.view-2.ensures.shows
+    shows_one_authors c.rising_lists_are_sets.ensures.known c.args.other.now c.args.one.now.edits c.view-2.result c.edits.ensures.rising (sym is) c.requires.accepted.other_sound c.view-2.ensures.stale c.view-2.ensures.err c.view-2.ensures.shows
 
 pub returns-clause-held : goal.returns-clause-held
 returns-clause-held c = holds_one_authors c.rising_lists_are_sets.ensures.known c.args.one.now.edits c.edits.ensures.rising
@@ -29,13 +29,13 @@ returns-clause-other_held c =
 pub returns-clause-worlds : goal.returns-clause-worlds
 returns-clause-worlds c =
     let is = same_edits c.rising_lists_are_sets.ensures.known c.args.one.now c.args.other.now c.requires.accepted c.edits.ensures.rising c.edits-2.ensures.rising in
-    answers_alike (λ w. w) (exported c.args.limit) c.args.one.now c.args.other.now c.export.result c.export-2.result c.requires.accepted is c.export.ensures.exact c.export-2.ensures.exact
+    answers_alike (λ w. w) (exported c.args.limit) c.args.one.now c.args.other.now c.export.result c.export-2.result c.requires.accepted is c.export.ensures.result c.export-2.ensures.result
 
 pub returns-clause-files : goal.returns-clause-files
 returns-clause-files c =
     let is = same_edits c.rising_lists_are_sets.ensures.known c.args.one.now c.args.other.now c.requires.accepted c.edits.ensures.rising c.edits-2.ensures.rising in
-    answers_alike (λ f. f.items) (saved c.args.limit) c.args.one.now c.args.other.now c.save.result c.save-2.result c.requires.accepted is c.save.ensures.exact c.save-2.ensures.exact
+    answers_alike (λ f. f.items) (saved c.args.limit) c.args.one.now c.args.other.now c.save.result c.save-2.result c.requires.accepted is c.save.ensures.result c.save-2.ensures.result
 
 pub returns-clause-back : goal.returns-clause-back
 returns-clause-back c =
-    read_back c.args.one.now c.args.limit c.export.result c.save.result c.requires.accepted.sound c.export.ensures.exact c.save.ensures.back
+    read_back c.args.one.now c.args.limit c.export.result c.save.result c.requires.accepted.sound c.export.ensures.result c.save.ensures.back

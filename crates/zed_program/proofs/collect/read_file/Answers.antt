@@ -18,16 +18,16 @@ returns-in_err-finish c =
     let same : p.0 ≡ c.in_err-finish.field-0.0 = p.2 in
     rw (p.1, same) (file_answer c.args.asked c.args.bytes.now c.args.edits.now.items c.feed.new.out.items c.new-reader.result c.feed.new.self (Err c.in_err-finish.field-0.0)
     c.new-reader.ensures.reads c.feed.ensures.feeds (c.feed.ensures.asked ∙ ap (λ (q : Progress). q.asked) c.new-reader.ensures.new)
-    (verdict_ends c.feed.new.self c.in_err-finish.field-0.0 c.in_err-finish.ensures.exact))
+    (verdict_ends c.feed.new.self c.in_err-finish.field-0.0 c.in_err-finish.ensures.result))
 
 pub returns-in-Some : goal.returns-in-Some
 returns-in-Some c =
     file_answer c.args.asked c.args.bytes.now c.args.edits.now.items c.feed.new.out.items c.new-reader.result c.feed.new.self (Ok c.in-Some.world)
     c.new-reader.ensures.reads c.feed.ensures.feeds (c.feed.ensures.asked ∙ ap (λ (q : Progress). q.asked) c.new-reader.ensures.new)
-    (whole_ends c.feed.new.self (Some c.in-Some.world) (Ok c.in-Some.world) c.in_ok-finish.ensures.exact c.in-Some.ensures refl)
+    (whole_ends c.feed.new.self (Some c.in-Some.world) (Ok c.in-Some.world) c.in_ok-finish.ensures.result c.in-Some.ensures refl)
 
 pub returns : goal.returns
 returns c =
     file_answer c.args.asked c.args.bytes.now c.args.edits.now.items c.feed.new.out.items c.new-reader.result c.feed.new.self _
     c.new-reader.ensures.reads c.feed.ensures.feeds (c.feed.ensures.asked ∙ ap (λ (q : Progress). q.asked) c.new-reader.ensures.new)
-    (whole_ends c.feed.new.self None _ c.in_ok-finish.ensures.exact c.in-None.ensures refl)
+    (whole_ends c.feed.new.self None _ c.in_ok-finish.ensures.result c.in-None.ensures refl)

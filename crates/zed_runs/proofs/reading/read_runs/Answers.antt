@@ -82,8 +82,8 @@ returns-then-end-ge-TILES-clause-reads c = λ tiles front rest r e.
 pub returns-in_default-clause-exact_fault : goal.returns-in_default-clause-exact_fault
 returns-in_default-clause-exact_fault c = no_tiles c.args.bytes.now (returns-in_default-clause-none c)
 
-pub returns-then-end-ge-TILES-clause-exact : goal.returns-then-end-ge-TILES-clause-exact
-returns-then-end-ge-TILES-clause-exact c =
+pub returns-then-end-ge-TILES-clause-tiles : goal.returns-then-end-ge-TILES-clause-tiles
+returns-then-end-ge-TILES-clause-tiles c =
     let bytes = c.args.bytes.now in
     let used = c.loop-used.used + 3 in
     ap (tiles_at 1500) (sym (take-append-drop used bytes)) ∙ runs_tiles _ (take used bytes) (drop used bytes) (returns-then-end-ge-TILES-clause-result c)

@@ -12,11 +12,11 @@ use Rattle.zed_world.proofs.writing.write_world.Goals as goal
 
 pub within_limit-requires : goal.within_limit-requires
 within_limit-requires c =
-    subst (λ (bs : List BoardData). AllByRecursion IsWritable bs) (sym c.boards-boards.ensures.are) (all_writable (length c.args.world.now.boards) c.args.world.now.boards c.boards-boards.ensures.normal.boards)
+    subst (λ (bs : List BoardData). AllByRecursion IsWritable bs) (sym c.boards-boards.ensures.result) (all_writable (length c.args.world.now.boards) c.args.world.now.boards c.boards-boards.ensures.normal.boards)
 
 pub text_of-requires-clause-writable : goal.text_of-requires-clause-writable
 text_of-requires-clause-writable c =
-    subst (λ (bs : List BoardData). AllByRecursion IsWritable bs) (sym c.boards-boards.ensures.are) (all_writable (length c.args.world.now.boards) c.args.world.now.boards c.boards-boards.ensures.normal.boards)
+    subst (λ (bs : List BoardData). AllByRecursion IsWritable bs) (sym c.boards-boards.ensures.result) (all_writable (length c.args.world.now.boards) c.args.world.now.boards c.boards-boards.ensures.normal.boards)
 
 pub text_of-requires-clause-short : goal.text_of-requires-clause-short
 text_of-requires-clause-short c = short_within c.args.limit 0 c.boards-boards.result.now c.requires c.in_ok-within_limit.ensures.result
@@ -25,7 +25,7 @@ pub returns-in_err-within_limit-clause-result : goal.returns-in_err-within_limit
 returns-in_err-within_limit-clause-result c =
     let p = err_from_is_err_and c.from_residual.result c.from_residual.ensures.1 in
     let e = c.in_err-within_limit.field-0.0 in
-    let over = rw c.boards-boards.ensures.are at c.in_err-within_limit.ensures.over in
+    let over = rw c.boards-boards.ensures.result at c.in_err-within_limit.ensures.over in
     rw (p.1, p.2) (inr (over_written c.args.limit c.args.world.now e over))
 
 pub returns-in_err-within_limit-clause-memory_only_when : goal.returns-in_err-within_limit-clause-memory_only_when
@@ -36,9 +36,9 @@ returns-in_err-within_limit-clause-memory_only_when c =
 
 pub returns-clause-result : goal.returns-clause-result
 returns-clause-result c =
-    let within = rw c.boards-boards.ensures.are at c.in_ok-within_limit.ensures.result in
-    let text = rw (c.header-header.ensures.is, c.boards-boards.ensures.are) at c.text_of.ensures.result in
-    text_written c.args.limit c.args.world.now c.text_of.result within text c.text_of.ensures.only_memory
+    let within = rw c.boards-boards.ensures.result at c.in_ok-within_limit.ensures.result in
+    let text = rw (c.header-header.ensures.result, c.boards-boards.ensures.result) at c.text_of.ensures.result in
+    text_written c.args.limit c.args.world.now c.text_of.result within text c.text_of.ensures.err
 
 pub returns-clause-back : goal.returns-clause-back
 returns-clause-back c =

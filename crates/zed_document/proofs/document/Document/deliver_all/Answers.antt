@@ -29,4 +29,4 @@ returns-clause-result c =
     let sound : c.args.self.now.is_stale ≡ false = sym (ap (λ (r : Replica). r.is_stale) c.self.view_is) ∙ c.if-self.false in
     let log = c.deref.ensures.value ∙ ap (λ (r : Replica). r.edits) c.self.view_is in
     let each = batch-each c.args.self.now _ c.args.edits.items _ _ c.take_all.new.self.edits log sound c.requires c.in_ok-edits.ensures.ok c.in_ok-take_all.ensures.edits in
-    inr (subst (λ r. DeliversEach c.args.self.now c.args.edits.items r c.take_all.new.self.edits) (sym c.unless_clash.ensures.is) each)
+    inr (subst (λ r. DeliversEach c.args.self.now c.args.edits.items r c.take_all.new.self.edits) (sym c.unless_clash.ensures.result) each)

@@ -18,11 +18,11 @@ make-requires-clause-late c = λ _.
     let t : Typed c.args.self.now c.args.replica c.args.text c.args.position c.args.bytes c.in-Some.stamp c.in-Ok.after = typed c.replay_goes_edit_by_edit.ensures.step c.texts_keep_names.ensures.own c.args.self.now c.args.replica c.args.text c.args.position c.args.bytes c.in-Some.stamp c.in-Ok.after _ c.edits.ensures.rising c.edits.ensures.all c.in-Some.ensures.next c.in-Ok.ensures in
     subst (λ (s : Stamp). AllBelow s c.args.self.now.edits) (sym t.stamp) t.made.late
 
-pub returns-in-Some-clause-answers : goal.returns-in-Some-clause-answers
-returns-in-Some-clause-answers c =
+pub returns-in-Some-clause-result : goal.returns-in-Some-clause-result
+returns-in-Some-clause-result c =
     let t : Typed c.args.self.now c.args.replica c.args.text c.args.position c.args.bytes c.in-Some.stamp c.in-Ok.after = typed c.replay_goes_edit_by_edit.ensures.step c.texts_keep_names.ensures.own c.args.self.now c.args.replica c.args.text c.args.position c.args.bytes c.in-Some.stamp c.in-Ok.after _ c.edits.ensures.rising c.edits.ensures.all c.in-Some.ensures.next c.in-Ok.ensures in
     let spent : is_spent c.args.self.now.edits 1 ≡ false = ap (λ es. is_spent es 1) (sym c.edits.ensures.all) ∙ c.in-Some.ensures.left in
-    insertion-answers c.args.self.now c.args.replica c.args.text c.args.position c.args.bytes c.make.result t.sound t.there t.within spent t.made (subst (λ (e : Edit). (c.make.result ≡ Err Memory) ⊎ AnswersToDo (fault e) c.args.self.now.edits e c.make.result) t.is c.make.ensures.answers)
+    insertion-answers c.args.self.now c.args.replica c.args.text c.args.position c.args.bytes c.make.result t.sound t.there t.within spent t.made (subst (λ (e : Edit). (c.make.result ≡ Err Memory) ⊎ AnswersToDo (fault e) c.args.self.now.edits e c.make.result) t.is c.make.ensures.result)
 
 pub returns-in-Some-clause-edits : goal.returns-in-Some-clause-edits
 returns-in-Some-clause-edits c =

@@ -4,8 +4,8 @@ use Rattle.zed_document.proofs.NameSearch.{sought}
 use Rattle.zed_export.specs.Fields.{place_among}
 use Rattle.zed_export.proofs.numbers.Names.place_of.Goals as goal
 
-pub returns-clause-is : goal.returns-clause-is
-returns-clause-is c =
+pub returns-clause-result : goal.returns-clause-result
+returns-clause-result c =
     let facts = c.binary_search.ensures in
     c.ok.ensures.value
     ∙ sym (sought (λ (x : Name). x) c.args.name c.deref.result.now c.binary_search.result (rw c.deref.ensures.value c.self.invariant) facts.bound facts.position)
