@@ -1,15 +1,9 @@
 -- The replay of one list of edits after another.
-use Rattle.std.proofs.Common.{◌≡◌, Bool, true, false, cond, List, [], ◌∷◌, ◌++◌, map, Result, Ok, Err, refl, ap, ◌∙◌, sym, append_assoc, append-nil}
-use Rattle.zed_types.specs.declared.stamp.Stamp.{Stamp}
-use Rattle.zed_world.specs.Contents.{Contents}
-use Rattle.zed_world.specs.Reading.{world_at}
-use Rattle.zed_world.specs.declared.error.WorldError.{WorldError}
-use Rattle.zed_op.specs.declared.op.Op.{Op}
-use Rattle.zed_op.specs.declared.op.Op.TheVariants.{Genesis}
+use Rattle.std.proofs.Common.{◌≡◌, Bool, true, false, cond, List, [], ◌∷◌, ◌++◌, refl, ap, ◌∙◌, sym, append-nil}
 use Rattle.zed_op.specs.declared.op.Edit.{Edit}
 use Rattle.zed_edit.specs.declared.plain.Plain.{Plain as Document}
 use Rattle.zed_edit.specs.Document.{empty_document}
-use Rattle.zed_edit.specs.Replay.{can, open_world, do_op, do_edit, hold, step, replay_on, replay, taken_on, taken, held_on, held}
+use Rattle.zed_edit.specs.Replay.{can, step, replay_on, replay, taken_on, taken, held_on, held}
 use Rattle.zed_edit.proofs.Held.{held-stamps}
 use Rattle.zed_laws.specs.Laws.{OneMoreIsOneStep, ReplayGoesOn, OneMoreIsTaken, OneMoreIsHeld, HeldAreRemembered}
 
