@@ -8,7 +8,7 @@ use Rattle.zed_op.specs.declared.cause.Cause.TheVariants.{Op as BadOp}
 use Rattle.zed_op.specs.declared.op.Op.{Op}
 use Rattle.zed_op.specs.declared.op.Op.TheVariants.{Genesis, SetHeader, BoardAdd, BoardRemove, SetBoard, SetCells, StatAdd, StatRemove, SetStat, TextAdd, TextInsert, TextDelete}
 use Rattle.zed_editfile.specs.declared.error.EditFileError.TheVariants.{BadEdit}
-use Rattle.zed_editfile.specs.Spelling.{stamp, number, board_name, stat_name, text_name, element_name, optional, tile, rectangle, board_setting, stat_setting, stat_fields, op_text}
+use Rattle.zed_editfile.specs.Spelling.{stamp, number, board_name, text_name, element_name, optional, tile, rectangle, op_text}
 use Rattle.zed_editfile.specs.Reading.{◌>>=◌, Field, mapped, pair_at, byte_at, string_at, board_name_at, stat_name_at, header_setting_at, set_board_at, set_cells_at, stat_add_at, set_stat_at, text_insert_at, text_delete_at, op_at}
 use Rattle.zed_op.specs.Sizes.{IsOp}
 use Rattle.zed_editfile.proofs.Numbers.{IsBytes}

@@ -32,7 +32,7 @@ use Rattle.zed_types.specs.declared.stat_field.ThirdParameter.{ThirdParameter}
 use Rattle.zed_types.specs.declared.names.TextId.{TextId}
 use Rattle.zed_types.specs.declared.tile.Tile.{Tile}
 use Rattle.zed_editfile.specs.declared.error.EditFileError.TheVariants.{BadEdit}
-use Rattle.zed_editfile.specs.Spelling.{integer, boolean, string, board_name, stat_name, text_name, optional, tile, third_parameter, header_setting, board_setting, stat_setting, stat_fields}
+use Rattle.zed_editfile.specs.Spelling.{integer, boolean, string, board_name, stat_name, text_name, optional, third_parameter, header_setting, board_setting, stat_setting, stat_fields}
 use Rattle.zed_editfile.specs.Reading.{Field, mapped, byte_at, integer_at, boolean_at, string_at, board_name_at, stat_name_at, text_name_at, optional_at, third_parameter_at, by_kind, fields_of, key_of, flag_of, header_value_at, header_setting_at, board_value_at, board_setting_at, stat_value_at, stat_setting_at, stat_fields_at}
 use Rattle.zed_op.specs.Sizes.{IsHeaderSetting, IsBoardSetting, IsStatSetting, IsStatFields}
 use Rattle.zed_editfile.proofs.Codec.{IsField, Completes, takes_then, takes_end, takes_all, takes_mapped, takes_choice, takes_kind, takes_none, some_if, again_then, again_mapped, byte_field, integer_field, boolean_field, string_field, tile_field}
