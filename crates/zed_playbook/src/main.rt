@@ -1,5 +1,6 @@
 //! `zed_playbook FILE..` goes through playbooks, tables of cases of turns and playtests, and tells where what is seen isn't what they
-//! say. docs/PLAYBOOKS.md has their layout.
+//! say. With `--refused` in front it makes their first acts with each growth of memory refused in turn; `--speeds` tells how long turns
+//! and steps take. docs/PLAYBOOKS.md has the layout of playbooks.
 #![tactic(auto)]
 
 mod act;
@@ -7,18 +8,31 @@ mod case;
 mod changes;
 mod comparing;
 mod file;
+mod growths;
 mod line;
 mod playbook;
+mod refused;
 mod seen;
+mod speeds;
 mod stat;
 mod text;
 mod trouble;
 
 use comparing::Report;
 use playbook::Playbook;
+use refused::Sweeps;
+use speeds::tell_speeds;
 use std::alloc::{AllocError, Global};
 use std::process::ExitCode;
 use std::{env, fs, io};
+use trouble::Trouble;
+
+/// What is done with playbooks.
+#[derive(Clone, Copy)]
+enum Task {
+    Compare,
+    Refuse,
+}
 
 fn report_of(alloc: Global, file: &str, text: &str) -> Result<Report, AllocError> {
     match Playbook::of(alloc, text) {
@@ -34,13 +48,41 @@ fn compare(rt: &HostRuntime, file: &str, text: &str) -> io::Result<bool> {
     Ok(report.broken == 0)
 }
 
-/// Does this with each playbook of the words; whether all went well.
+fn sweep(alloc: Global, file: &str, text: &str) -> Result<Sweeps, Trouble> {
+    match Playbook::of(alloc, text) {
+        Ok(playbook) => Sweeps::of(alloc, file, &playbook),
+        Err(fault) => Err(fault.trouble),
+    }
+}
+
+/// Refuses each growth of a playbook's first acts; whether some were met, and all went as it should.
+fn refuse(rt: &HostRuntime, file: &str, text: &str) -> io::Result<bool> {
+    let sweeps = sweep(rt.alloc(), file, text)?;
+    print!(rt; "{}", sweeps.told)?;
+    Ok(sweeps.wrong == 0 && 0 < sweeps.growths)
+}
+
+fn do_task(rt: &HostRuntime, task: Task, file: &str) -> io::Result<bool> {
+    let text = fs::read_to_string(rt, file)?;
+    match task {
+        Task::Compare => compare(rt, file, text.as_str()),
+        Task::Refuse => refuse(rt, file, text.as_str()),
+    }
+}
+
+/// Does what the words ask for; whether all went well.
 fn do_all(rt: &HostRuntime) -> io::Result<bool> {
+    let mut task = Task::Compare;
     let mut all_is_well = true;
-    for file in env::args(rt)?.skip(1) {
-        let text = fs::read_to_string(rt, file.as_str())?;
-        let is_well = compare(rt, file.as_str(), text.as_str())?;
-        all_is_well = all_is_well && is_well;
+    for word in env::args(rt)?.skip(1) {
+        match word.as_str() {
+            "--speeds" => tell_speeds(rt)?,
+            "--refused" => task = Task::Refuse,
+            file => {
+                let is_well = do_task(rt, task, file)?;
+                all_is_well = all_is_well && is_well;
+            }
+        }
     }
     Ok(all_is_well)
 }

@@ -200,7 +200,7 @@ impl Before {
 }
 
 /// Appends what is seen of a step.
-fn put_step(
+pub fn put_step(
     alloc: Global,
     play: &mut Play,
     key: Key,
