@@ -1,7 +1,7 @@
 -- What is known of the own stat after it changed.
-use Rattle.std.proofs.Common.{◌≡◌, ◌∙◌, ℕ, zero, suc, List, [], ◌∷◌, Option, Some, None, slice_get, slice_set, refl, ap, sym, subst}
+use Rattle.std.proofs.Common.{◌≡◌, ℕ, zero, suc, List, [], ◌∷◌, Option, Some, None, slice_get, slice_set, refl}
 use Rattle.zed_scene.specs.declared.stat.Stat.{Stat}
-use Rattle.zed_scene.specs.Scene.{Scene, own, program_of, put_at, put_own, put_stat, stat_of}
+use Rattle.zed_scene.specs.Scene.{Scene, own, program_of, put_at, put_own, stat_of}
 use Rattle.zed_oop.specs.Acting.{with_position, changed}
 
 -- what is written where something stands is read there

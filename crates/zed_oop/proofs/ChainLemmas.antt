@@ -1,5 +1,5 @@
 -- Chains of instructions, step by step.
-use Rattle.std.proofs.Common.{◌≡◌, ◌<◌, ℕ, zero, suc, arith, sym, Option, Some, None, Result, Ok, Err, ◌⊎◌, inl, inr, subst}
+use Rattle.std.proofs.Common.{◌≡◌, ◌<◌, ℕ, zero, suc, arith, sym, Option, Some, None, Ok, ◌⊎◌, inl, inr, subst}
 use Rattle.zed_scene.specs.declared.error.OopError.{OopError}
 use Rattle.zed_scene.specs.declared.error.OopError.TheVariants.{Memory, NoWords}
 use Rattle.zed_oop.specs.declared.turning.After.{After}

@@ -1,10 +1,9 @@
 -- A turn ends: each step without a command word leads on in the program.
-use Rattle.std.proofs.Common.{Result, Ok, Err, IfOk, Bool, true, false, ◌≡◌, ◌∙◌, ℕ, zero, suc, ◌+◌, ◌-◌, ◌*◌, ◌<◌, ◌≤◌, List, length, Option, Some, None, refl, ap, sym, subst, arith}
+use Rattle.std.proofs.Common.{Result, Ok, Err, IfOk, Bool, true, false, ◌≡◌, ◌∙◌, ℕ, ◌<◌, ◌≤◌, List, length, Option, Some, None, ap, sym, subst, arith}
 use Rattle.zed_oop.specs.declared.acting.Next.{Next}
 use Rattle.zed_oop.specs.declared.acting.Next.TheVariants.{Skip, Stay, Command as CommandNext, SkipAndEnd, End as EndNext, Error}
 use Rattle.zed_scene.specs.declared.stat.Stat.{Stat}
 use Rattle.zed_script.specs.declared.commands.Command.{Command}
-use Rattle.zed_script.specs.declared.heading.Heading.{Heading}
 use Rattle.zed_script.specs.declared.lines.Instruction.{Instruction}
 use Rattle.zed_script.specs.declared.lines.Instruction.TheVariants.{End, Skipped, Blank, Step, Attempt, Command as CommandLine, Message}
 use Rattle.zed_scene.specs.Scene.{Scene, own, program_of}
@@ -21,7 +20,7 @@ use Rattle.zed_script.specs.Line.{IsAhead}
 use Rattle.zed_scene.specs.declared.error.OopError.{OopError}
 use Rattle.zed_oop.specs.declared.turning.After.{After}
 use Rattle.zed_oop.specs.declared.turning.After.TheVariants.{Ends, Goes, Counts}
-use Rattle.zed_oop.specs.Turn.{Outcome, State, commanded, goes, counts, ends, lacks, instructed, with_line, Comes, IsNearer, room, room_at, room_of, settled, settled_by, stepped, stepped_by, stepped_if, to_place}
+use Rattle.zed_oop.specs.Turn.{Outcome, State, commanded, goes, instructed, with_line, Comes, IsNearer, room, room_at, room_of, settled, settled_by, stepped, stepped_by, stepped_if, to_place}
 use Rattle.zed_oop.proofs.ActingLemmas.{own_after_move, same_program}
 
 -- the room where the own stat stands

@@ -1,5 +1,5 @@
 -- What each command does: a row each.
-use Rattle.std.specs.Prelude.{◌≡◌, ◌⊎◌, ℕ, pos, Bool, true, false, ◌&&◌, not, nat_le, if◌then◌else◌, List, Option, Some, None, Result, MatchResult}
+use Rattle.std.specs.Prelude.{◌≡◌, ◌⊎◌, ℕ, pos, Bool, true, false, ◌&&◌, nat_le, if◌then◌else◌, List, Option, Some, None, Result, MatchResult}
 use Rattle.zed_types.specs.declared.tile.Place.{Place}
 use Rattle.zed_oop.specs.declared.programs.Relabelling.TheVariants.{Hide, Show}
 use Rattle.zed_oop.specs.declared.performing.Motion.{Motion}
@@ -9,12 +9,11 @@ use Rattle.zed_oop.specs.declared.acting.Next.TheVariants.{Skip, Stay, Command a
 use Rattle.zed_scene.specs.declared.stat.Stat.{Stat}
 use Rattle.zed_script.specs.declared.commands.Command.{Command}
 use Rattle.zed_script.specs.declared.commands.Command.TheVariants.{Go, Try, Walk, Shoot, Set, Clear, If, Give, Take, End, EndGame, Idle, Restart, Send, Zap, Restore, Lock, Unlock, Become, Die, Put, Change, Cycle, Char, Bind, Nothing, Other}
-use Rattle.zed_script.specs.declared.commands.Counter.{Counter}
 use Rattle.zed_scene.specs.declared.error.OopError.{OopError}
 use Rattle.zed_scene.specs.declared.error.OopError.TheVariants.{Memory, NoWords}
 use Rattle.zed_script.specs.declared.heading.Heading.{Heading}
 use Rattle.zed_script.specs.declared.kinds.TileKind.{TileKind}
-use Rattle.zed_scene.specs.Scene.{Scene, own, program_of}
+use Rattle.zed_scene.specs.Scene.{Scene}
 use Rattle.zed_scene.specs.declared.shooting.Shooter.TheVariants.{Creature}
 use Rattle.zed_scene.specs.declared.step.Step.{Step}
 use Rattle.zed_oop.specs.Acting.{with_position, with_cycle, with_p1, with_p2, with_step}

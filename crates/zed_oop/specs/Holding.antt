@@ -1,11 +1,9 @@
 -- Counters.
-use Rattle.std.specs.Prelude.{ℕ, ℤ, pos, ◌+ℤ◌, ◌-ℤ◌, int_lt, Bool, true, false, ◌==◌, if◌then◌else◌, List, [], length, take, map, slice_set, position, Option, Some, None}
-use Rattle.std.specs.Str.{bytes_eq}
+use Rattle.std.specs.Prelude.{ℕ, ℤ, pos, ◌+ℤ◌, ◌-ℤ◌, int_lt, Bool, true, false, if◌then◌else◌, Option, Some, None}
 use Rattle.zed_script.specs.declared.commands.Counter.{Counter}
 use Rattle.zed_script.specs.declared.commands.Counter.TheVariants.{Health, Ammo, Gems, Torches, Score, Time}
 use Rattle.zed_scene.specs.declared.counters.Counters.{Counters}
 use Rattle.zed_scene.specs.Scene.{Scene}
-use Rattle.zed_scene.specs.Flags.{has_flag}
 
 -- how much is in a counter
 abbrev pub in_counter : Counter → Counters → ℤ

@@ -1,11 +1,10 @@
 -- Tiles that programs make.
-use Rattle.std.specs.Prelude.{ℕ, zero, suc, ◌+◌, Bool, true, false, not, ◌&&◌, nat_le, if◌then◌else◌, List, length, slice_get, Option, Some, None}
+use Rattle.std.specs.Prelude.{ℕ, zero, suc, Bool, true, false, ◌&&◌, nat_le, if◌then◌else◌, List, length, slice_get, Option, Some, None}
 use Rattle.zed_types.specs.declared.tile.Place.{Place}
-use Rattle.zed_types.specs.declared.tile.Tile.{Tile}
 use Rattle.zed_types.specs.Table.{place_at}
 use Rattle.zed_scene.specs.declared.stat.Stat.{Stat}
 use Rattle.zed_script.specs.declared.kinds.TileKind.{TileKind}
-use Rattle.zed_scene.specs.Scene.{Scene, element_at, own, program_of, put, put_own, same_place, tile_at}
+use Rattle.zed_scene.specs.Scene.{Scene, element_at, own, program_of, put, same_place, tile_at}
 use Rattle.zed_scene.specs.declared.step.Step.{Step}
 use Rattle.zed_oop.specs.Acting.{changed}
 use Rattle.zed_scene.specs.Trying.{is_nowhere, way_made}

@@ -1,5 +1,5 @@
 -- A turn of a program: a chain of instructions.
-use Rattle.std.specs.Prelude.{Result, Ok, Err, MatchResult, ◌+◌, ◌*◌, ◌<◌, ◌≡◌, ◌⊎◌, ℕ, ◌-◌, zero, suc, Bool, true, false, if◌then◌else◌, List, [], ◌∷◌, ◌++◌, codes, length, Option, Some, None}
+use Rattle.std.specs.Prelude.{Result, Ok, Err, MatchResult, ◌+◌, ◌*◌, ◌<◌, ◌≡◌, ◌⊎◌, ℕ, ◌-◌, zero, suc, Bool, if◌then◌else◌, List, [], ◌∷◌, ◌++◌, codes, length, Option, Some, None}
 use Rattle.zed_oop.specs.declared.acting.Next.{Next}
 use Rattle.zed_oop.specs.declared.acting.Next.TheVariants.{Skip, Stay, Command as CommandNext, SkipAndEnd, End as EndNext, Error}
 use Rattle.zed_scene.specs.declared.stat.Stat.{Stat}

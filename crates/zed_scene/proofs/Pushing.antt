@@ -1,5 +1,5 @@
 -- What a push along a chain comes to.
-use Rattle.std.proofs.Common.{◌≡◌, ℕ, zero, suc, ◌-◌, ◌<◌, ◌==◌, true, false, Option, Some, refl, arith, sub-one, sym}
+use Rattle.std.proofs.Common.{◌≡◌, ℕ, zero, suc, ◌-◌, ◌<◌, ◌==◌, true, false, Some, refl, arith, sub-one}
 use Rattle.zed_types.specs.declared.tile.Place.{Place}
 use Rattle.zed_scene.specs.declared.scene.Scene.{Scene}
 use Rattle.zed_scene.specs.declared.step.Step.{Step}

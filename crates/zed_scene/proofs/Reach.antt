@@ -1,13 +1,13 @@
 -- A push has reach enough: along a step no more than 60 places follow one another.
-use Rattle.std.proofs.Common.{◌≡◌, ◌∙◌, ℕ, ℤ, pos, negsuc, zero, suc, ◌+◌, ◌-◌, ◌<◌, ◌≤◌, Bool, true, false, cond, Option, Some, None, refl, sym, ap, subst, arith, nat_le, ltb}
+use Rattle.std.proofs.Common.{◌≡◌, ◌∙◌, ℕ, ℤ, pos, negsuc, zero, suc, ◌+◌, ◌-◌, ◌<◌, ◌≤◌, Bool, true, false, cond, Option, Some, None, refl, sym, ap, arith, nat_le, ltb}
 use Rattle.std.specs.Prelude.{◌&&◌, ◌+ℤ◌}
 use Rattle.std.specs.Ordering.{int_eq}
-use Rattle.std.proofs.lemmas.Bool.{leb-true, ltb-false}
+use Rattle.std.proofs.lemmas.Bool.{leb-true}
 use Rattle.zed_types.specs.declared.tile.Place.{Place}
 use Rattle.zed_scene.specs.declared.step.Step.{Step}
 use Rattle.zed_scene.specs.Places.{◌>>=◌, ahead, moved, up_to}
 use Rattle.zed_scene.specs.Scene.{Scene, element_at}
-use Rattle.zed_scene.specs.Moving.{is_pushable, pushed, pushed_by, pushed_onto}
+use Rattle.zed_scene.specs.Moving.{is_pushable, pushed, pushed_by}
 use Rattle.zed_scene.specs.Trying.{is_nowhere, push_rule}
 
 -- a number that a step leads to is in the table

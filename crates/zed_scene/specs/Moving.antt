@@ -1,8 +1,7 @@
 -- How stats and tiles move, and what they push.
-use Rattle.std.specs.Prelude.{ℕ, ℤ, pos, suc, zero, ◌-◌, Bool, true, false, ◌&&◌, not, ◌==◌, if◌then◌else◌, slice_get, Option, Some, None}
+use Rattle.std.specs.Prelude.{ℕ, pos, suc, zero, Bool, true, false, ◌&&◌, not, ◌==◌, if◌then◌else◌, slice_get, Option, Some, None}
 use Rattle.std.specs.Ordering.{int_eq}
 use Rattle.zed_types.specs.declared.tile.Place.{Place}
-use Rattle.zed_types.specs.declared.tile.Tile.{Tile}
 use Rattle.zed_types.specs.declared.kind.Push.{Push}
 use Rattle.zed_types.specs.declared.kind.Push.TheVariants.{Not, Any, NorthSouth, EastWest}
 use Rattle.zed_types.specs.Elements.{row_of}

@@ -1,8 +1,7 @@
 -- How stats are taken away and damaged.
-use Rattle.std.specs.Prelude.{int_lt, ℕ, ℤ, pos, ◌-ℤ◌, ◌-◌, Bool, ◌==◌, nat_lt, nat_le, if◌then◌else◌, List, remove, map, slice_get, Option, Some, None, option_and_then}
+use Rattle.std.specs.Prelude.{int_lt, ℕ, ℤ, pos, ◌-ℤ◌, ◌-◌, ◌==◌, nat_lt, nat_le, if◌then◌else◌, remove, map, slice_get, Option, Some, None}
 use Rattle.zed_types.specs.declared.tile.Place.{Place}
 use Rattle.zed_scene.specs.declared.stat.Stat.{Stat}
-use Rattle.zed_scene.specs.declared.counters.Counters.{Counters}
 use Rattle.zed_scene.specs.Scene.{Scene, empty_tile, put, stat_at}
 
 -- the number of a stat after stat i is removed; none where it is that one

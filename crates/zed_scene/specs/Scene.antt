@@ -1,5 +1,5 @@
 -- A board in play: what stands where.
-use Rattle.std.specs.Prelude.{◌≡◌, ℕ, ◌+◌, ◌*◌, ◌-◌, Bool, false, ◌&&◌, nat_le, nat_lt, ◌==◌, if◌then◌else◌, List, [], ◌∷◌, length, position, slice_index_or, slice_set, slice_get, Option, Some, None}
+use Rattle.std.specs.Prelude.{ℕ, Bool, ◌&&◌, nat_lt, ◌==◌, if◌then◌else◌, List, [], length, position, slice_index_or, slice_set, slice_get, Option, Some, None}
 use Rattle.zed_types.specs.declared.tile.Place.{Place}
 use Rattle.zed_types.specs.declared.tile.Tile.{Tile}
 use Rattle.zed_types.specs.Table.{index_of}

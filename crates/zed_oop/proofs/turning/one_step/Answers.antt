@@ -1,4 +1,4 @@
-use Rattle.std.proofs.Common.{◌≡◌, ◌∙◌, ap, rules, sym}
+use Rattle.std.proofs.Common.{◌∙◌, ap, sym}
 use Rattle.zed_oop.specs.Turn.{over, position_of, state}
 use Rattle.zed_oop.proofs.TurnLemmas.{command_done, instruction_done}
 use Rattle.zed_oop.proofs.RoomLemmas.{command_nearer, instruction_nearer}

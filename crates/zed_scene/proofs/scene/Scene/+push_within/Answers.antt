@@ -1,4 +1,4 @@
-use Rattle.std.proofs.Common.{◌≡◌, ◌∙◌, ap, rules, arith}
+use Rattle.std.proofs.Common.{◌∙◌, ap, rules, arith}
 use Rattle.zed_scene.specs.Moving.{pushed_onto}
 use Rattle.zed_scene.proofs.Pushing.{pushed_further}
 use Rattle.zed_scene.proofs.scene.Scene.+push_within.Goals as goal
