@@ -11,6 +11,8 @@ pub enum Act {
     Turn { stat: usize, words: Vec<u16> },
     /// A playtest of the board begins at this tick.
     Opened(u16),
+    /// A playtest of the board of this number begins and is let go.
+    Begun(usize),
     /// A step of the playtest, with these words of chance.
     Pressed { key: Key, words: Vec<u16> },
     /// The messages that the playtest keeps.
@@ -77,6 +79,7 @@ pub fn act_of(alloc: Global, name: &str, line: &mut Line) -> Result<Act, Trouble
             words: words_of(alloc, line)?,
         }),
         "opened" => Ok(Act::Opened(tick_of(line)?)),
+        "begun" => Ok(Act::Begun(usize::from(line.count()?))),
         "key" => Ok(Act::Pressed {
             key: key_of(line.word()?)?,
             words: words_of(alloc, line)?,

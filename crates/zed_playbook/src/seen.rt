@@ -253,6 +253,14 @@ fn put_drawn(alloc: Global, case: &Case, board: usize, out: &mut String) -> Resu
     }
 }
 
+fn put_begun(alloc: Global, case: &Case, board: usize, out: &mut String) -> Result<(), Trouble> {
+    match Play::new(alloc, world_of(alloc, case)?, board, 1) {
+        Ok(_) => Ok(out.push_str("begun\n")?),
+        Err(PlayError::NoBoard) => Ok(out.push_str("noboard\n")?),
+        Err(error) => Err(Trouble::from(error)),
+    }
+}
+
 impl<'a> Stage<'a> {
     /// A case before its first act.
     pub fn new(case: &'a Case) -> Stage<'a> {
@@ -315,6 +323,7 @@ impl<'a> Stage<'a> {
         match act {
             Act::Turn { stat, words } => self.have_turn(alloc, *stat, words.as_slice(), out),
             Act::Opened(tick) => self.open(alloc, *tick),
+            Act::Begun(board) => put_begun(alloc, self.case, *board, out),
             Act::Pressed { key, words } => self.press(alloc, *key, words.as_slice(), out),
             Act::Messages => self.put_kept(out),
             Act::Picture => self.put_picture(out),
