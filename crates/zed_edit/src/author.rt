@@ -16,7 +16,7 @@ use crate::header::set_header;
 use crate::made::can;
 use crate::plain::{Plain, Text};
 use crate::stat::new_stat;
-use crate::text::{delete_bytes, insert_bytes};
+use crate::text::{Insertion, delete_bytes, insert_bytes};
 use std::alloc::Global;
 use zed_op::{Edit, EditError, Op};
 use zed_types::{BoardId, Bytes, Seq, Stamp, StatFields, StatId, TextId};
@@ -80,7 +80,12 @@ fn do_edit(alloc: Global, plain: &mut Plain, edit: &Edit) -> Result<(), EditErro
         Op::TextAdd => add_text(alloc, plain, stamp)?,
         Op::TextInsert(t, after, bytes) => {
             let texts = plain.texts.as_mut_slice();
-            insert_bytes(alloc, texts, *t, *after, stamp, bytes.as_slice())?
+            let put = Insertion {
+                text: *t,
+                after: *after,
+                stamp,
+            };
+            insert_bytes(alloc, texts, put, bytes.as_slice())?
         }
         Op::TextDelete(t, range) => delete_bytes(plain.texts.as_mut_slice(), *t, *range),
     }

@@ -53,22 +53,23 @@ fn put_run(
     }
 }
 
-fn insert_if(
-    alloc: Global,
-    text: &mut Text,
-    t: TextId,
-    after: Option<ElemId>,
-    stamp: Stamp,
-    bytes: &[u8],
-) -> Result<(), EditError>
+/// Where an edit puts bytes, and the stamp that names them.
+#[derive(Clone, Copy)]
+pub(crate) struct Insertion {
+    pub(crate) text: TextId,
+    pub(crate) after: Option<ElemId>,
+    pub(crate) stamp: Stamp,
+}
+
+fn insert_if(alloc: Global, text: &mut Text, put: Insertion, bytes: &[u8]) -> Result<(), EditError>
     requires { length bytes.now < 2 ^ 32 }
     ensures put { IfOk result (λ _.
-        text.new ≡ text_if t (put_after after (run_from stamp 0 bytes.now)) text.old) }
+        text.new ≡ text_if put.text (put_after put.after (run_from put.stamp 0 bytes.now)) text.old) }
     ensures err { IfErr result (λ e. e ≡ EditError.Memory) }
 {
-    if text.id == t {
-        let run = run_of(alloc, stamp, bytes).map_err(EditError::of_growth)?;
-        put_run(&mut text.elements, after, run).map_err(EditError::of_growth)?;
+    if text.id == put.text {
+        let run = run_of(alloc, put.stamp, bytes).map_err(EditError::of_growth)?;
+        put_run(&mut text.elements, put.after, run).map_err(EditError::of_growth)?;
     }
     Ok(())
 }
@@ -77,18 +78,16 @@ fn insert_if(
 pub(crate) fn insert_bytes(
     alloc: Global,
     texts: &mut [Text],
-    t: TextId,
-    after: Option<ElemId>,
-    stamp: Stamp,
+    put: Insertion,
     bytes: &[u8],
 ) -> Result<(), EditError>
     requires { length bytes.now < 2 ^ 32 }
-    ensures put { IfOk result (λ _.
-        texts.new ≡ change_texts t (put_after after (run_from stamp 0 bytes.now)) texts.old) }
+    ensures put { IfOk result (λ _. texts.new
+        ≡ change_texts put.text (put_after put.after (run_from put.stamp 0 bytes.now)) texts.old) }
     ensures err { IfErr result (λ e. e ≡ EditError.Memory) }
 {
     for x in texts.iter_mut() {
-        insert_if(alloc, x, t, after, stamp, bytes)?;
+        insert_if(alloc, x, put, bytes)?;
     }
     Ok(())
 }

@@ -9,10 +9,12 @@ use Rattle.zed_op.specs.declared.op.Op.{Op}
 use Rattle.zed_op.specs.declared.op.Op.TheVariants.{Genesis, SetHeader, BoardAdd, BoardRemove, SetBoard, SetCells, StatAdd, StatRemove, SetStat, TextAdd, TextInsert, TextDelete}
 use Rattle.zed_editfile.specs.declared.error.EditFileError.TheVariants.{BadEdit}
 use Rattle.zed_editfile.specs.Spelling.{stamp, number, board_name, text_name, element_name, optional, tile, rectangle, op_text}
-use Rattle.zed_editfile.specs.Reading.{◌>>=◌, Field, mapped, pair_at, byte_at, string_at, board_name_at, stat_name_at, header_setting_at, set_board_at, set_cells_at, stat_add_at, set_stat_at, text_insert_at, text_delete_at, op_at}
+use Rattle.zed_types.specs.Steps.{◌>>=◌}
+use Rattle.zed_editfile.specs.Reading.{Field, mapped, pair_at, byte_at, string_at, board_name_at, stat_name_at, header_setting_at, set_board_at, set_cells_at, stat_add_at, set_stat_at, text_insert_at, text_delete_at, op_at}
 use Rattle.zed_op.specs.Sizes.{IsOp}
 use Rattle.zed_editfile.proofs.Numbers.{IsBytes}
-use Rattle.zed_editfile.proofs.Codec.{IsField, Completes, ok_is, takes_then, takes_end, takes_mapped, takes_choice, takes_none, again_then, string_field, tile_field, rectangle_field}
+use Rattle.zed_types.proofs.Steps.{ok_is}
+use Rattle.zed_editfile.proofs.Codec.{IsField, Completes, takes_then, takes_end, takes_mapped, takes_choice, takes_none, again_then, string_field, tile_field, rectangle_field}
 use Rattle.zed_editfile.proofs.Names.{board_name_field, stat_name_field, text_name_field, element_name_field, optional_field, range_field, range_text}
 use Rattle.zed_editfile.proofs.Registers.{header_setting_field, board_setting_field, stat_setting_field, stat_fields_field}
 

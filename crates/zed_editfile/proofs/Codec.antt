@@ -1,5 +1,5 @@
 -- A field that is read is spelled so, and a field that is spelled is read again, whatever follows it.
-use Rattle.std.proofs.Common.{◌≡◌, ℕ, ℤ, suc, ◌^◌, ◌<◌, ◌≤◌, Bool, true, false, cond, ltb, eqb, Option, Some, None, List, [], ◌∷◌, ◌++◌, length, take, drop, Result, Ok, Err, SFits, w16, pos, negsuc, ◌-◌, refl, sym, ap, subst, ◌∙◌, append_assoc, arith, ◌⊎◌, inl, inr}
+use Rattle.std.proofs.Common.{◌≡◌, ℕ, ℤ, suc, ◌^◌, ◌<◌, ◌≤◌, Bool, true, false, cond, ltb, eqb, Option, Some, None, List, [], ◌∷◌, ◌++◌, length, take, drop, Ok, Err, SFits, w16, pos, negsuc, ◌-◌, refl, sym, ap, subst, ◌∙◌, append_assoc, arith, ◌⊎◌, inl, inr}
 use Rattle.std.specs.Int.{cast_signed, cast_unsigned}
 use Rattle.std.proofs.lemmas.Bool.{ltb-true, ltb-false, le-ltb, eqb-true}
 use Rattle.std.proofs.lemmas.Int.{to_z-of_z}
@@ -10,30 +10,16 @@ use Rattle.zed_op.specs.declared.cause.Cause.TheVariants.{Short, Tag}
 use Rattle.zed_editfile.specs.declared.error.EditFileError.{EditFileError}
 use Rattle.zed_editfile.specs.declared.error.EditFileError.TheVariants.{BadEdit}
 use Rattle.zed_editfile.specs.Spelling.{number, integer, boolean, string, stamp, tile, rectangle}
-use Rattle.zed_editfile.specs.Reading.{◌>>=◌, Field, mapped, by_kind, byte_at, number_at, integer_at, boolean_at, string_at, stamp_at, tile_at, rectangle_at}
+use Rattle.zed_types.specs.Steps.{◌>>=◌}
+use Rattle.zed_types.proofs.Steps.{bind_ok, ok_is, guard_ok}
+use Rattle.zed_editfile.specs.Reading.{Field, mapped, by_kind, byte_at, number_at, integer_at, boolean_at, string_at, stamp_at, tile_at, rectangle_at}
 use Rattle.zed_op.specs.Sizes.{IsString, IsStamp, IsTile, IsRectangle}
 use Rattle.zed_editfile.proofs.Numbers.{IsBytes, IsBytes-drop, IsBytes-rest, length_number, number_is, number_below, number_back}
-
--- the value of a step that did not fail
-pub bind_ok : {A B : Type 0} (r : Result A EditFileError) (f : A → Result B EditFileError) (y : B) → (r >>= f) ≡ Ok y → (x : A) × (r ≡ Ok x) × (f x ≡ Ok y)
-bind_ok (Ok x) f y e = (x, refl, e)
-bind_ok (Err d) f y e = absurd cc
-
--- a test that let the rest go on
-pub guard_ok : {A : Type 0} (b : Bool) (d : EditFileError) (r : Result A EditFileError) (y : A) → cond b (Err d) r ≡ Ok y → (b ≡ false) × (r ≡ Ok y)
-guard_ok true d r y h = absurd cc
-guard_ok false d r y h = (refl, h)
 
 -- which way a test went
 pub chosen : {A : Type 0} (b : Bool) (x y : A) (z : A) → cond b x y ≡ z → ((b ≡ true) × (x ≡ z)) ⊎ ((b ≡ false) × (y ≡ z))
 chosen true x y z h = inl (refl, h)
 chosen false x y z h = inr (refl, h)
-
-abbrev pub done : {A : Type 0} → A → Result A EditFileError
-done x = Ok x
-
-pub ok_is : {A : Type 0} (x y : A) → done x ≡ done y → x ≡ y
-ok_is x y e = cc
 
 -- ---- fields one after the other
 

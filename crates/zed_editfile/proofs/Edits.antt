@@ -11,10 +11,12 @@ use Rattle.zed_op.specs.Fit.{fault, Fits}
 use Rattle.zed_editfile.specs.declared.error.EditFileError.{EditFileError}
 use Rattle.zed_editfile.specs.declared.error.EditFileError.TheVariants.{BadEdit}
 use Rattle.zed_editfile.specs.Spelling.{stamp, op_text, spelling}
-use Rattle.zed_editfile.specs.Reading.{◌>>=◌, Field, byte_at, stamp_at, op_at, fields_at, unless_faulty, edit_at}
+use Rattle.zed_types.specs.Steps.{◌>>=◌}
+use Rattle.zed_editfile.specs.Reading.{Field, byte_at, stamp_at, op_at, fields_at, unless_faulty, edit_at}
 use Rattle.zed_op.specs.Sizes.{HasSizes}
 use Rattle.zed_editfile.proofs.Numbers.{IsBytes}
-use Rattle.zed_editfile.proofs.Codec.{bind_ok, ok_is, byte_field, stamp_field}
+use Rattle.zed_types.proofs.Steps.{bind_ok, ok_is}
+use Rattle.zed_editfile.proofs.Codec.{byte_field, stamp_field}
 use Rattle.zed_editfile.proofs.Actions.{op_completes, op_again}
 
 choice_ok : {A : Type 0} (b : Bool) (r : Result A EditFileError) (d : EditFileError) (y : A) → cond b r (Err d) ≡ Ok y → (b ≡ true) × (r ≡ Ok y)

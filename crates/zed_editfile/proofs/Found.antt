@@ -69,7 +69,7 @@ head_ended asked h x s e stop g = let f = fault_is (head_stop asked h) h s e (he
 record_ended : (b x : List ℕ) (s : Stop) (e : EditFileError) → record_stop b ≡ some_stop s → s.fault ≡ Some e → record_stop (b ++ x) ≡ some_stop s
 record_ended b x s e stop g = let f = fault_is (record_stop b) b s e (record_form b) stop g in fault_stays b x f.0 f.1 ∙ sym f.1 ∙ stop
 
-stays : (bytes x : List ℕ) (found : List Edit) (p : Progress) (e : EditFileError) → p.fault ≡ Some e → Reads bytes found p → Reads (bytes ++ x) (found ++ []) p
+pub stays : (bytes x : List ℕ) (found : List Edit) (p : Progress) (e : EditFileError) → p.fault ≡ Some e → Reads bytes found p → Reads (bytes ++ x) (found ++ []) p
 stays bytes x found p e g r = elim r [
   | inl h ↦
       inl (record {

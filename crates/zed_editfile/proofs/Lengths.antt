@@ -1,7 +1,6 @@
 -- How long the body of a fitting edit is.
-use Rattle.std.proofs.Common.{◌≡◌, ℕ, leb, ℤ, ◌+◌, ◌*◌, ◌≤◌, true, Option, Some, None, List, [], ◌∷◌, ◌++◌, length, drop, length-take, length-drop, Result, Ok, Err, refl, ap, sym, ◌∙◌, length-append, arith}
+use Rattle.std.proofs.Common.{◌≡◌, ℕ, leb, ℤ, ◌+◌, ◌*◌, ◌≤◌, true, Option, Some, None, List, [], ◌∷◌, ◌++◌, length, drop, length-take, length-drop, refl, length-append, arith}
 use Rattle.std.proofs.lemmas.Bool.{leb-true, le-leb, and_parts}
-use Rattle.std.proofs.lemmas.Slice.Eq.{bytes_eq-Decides}
 use Rattle.zed_types.specs.declared.stamp.Stamp.{Stamp}
 use Rattle.zed_types.specs.declared.names.Name.{Name as ThingName}
 use Rattle.zed_types.specs.declared.names.BoardId.{BoardId}
@@ -18,15 +17,12 @@ use Rattle.zed_types.specs.declared.stat_field.ThirdParameter.TheVariants as thi
 use Rattle.zed_types.specs.declared.stat_field.StatSetting.{StatSetting}
 use Rattle.zed_types.specs.declared.stat_field.StatSetting.TheVariants as stat
 use Rattle.zed_types.specs.declared.stat_field.StatFields.{StatFields}
-use Rattle.zed_world.specs.Contents.{Contents}
-use Rattle.zed_world.specs.Reading.{world_at}
-use Rattle.zed_world.specs.Writing.{written}
 use Rattle.zed_world.specs.Canonical.{IsCanonical}
-use Rattle.zed_world.specs.declared.error.WorldError.{WorldError}
+use Rattle.zed_world.proofs.Rewritten.{canonical_tested}
 use Rattle.zed_op.specs.declared.op.Op.{Op}
 use Rattle.zed_op.specs.declared.op.Op.TheVariants.{Genesis, SetHeader, BoardAdd, BoardRemove, SetBoard, SetCells, StatAdd, StatRemove, SetStat, TextAdd, TextInsert, TextDelete}
 use Rattle.zed_op.specs.declared.op.Edit.{Edit}
-use Rattle.zed_op.specs.Fit.{is_header_in_range, is_property_in_range, is_in_range, is_text_of, is_rewritten, is_canonical, has_good_world}
+use Rattle.zed_op.specs.Fit.{is_header_in_range, is_property_in_range, is_in_range, has_good_world}
 use Rattle.std.specs.List.{flat_map}
 use Rattle.zed_op.specs.Sizes.{IsStatFields, IsOp}
 use Rattle.zed_editfile.specs.Stream.{is_length}
@@ -38,20 +34,6 @@ use Rattle.zed_editfile.proofs.Numbers.{length_number}
 -- what the law on canonical files promises
 abbrev pub AreShort : Type 0
 AreShort = (bytes : List ℕ) → IsCanonical bytes → length bytes ≤ 512 + 101 * (2 + 32767)
-
-rewritten : (bytes : List ℕ) (w : Contents) (r : Result (List ℕ) WorldError) → world_at bytes ≡ Ok w → written 32767 w ≡ r → is_text_of bytes r ≡ true → IsCanonical bytes
-rewritten bytes w (Ok text) p q h =
-    let same : bytes ≡ text = (bytes_eq-Decides bytes text).0 h in
-    record { world = w; read = p; rewritten = q ∙ ap Ok (sym same) }
-rewritten bytes w (Err e) p q h = absurd cc
-
-canonical : (bytes : List ℕ) → is_canonical bytes ≡ true → IsCanonical bytes
-unfolding is_canonical
-canonical bytes h = either (world_at bytes) refl h
-  where
-    either : (r : Result Contents WorldError) → world_at bytes ≡ r → is_rewritten bytes r ≡ true → IsCanonical bytes
-    either (Ok w) p k = rewritten bytes w (written 32767 w) p refl k
-    either (Err e) p k = absurd cc
 
 -- ---- fields
 
@@ -123,7 +105,7 @@ length_stamp s = simp (length-append, length_number) refl
 
 -- one byte for the number of the op, and what follows it
 length_op : AreShort → (op : Op) → is_in_range op ≡ true → has_good_world op ≡ true → IsOp op → (1 ≤ length (op_text op)) × (length (op_text op) ≤ 3310182)
-length_op law (Genesis bytes) h k g = let short = law bytes (canonical bytes k) in (omega arith, omega arith)
+length_op law (Genesis bytes) h k g = let short = law bytes ((canonical_tested bytes).0 k) in (omega arith, omega arith)
 length_op law (SetHeader setting) h k g = let most = length_header setting h in (omega arith, omega arith)
 length_op law (BoardAdd s) h k g = let most = leb-true (length s) 50 h in (omega arith, omega arith)
 length_op law (BoardRemove b) h k g = let name = length_board b in (omega arith, omega arith)

@@ -2,8 +2,10 @@ pub mod Actions
 pub mod Codec
 pub mod Cuts
 pub mod Edits
+pub mod Faults
 pub mod Fitting
 pub mod Found
+pub mod Fronts
 pub mod Heads
 pub mod Names
 pub mod Numbers

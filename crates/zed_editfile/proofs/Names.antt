@@ -11,7 +11,8 @@ use Rattle.zed_types.specs.declared.text.ByteRange.{ByteRange}
 use Rattle.zed_types.specs.declared.stat_field.ThirdParameter.{ThirdParameter}
 use Rattle.zed_types.specs.declared.stat_field.ThirdParameter.TheVariants as third
 use Rattle.zed_editfile.specs.Spelling.{number, boolean, stamp, name, board_name, stat_name, text_name, element_name, optional, third_parameter}
-use Rattle.zed_editfile.specs.Reading.{◌>>=◌, Field, mapped, byte_at, boolean_at, name_at, board_with, stat_with, text_with, element_with, board_name_at, stat_name_at, text_name_at, element_name_at, optional_at, range_at, third_parameter_at}
+use Rattle.zed_types.specs.Steps.{◌>>=◌}
+use Rattle.zed_editfile.specs.Reading.{Field, mapped, byte_at, boolean_at, name_at, board_with, stat_with, text_with, element_with, board_name_at, stat_name_at, text_name_at, element_name_at, optional_at, range_at, third_parameter_at}
 use Rattle.zed_op.specs.Sizes.{IsName, IsRange, IsThirdParameter}
 use Rattle.zed_editfile.proofs.Codec.{IsField, Completes, takes_then, takes_end, takes_all, takes_mapped, takes_choice, again_then, again_mapped, byte_field, number_field, boolean_field, stamp_field}
 

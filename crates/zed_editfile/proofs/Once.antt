@@ -6,10 +6,11 @@ use Rattle.byteorder.specs.Endian.{little_number}
 use Rattle.zed_op.specs.declared.op.Edit.{Edit}
 use Rattle.zed_editfile.specs.declared.error.EditFileError.TheVariants.{Memory}
 use Rattle.zed_editfile.specs.Spelling.{number, spelling, record_text, head_text, file_text}
+use Rattle.zed_editfile.specs.Laws.{IsFrontOf}
 use Rattle.zed_editfile.specs.Reading.{edit_at}
 use Rattle.zed_editfile.specs.Stream.{Stop, is_other, fault_of, head_stop, record_stop, IsRecord, AreRecords, Frames, Progress, stop_of, Stops, InRecords, Reads}
 use Rattle.zed_editfile.proofs.Numbers.{length_number, number_back}
-use Rattle.zed_editfile.proofs.Codec.{ok_is}
+use Rattle.zed_types.proofs.Steps.{ok_is}
 use Rattle.zed_editfile.proofs.Edits.{edit_again}
 use Rattle.zed_editfile.proofs.Cuts.{frame_number, frame_behind, frame_stop}
 use Rattle.zed_editfile.proofs.Found.{some_stop, no_record}
@@ -51,6 +52,18 @@ one_split (e ∷ es) (f ∷ fs) t u p q a b same m n =
     let first = one_record e f (flat_map record_text es ++ t) (flat_map record_text fs ++ u) a.0 b.0 flat in
     let others = one_split es fs t u p q a.1 b.1 first.1 m n in
     (ap (λ (x : Edit). x ∷ es) first.0 ∙ ap (λ (x : List Edit). f ∷ x) others.0, others.1)
+
+-- edits whose records stand at the front of those of others are the first of these
+pub front_of : (es fs : List Edit) (u : List ℕ) → AreRecords es → AreRecords fs → flat_map record_text es ≡ flat_map record_text fs ++ u → IsFrontOf fs es
+front_of es [] u a b same = (es, refl)
+front_of [] (f ∷ fs) u a b same =
+    let whole : [] ≡ record_text f ++ (flat_map record_text fs ++ u) = same ∙ append_assoc (record_text f) (flat_map record_text fs) u in
+    absurd (none_is_not (record { rest = []; fault = None }) (sym (not_stopped f (flat_map record_text fs ++ u) b.0) ∙ ap record_stop (sym whole) ∙ no_record))
+front_of (e ∷ es) (f ∷ fs) u a b same =
+    let flat : record_text e ++ flat_map record_text es ≡ record_text f ++ (flat_map record_text fs ++ u) = same ∙ append_assoc (record_text f) (flat_map record_text fs) u in
+    let first = one_record e f (flat_map record_text es) (flat_map record_text fs ++ u) a.0 b.0 flat in
+    let others = front_of es fs u a.1 b.1 first.1 in
+    (others.0, ap (λ (x : Edit). x ∷ es) first.0 ∙ ap (λ (x : List Edit). f ∷ x) others.1)
 
 -- ---- heads
 

@@ -1,8 +1,8 @@
 -- What the laws on edit files promise.
-use Rattle.std.specs.Prelude.{◌≡◌, ◌≢◌, ◌<◌, ◌^◌, ℕ, List, [], ◌++◌, Option, Some, None, Ok, false}
+use Rattle.std.specs.Prelude.{◌≡◌, ◌≢◌, ◌⊎◌, ◌<◌, ◌^◌, ℕ, List, [], ◌++◌, Option, Some, None, Ok, false}
 use Rattle.zed_op.specs.declared.op.Edit.{Edit}
 use Rattle.zed_op.specs.Fit.{Fits}
-use Rattle.zed_editfile.specs.declared.error.EditFileError.TheVariants.{Memory}
+use Rattle.zed_editfile.specs.declared.error.EditFileError.TheVariants.{Memory, CutShort}
 use Rattle.zed_editfile.specs.Reading.{edit_at}
 use Rattle.zed_op.specs.Sizes.{HasSizes}
 use Rattle.zed_editfile.specs.Spelling.{spelling, record_text, file_text}
@@ -49,3 +49,21 @@ abbrev pub TextsAreRead : Type 0
 TextsAreRead =
     (asked : Option ℕ) (n : ℕ) (es : List Edit) → n < 2 ^ 64 → is_other asked n ≡ false → AreRecords es
     → Reads (file_text n es) es (record { asked = asked; world = Some n; rest = []; fault = None })
+
+-- these edits are the first of those
+abbrev pub IsFrontOf : List Edit → List Edit → Type 0
+IsFrontOf found es = (more : List Edit) × (es ≡ found ++ more)
+
+-- a reader has no fault, or its memory ran out
+abbrev pub IsCalm : Progress → Type 0
+IsCalm p = (p.fault ≡ None) ⊎ (p.fault ≡ Some Memory)
+
+-- whoever has read a front of the text of these edits has the first of them, and no fault unless its memory ran out
+abbrev pub FrontsAreRead : Type 0
+FrontsAreRead =
+    (n : ℕ) (es found : List Edit) (front rest : List ℕ) (p : Progress) → n < 2 ^ 64 → AreRecords es → is_other p.asked n ≡ false
+    → front ++ rest ≡ file_text n es → Reads front found p → IsFrontOf found es × IsCalm p
+
+-- no reader has the fault that its bytes are cut short: this is told at the end alone
+abbrev pub CutIsToldAtTheEnd : Type 0
+CutIsToldAtTheEnd = (bytes : List ℕ) (found : List Edit) (p : Progress) → Reads bytes found p → p.fault ≢ Some CutShort

@@ -2,6 +2,7 @@
 use Rattle.std.specs.Prelude.{◌≡◌, ◌⊎◌, ℕ, ℤ, ◌-◌, Bool, true, false, ◌==◌, nat_lt, if◌then◌else◌, List, [], ◌∷◌, ◌++◌, length, take, drop, Option, Some, None, Result, Ok, Err}
 use Rattle.std.specs.Int.{w16, cast_signed}
 use Rattle.byteorder.specs.Endian.{little_number}
+use Rattle.zed_types.specs.Steps.{◌>>=◌}
 use Rattle.zed_types.specs.declared.stamp.Stamp.{Stamp}
 use Rattle.zed_types.specs.declared.names.Name.{Name as ThingName}
 use Rattle.zed_types.specs.declared.names.BoardId.{BoardId}
@@ -35,12 +36,6 @@ use Rattle.zed_op.specs.declared.op.Edit.{Edit}
 use Rattle.zed_op.specs.Fit.{fault}
 use Rattle.zed_editfile.specs.declared.error.EditFileError.{EditFileError}
 use Rattle.zed_editfile.specs.declared.error.EditFileError.TheVariants.{Memory, BadEdit}
-
-infixl 10 ◌>>=◌
--- what is found first, and then what follows from it; or the first fault
-abbrev pub ◌>>=◌ : {A B : Type 0} → Result A EditFileError → (A → Result B EditFileError) → Result B EditFileError
-(Ok x) >>= f = f x
-(Err e) >>= f = Err e
 
 -- What a function returned, seen by view, is what reading gives, unless memory ran out.
 abbrev pub Gives : {X Y : Type 0} → (X → Y) → Result X EditFileError → Result Y EditFileError → Type 0
@@ -175,6 +170,12 @@ flag_of n =
     if n == 0 then First else if n == 1 then Second else if n == 2 then Third else if n == 3 then Fourth else if n == 4 then Fifth else if n == 5 then Sixth else if n == 6 then Seventh else
     if n == 7 then Eighth else if n == 8 then Ninth else Tenth
 
+-- a register under its number, which tells how its value is read
+abbrev pub register_at : {A : Type 0} → (ℕ → List ℕ → Field A) → List ℕ → Field A
+register_at value_at bytes = do
+  f ← byte_at bytes
+  value_at f.0 f.1
+
 -- the value of header field f
 unfoldable pub header_value_at : ℕ → List ℕ → Field HeaderSetting
 header_value_at f bytes =
@@ -187,9 +188,7 @@ header_value_at f bytes =
 
 -- a register of a header, under its number
 unfoldable pub header_setting_at : List ℕ → Field HeaderSetting
-header_setting_at bytes = do
-  f ← byte_at bytes
-  header_value_at f.0 f.1
+header_setting_at bytes = register_at header_value_at bytes
 
 -- the value of board property f
 unfoldable pub board_value_at : ℕ → List ℕ → Field BoardSetting
@@ -202,9 +201,7 @@ board_value_at f bytes =
 
 -- a register of a board, under its number
 unfoldable pub board_setting_at : List ℕ → Field BoardSetting
-board_setting_at bytes = do
-  f ← byte_at bytes
-  board_value_at f.0 f.1
+board_setting_at bytes = register_at board_value_at bytes
 
 -- the value of stat field f
 unfoldable pub stat_value_at : ℕ → List ℕ → Field StatSetting
@@ -218,9 +215,7 @@ stat_value_at f bytes =
 
 -- a register of a stat, under its number
 unfoldable pub stat_setting_at : List ℕ → Field StatSetting
-stat_setting_at bytes = do
-  f ← byte_at bytes
-  stat_value_at f.0 f.1
+stat_setting_at bytes = register_at stat_value_at bytes
 
 -- what a new stat is given, from its bytes but the tile underneath, that tile, its numbers, and the rest
 abbrev pub fields_of : List ℕ → Tile → List ℤ → ThirdParameter → Option TextId → StatFields

@@ -2,7 +2,7 @@
 ghost use Rattle.zed_op.specs.declared.op.Edit.{Edit};
 ghost use Rattle.zed_op.specs.Fit.{Fits};
 ghost use Rattle.zed_op.specs.Set.{AllFit};
-ghost use Rattle.zed_editfile.specs.Laws.{IsReadBack, IsSpelledOnce, DiffersFrom, BeginsNoOther, HasOneText, HasNoOtherText, IsReadWhole, ReadsOneWay, TextsAreRead};
+ghost use Rattle.zed_editfile.specs.Laws.{IsReadBack, IsSpelledOnce, DiffersFrom, BeginsNoOther, HasOneText, HasNoOtherText, IsReadWhole, ReadsOneWay, TextsAreRead, FrontsAreRead, CutIsToldAtTheEnd};
 ghost use Rattle.zed_editfile.specs.Stream.{AreRecords, IsRecord};
 
 use zed_op::{Edit, edit_has_sizes};
@@ -36,6 +36,13 @@ pub fn one_file_text(world: u64, edits: &[Edit], other: u64, others: &[Edit])
 pub fn one_reading()
     ensures one { ReadsOneWay }
     ensures file { TextsAreRead }
+{}
+
+/// Of a file that is no wrong one a reader never shows a fault before the end: whoever has read a front of the text of edits has the
+/// first of these edits, and no fault unless memory ran out. And that bytes are cut short is told at the end alone.
+pub fn fronts_are_read()
+    ensures front { FrontsAreRead }
+    ensures cut { CutIsToldAtTheEnd }
 {}
 
 /// Every edit that fits has a record, since each number fits its field by its type and the body has one of the lengths: the

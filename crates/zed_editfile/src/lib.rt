@@ -15,13 +15,8 @@ mod writing;
 
 pub use error::EditFileError;
 pub use laws::{
-    fitting_edits_are_records, fitting_edits_make_a_file, no_record_begins_another, one_file_text,
-    one_reading, one_spelling,
+    fitting_edits_are_records, fitting_edits_make_a_file, fronts_are_read,
+    no_record_begins_another, one_file_text, one_reading, one_spelling,
 };
 pub use reader::EditReader;
-pub use writing::{write_edit, write_head};
-
-#[cfg(test)]
-mod tests;
-#[cfg(test)]
-mod tests_extremes;
+pub use writing::{write_edit, write_file, write_head};

@@ -1,7 +1,9 @@
 //! Writing heads and records.
 ghost use Rattle.std.specs.Prelude.{◌≡◌, ◌++◌, IfOk, IfErr, OnOk, OnErr};
+ghost use Rattle.std.specs.List.{flat_map};
 ghost use Rattle.zed_op.specs.Fit.{Fits};
-ghost use Rattle.zed_editfile.specs.Spelling.{number, spelling, record_text, head_text};
+ghost use Rattle.zed_op.specs.Set.{AllFit};
+ghost use Rattle.zed_editfile.specs.Spelling.{file_text, number, spelling, record_text, head_text};
 ghost use Rattle.zed_editfile.specs.Stream.{IsRecord};
 
 use crate::error::EditFileError;
@@ -77,4 +79,30 @@ pub fn write_edit(edit: &Edit, out: &mut Vec<u8>) -> Result<(), EditFileError>
     let record = record_of(*out.allocator(), edit)?;
     out.extend_from_slice(&record)?;
     Ok(())
+}
+
+/// Appends the records of edits.
+fn put_all(edits: &[Edit], out: &mut Vec<u8>) -> Result<(), EditFileError>
+    requires { AllFit edits.now }
+    ensures ok { OnOk result (out.new.items ≡ out.old.items ++ flat_map record_text edits.now) }
+    ensures err { IfErr result (λ e. e ≡ EditFileError.Memory) }
+{
+    for edit in edits {
+        write_edit(edit, out)?;
+    }
+    Ok(())
+}
+
+/// The edit file of a world: its head, and a record for each of these edits, in their order.
+///
+/// Refused with `Memory` alone.
+pub fn write_file(alloc: Global, world: u64, edits: &[Edit]) -> Result<Vec<u8>, EditFileError>
+    requires { AllFit edits.now }
+    ensures ok { IfOk result (λ file. file.items ≡ file_text world edits.now) }
+    ensures err { IfErr result (λ e. e ≡ EditFileError.Memory) }
+{
+    let mut file = Vec::new(alloc);
+    write_head(world, &mut file)?;
+    put_all(edits, &mut file)?;
+    Ok(file)
 }

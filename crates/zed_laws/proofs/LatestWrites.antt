@@ -76,7 +76,7 @@ module _ {V : Type 0} (writes : Edit → Option V) where
       go None o more = rw o more
       go (Some v) o more = rw o (law e.stamp h.0, more)
 
-  writes-rising : (es : List Edit) → IsRising es → RisingWrites (writes_of writes es)
+  pub writes-rising : (es : List Edit) → IsRising es → RisingWrites (writes_of writes es)
   writes-rising [] r = tt
   writes-rising (e ∷ es) r = go (writes e) refl (writes-rising es r.1)
     where
@@ -125,7 +125,7 @@ taken-all P p (e ∷ es) h = go (can p e) (taken-all P (step p e) es h.1)
     go true more = (h.0, more)
     go false more = more
 
-taken-rising : (p : Document) (es : List Edit) → IsRising es → IsRising (taken_on p es)
+pub taken-rising : (p : Document) (es : List Edit) → IsRising es → IsRising (taken_on p es)
 taken-rising p [] r = tt
 taken-rising p (e ∷ es) r = go (can p e) (taken-rising (step p e) es r.1)
   where

@@ -1,9 +1,10 @@
 -- What is there after an edit: what was there, and what the edit makes.
-use Rattle.std.proofs.Common.{◌≡◌, ℕ, Bool, true, false, cond, ◌&&◌, ◌||◌, List, [], ◌∷◌, ◌++◌, map, Option, Some, None, Result, Ok, Err, refl, ap, ◌∙◌}
+use Rattle.std.proofs.Common.{◌≡◌, sym, ℕ, Bool, true, false, cond, ◌&&◌, ◌||◌, List, [], ◌∷◌, ◌++◌, map, Option, Some, None, Result, Ok, Err, refl, ap, ◌∙◌}
 use Rattle.std.specs.List.{list_any, find}
 use Rattle.std.specs.Option.{option_or, is_some}
 use Rattle.std.proofs.lemmas.Bool.{and_parts}
 use Rattle.std.proofs.lemmas.List.Folds.{list_any-append, find-append}
+use Rattle.std.proofs.Math.Bool.{or_assoc, or_comm}
 use Rattle.zed_types.specs.declared.stamp.Stamp.{Stamp}
 use Rattle.zed_types.specs.declared.names.BoardId.{BoardId}
 use Rattle.zed_types.specs.declared.names.StatId.{StatId}
@@ -36,15 +37,9 @@ use Rattle.zed_edit.specs.Replay.{has_all, open_world, do_op}
 use Rattle.zed_types.proofs.StampOrder.{same_text-true}
 use Rattle.zed_laws.proofs.ChangedTexts.{map_option, find_text-do_op}
 
-or_false : (b : Bool) → (b || false) ≡ b
+pub or_false : (b : Bool) → (b || false) ≡ b
 or_false true = refl
 or_false false = refl
-
-or_comm : (a b : Bool) → (a || b) ≡ (b || a)
-or_comm true true = refl
-or_comm true false = refl
-or_comm false true = refl
-or_comm false false = refl
 
 or_swap : (a b c : Bool) → (a || (b || c)) ≡ (b || (a || c))
 or_swap true true c = refl
@@ -52,12 +47,7 @@ or_swap true false c = refl
 or_swap false b c = refl
 
 or_rotate : (a b c : Bool) → (a || (b || c)) ≡ (c || (a || b))
-or_rotate true b true = refl
-or_rotate true b false = refl
-or_rotate false true true = refl
-or_rotate false true false = refl
-or_rotate false false true = refl
-or_rotate false false false = refl
+or_rotate a b c = sym (or_assoc a b c) ∙ or_comm (a || b) c
 
 or_turned : {X : Type 0} (q : X → Bool) (xs ys : List X) → list_any q (xs ++ ys) ≡ (list_any q ys || list_any q xs)
 or_turned q xs ys = list_any-append q xs ys ∙ or_comm (list_any q xs) (list_any q ys)
@@ -77,7 +67,7 @@ such_kept q p f k x = go (p x)
     go true = k x
     go false = refl
 
-list_any-change : {X : Type 0} (q p : X → Bool) (f : X → X) → ((x : X) → q (f x) ≡ q x) → (xs : List X) → list_any q (change_such p f xs) ≡ list_any q xs
+pub list_any-change : {X : Type 0} (q p : X → Bool) (f : X → X) → ((x : X) → q (f x) ≡ q x) → (xs : List X) → list_any q (change_such p f xs) ≡ list_any q xs
 list_any-change q p f k xs = list_any-map_kept q (λ x. cond (p x) (f x) x) (such_kept q p f k) xs
 
 pub find-any : {X : Type 0} (q : X → Bool) (xs : List X) → is_some (find q xs) ≡ list_any q xs

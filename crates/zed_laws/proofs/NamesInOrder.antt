@@ -38,7 +38,7 @@ use Rattle.zed_laws.proofs.MadeElements.{All-append}
 
 -- ---- lists of named things
 
-by_stamp : (a b : Name) → before a.stamp b.stamp ≡ true → is_earlier a b ≡ true
+pub by_stamp : (a b : Name) → before a.stamp b.stamp ≡ true → is_earlier a b ≡ true
 by_stamp a b h = rw h refl
 
 by_index : (s : Stamp) (m n : ℕ) → m < n → is_earlier (name_of s m) (name_of s n) ≡ true
@@ -47,20 +47,20 @@ by_index s m n lt =
     rw (before_irrefl s, same_stamp-itself s, less) refl
 
 -- all of a list changed by what keeps a test
-All-map : {X : Type 0} (P Q : X → Type 0) (f : X → X) (xs : List X) → ((x : X) → P x → Q (f x)) → AllByRecursion P xs → AllByRecursion Q (map f xs)
+pub All-map : {X : Type 0} (P Q : X → Type 0) (f : X → X) (xs : List X) → ((x : X) → P x → Q (f x)) → AllByRecursion P xs → AllByRecursion Q (map f xs)
 All-map P Q f [] keeps h = tt
 All-map P Q f (x ∷ xs) keeps h = (keeps x h.0, All-map P Q f xs keeps h.1)
 
-All-weaken : {X : Type 0} (P Q : X → Type 0) (xs : List X) → ((x : X) → P x → Q x) → AllByRecursion P xs → AllByRecursion Q xs
+pub All-weaken : {X : Type 0} (P Q : X → Type 0) (xs : List X) → ((x : X) → P x → Q x) → AllByRecursion P xs → AllByRecursion Q xs
 All-weaken P Q [] weaker h = tt
 All-weaken P Q (x ∷ xs) weaker h = (weaker x h.0, All-weaken P Q xs weaker h.1)
 
-All-both : {X : Type 0} (P Q : X → Type 0) (xs : List X) → AllByRecursion P xs → AllByRecursion Q xs → AllByRecursion (λ x. P x × Q x) xs
+pub All-both : {X : Type 0} (P Q : X → Type 0) (xs : List X) → AllByRecursion P xs → AllByRecursion Q xs → AllByRecursion (λ x. P x × Q x) xs
 All-both P Q [] h k = tt
 All-both P Q (x ∷ xs) h k = ((h.0, k.0), All-both P Q xs h.1 k.1)
 
 -- things whose stamps pass a test
-abbrev StampsAre : {X : Type 0} → (X → Stamp) → (Stamp → Bool) → List X → Type 0
+abbrev pub StampsAre : {X : Type 0} → (X → Stamp) → (Stamp → Bool) → List X → Type 0
 StampsAre stamp test xs = AllByRecursion (λ x. test (stamp x) ≡ true) xs
 
 -- later things behind earlier ones
@@ -91,13 +91,13 @@ such g test f keeps x = go (test x)
 -- ---- the things of a document
 
 -- a board whose stamp passes a test, as those of its stats
-abbrev IsBoardOf : (Stamp → Bool) → Board → Type 0
+abbrev pub IsBoardOf : (Stamp → Bool) → Board → Type 0
 IsBoardOf test b = (test b.id.name.stamp ≡ true) × StampsAre (λ (s : Stat). s.id.name.stamp) test b.stats
 
 -- a document whose stamps pass a test
-record NamesPass (test : Stamp → Bool) (p : Plain) : Type 0 where
-  texts : StampsAre (λ (t : Text). t.id.name.stamp) test p.texts
-  boards : AllByRecursion (IsBoardOf test) p.boards
+pub record NamesPass (test : Stamp → Bool) (p : Plain) : Type 0 where
+  pub texts : StampsAre (λ (t : Text). t.id.name.stamp) test p.texts
+  pub boards : AllByRecursion (IsBoardOf test) p.boards
 
 -- a change that keeps names keeps the test
 pass-map : {X : Type 0} (stamp : X → Stamp) (test : Stamp → Bool) (f : X → X) (xs : List X) → ((x : X) → stamp (f x) ≡ stamp x) → StampsAre stamp test xs → StampsAre stamp test (map f xs)
@@ -109,7 +109,7 @@ with_number-id : (o : Option ℕ) (n : ℤ) (x : Stat) → (with_number o n x).i
 with_number-id (Some i) n x = refl
 with_number-id None n x = refl
 
-set_stat-stamp : (setting : StatSetting) (x : Stat) → (set_stat setting x).id ≡ x.id
+pub set_stat-stamp : (setting : StatSetting) (x : Stat) → (set_stat setting x).id ≡ x.id
 set_stat-stamp (stat.Byte f n) x = refl
 set_stat-stamp (stat.Number f n) x = with_number-id (stat_number_index f) n x
 set_stat-stamp (stat.P3 o) x = refl
@@ -117,7 +117,7 @@ set_stat-stamp (stat.Follower o) x = refl
 set_stat-stamp (stat.Leader o) x = refl
 set_stat-stamp (stat.Text o) x = refl
 
-pass-opened_texts : (test : Stamp → Bool) (s : Stamp) (n : ℕ) (programs : List (List ℕ)) → test s ≡ true → StampsAre (λ (t : Text). t.id.name.stamp) test (map_from (opened_text s) n programs)
+pub pass-opened_texts : (test : Stamp → Bool) (s : Stamp) (n : ℕ) (programs : List (List ℕ)) → test s ≡ true → StampsAre (λ (t : Text). t.id.name.stamp) test (map_from (opened_text s) n programs)
 pass-opened_texts test s n [] h = tt
 pass-opened_texts test s n (bytes ∷ programs) h = (h, pass-opened_texts test s (n + 1) programs h)
 
@@ -125,7 +125,7 @@ pass-opened_stats : (test : Stamp → Bool) (s : Stamp) (m t : ℕ) (b : BoardDa
 pass-opened_stats test s m t b j [] h = tt
 pass-opened_stats test s m t b j (x ∷ xs) h = (h, pass-opened_stats test s m t b (j + 1) xs h)
 
-pass-opened_boards : (test : Stamp → Bool) (s : Stamp) (n m t : ℕ) (bs : List BoardData) → test s ≡ true → AllByRecursion (IsBoardOf test) (opened_boards_from s n m t bs)
+pub pass-opened_boards : (test : Stamp → Bool) (s : Stamp) (n m t : ℕ) (bs : List BoardData) → test s ≡ true → AllByRecursion (IsBoardOf test) (opened_boards_from s n m t bs)
 pass-opened_boards test s n m t [] h = tt
 pass-opened_boards test s n m t (b ∷ bs) h = ((h, pass-opened_stats test s m t b 0 b.stats h), pass-opened_boards test s (n + 1) (m + length b.stats) (t + programs_before (length b.stats) b.stats) bs h)
 
@@ -137,11 +137,11 @@ rise-opened_texts : (s : Stamp) (n : ℕ) (programs : List (List ℕ)) → Names
 rise-opened_texts s n [] = tt
 rise-opened_texts s n (bytes ∷ programs) = (above-opened_texts s n (n + 1) programs (omega arith), rise-opened_texts s (n + 1) programs)
 
-above-opened_stats : (s : Stamp) (k m t : ℕ) (b : BoardData) (j : ℕ) (xs : List StatData) → k < m + j → AllByRecursion (λ (x : Stat). is_earlier (name_of s k) x.id.name ≡ true) (map_from (opened_stat s m t b) j xs)
+pub above-opened_stats : (s : Stamp) (k m t : ℕ) (b : BoardData) (j : ℕ) (xs : List StatData) → k < m + j → AllByRecursion (λ (x : Stat). is_earlier (name_of s k) x.id.name ≡ true) (map_from (opened_stat s m t b) j xs)
 above-opened_stats s k m t b j [] lt = tt
 above-opened_stats s k m t b j (x ∷ xs) lt = (by_index s k (m + j) lt, above-opened_stats s k m t b (j + 1) xs (omega arith))
 
-rise-opened_stats : (s : Stamp) (m t : ℕ) (b : BoardData) (j : ℕ) (xs : List StatData) → NamesRise (λ (x : Stat). x.id.name) (map_from (opened_stat s m t b) j xs)
+pub rise-opened_stats : (s : Stamp) (m t : ℕ) (b : BoardData) (j : ℕ) (xs : List StatData) → NamesRise (λ (x : Stat). x.id.name) (map_from (opened_stat s m t b) j xs)
 rise-opened_stats s m t b j [] = tt
 rise-opened_stats s m t b j (x ∷ xs) = (above-opened_stats s (m + j) m t b (j + 1) xs (omega arith), rise-opened_stats s m t b (j + 1) xs)
 
@@ -206,7 +206,7 @@ pass-do_op test s TextAdd p h a = record { texts = All-append (λ t. test t.id.n
 pass-do_op test s (TextInsert t after bytes) p h a = pass-texts test p t (put_after after (run_from s 0 bytes)) a
 pass-do_op test s (TextDelete t r) p h a = pass-texts test p t (kill r) a
 
-pass-step : (test : Stamp → Bool) (p : Plain) (e : Edit) → test e.stamp ≡ true → NamesPass test p → NamesPass test (step p e)
+pub pass-step : (test : Stamp → Bool) (p : Plain) (e : Edit) → test e.stamp ≡ true → NamesPass test p → NamesPass test (step p e)
 pass-step test p e h a = go (can p e) refl
   where
     go : (b : Bool) → can p e ≡ b → NamesPass test (step p e)
@@ -280,7 +280,7 @@ order-do_op s TextAdd p a o = record {
 order-do_op s (TextInsert t after bytes) p a o = order-texts p t (put_after after (run_from s 0 bytes)) o
 order-do_op s (TextDelete t r) p a o = order-texts p t (kill r) o
 
-order-step : (p : Plain) (e : Edit) → NamesPass (λ q. before q e.stamp) p → IsOrdered p → IsOrdered (step p e)
+pub order-step : (p : Plain) (e : Edit) → NamesPass (λ q. before q e.stamp) p → IsOrdered p → IsOrdered (step p e)
 order-step p e a o = go (can p e) refl
   where
     go : (b : Bool) → can p e ≡ b → IsOrdered (step p e)
@@ -290,10 +290,10 @@ order-step p e a o = go (can p e) refl
 -- ---- the replay
 
 -- all that is there comes before each of these edits
-abbrev IsBefore : Plain → List Edit → Type 0
+abbrev pub IsBefore : Plain → List Edit → Type 0
 IsBefore p es = AllByRecursion (λ e. NamesPass (λ q. before q e.stamp) p) es
 
-before-next : (p : Plain) (e : Edit) (es : List Edit) → AllByRecursion (λ f. before e.stamp f.stamp ≡ true) es → IsBefore p es → IsBefore (step p e) es
+pub before-next : (p : Plain) (e : Edit) (es : List Edit) → AllByRecursion (λ f. before e.stamp f.stamp ≡ true) es → IsBefore p es → IsBefore (step p e) es
 before-next p e [] r a = tt
 before-next p e (f ∷ es) r a = (pass-step (λ q. before q f.stamp) p e r.0 a.0, before-next p e es r.1 a.1)
 
@@ -301,7 +301,7 @@ order-on : (p : Plain) (es : List Edit) → IsRising es → IsBefore p es → Is
 order-on p [] r a o = o
 order-on p (e ∷ es) r a o = order-on (step p e) es r.1 (before-next p e es r.0 a.1) (order-step p e a.0 o)
 
-none-before : (es : List Edit) → IsBefore empty_document es
+pub none-before : (es : List Edit) → IsBefore empty_document es
 none-before [] = tt
 none-before (e ∷ es) = (record { texts = tt; boards = tt }, none-before es)
 

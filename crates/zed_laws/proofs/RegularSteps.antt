@@ -85,7 +85,7 @@ property_regular (property.TimeLimit n) b good r = with_properties b (set_proper
 property_regular (property.Exit f n) b good r = with_properties b (set_property (property.Exit f n) b.properties) r.texts r
 property_regular (property.Text f s) b good r = with_properties b (set_property (property.Text f s) b.properties) (text_set f s b.properties.texts good r.texts) r
 
-length_map_from : {X Y : Type 0} (f : ℕ → X → Y) (i : ℕ) (xs : List X) → length (map_from f i xs) ≡ length xs
+pub length_map_from : {X Y : Type 0} (f : ℕ → X → Y) (i : ℕ) (xs : List X) → length (map_from f i xs) ≡ length xs
 length_map_from f i [] = refl
 length_map_from f i (x ∷ xs) = ap suc (length_map_from f (i + 1) xs)
 
@@ -98,7 +98,7 @@ same_name a b c h k = let e = same_board-true a b h in rw e at k
 removed_regular : (id : BoardId) → not (same_board id title) ≡ true → (b : Board) → same_board b.id id ≡ true → IsRegularBoard b → IsRegularBoard (remove_board b)
 removed_regular id other b same h = record { texts = h.texts; tiles = h.tiles; player = h.player; title_stays = λ k. absurd (let e = same_name b.id id title same k in let clash : false ≡ true = rw e at other in cc) }
 
-length_new_table : length new_table ≡ TILES
+pub length_new_table : length new_table ≡ TILES
 unfolding new_table
 length_new_table = refl
 

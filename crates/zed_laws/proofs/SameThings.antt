@@ -30,7 +30,7 @@ has-hold p e (text t) = refl
 has-hold p e (element t a) = refl
 
 -- a byte that is there is in a text that is there
-text_of_byte : (p : Document) (t : TextId) (a : ElemId) → has p (element t a) ≡ true → has p (text t) ≡ true
+pub text_of_byte : (p : Document) (t : TextId) (a : ElemId) → has p (element t a) ≡ true → has p (text t) ≡ true
 text_of_byte p t a h = sym (find-any (λ x. same_text x.id t) p.texts) ∙ go (find_text t p.texts) h
   where
     go : (o : Option Text) → has_in o a ≡ true → is_some o ≡ true
@@ -64,7 +64,7 @@ made_outlasts_edits p [] x h = h
 made_outlasts_edits p (e ∷ es) x h = made_outlasts_edits (step p e) es x (made_stays_made p e x h)
 
 -- a step of two documents in which the same things were made
-can-same : (p q : Document) (e : Edit) → MadeTheSame p q → can p e ≡ can q e
+pub can-same : (p q : Document) (e : Edit) → MadeTheSame p q → can p e ≡ can q e
 can-same p q e h = ap (λ made. list_all made (names_of e.op)) (fun_ext h)
 
 step-same : (p q : Document) (e : Edit) → MadeTheSame p q → MadeTheSame (step p e) (step q e)

@@ -73,7 +73,7 @@ taken_make_all es = (same, no_stamps (held (taken es)) (held_are_remembered (tak
     same = taken_make empty_document [] es
 
 -- an edit that opens no world
-abbrev OpensNone : Op → Type 0
+abbrev pub OpensNone : Op → Type 0
 OpensNone (Genesis bytes) = ⊥
 OpensNone _ = Unit {0}
 
@@ -81,7 +81,7 @@ OpensNone _ = Unit {0}
 abbrev HasMore : Document → Document → Type 0
 HasMore p q = (x : Thing) → has p x ≡ true → has q x ≡ true
 
-all_more : (f g : Thing → Bool) → ((x : Thing) → f x ≡ true → g x ≡ true) → (ts : List Thing) → list_all f ts ≡ true → list_all g ts ≡ true
+pub all_more : (f g : Thing → Bool) → ((x : Thing) → f x ≡ true → g x ≡ true) → (ts : List Thing) → list_all f ts ≡ true → list_all g ts ≡ true
 all_more f g m [] h = refl
 all_more f g m (t ∷ ts) h =
     let k = and_parts (f t) (list_all f ts) h in
@@ -117,13 +117,13 @@ own_behind : (op : Op) (s : Stamp) → is_own_stamp op s ≡ true → before s g
 own_behind (Genesis bytes) s h = ap (λ r. before r genesis_stamp) (same_stamp-true s genesis_stamp h)
 own_behind _ s h = author_behind s h
 
-good_own : (e : Edit) → Fits e → is_own_stamp e.op e.stamp ≡ true
+pub good_own : (e : Edit) → Fits e → is_own_stamp e.op e.stamp ≡ true
 good_own e f =
     let k = (fit_is_each_part e).0 f in
     let l = and_parts (is_own_stamp e.op e.stamp) (list_all (λ x. is_stamp (stamp_of x)) (names_of e.op)) k.0 in
     l.0
 
-opens_none : (op : Op) (r s : Stamp) → is_own_stamp op r ≡ true → before s r ≡ true → before s genesis_stamp ≡ false → OpensNone op
+pub opens_none : (op : Op) (r s : Stamp) → is_own_stamp op r ≡ true → before s r ≡ true → before s genesis_stamp ≡ false → OpensNone op
 opens_none (Genesis bytes) r s o b n =
     let e = same_stamp-true r genesis_stamp o in
     let c = rw e at b in

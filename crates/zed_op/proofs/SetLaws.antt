@@ -1,12 +1,12 @@
 -- The laws of sets of edits.
 use Rattle.std.proofs.Common.{◌≡◌, Bool, true, false, cond, List, [], ◌∷◌, ◌++◌, refl, ap, sym, subst, append_assoc, append-nil, arith, ◌∙◌}
-use Rattle.std.specs.List.{Contains}
+use Rattle.std.specs.List.{Contains, AllByRecursion}
 use Rattle.std.proofs.lemmas.List.Elements.{Contains-append_left, Contains-append_right, Contains-append_cases}
 use mathlib.Core.Logic.{inl, inr}
 use Rattle.zed_types.specs.Stamp.{before, same_stamp}
 use Rattle.zed_op.specs.declared.op.Edit.{Edit}
 use Rattle.zed_op.specs.Fit.{Fits}
-use Rattle.zed_op.specs.Set.{Agrees, AllFit, with_edit, union, set_of}
+use Rattle.zed_op.specs.Set.{Agrees, with_edit, union, set_of}
 use Rattle.zed_op.specs.SetLaws.{HaveTheSame, EditKeepsRising, UnionKeepsRising, SetIsRising, RisingAgrees, RisingIsItsEdits, RisingIsItsSet, SetHasItsEdits, SetIsOfAnyOrder, SetGrowsByEdits, EditIsAdded, EditAgrees, LatestGoesLast, UnionAgrees, EditThereIsNothing, EditHasItsPlace, UnionHasBoth, UnionCommutes, UnionAssociates, UnionOfItsOwn, UnionOfSets, EditKeepsFit, UnionKeepsFit, SetKeepsFit}
 use Rattle.zed_types.proofs.StampOrder.{before_asym}
 use Rattle.zed_op.proofs.Sets.{Member-from, Member-to, with_edit-rising, union-rising, union-members, union-keeps, union-adds, AgreeWith, rising-agree, rising-same}
@@ -177,27 +177,32 @@ union_of_sets es fs a =
     let l : HaveTheSame (union (set_of es) (set_of fs)) (set_of (es ++ fs)) = same_then (union (set_of es) (set_of fs)) (es ++ fs) (set_of (es ++ fs)) k (same_back (set_of (es ++ fs)) (es ++ fs) (set_has_its_edits (es ++ fs) a)) in
     rising_is_its_edits (union (set_of es) (set_of fs)) (set_of (es ++ fs)) (union-rising (set_of es) (set_of fs) (set_is_rising es)) (set_is_rising (es ++ fs)) l
 
-All-with_edit : (e : Edit) (es : List Edit) → Fits e → AllFit es → AllFit (with_edit e es)
-All-with_edit e [] f h = (f, tt)
-All-with_edit e (x ∷ xs) f h = go (before e.stamp x.stamp) (same_stamp e.stamp x.stamp) (All-with_edit e xs f h.1)
+-- what holds of each edit of a set and of one more holds of each edit of the set with it
+pub each-with_edit : (P : Edit → Type 0) (e : Edit) (es : List Edit) → P e → AllByRecursion P es → AllByRecursion P (with_edit e es)
+each-with_edit P e [] f h = (f, tt)
+each-with_edit P e (x ∷ xs) f h = go (before e.stamp x.stamp) (same_stamp e.stamp x.stamp) (each-with_edit P e xs f h.1)
   where
-    go : (c d : Bool) → AllFit (with_edit e xs) → AllFit (cond c (e ∷ x ∷ xs) (cond d (x ∷ xs) (x ∷ with_edit e xs)))
+    go : (c d : Bool) → AllByRecursion P (with_edit e xs) → AllByRecursion P (cond c (e ∷ x ∷ xs) (cond d (x ∷ xs) (x ∷ with_edit e xs)))
     go true d more = (f, h)
     go false true more = h
     go false false more = (h.0, more)
 
-pub edit_keeps_fit : EditKeepsFit
-edit_keeps_fit e es f h = All-with_edit e es f h
+each-union : (P : Edit → Type 0) (es fs : List Edit) → AllByRecursion P es → AllByRecursion P fs → AllByRecursion P (union es fs)
+each-union P es [] h k = h
+each-union P es (f ∷ fs) h k = each-union P (with_edit f es) fs (each-with_edit P f es k.0 h) k.1
 
-All-union : (es fs : List Edit) → AllFit es → AllFit fs → AllFit (union es fs)
-All-union es [] h k = h
-All-union es (f ∷ fs) h k = All-union (with_edit f es) fs (All-with_edit f es k.0 h) k.1
+-- what holds of each edit of a list holds of each edit of its set
+pub each-set : (P : Edit → Type 0) (es : List Edit) → AllByRecursion P es → AllByRecursion P (set_of es)
+each-set P es h = each-union P [] es tt h
+
+pub edit_keeps_fit : EditKeepsFit
+edit_keeps_fit e es f h = each-with_edit Fits e es f h
 
 pub union_keeps_fit : UnionKeepsFit
-union_keeps_fit es fs h k = All-union es fs h k
+union_keeps_fit es fs h k = each-union Fits es fs h k
 
 pub set_keeps_fit : SetKeepsFit
-set_keeps_fit es h = All-union [] es tt h
+set_keeps_fit es h = each-set Fits es h
 
 pub union_agrees : UnionAgrees
 union_agrees es fs r s h e f m n q =

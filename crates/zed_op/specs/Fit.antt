@@ -1,7 +1,6 @@
 -- When an edit fits, and the first cause where it doesn't.
-use Rattle.std.specs.Prelude.{ℕ, nat_le, Bool, true, false, not, ◌&&◌, ◌||◌, if◌then◌else◌, List, length, Option, Some, None, Result, Ok, Err, ◌≡◌}
+use Rattle.std.specs.Prelude.{ℕ, nat_le, Bool, true, false, not, ◌&&◌, ◌||◌, if◌then◌else◌, List, length, Option, Some, None, ◌≡◌}
 use Rattle.std.specs.List.{list_all}
-use Rattle.std.specs.Str.{bytes_eq}
 use Rattle.zed_types.specs.declared.stamp.Stamp.{Stamp}
 use Rattle.zed_types.specs.declared.tile.Rectangle.{Rectangle}
 use Rattle.zed_types.specs.declared.header.HeaderSetting.{HeaderSetting}
@@ -12,10 +11,7 @@ use Rattle.zed_types.specs.declared.property.BoardSetting.{BoardSetting}
 use Rattle.zed_types.specs.declared.property.BoardSetting.TheVariants.{Text as TextProperty}
 use Rattle.zed_types.specs.Stamp.{before, same_stamp}
 use Rattle.zed_types.specs.Names.{same_board}
-use Rattle.zed_world.specs.Contents.{Contents}
-use Rattle.zed_world.specs.Reading.{world_at}
-use Rattle.zed_world.specs.Writing.{written}
-use Rattle.zed_world.specs.declared.error.WorldError.{WorldError}
+use Rattle.zed_world.specs.Canonical.{is_canonical}
 use Rattle.zed_op.specs.declared.cause.Cause.{Cause}
 use Rattle.zed_op.specs.declared.cause.Cause.TheVariants as cause
 use Rattle.zed_op.specs.declared.op.Op.{Op}
@@ -83,20 +79,6 @@ is_in_range _ = true
 -- whatever an edit names was made before it
 abbrev pub names_earlier : Edit → Bool
 names_earlier e = list_all (λ x. before (stamp_of x) e.stamp) (names_of e.op)
-
--- what was written is just these bytes
-abbrev pub is_text_of : List ℕ → Result (List ℕ) WorldError → Bool
-is_text_of bytes (Ok text) = bytes_eq bytes text
-is_text_of bytes (Err e) = false
-
--- what was read is written again as just these bytes
-abbrev pub is_rewritten : List ℕ → Result Contents WorldError → Bool
-is_rewritten bytes (Ok w) = is_text_of bytes (written 32767 w)
-is_rewritten bytes (Err e) = false
-
--- a world file that is written again just as it was read
-unfoldable pub is_canonical : List ℕ → Bool
-is_canonical bytes = is_rewritten bytes (world_at bytes)
 
 -- the bytes of a Genesis are a world file as this editor writes it
 abbrev pub has_good_world : Op → Bool

@@ -2,20 +2,18 @@
 ghost use Rattle.std.specs.Prelude.{◌≡◌, ◌⊎◌, Err, IfOk, IfErr, true};
 ghost use Rattle.std.specs.List.{list_all};
 ghost use Rattle.zed_op.specs.declared.cause.EditError.TheVariants.{Memory};
-ghost use Rattle.zed_op.specs.Fit.{Fits, fault, is_author_stamp, is_stamp, is_own_stamp, has_good_stamps, is_in_table, is_header_in_range, most_of, is_property_in_range, is_in_range, names_earlier, is_text_of, is_rewritten, is_canonical, has_good_world};
+ghost use Rattle.zed_op.specs.Fit.{Fits, fault, is_author_stamp, is_stamp, is_own_stamp, has_good_stamps, is_in_table, is_header_in_range, most_of, is_property_in_range, is_in_range, names_earlier, has_good_world};
 ghost use Rattle.zed_op.specs.Names.{names_of, stamp_of};
 ghost use Rattle.zed_op.specs.Verdict.{verdict, is_genesis, HangsOnItsWorld};
-ghost use Rattle.zed_world.specs.Writing.{written};
 
 use crate::cause::{Cause, EditError};
 use crate::naming::names;
 use crate::op::{Edit, Op};
 use std::alloc::Global;
 use zed_types::{
-    BoardId, BoardSetting, BoardText, Bytes, COLUMNS, HeaderSetting, READ_BODY_LIMIT, ROWS,
-    Rectangle, Stamp,
+    BoardId, BoardSetting, BoardText, Bytes, COLUMNS, HeaderSetting, ROWS, Rectangle, Stamp,
 };
-use zed_world::{World, WorldError, read_world, write_world};
+use zed_world::is_canonical;
 
 /// Most bytes that one edit puts into a text.
 const MOST_INSERTED: usize = 32_767;
@@ -134,38 +132,16 @@ fn names_earlier(alloc: Global, edit: &Edit) -> bool
         .all(|thing| thing.stamp().is_before(edit.stamp))
 }
 
-/// Whether a world is written as just these bytes.
-fn is_rewritten(alloc: Global, world: &World, bytes: &Bytes) -> Result<bool, EditError>
-    ensures ok { IfOk result (λ b. b ≡ is_text_of bytes.now (written 32767 world.now)) }
-    ensures err { IfErr result (λ e. e ≡ Memory) }
-{
-    match write_world(alloc, world, READ_BODY_LIMIT) {
-        Ok(text) => Ok(text.as_slice() == bytes.as_slice()),
-        Err(WorldError::Memory) => Err(EditError::Memory),
-        Err(_) => Ok(false),
-    }
-}
-
-/// Whether bytes are a world file that is written again just as it was read.
-#[tactic(auto, unfolding(crate::specs::Fit::is_canonical))]
-fn is_canonical(alloc: Global, bytes: &Bytes) -> Result<bool, EditError>
-    ensures ok { IfOk result (λ b. b ≡ is_canonical bytes.now) }
-    ensures err { IfErr result (λ e. e ≡ Memory) }
-{
-    match read_world(alloc, bytes.as_slice()) {
-        Ok(world) => is_rewritten(alloc, &world, bytes),
-        Err(WorldError::Memory) => Err(EditError::Memory),
-        Err(_) => Ok(false),
-    }
-}
-
 fn has_good_world(alloc: Global, op: &Op) -> Result<bool, EditError>
     ensures ok { IfOk result (λ b. b ≡ has_good_world op.now) }
     ensures err { IfErr result (λ e. e ≡ Memory) }
     ensures genesis { IfErr result (λ e. is_genesis op.now ≡ true) }
 {
     match op {
-        Op::Genesis(bytes) => is_canonical(alloc, bytes),
+        Op::Genesis(bytes) => match is_canonical(alloc, bytes.as_slice()) {
+            Ok(good) => Ok(good),
+            Err(_) => Err(EditError::Memory),
+        },
         _ => Ok(true),
     }
 }

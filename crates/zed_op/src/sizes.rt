@@ -19,6 +19,14 @@ fn stamp_has_size(stamp: Stamp)
     ensures { is_stamp stamp ≡ true → IsStamp stamp }
 {}
 
+fn byte_has_size(byte: u8)
+    ensures { IsByte byte }
+{}
+
+fn number_has_size(number: i16)
+    ensures { IsNumber number }
+{}
+
 fn name_has_size(name: Name)
     ensures { is_stamp name.stamp ≡ true → IsName name }
 {}
@@ -42,9 +50,7 @@ fn header_setting_has_size(setting: &HeaderSetting)
         → is_header_in_range setting.now ≡ true → IsHeaderSetting setting.now }
 {
     match setting {
-        HeaderSetting::Number(_, number) => {
-            let _number = *number;
-        }
+        HeaderSetting::Number(_, number) => number_has_size(*number),
         HeaderSetting::CurrentBoard(board) => name_has_size(board.name),
         HeaderSetting::Key(_, _) | HeaderSetting::Saved(_) => {}
         HeaderSetting::WorldName(_) | HeaderSetting::Flag(_, _) => {}
@@ -56,12 +62,8 @@ fn board_setting_has_size(setting: &BoardSetting)
         → is_property_in_range setting.now ≡ true → IsBoardSetting setting.now }
 {
     match setting {
-        BoardSetting::Byte(_, byte) => {
-            let _byte = *byte;
-        }
-        BoardSetting::TimeLimit(limit) => {
-            let _limit = *limit;
-        }
+        BoardSetting::Byte(_, byte) => byte_has_size(*byte),
+        BoardSetting::TimeLimit(limit) => number_has_size(*limit),
         BoardSetting::Exit(_, Some(board)) => name_has_size(board.name),
         BoardSetting::Exit(_, None) | BoardSetting::Flag(_, _) | BoardSetting::Text(_, _) => {}
     }

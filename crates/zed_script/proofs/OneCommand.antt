@@ -1,12 +1,11 @@
 -- At most one command stands at a place.
-use Rattle.std.proofs.Common.{◌≡◌, ◌∙◌, ◌⊎◌, inl, inr, ℕ, Bool, true, false, cond, List, Option, Some, None, refl, sym, ap, subst, codes}
-use Rattle.std.specs.Str.{bytes_eq}
+use Rattle.std.proofs.Common.{◌≡◌, ◌∙◌, ◌⊎◌, inl, inr, ℕ, Bool, true, false, cond, List, [], ◌∷◌, Option, Some, None, unwrap_or, refl, sym, ap, subst, codes}
 use Rattle.zed_script.specs.declared.heading.Heading.{Heading}
 use Rattle.zed_script.specs.declared.kinds.TileKind.{TileKind}
 use Rattle.zed_script.specs.declared.commands.Counter.{Counter}
 use Rattle.zed_script.specs.declared.commands.Command.{Command}
 use Rattle.zed_script.specs.declared.commands.Command.TheVariants.{Go, Try, Walk, Shoot, Set, Clear, If, Give, Take, End, EndGame, Idle, Restart, Send, Zap, Restore, Lock, Unlock, Become, Die, Put, Change, Cycle, Char, Bind, Nothing, Other}
-use Rattle.zed_script.specs.Text.{value_at, value_end, word_at, word_end}
+use Rattle.zed_script.specs.Text.{meaning_in, value_at, value_end, word_at, word_end}
 use Rattle.zed_script.specs.Heading.{DirectionAt}
 use Rattle.zed_script.specs.Condition.{QueryAt}
 use Rattle.zed_script.specs.Command.{AimAt, AmountAt, BehindThen, CommandAt, CommandBehind, ExchangeAt, KindAt, NameAt, is_bare, is_command, is_deed, is_naming, is_then, passed, there}
@@ -83,42 +82,19 @@ data Verb : Type 0 where
   VerbNothing : Verb
   VerbOther : Verb
 
-bare_verb : List ℕ → Verb
-bare_verb w =
-    cond (bytes_eq w (codes "END")) VerbEnd (
-    cond (bytes_eq w (codes "ENDGAME")) VerbEndGame (
-    cond (bytes_eq w (codes "IDLE")) VerbIdle (
-    cond (bytes_eq w (codes "RESTART")) VerbRestart (
-    cond (bytes_eq w (codes "LOCK")) VerbLock (
-    cond (bytes_eq w (codes "UNLOCK")) VerbUnlock (
-    cond (bytes_eq w (codes "DIE")) VerbDie (
-    VerbNothing)))))))
-
-naming_verb : List ℕ → Verb
-naming_verb w =
-    cond (bytes_eq w (codes "SET")) VerbSet (
-    cond (bytes_eq w (codes "CLEAR")) VerbClear (
-    cond (bytes_eq w (codes "SEND")) VerbSend (
-    cond (bytes_eq w (codes "ZAP")) VerbZap (
-    cond (bytes_eq w (codes "RESTORE")) VerbRestore (
-    cond (bytes_eq w (codes "BIND")) VerbBind (
-    cond (bytes_eq w (codes "BECOME")) VerbBecome (
-    cond (bytes_eq w (codes "CHANGE")) VerbChange (
-    bare_verb w))))))))
+-- the words of the verbs, without those that do nothing
+verbs : List (List ℕ × Verb)
+verbs =
+    (codes "GO", VerbGo) ∷ (codes "TRY", VerbTry) ∷ (codes "WALK", VerbWalk) ∷ (codes "SHOOT", VerbShoot)
+    ∷ (codes "PUT", VerbPut) ∷ (codes "IF", VerbIf) ∷ (codes "GIVE", VerbGive) ∷ (codes "TAKE", VerbTake)
+    ∷ (codes "CYCLE", VerbCycle) ∷ (codes "CHAR", VerbChar) ∷ (codes "SET", VerbSet) ∷ (codes "CLEAR", VerbClear)
+    ∷ (codes "SEND", VerbSend) ∷ (codes "ZAP", VerbZap) ∷ (codes "RESTORE", VerbRestore) ∷ (codes "BIND", VerbBind)
+    ∷ (codes "BECOME", VerbBecome) ∷ (codes "CHANGE", VerbChange) ∷ (codes "END", VerbEnd)
+    ∷ (codes "ENDGAME", VerbEndGame) ∷ (codes "IDLE", VerbIdle) ∷ (codes "RESTART", VerbRestart)
+    ∷ (codes "LOCK", VerbLock) ∷ (codes "UNLOCK", VerbUnlock) ∷ (codes "DIE", VerbDie) ∷ []
 
 verb_by : List ℕ → Verb
-verb_by w =
-    cond (bytes_eq w (codes "GO")) VerbGo (
-    cond (bytes_eq w (codes "TRY")) VerbTry (
-    cond (bytes_eq w (codes "WALK")) VerbWalk (
-    cond (bytes_eq w (codes "SHOOT")) VerbShoot (
-    cond (bytes_eq w (codes "PUT")) VerbPut (
-    cond (bytes_eq w (codes "IF")) VerbIf (
-    cond (bytes_eq w (codes "GIVE")) VerbGive (
-    cond (bytes_eq w (codes "TAKE")) VerbTake (
-    cond (bytes_eq w (codes "CYCLE")) VerbCycle (
-    cond (bytes_eq w (codes "CHAR")) VerbChar (
-    naming_verb w))))))))))
+verb_by w = unwrap_or (meaning_in verbs w) VerbNothing
 
 verb : List ℕ → Verb
 verb w = cond (is_command w) (verb_by w) VerbOther
@@ -128,111 +104,111 @@ unfolding verb
 other_verb w e = ap (λ b. cond b (verb_by w) VerbOther) e
 
 is_go : verb (codes "GO") ≡ VerbGo
-unfolding verb verb_by naming_verb bare_verb is_deed is_naming is_bare
+unfolding verb verb_by verbs is_deed is_naming is_bare
 is_go = refl
 
 is_try : verb (codes "TRY") ≡ VerbTry
-unfolding verb verb_by naming_verb bare_verb is_deed is_naming is_bare
+unfolding verb verb_by verbs is_deed is_naming is_bare
 is_try = refl
 
 is_walk : verb (codes "WALK") ≡ VerbWalk
-unfolding verb verb_by naming_verb bare_verb is_deed is_naming is_bare
+unfolding verb verb_by verbs is_deed is_naming is_bare
 is_walk = refl
 
 is_shoot : verb (codes "SHOOT") ≡ VerbShoot
-unfolding verb verb_by naming_verb bare_verb is_deed is_naming is_bare
+unfolding verb verb_by verbs is_deed is_naming is_bare
 is_shoot = refl
 
 is_put : verb (codes "PUT") ≡ VerbPut
-unfolding verb verb_by naming_verb bare_verb is_deed is_naming is_bare
+unfolding verb verb_by verbs is_deed is_naming is_bare
 is_put = refl
 
 is_if : verb (codes "IF") ≡ VerbIf
-unfolding verb verb_by naming_verb bare_verb is_deed is_naming is_bare
+unfolding verb verb_by verbs is_deed is_naming is_bare
 is_if = refl
 
 is_give : verb (codes "GIVE") ≡ VerbGive
-unfolding verb verb_by naming_verb bare_verb is_deed is_naming is_bare
+unfolding verb verb_by verbs is_deed is_naming is_bare
 is_give = refl
 
 is_take : verb (codes "TAKE") ≡ VerbTake
-unfolding verb verb_by naming_verb bare_verb is_deed is_naming is_bare
+unfolding verb verb_by verbs is_deed is_naming is_bare
 is_take = refl
 
 is_cycle : verb (codes "CYCLE") ≡ VerbCycle
-unfolding verb verb_by naming_verb bare_verb is_deed is_naming is_bare
+unfolding verb verb_by verbs is_deed is_naming is_bare
 is_cycle = refl
 
 is_char : verb (codes "CHAR") ≡ VerbChar
-unfolding verb verb_by naming_verb bare_verb is_deed is_naming is_bare
+unfolding verb verb_by verbs is_deed is_naming is_bare
 is_char = refl
 
 is_set : verb (codes "SET") ≡ VerbSet
-unfolding verb verb_by naming_verb bare_verb is_deed is_naming is_bare
+unfolding verb verb_by verbs is_deed is_naming is_bare
 is_set = refl
 
 is_clear : verb (codes "CLEAR") ≡ VerbClear
-unfolding verb verb_by naming_verb bare_verb is_deed is_naming is_bare
+unfolding verb verb_by verbs is_deed is_naming is_bare
 is_clear = refl
 
 is_send : verb (codes "SEND") ≡ VerbSend
-unfolding verb verb_by naming_verb bare_verb is_deed is_naming is_bare
+unfolding verb verb_by verbs is_deed is_naming is_bare
 is_send = refl
 
 is_zap : verb (codes "ZAP") ≡ VerbZap
-unfolding verb verb_by naming_verb bare_verb is_deed is_naming is_bare
+unfolding verb verb_by verbs is_deed is_naming is_bare
 is_zap = refl
 
 is_restore : verb (codes "RESTORE") ≡ VerbRestore
-unfolding verb verb_by naming_verb bare_verb is_deed is_naming is_bare
+unfolding verb verb_by verbs is_deed is_naming is_bare
 is_restore = refl
 
 is_bind : verb (codes "BIND") ≡ VerbBind
-unfolding verb verb_by naming_verb bare_verb is_deed is_naming is_bare
+unfolding verb verb_by verbs is_deed is_naming is_bare
 is_bind = refl
 
 is_become : verb (codes "BECOME") ≡ VerbBecome
-unfolding verb verb_by naming_verb bare_verb is_deed is_naming is_bare
+unfolding verb verb_by verbs is_deed is_naming is_bare
 is_become = refl
 
 is_change : verb (codes "CHANGE") ≡ VerbChange
-unfolding verb verb_by naming_verb bare_verb is_deed is_naming is_bare
+unfolding verb verb_by verbs is_deed is_naming is_bare
 is_change = refl
 
 is_end : verb (codes "END") ≡ VerbEnd
-unfolding verb verb_by naming_verb bare_verb is_deed is_naming is_bare
+unfolding verb verb_by verbs is_deed is_naming is_bare
 is_end = refl
 
 is_endgame : verb (codes "ENDGAME") ≡ VerbEndGame
-unfolding verb verb_by naming_verb bare_verb is_deed is_naming is_bare
+unfolding verb verb_by verbs is_deed is_naming is_bare
 is_endgame = refl
 
 is_idle : verb (codes "IDLE") ≡ VerbIdle
-unfolding verb verb_by naming_verb bare_verb is_deed is_naming is_bare
+unfolding verb verb_by verbs is_deed is_naming is_bare
 is_idle = refl
 
 is_restart : verb (codes "RESTART") ≡ VerbRestart
-unfolding verb verb_by naming_verb bare_verb is_deed is_naming is_bare
+unfolding verb verb_by verbs is_deed is_naming is_bare
 is_restart = refl
 
 is_lock : verb (codes "LOCK") ≡ VerbLock
-unfolding verb verb_by naming_verb bare_verb is_deed is_naming is_bare
+unfolding verb verb_by verbs is_deed is_naming is_bare
 is_lock = refl
 
 is_unlock : verb (codes "UNLOCK") ≡ VerbUnlock
-unfolding verb verb_by naming_verb bare_verb is_deed is_naming is_bare
+unfolding verb verb_by verbs is_deed is_naming is_bare
 is_unlock = refl
 
 is_die : verb (codes "DIE") ≡ VerbDie
-unfolding verb verb_by naming_verb bare_verb is_deed is_naming is_bare
+unfolding verb verb_by verbs is_deed is_naming is_bare
 is_die = refl
 
 is_play : verb (codes "PLAY") ≡ VerbNothing
-unfolding verb verb_by naming_verb bare_verb is_deed is_naming is_bare
+unfolding verb verb_by verbs is_deed is_naming is_bare
 is_play = refl
 
 is_throwstar : verb (codes "THROWSTAR") ≡ VerbNothing
-unfolding verb verb_by naming_verb bare_verb is_deed is_naming is_bare
+unfolding verb verb_by verbs is_deed is_naming is_bare
 is_throwstar = refl
 
 -- ---- the commands

@@ -1,5 +1,5 @@
 -- Commands as a program writes them.
-use Rattle.std.specs.Prelude.{◌≡◌, ◌≢◌, ℕ, Bool, true, false, ◌||◌, ◌⊎◌, if◌then◌else◌, List, [], Option, Some, None, codes}
+use Rattle.std.specs.Prelude.{◌≡◌, ◌≢◌, ℕ, Bool, true, false, ◌||◌, ◌⊎◌, List, [], ◌∷◌, Option, Some, None, codes}
 use Rattle.std.specs.Str.{bytes_eq}
 use Rattle.zed_script.specs.declared.heading.Heading.{Heading}
 use Rattle.zed_script.specs.declared.kinds.TileKind.{TileKind}
@@ -7,7 +7,7 @@ use Rattle.zed_script.specs.declared.commands.Counter.{Counter}
 use Rattle.zed_script.specs.declared.commands.Counter.TheVariants.{Health, Ammo, Gems, Torches, Score, Time}
 use Rattle.zed_script.specs.declared.commands.Command.{Command}
 use Rattle.zed_script.specs.declared.commands.Command.TheVariants.{Go, Try, Walk, Shoot, Set, Clear, If, Give, Take, End, EndGame, Idle, Restart, Send, Zap, Restore, Lock, Unlock, Become, Die, Put, Change, Cycle, Char, Bind, Nothing, Other}
-use Rattle.zed_script.specs.Text.{value_at, value_end, word_at, word_end}
+use Rattle.zed_script.specs.Text.{meaning_in, value_at, value_end, word_at, word_end}
 use Rattle.zed_script.specs.Heading.{DirectionAt}
 use Rattle.zed_script.specs.Kind.{kind_at}
 use Rattle.zed_script.specs.Condition.{QueryAt}
@@ -42,13 +42,9 @@ is_command w = is_deed w || is_naming w || is_bare w
 
 -- the counter of a word
 unfoldable pub counter_of : List ℕ → Option Counter
-counter_of w =
-    if bytes_eq w (codes "HEALTH") then Some Health else
-    if bytes_eq w (codes "AMMO") then Some Ammo else
-    if bytes_eq w (codes "GEMS") then Some Gems else
-    if bytes_eq w (codes "TORCHES") then Some Torches else
-    if bytes_eq w (codes "SCORE") then Some Score else
-    if bytes_eq w (codes "TIME") then Some Time else None
+counter_of w = meaning_in (
+    (codes "HEALTH", Health) ∷ (codes "AMMO", Ammo) ∷ (codes "GEMS", Gems)
+    ∷ (codes "TORCHES", Torches) ∷ (codes "SCORE", Score) ∷ (codes "TIME", Time) ∷ []) w
 
 -- ---- what stands behind them
 

@@ -6,24 +6,19 @@ use Rattle.zed_script.specs.declared.heading.Course.TheVariants.{North, South, E
 use Rattle.zed_script.specs.declared.heading.Heading.{Heading}
 use Rattle.zed_script.specs.declared.heading.Turning.{Turning}
 use Rattle.zed_script.specs.declared.heading.Turning.TheVariants.{Clockwise, CounterClockwise, Opposite, Sideways}
-use Rattle.zed_script.specs.Text.{word_at, word_end}
+use Rattle.zed_script.specs.Text.{meaning_in, word_at, word_end}
 
 -- how a word turns the direction behind it, if it does
 unfoldable pub turning_of : List ℕ → Option Turning
-turning_of w =
-    if bytes_eq w (codes "CW") then Some Clockwise else
-    if bytes_eq w (codes "CCW") then Some CounterClockwise else
-    if bytes_eq w (codes "OPP") then Some Opposite else
-    if bytes_eq w (codes "RNDP") then Some Sideways else None
+turning_of w = meaning_in (
+    (codes "CW", Clockwise) ∷ (codes "CCW", CounterClockwise) ∷ (codes "OPP", Opposite)
+    ∷ (codes "RNDP", Sideways) ∷ []) w
 
 -- where a word leads by chance, or by what the object knows
 unfoldable pub chosen_of : List ℕ → Option Course
-chosen_of w =
-    if bytes_eq w (codes "SEEK") then Some Seek else
-    if bytes_eq w (codes "FLOW") then Some Flow else
-    if bytes_eq w (codes "RND") then Some Random else
-    if bytes_eq w (codes "RNDNS") then Some RandomNorthOrSouth else
-    if bytes_eq w (codes "RNDNE") then Some RandomNorthOrEast else None
+chosen_of w = meaning_in (
+    (codes "SEEK", Seek) ∷ (codes "FLOW", Flow) ∷ (codes "RND", Random)
+    ∷ (codes "RNDNS", RandomNorthOrSouth) ∷ (codes "RNDNE", RandomNorthOrEast) ∷ []) w
 
 -- where a word leads
 unfoldable pub course_of : List ℕ → Option Course

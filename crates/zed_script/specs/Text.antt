@@ -1,6 +1,7 @@
 -- Words, values and lines in the bytes of a program.
 use Rattle.std.specs.Prelude.{ℕ, ◌+◌, ◌-◌, ◌*◌, min, Bool, ◌||◌, not, ◌==◌, nat_lt, if◌then◌else◌, List, [], ◌∷◌, length, map, drop, slice_get, slice_range, Option, Some, None}
 use Rattle.std.specs.List.{prefix_len}
+use Rattle.std.specs.Str.{bytes_eq}
 use Rattle.std.specs.Char.{is_ascii_digit, is_ascii_alphanumeric, to_ascii_uppercase}
 use Rattle.zed_script.specs.declared.text.Class.{Class}
 use Rattle.zed_script.specs.declared.text.Class.TheVariants.{Space, Digit, Word, Line}
@@ -65,3 +66,8 @@ line_end p at = run_end Line p at
 -- where the line after the one at a place begins; where there is none, the end of the program
 unfoldable pub line_after : List ℕ → ℕ → ℕ
 line_after p at = if nat_lt (line_end p at) (length p) then line_end p at + 1 else line_end p at
+
+-- what a table of words says of a word, if it is there; of rows with one word the first counts
+abbrev pub meaning_in : {X : Type 0} → List (List ℕ × X) → List ℕ → Option X
+meaning_in [] w = None
+meaning_in (row ∷ rows) w = if bytes_eq w row.0 then Some row.1 else meaning_in rows w

@@ -1,2 +1,3 @@
 pub mod ElementRows
 pub mod StampOrder
+pub mod Steps

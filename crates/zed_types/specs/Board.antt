@@ -1,5 +1,6 @@
 -- The registers of a board: the place of each among those of its kind, and its number in an edit file.
-use Rattle.std.specs.Prelude.{ℕ, ◌==◌, if◌then◌else◌, Option, Some, None}
+use Rattle.std.specs.Prelude.{ℕ, ◌+◌, ◌==◌, Option, [], ◌∷◌}
+use Rattle.std.specs.List.{find}
 use Rattle.zed_types.specs.declared.property.Side.{Side}
 use Rattle.zed_types.specs.declared.property.Side.TheVariants.{North, South, West, East}
 use Rattle.zed_types.specs.declared.property.BoardByte.{BoardByte}
@@ -9,28 +10,20 @@ use Rattle.zed_types.specs.declared.property.BoardFlag.TheVariants.{Dark, ReEnte
 use Rattle.zed_types.specs.declared.property.BoardText.{BoardText}
 use Rattle.zed_types.specs.declared.property.BoardText.TheVariants.{Name, Message}
 
--- the place of a exit of a board among the exits of a board
+-- the place of an exit of a board among the exits of a board
 abbrev pub side_index : Side → ℕ
 side_index North = 0
 side_index South = 1
 side_index West = 2
 side_index East = 3
 
--- the number of a exit of a board in an edit file
+-- the number of an exit of a board in an edit file
 abbrev pub side_field : Side → ℕ
-side_field North = 6
-side_field South = 7
-side_field West = 8
-side_field East = 9
+side_field k = 6 + side_index k
 
 -- the exit of a board with a number in an edit file
 abbrev pub side_of_field : ℕ → Option Side
-side_of_field n =
-    if n == 6 then Some North else
-    if n == 7 then Some South else
-    if n == 8 then Some West else
-    if n == 9 then Some East else
-    None
+side_of_field n = find (λ k. n == side_field k) (North ∷ South ∷ West ∷ East ∷ [])
 
 -- the place of a byte of a board among the bytes of a board
 abbrev pub board_byte_index : BoardByte → ℕ
@@ -46,11 +39,7 @@ board_byte_field StartY = 4
 
 -- the byte of a board with a number in an edit file
 abbrev pub board_byte_of_field : ℕ → Option BoardByte
-board_byte_of_field n =
-    if n == 0 then Some MaxShots else
-    if n == 3 then Some StartX else
-    if n == 4 then Some StartY else
-    None
+board_byte_of_field n = find (λ k. n == board_byte_field k) (MaxShots ∷ StartX ∷ StartY ∷ [])
 
 -- the place of a flag of a board among the flags of a board
 abbrev pub board_flag_index : BoardFlag → ℕ
@@ -59,15 +48,11 @@ board_flag_index ReEnter = 1
 
 -- the number of a flag of a board in an edit file
 abbrev pub board_flag_field : BoardFlag → ℕ
-board_flag_field Dark = 1
-board_flag_field ReEnter = 2
+board_flag_field k = 1 + board_flag_index k
 
 -- the flag of a board with a number in an edit file
 abbrev pub board_flag_of_field : ℕ → Option BoardFlag
-board_flag_of_field n =
-    if n == 1 then Some Dark else
-    if n == 2 then Some ReEnter else
-    None
+board_flag_of_field n = find (λ k. n == board_flag_field k) (Dark ∷ ReEnter ∷ [])
 
 -- the place of a text of a board among the texts of a board
 abbrev pub board_text_index : BoardText → ℕ
@@ -76,12 +61,8 @@ board_text_index Message = 1
 
 -- the number of a text of a board in an edit file
 abbrev pub board_text_field : BoardText → ℕ
-board_text_field Name = 10
-board_text_field Message = 11
+board_text_field k = 10 + board_text_index k
 
 -- the text of a board with a number in an edit file
 abbrev pub board_text_of_field : ℕ → Option BoardText
-board_text_of_field n =
-    if n == 10 then Some Name else
-    if n == 11 then Some Message else
-    None
+board_text_of_field n = find (λ k. n == board_text_field k) (Name ∷ Message ∷ [])

@@ -1,5 +1,6 @@
 -- The registers of a header: the place of each among those of its kind, and its number in an edit file.
-use Rattle.std.specs.Prelude.{ℕ, ◌==◌, if◌then◌else◌, Option, Some, None}
+use Rattle.std.specs.Prelude.{ℕ, ◌==◌, Option, [], ◌∷◌}
+use Rattle.std.specs.List.{find}
 use Rattle.zed_types.specs.declared.header.HeaderNumber.{HeaderNumber}
 use Rattle.zed_types.specs.declared.header.HeaderNumber.TheVariants.{Ammo, Gems, Health, Torches, TorchTicks, EnergizerTicks, Score, TimePassed, Hundredths}
 use Rattle.zed_types.specs.declared.header.KeyColour.{KeyColour}
@@ -44,14 +45,4 @@ header_number_index Hundredths = 8
 
 -- the number of a header with a number in an edit file
 abbrev pub header_number_of_field : ℕ → Option HeaderNumber
-header_number_of_field n =
-    if n == 0 then Some Ammo else
-    if n == 1 then Some Gems else
-    if n == 2 then Some Health else
-    if n == 3 then Some Torches else
-    if n == 4 then Some TorchTicks else
-    if n == 5 then Some EnergizerTicks else
-    if n == 6 then Some Score else
-    if n == 7 then Some TimePassed else
-    if n == 8 then Some Hundredths else
-    None
+header_number_of_field n = find (λ k. n == header_number_index k) (Ammo ∷ Gems ∷ Health ∷ Torches ∷ TorchTicks ∷ EnergizerTicks ∷ Score ∷ TimePassed ∷ Hundredths ∷ [])

@@ -6,5 +6,6 @@ pub mod Names
 pub mod Register
 pub mod Stamp
 pub mod Stat
+pub mod Steps
 pub mod Table
 pub mod Text

@@ -1,5 +1,6 @@
 -- The registers of a stat: the place of each among those of its kind, and its number in an edit file.
-use Rattle.std.specs.Prelude.{ℕ, ◌==◌, if◌then◌else◌, Option, Some, None}
+use Rattle.std.specs.Prelude.{ℕ, ◌==◌, Option, Some, None, [], ◌∷◌}
+use Rattle.std.specs.List.{find}
 use Rattle.zed_types.specs.declared.stat_field.StatByte.{StatByte}
 use Rattle.zed_types.specs.declared.stat_field.StatByte.TheVariants.{X, Y, P1, P2, UnderElement, UnderColour}
 use Rattle.zed_types.specs.declared.stat_field.StatNumber.{StatNumber}
@@ -25,14 +26,7 @@ stat_byte_field UnderColour = 12
 
 -- the byte of a stat with a number in an edit file
 abbrev pub stat_byte_of_field : ℕ → Option StatByte
-stat_byte_of_field n =
-    if n == 0 then Some X else
-    if n == 1 then Some Y else
-    if n == 6 then Some P1 else
-    if n == 7 then Some P2 else
-    if n == 11 then Some UnderElement else
-    if n == 12 then Some UnderColour else
-    None
+stat_byte_of_field n = find (λ k. n == stat_byte_field k) (X ∷ Y ∷ P1 ∷ P2 ∷ UnderElement ∷ UnderColour ∷ [])
 
 -- the place of a number of a stat among those that a new stat is given; its position is none of them
 abbrev pub stat_number_index : StatNumber → Option ℕ
@@ -50,9 +44,4 @@ stat_number_field Position = 5
 
 -- the number of a stat with a number in an edit file
 abbrev pub stat_number_of_field : ℕ → Option StatNumber
-stat_number_of_field n =
-    if n == 2 then Some StepX else
-    if n == 3 then Some StepY else
-    if n == 4 then Some Cycle else
-    if n == 5 then Some Position else
-    None
+stat_number_of_field n = find (λ k. n == stat_number_field k) (StepX ∷ StepY ∷ Cycle ∷ Position ∷ [])

@@ -29,6 +29,3 @@ pub use stat_field::{StatByte, StatFields, StatNumber, StatSetting, ThirdParamet
 pub use text::{ByteRange, TextByte};
 pub use tile::{COLUMNS, Place, ROWS, Rectangle, TILES, Tile};
 pub use written::Written;
-
-#[cfg(test)]
-mod tests;

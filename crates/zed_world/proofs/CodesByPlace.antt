@@ -10,7 +10,7 @@ use Rattle.zed_world.specs.declared.stat.Code.TheVariants as code
 use Rattle.zed_world.specs.declared.stat.StatData.{StatData}
 use Rattle.zed_world.specs.Reading.{shared, code_of, code_at}
 use Rattle.zed_world.specs.FileText.{part, length_field, own_length, shared_number, stat_end, share_from, LeadsTo, code_along, IsCode}
-use Rattle.zed_world.proofs.Binds.{ok_is, guard_ok, choice_ok}
+use Rattle.zed_types.proofs.Steps.{ok_is, guard_ok, choice_ok}
 use Rattle.zed_world.proofs.Places.{drop_drop, get_front, get_last, get_within}
 
 -- ---- chains

@@ -15,10 +15,12 @@ use Rattle.zed_world.specs.declared.board.BoardData.{BoardData}
 use Rattle.zed_world.specs.Contents.{Contents}
 use Rattle.zed_world.specs.Fields.{integer_at, string_at}
 use Rattle.zed_world.specs.Offsets.{header_at, properties_at}
-use Rattle.zed_world.specs.Reading.{Gives, ◌>>=◌, found_or, counted, items_at, stat_at, board_with, board_at, body_at, next_board_at, contents_at, world_at}
+use Rattle.zed_types.specs.Steps.{◌>>=◌}
+use Rattle.zed_world.specs.Reading.{Gives, counted, items_at, stat_at, board_at, body_at, next_board_at, contents_at, world_at}
 use Rattle.zed_world.specs.FileText.{part, word_at, IsBody, board_end, IsBoard, AreBoards, IsFileText}
-use Rattle.zed_world.proofs.Binds.{ok_is, guard_ok, bind_ok, found_ok}
+use Rattle.zed_types.proofs.Steps.{ok_is, guard_ok, bind_ok}
 use Rattle.zed_world.proofs.Places.{drop_drop, integer_there}
+use Rattle.zed_world.proofs.BodyParts.{body_parts}
 use Rattle.zed_world.proofs.ReadNormal.{items_keep, counted_fits}
 use Rattle.zed_world.proofs.BoardAgain.{with_is, body_is, next_is}
 use Rattle.zed_world.proofs.WorldAgain.{contents_is, world_is}
@@ -71,21 +73,12 @@ body_of law boards body tiles rest others ss found name_in rest_in count few ite
     }
 
 body_found : (law : TilesAreRuns) (boards : ℕ) (body : List ℕ) (b : BoardData) → board_at boards body ≡ Ok b → IsBody boards b body
-unfolding board_at board_with
 body_found law boards body b h =
-    let g = guard_ok (ltb (length body) 51) fault.Truncated (found_or fault.Truncated (tiles_at 1500 (drop 51 body)) >>= λ table. board_with boards (string_at 50 body 0) table.0 table.1) b h in
-    let t = bind_ok (found_or fault.Truncated (tiles_at 1500 (drop 51 body))) (λ (table : List Tile × List ℕ). board_with boards (string_at 50 body 0) table.0 table.1) b g.1 in
-    let rest = t.0.1 in
-    let made : List StatData → BoardData = λ ss. record { name = string_at 50 body 0; tiles = t.0.0; properties = properties_at boards rest; stats = ss } in
-    let after : ℕ → Result BoardData WorldError = λ others. items_at (stat_at boards (others + 1) t.0.0) (others + 1) [] (drop 88 rest) >>= λ ss. Ok (made ss) in
-    let g2 = guard_ok (ltb (length rest) 88) fault.Truncated (counted 150 fault.TooManyStats (integer_at rest 86) >>= after) b t.2 in
-    let c = bind_ok (counted 150 fault.TooManyStats (integer_at rest 86)) after b g2.1 in
-    let others = c.0 in
-    let s = bind_ok (items_at (stat_at boards (others + 1) t.0.0) (others + 1) [] (drop 88 rest)) (λ (ss : List StatData). Ok (made ss)) b c.2 in
-    subst (λ (y : BoardData). IsBody boards y body) (ok_is (made s.0) b s.2)
-    (body_of law boards body t.0.0 rest others s.0 (found_ok fault.Truncated (tiles_at 1500 (drop 51 body)) t.0 t.1) (ltb-false _ _ g.0) (ltb-false _ _ g2.0)
-    (counted_is 150 fault.TooManyStats (integer_at rest 86) others c.1) (counted_fits 150 fault.TooManyStats (integer_at rest 86) others c.1) s.1
-    (items_many (stat_at boards (others + 1) t.0.0) (others + 1) (drop 88 rest) s.0 s.1))
+    let p = body_parts boards body b h in
+    subst (λ (y : BoardData). IsBody boards y body) p.is
+    (body_of law boards body p.tiles p.rest p.others p.stats p.table p.name_in p.rest_in
+    (counted_is 150 fault.TooManyStats (integer_at p.rest 86) p.others p.count) (counted_fits 150 fault.TooManyStats (integer_at p.rest 86) p.others p.count) p.items
+    (items_many (stat_at boards (p.others + 1) p.tiles) (p.others + 1) (drop 88 p.rest) p.stats p.items))
 
 body_read : (law : TilesAreRuns) (boards : ℕ) (body : List ℕ) (b : BoardData) → IsBody boards b body → board_at boards body ≡ Ok b
 body_read law boards body b i =

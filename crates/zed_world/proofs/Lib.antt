@@ -1,5 +1,6 @@
 pub mod Steps
 pub mod Binds
+pub mod BodyParts
 pub mod Tiles
 pub mod Adding
 pub mod Writable

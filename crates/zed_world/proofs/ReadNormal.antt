@@ -6,7 +6,6 @@ use Rattle.std.proofs.lemmas.Bool.{ltb-true, ltb-false, leb-true}
 use Rattle.std.proofs.lemmas.List.{length_push}
 use Rattle.std.proofs.lemmas.Option.{slice_get-get_or}
 use Rattle.zed_types.specs.declared.tile.Tile.{Tile}
-use Rattle.zed_runs.specs.Reading.{tiles_at}
 use Rattle.zed_world.specs.declared.error.WorldError.{WorldError}
 use Rattle.zed_world.specs.declared.error.WorldError.TheVariants as e
 use Rattle.zed_world.specs.declared.stat.Code.{Code}
@@ -17,10 +16,12 @@ use Rattle.zed_world.specs.Contents.{Contents}
 use Rattle.byteorder.specs.Endian.{little_number}
 use Rattle.zed_world.specs.Fields.{integer_at, string_at, board_number, board_integer, stat_integer}
 use Rattle.zed_world.specs.Offsets.{flags_at, header_at, properties_at, stat_with}
-use Rattle.zed_world.specs.Reading.{◌>>=◌, counted, found_or, shared, code_of, code_at, stat_at, items_at, board_with, board_at, body_at, next_board_at, contents_at, world_at}
+use Rattle.zed_types.specs.Steps.{◌>>=◌}
+use Rattle.zed_world.specs.Reading.{counted, shared, code_of, code_at, stat_at, items_at, board_at, body_at, next_board_at, contents_at, world_at}
 use Rattle.zed_world.specs.Normal.{IsAtMost, IsNormalHeader, IsNormalProperties, IsNormalCode, IsNormalStat, AreNormalStats, IsNormalBoard, HasNormalParts}
 use Rattle.zed_world.proofs.FieldsAgain.{integer_fits, string_fits}
-use Rattle.zed_world.proofs.Binds.{bind_ok, ok_is, guard_ok, choice_ok, found_ok}
+use Rattle.zed_types.proofs.Steps.{bind_ok, ok_is, guard_ok, choice_ok}
+use Rattle.zed_world.proofs.BodyParts.{body_parts}
 use Rattle.zed_world.proofs.Tiles.{tiles_long}
 
 -- ---- items
@@ -186,29 +187,19 @@ counted_fits limit f (pos m) n h = either (leb m limit) refl h
     either false p q = absurd cc
 
 board_normal : (boards : ℕ) (body : List ℕ) (b : BoardData) → 0 < boards → board_at boards body ≡ Ok b → IsNormalBoard boards b
-unfolding board_at board_with
 board_normal boards body b some h =
-    let g = guard_ok (ltb (length body) 51) e.Truncated (found_or e.Truncated (tiles_at 1500 (drop 51 body)) >>= λ table. board_with boards (string_at 50 body 0) table.0 table.1) b h in
-    let t = bind_ok (found_or e.Truncated (tiles_at 1500 (drop 51 body))) (λ (table : List Tile × List ℕ). board_with boards (string_at 50 body 0) table.0 table.1) b g.1 in
-    let rest = t.0.1 in
-    let made : List StatData → BoardData = λ ss. record { name = string_at 50 body 0; tiles = t.0.0; properties = properties_at boards rest; stats = ss } in
-    let after : ℕ → Result BoardData WorldError = λ others. items_at (stat_at boards (others + 1) t.0.0) (others + 1) [] (drop 88 rest) >>= λ ss. Ok (made ss) in
-    let g2 = guard_ok (ltb (length rest) 88) e.Truncated (counted 150 e.TooManyStats (integer_at rest 86) >>= after) b t.2 in
-    let c = bind_ok (counted 150 e.TooManyStats (integer_at rest 86)) after b g2.1 in
-    let others = c.0 in
-    let few = counted_fits 150 e.TooManyStats (integer_at rest 86) others c.1 in
-    let s = bind_ok (items_at (stat_at boards (others + 1) t.0.0) (others + 1) [] (drop 88 rest)) (λ (ss : List StatData). Ok (made ss)) b c.2 in
-    let n = stats_normal boards (others + 1) (others + 1) t.0.0 (drop 88 rest) s.0 some s.1 in
-    let whole = tiles_long 1500 (drop 51 body) t.0 (found_ok e.Truncated (tiles_at 1500 (drop 51 body)) t.0 t.1) in
-    let it : IsNormalBoard boards (made s.0) = record {
+    let p = body_parts boards body b h in
+    let few = counted_fits 150 e.TooManyStats (integer_at p.rest 86) p.others p.count in
+    let n = stats_normal boards (p.others + 1) (p.others + 1) p.tiles (drop 88 p.rest) p.stats some p.items in
+    let it : IsNormalBoard boards (record { name = string_at 50 body 0; tiles = p.tiles; properties = properties_at boards p.rest; stats = p.stats }) = record {
       name = string_fits 50 body 0;
-      tiles = whole;
-      properties = properties_normal boards rest some;
+      tiles = tiles_long 1500 (drop 51 body) (p.tiles, p.rest) p.table;
+      properties = properties_normal boards p.rest some;
       some = omega (arith, n.1);
       few = omega (arith, n.1);
-      stats = subst (λ (k : ℕ). AreNormalStats boards k t.0.0 [] s.0) (sym n.1) n.0;
+      stats = subst (λ (k : ℕ). AreNormalStats boards k p.tiles [] p.stats) (sym n.1) n.0;
     } in
-    subst (λ (y : BoardData). IsNormalBoard boards y) (ok_is (made s.0) b s.2) it
+    subst (λ (y : BoardData). IsNormalBoard boards y) p.is it
 
 next_normal : (boards : ℕ) (before : List BoardData) (bytes : List ℕ) (x : BoardData × List ℕ) → 0 < boards → next_board_at boards before bytes ≡ Ok x → IsNormalBoard boards x.0
 unfolding next_board_at

@@ -11,9 +11,10 @@ use Rattle.zed_world.specs.declared.stat.Code.{Code}
 use Rattle.zed_world.specs.declared.stat.StatData.{StatData}
 use Rattle.zed_world.specs.Fields.{integer_at}
 use Rattle.zed_world.specs.Offsets.{stat_with}
-use Rattle.zed_world.specs.Reading.{◌>>=◌, code_at, stat_at, items_at}
+use Rattle.zed_types.specs.Steps.{◌>>=◌}
+use Rattle.zed_world.specs.Reading.{code_at, stat_at, items_at}
 use Rattle.zed_world.specs.FileText.{length_field, shared_number, stat_end, StandFrom, IsCode}
-use Rattle.zed_world.proofs.Binds.{ok_is, guard_ok, bind_ok}
+use Rattle.zed_types.proofs.Steps.{ok_is, guard_ok, bind_ok}
 use Rattle.zed_world.proofs.Places.{drop_drop, integer_there, get_push, get_front, get_last, get_within}
 use Rattle.zed_world.proofs.CodesByPlace.{code_stays, code_found, code_read}
 

@@ -1,12 +1,12 @@
 -- What the laws on world files promise.
-use Rattle.std.specs.Prelude.{◌≡◌, ◌≤◌, ◌+◌, ◌*◌, ℕ, List, ◌++◌, length, Ok}
+use Rattle.std.specs.Prelude.{◌≡◌, ◌↔◌, ◌≤◌, ◌+◌, ◌*◌, ℕ, true, List, ◌++◌, length, Ok}
 use Rattle.std.specs.List.{AllByRecursion}
 use Rattle.zed_world.specs.Contents.{Contents}
 use Rattle.zed_world.specs.Reading.{world_at}
 use Rattle.zed_world.specs.FileText.{IsFileText}
 use Rattle.zed_world.specs.Writing.{world_text}
 use Rattle.zed_world.specs.Normal.{HasNormalParts, HasShortBody}
-use Rattle.zed_world.specs.Canonical.{IsCanonical}
+use Rattle.zed_world.specs.Canonical.{IsCanonical, is_canonical}
 
 -- what is read fits its fields
 abbrev pub ReadIsNormal : Type 0
@@ -32,3 +32,7 @@ WrittenIsCanonical = (w : Contents) → HasNormalParts w → AllByRecursion HasS
 -- a canonical file has 512 bytes and at most 101 boards, each of two bytes and at most 32,767
 abbrev pub CanonicalIsShort : Type 0
 CanonicalIsShort = (bytes : List ℕ) → IsCanonical bytes → length bytes ≤ 512 + 101 * (2 + 32767)
+
+-- the test finds just the canonical files
+abbrev pub CanonicalIsTested : Type 0
+CanonicalIsTested = (bytes : List ℕ) → (is_canonical bytes ≡ true) ↔ IsCanonical bytes

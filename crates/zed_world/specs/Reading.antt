@@ -3,6 +3,7 @@ use Rattle.std.specs.Prelude.{ℕ, zero, suc, ℤ, pos, negsuc, ◌+◌, not, �
 use Rattle.byteorder.specs.Endian.{little_number}
 use Rattle.zed_types.specs.declared.tile.Tile.{Tile}
 use Rattle.zed_types.specs.declared.tile.TheConstants.{TILES}
+use Rattle.zed_types.specs.Steps.{◌>>=◌}
 use Rattle.zed_runs.specs.Reading.{tiles_at}
 use Rattle.zed_world.specs.declared.error.WorldError.{WorldError}
 use Rattle.zed_world.specs.declared.error.WorldError.TheVariants.{Memory, NotZzt, TooManyBoards, Truncated, BadBoardSize, TooManyStats, BadShare}
@@ -13,12 +14,6 @@ use Rattle.zed_world.specs.declared.board.BoardData.{BoardData}
 use Rattle.zed_world.specs.Contents.{Contents}
 use Rattle.zed_world.specs.Offsets.{header_at, properties_at, stat_with}
 use Rattle.zed_world.specs.Fields.{integer_at, string_at}
-
-infixl 10 ◌>>=◌
--- what is found first, and then what follows from it; or the first fault
-abbrev pub ◌>>=◌ : {A B : Type 0} → Result A WorldError → (A → Result B WorldError) → Result B WorldError
-(Ok x) >>= f = f x
-(Err e) >>= f = Err e
 
 -- what a function returned, seen by view, is what reading gives, unless memory ran out
 abbrev pub Gives : {X Y : Type 0} → (X → Y) → Result X WorldError → Result Y WorldError → Type 0

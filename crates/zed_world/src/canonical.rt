@@ -1,7 +1,7 @@
 //! Files that are just what the writer makes.
 ghost use Rattle.std.specs.Prelude.{◌≡◌, ◌↔◌, IsTrue, IfOk, IfErr};
 ghost use Rattle.zed_world.specs.Reading.{BeginsAWorld};
-ghost use Rattle.zed_world.specs.Canonical.{IsCanonical};
+ghost use Rattle.zed_world.specs.Canonical.{IsCanonical, is_canonical};
 
 use crate::error::WorldError;
 use crate::reading::read_world;
@@ -12,8 +12,10 @@ use zed_types::READ_BODY_LIMIT;
 /// Whether the bytes are a world file just as `write_world` makes it: they are read, and writing what was read gives them back.
 ///
 /// A file that is read with leniency isn't canonical, nor one with bytes behind its last board. `Memory` is the only refusal.
+#[tactic(auto, unfolding(crate::specs::Canonical::is_canonical))]
 pub fn is_canonical(alloc: Global, bytes: &[u8]) -> Result<bool, WorldError>
     ensures result { IfOk result (λ is. IsTrue is ↔ IsCanonical bytes.now) }
+    ensures canonical { IfOk result (λ is. is ≡ is_canonical bytes.now) }
     ensures err { IfErr result (λ e. e ≡ WorldError.Memory) }
 
     // No growth is needed where the front of the file is at fault already.

@@ -1,5 +1,5 @@
 //! Laws on world files.
-ghost use Rattle.zed_world.specs.Laws.{ReadIsNormal, ReadByPlace, FoundByPlace, WrittenIsRead, WrittenIsCanonical, CanonicalIsShort};
+ghost use Rattle.zed_world.specs.Laws.{ReadIsNormal, ReadByPlace, FoundByPlace, WrittenIsRead, WrittenIsCanonical, CanonicalIsShort, CanonicalIsTested};
 
 use zed_runs::{greedy_is_read, tiles_are_runs};
 
@@ -28,4 +28,9 @@ pub fn written_is_read()
 /// A canonical file has 512 bytes for the header, and for each of at most 101 boards two bytes and at most 32,767 of a body.
 pub fn canonical_files_are_short()
     ensures { CanonicalIsShort }
+{}
+
+/// The test whether a file is canonical finds just those that are.
+pub fn canonical_files_are_tested()
+    ensures { CanonicalIsTested }
 {}

@@ -23,13 +23,11 @@ pub use canonical::is_canonical;
 pub use error::WorldError;
 pub use header::Header;
 pub use laws::{
-    canonical_files_are_short, files_are_read_by_place, read_is_normal, written_is_read,
+    canonical_files_are_short, canonical_files_are_tested, files_are_read_by_place, read_is_normal,
+    written_is_read,
 };
 pub use reading::read_world;
 pub use stat::{Code, StatData};
 pub use stats::is_passage;
 pub use world::World;
 pub use writing::write_world;
-
-#[cfg(test)]
-mod tests;

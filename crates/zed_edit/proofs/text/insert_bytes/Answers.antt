@@ -8,4 +8,4 @@ use Rattle.zed_edit.proofs.text.insert_bytes.Goals as goal
 
 pub loop-x-preserved : goal.loop-x-preserved
 loop-x-preserved c =
-    map_over_at (λ (y : Text). cond (same_text y.id c.args.t) (change_elements (put_after c.args.after (run_from c.args.stamp 0 c.args.bytes.now)) y) y) c.args.texts.now c.loop-x.texts c.loop-x.x-index c.x-item.result c.insert_if.new.text (omega arith) c.loop-x.auto.texts c.loop-x.invariant c.in_ok-insert_if.ensures.put
+    map_over_at (λ (y : Text). cond (same_text y.id c.args.put.text) (change_elements (put_after c.args.put.after (run_from c.args.put.stamp 0 c.args.bytes.now)) y) y) c.args.texts.now c.loop-x.texts c.loop-x.x-index c.x-item.result c.insert_if.new.text (omega arith) c.loop-x.auto.texts c.loop-x.invariant c.in_ok-insert_if.ensures.put

@@ -6,4 +6,4 @@ use Rattle.zed_edit.proofs.text.insert_bytes.Given as goal
 
 abbrev pub invariant-loop-x : goal.invariant-loop-x
 invariant-loop-x l =
-    l.texts ≡ change_such (λ x. same_text x.id l.t) (change_elements (put_after l.after (run_from l.stamp 0 l.bytes))) (take l.x-index l.initial.texts) ++ drop l.x-index l.initial.texts
+    l.texts ≡ change_such (λ x. same_text x.id l.put.text) (change_elements (put_after l.put.after (run_from l.put.stamp 0 l.bytes))) (take l.x-index l.initial.texts) ++ drop l.x-index l.initial.texts

@@ -1,0 +1,14 @@
+//! Public calls of the lower crates, with each growth of memory refused in turn and by example: tests alone. They stand in a crate of
+//! their own since a crate with tests is proved a second time with them.
+#![tactic(auto)]
+
+#[cfg(test)]
+mod edits;
+#[cfg(test)]
+mod growths;
+#[cfg(test)]
+mod programs;
+#[cfg(test)]
+mod types;
+#[cfg(test)]
+mod worlds;

@@ -1,0 +1,58 @@
+//! Stamps, strings, lists and elements by example.
+use std::test::Fail;
+use zed_types::{Bytes, Look, Push, Seq, Stamp, element};
+
+fn stamp(time: u64, replica: u16) -> Stamp {
+    Stamp { time, replica }
+}
+
+#[test]
+fn stamps_come_by_time_and_then_by_replica(rt: HostRuntime) {
+    let early = stamp(2, 9);
+    let late = stamp(3, 1);
+    assert!(rt; Stamp::GENESIS.is_before(early) && early.is_before(late));
+    assert!(rt; !late.is_before(early) && !late.is_before(late));
+}
+
+#[test]
+fn bytes_are_copied(rt: HostRuntime) -> Result<(), Fail> {
+    let bytes = Bytes::new(b"#END\r".to_vec(rt.alloc())?);
+    let copy = bytes.copy()?;
+    assert!(rt; copy.as_slice() == b"#END\r".as_slice() && copy.is_same(&bytes));
+    Ok(())
+}
+
+#[test]
+fn a_list_takes_elements_at_a_place(rt: HostRuntime) -> Result<(), Fail> {
+    let mut list = Seq::new(rt.alloc());
+    list.push(1u8)?;
+    list.push(5u8)?;
+    list.insert(1, 4)?;
+    list.insert_all(1, [2, 3].to_vec(rt.alloc())?)?;
+    assert!(rt; list.as_slice() == [1, 2, 3, 4, 5].as_slice());
+    Ok(())
+}
+
+/// Whether the player is told so.
+fn player_is_told() -> bool {
+    let player = element(4);
+    player.word == "PLAYER"
+        && player.look == Look::Character(b'@')
+        && player.push == Push::Any
+        && player.destructible
+        && !player.walkable
+}
+
+/// Whether these looks, pushes and words are told.
+fn others_are_told() -> bool {
+    element(25).push == Push::NorthSouth
+        && element(36).look == Look::FirstParameter
+        && element(53).look == Look::Colour
+        && element(54).word == ""
+        && element(255).look == Look::Character(b'?')
+}
+
+#[test]
+fn elements_are_told_by_number(rt: HostRuntime) {
+    assert!(rt; player_is_told() && others_are_told());
+}
