@@ -22,8 +22,8 @@ use Rattle.std.specs.Global.{Vec}
 use Rattle.std.specs.Prelude.{IsOkAnd}
 use Rattle.zed_document.specs.Authoring.{deletions_of}
 use Rattle.zed_action.specs.declared.error.ActionError.{ActionError}
-use Rattle.zed_action.specs.declared.error.ActionError.TheVariants.{Memory}
-use Rattle.zed_action.specs.Deeds.{Authors, Deletes, Inserts, Starts, next_text, refusal_of, with_edits}
+use Rattle.zed_action.specs.Deeds.{Authors, Deletes, Inserts, Starts, next_text, with_edits}
+use Rattle.zed_action.specs.Refusals.{memory, refusal_of}
 
 abbrev Answer : Type 0
 Answer = Result Edit DocumentError
@@ -108,10 +108,10 @@ err_only e f same = cc
 -- or not
 pub not_deleted : (d : Replica) (replica : ℕ) (t : TextId) (from to : ℕ) (e : DocumentError) (result : ActionError) → result ≡ refusal_of e
     → (deletion_refused e ≡ Err document.Memory) ⊎ AnswersDeletion d t from to (λ r. IsOkAnd r (λ v. v.items ≡ deletions_of d.edits replica t from to)) (deletion_refused e)
-    → (result ≡ Memory) ⊎ Deletes d replica t from to (Err result)
+    → (result ≡ memory) ⊎ Deletes d replica t from to (Err result)
 not_deleted d replica t from to e result is why =
     elim why [
-      | inl memory ↦ inl (is ∙ ap refusal_of (err_only e document.Memory memory))
+      | inl why ↦ inl (is ∙ ap refusal_of (err_only e document.Memory why))
       | inr h ↦ inr (
         Err e,
         deletion_told d t from to (HasDeletions d replica t from to) (λ a. a ≡ Ok (deletions_of d.edits replica t from to)) (deletion_refused e) (Err e) (λ none. absurd none) (λ f same. ap (λ x. Err x) (err_only e f same)) h,
@@ -138,10 +138,10 @@ authors_same d o replica op made edits stale h =
 -- the second of three edits was refused
 pub second_refused : (d d1 : Replica) (replica : ℕ) (s : StatId) (t : TextId) (bytes : List ℕ) (e : ActionError)
     → Authors d replica op.TextAdd (Ok d1.edits) → d1.is_stale ≡ d.is_stale → t ≡ next_text d replica
-    → (e ≡ Memory) ⊎ Inserts d1 replica t 0 bytes (Err e) → (e ≡ Memory) ⊎ Starts d replica s bytes (Err e)
+    → (e ≡ memory) ⊎ Inserts d1 replica t 0 bytes (Err e) → (e ≡ memory) ⊎ Starts d replica s bytes (Err e)
 second_refused d d1 replica s t bytes e first stale is why =
     elim why [
-      | inl memory ↦ inl memory
+      | inl why ↦ inl why
       | inr second ↦ inr (inl (d1.edits, first, inr (e, rw is at (inserts_same d1 (with_edits d1.edits d) replica t 0 bytes (Err e) refl stale second), refl)))
     ]
 
@@ -170,6 +170,6 @@ third_done d d1 d2 replica s t bytes new first stale is second stale2 third = th
 pub third_refused : (d d1 d2 : Replica) (replica : ℕ) (s : StatId) (t : TextId) (bytes : List ℕ) (e : ActionError)
     → Authors d replica op.TextAdd (Ok d1.edits) → d1.is_stale ≡ d.is_stale → t ≡ next_text d replica
     → Inserts d1 replica t 0 bytes (Ok d2.edits) → d2.is_stale ≡ d.is_stale
-    → (e ≡ Memory) ⊎ Authors d2 replica (op.SetStat s (stat_setting.Text (Some t))) (Err e) → (e ≡ Memory) ⊎ Starts d replica s bytes (Err e)
+    → (e ≡ memory) ⊎ Authors d2 replica (op.SetStat s (stat_setting.Text (Some t))) (Err e) → (e ≡ memory) ⊎ Starts d replica s bytes (Err e)
 third_refused d d1 d2 replica s t bytes e first stale is second stale2 why =
-    elim why [ inl memory ↦ inl memory | inr third ↦ inr (third_told d d1 d2 replica s t bytes (Err e) first stale is second stale2 third) ]
+    elim why [ inl why ↦ inl why | inr third ↦ inr (third_told d d1 d2 replica s t bytes (Err e) first stale is second stale2 third) ]

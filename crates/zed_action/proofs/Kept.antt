@@ -14,7 +14,8 @@ use Rattle.zed_action.specs.declared.action.Action.{Action}
 use Rattle.zed_action.specs.declared.deed.Deed.{Deed}
 use Rattle.zed_action.specs.declared.deed.Deed.TheVariants.{Make, Insert, Start, Delete}
 use Rattle.zed_action.specs.declared.error.ActionError.{ActionError}
-use Rattle.zed_action.specs.Deeds.{Authors, Inserts, Leaves, LeavesAction, LeavesDeed, LeavesStart, Made, deed_of, next_text, refusal_of, told, with_text}
+use Rattle.zed_action.specs.Deeds.{Authors, Inserts, Leaves, LeavesAction, LeavesDeed, LeavesStart, Made, deed_of, next_text, told, with_text}
+use Rattle.zed_action.specs.Refusals.{refusal_of}
 
 untouched_deed : (d : Replica) (replica : ℕ) (deed : Deed) (e : ActionError) → Leaves d replica deed e d.edits
 untouched_deed d replica (Make o) e = refl
@@ -27,7 +28,7 @@ pub untouched : (d : Replica) (replica : ℕ) (o : Option Action) (e : ActionErr
 untouched d replica None e = refl
 untouched d replica (Some a) e = go (deed_of (replay d.edits) a)
   where
-    go : (r : Result Deed ActionError) → LeavesDeed d replica r e d.edits
+    go : (r : Result Deed DocumentError) → LeavesDeed d replica r e d.edits
     go (Err none) = refl
     go (Ok deed) = untouched_deed d replica deed e
 

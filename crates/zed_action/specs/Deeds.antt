@@ -23,62 +23,52 @@ use Rattle.zed_document.specs.Authoring.{AnswersAuthor, AnswersDeletion, Answers
 use Rattle.zed_document.specs.Reading.{text_of}
 use Rattle.zed_document.specs.Replica.{Replica}
 use Rattle.zed_action.specs.declared.error.ActionError.{ActionError}
-use Rattle.zed_action.specs.declared.error.ActionError.TheVariants.{Memory, BadAction, NoSuch, OutOfRange, ClockSpent, BadEdit, Clash, OtherWorld, Stale}
+use Rattle.zed_action.specs.declared.error.ActionError.TheVariants.{BadAction}
 use Rattle.zed_action.specs.declared.action.Action.{Action}
 use Rattle.zed_action.specs.declared.action.Action.TheVariants as action
 use Rattle.zed_action.specs.declared.deed.Deed.{Deed}
 use Rattle.zed_action.specs.declared.deed.Deed.TheVariants.{Make, Insert, Start, Delete}
+use Rattle.zed_action.specs.Refusals.{memory, refusal_of}
 use Rattle.zed_action.specs.Words.{Word, action_of}
-
--- the refusal of an action for one of a document
-abbrev pub refusal_of : DocumentError → ActionError
-refusal_of document.Memory = Memory
-refusal_of document.OtherWorld = OtherWorld
-refusal_of (document.BadEdit c) = BadEdit c
-refusal_of (document.Clash s) = Clash s
-refusal_of document.Stale = Stale
-refusal_of document.NoSuch = NoSuch
-refusal_of document.OutOfRange = OutOfRange
-refusal_of document.ClockSpent = ClockSpent
 
 -- ---- what the numbers of an action name
 
 infixl 10 ◌>>=◌
 -- what follows of a value; a refusal stays
-abbrev pub ◌>>=◌ : {A B : Type 0} → Result A ActionError → (A → Result B ActionError) → Result B ActionError
+abbrev pub ◌>>=◌ : {A B : Type 0} → Result A DocumentError → (A → Result B DocumentError) → Result B DocumentError
 (Ok x) >>= f = f x
 (Err e) >>= f = Err e
 
 -- what is there, or NoSuch
-abbrev pub found : {X : Type 0} → Option X → Result X ActionError
-found None = Err NoSuch
+abbrev pub found : {X : Type 0} → Option X → Result X DocumentError
+found None = Err document.NoSuch
 found (Some x) = Ok x
 
 -- the board of number n, or NoSuch
-abbrev pub board_in : Plain → ℕ → Result BoardId ActionError
+abbrev pub board_in : Plain → ℕ → Result BoardId DocumentError
 board_in p n = found (board_numbered p n)
 
 -- stat n of board b
-abbrev pub stat_in : Plain → ℕ → ℕ → Result StatId ActionError
+abbrev pub stat_in : Plain → ℕ → ℕ → Result StatId DocumentError
 stat_in p b n = do
   board ← board_in p b
   found (stat_numbered p board n)
 
 -- the board that an exit leads to; 0 is none
-abbrev pub target_in : Plain → ℕ → Result (Option BoardId) ActionError
+abbrev pub target_in : Plain → ℕ → Result (Option BoardId) DocumentError
 target_in p zero = Ok None
 target_in p (suc n) = do
   board ← board_in p (suc n)
   Ok (Some board)
 
 -- a board gets a name
-abbrev pub name_in : Plain → ℕ → List ℕ → Result Deed ActionError
+abbrev pub name_in : Plain → ℕ → List ℕ → Result Deed DocumentError
 name_in p b name = do
   board ← board_in p b
   Ok (Make (op.SetBoard board (board_setting.Text Name name)))
 
 -- a board gets an exit
-abbrev pub exit_in : Plain → ℕ → Side → ℕ → Result Deed ActionError
+abbrev pub exit_in : Plain → ℕ → Side → ℕ → Result Deed DocumentError
 exit_in p b side to = do
   board ← board_in p b
   target ← target_in p to
@@ -94,30 +84,30 @@ fields_of x y cycle = record {
 }
 
 -- bytes go into the text of a stat; a stat without one gets one, and then they stand at 0
-abbrev pub insertion_of : StatId → Option TextId → ℕ → List ℕ → Result Deed ActionError
+abbrev pub insertion_of : StatId → Option TextId → ℕ → List ℕ → Result Deed DocumentError
 insertion_of s (Some text) position bytes = Ok (Insert text position bytes)
 insertion_of s None zero bytes = Ok (Start s bytes)
-insertion_of s None (suc n) bytes = Err OutOfRange
+insertion_of s None (suc n) bytes = Err document.OutOfRange
 
 -- bytes go out of the text of a stat; NoSuch where it has none
-abbrev pub deletion_of : Option TextId → ℕ → ℕ → Result Deed ActionError
-deletion_of None from to = Err NoSuch
+abbrev pub deletion_of : Option TextId → ℕ → ℕ → Result Deed DocumentError
+deletion_of None from to = Err document.NoSuch
 deletion_of (Some text) from to = Ok (Delete text from to)
 
 -- the same by the numbers of board and stat
-abbrev pub insertion_in : Plain → ℕ → ℕ → ℕ → List ℕ → Result Deed ActionError
+abbrev pub insertion_in : Plain → ℕ → ℕ → ℕ → List ℕ → Result Deed DocumentError
 insertion_in p b s position bytes = do
   it ← stat_in p b s
   insertion_of it (text_of p it) position bytes
 
 -- bytes go out of the text of a stat, by the numbers of board and stat
-abbrev pub deletion_in : Plain → ℕ → ℕ → ℕ → ℕ → Result Deed ActionError
+abbrev pub deletion_in : Plain → ℕ → ℕ → ℕ → ℕ → Result Deed DocumentError
 deletion_in p b s from to = do
   it ← stat_in p b s
   deletion_of (text_of p it) from to
 
 -- what an action comes to where this is shown
-abbrev pub deed_of : Plain → Action → Result Deed ActionError
+abbrev pub deed_of : Plain → Action → Result Deed DocumentError
 deed_of p (action.BoardAdd name) = Ok (Make (op.BoardAdd name))
 deed_of p (action.BoardRemove b) = do
   board ← board_in p b
@@ -190,8 +180,8 @@ Performs d replica (Start s bytes) made = Starts d replica s bytes made
 Performs d replica (Delete t from to) made = Deletes d replica t from to made
 
 -- what is made by a deed, or a refusal in place of it
-abbrev pub Does : Replica → ℕ → Result Deed ActionError → Made → Type 0
-Does d replica (Err e) made = made ≡ Err e
+abbrev pub Does : Replica → ℕ → Result Deed DocumentError → Made → Type 0
+Does d replica (Err e) made = made ≡ Err (refusal_of e)
 Does d replica (Ok deed) made = Performs d replica deed made
 
 -- what is made by an action on what the document shows; words that are none are a BadAction
@@ -205,7 +195,7 @@ Acts d replica words made = ActsOn d replica (action_of words) made
 
 -- a call ends so with these edits, or memory runs out
 abbrev pub Ends : {X : Type 0} → (Made → Type 0) → Result X ActionError → List Edit → Type 0
-Ends P result edits = MatchResult result (λ _. P (Ok edits)) (λ e. (e ≡ Memory) ⊎ P (Err e))
+Ends P result edits = MatchResult result (λ _. P (Ok edits)) (λ e. (e ≡ memory) ⊎ P (Err e))
 
 -- ---- what a refused action leaves of a document's edits
 
@@ -225,7 +215,7 @@ LeavesStart d replica bytes left =
 -- no byte was deleted; where memory ran out, the first of several deletions may have been made
 abbrev pub LeavesDeletion : Replica → ℕ → TextId → ℕ → ℕ → ActionError → List Edit → Type 0
 LeavesDeletion d replica t from to e left =
-    (left ≡ d.edits) ⊎ ((e ≡ Memory) × ((n : ℕ) × (left ≡ d.edits ++ take n (deletions_of d.edits replica t from to))))
+    (left ≡ d.edits) ⊎ ((e ≡ memory) × ((n : ℕ) × (left ≡ d.edits ++ take n (deletions_of d.edits replica t from to))))
 
 -- what is left where a deed is refused
 abbrev pub Leaves : Replica → ℕ → Deed → ActionError → List Edit → Type 0
@@ -235,7 +225,7 @@ Leaves d replica (Start s bytes) e left = LeavesStart d replica bytes left
 Leaves d replica (Delete t from to) e left = LeavesDeletion d replica t from to e left
 
 -- the same of an action that comes to a deed, or to none
-abbrev pub LeavesDeed : Replica → ℕ → Result Deed ActionError → ActionError → List Edit → Type 0
+abbrev pub LeavesDeed : Replica → ℕ → Result Deed DocumentError → ActionError → List Edit → Type 0
 LeavesDeed d replica (Err none) e left = left ≡ d.edits
 LeavesDeed d replica (Ok deed) e left = Leaves d replica deed e left
 

@@ -10,7 +10,8 @@ use Rattle.zed_types.specs.declared.property.Side.TheVariants.{North, South, Wes
 use Rattle.zed_types.specs.declared.tile.Rectangle.{Rectangle}
 use Rattle.zed_types.specs.declared.tile.Tile.{Tile}
 use Rattle.zed_action.specs.declared.error.ActionError.{ActionError}
-use Rattle.zed_action.specs.declared.error.ActionError.TheVariants.{Memory, BadAction}
+use Rattle.zed_action.specs.declared.error.ActionError.TheVariants.{BadAction}
+use Rattle.zed_action.specs.Refusals.{memory}
 use Rattle.zed_action.specs.declared.action.Action.{Action}
 use Rattle.zed_action.specs.declared.action.Action.TheVariants.{BoardAdd, BoardRemove, BoardName, Exit, Cells, StatAdd, StatRemove, Insert, Delete}
 
@@ -183,4 +184,4 @@ action_of (verb ∷ rest) =
 
 -- an action that is what the words say, or BadAction where they are none; want of memory aside
 abbrev pub Says : Result Action ActionError → Option Action → Type 0
-Says result said = MatchResult result (λ a. said ≡ Some a) (λ e. (e ≡ Memory) ⊎ ((e ≡ BadAction) × (said ≡ None)))
+Says result said = MatchResult result (λ a. said ≡ Some a) (λ e. (e ≡ memory) ⊎ ((e ≡ BadAction) × (said ≡ None)))

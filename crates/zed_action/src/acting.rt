@@ -2,6 +2,7 @@
 ghost use Rattle.std.specs.Prelude.{◌≡◌, ◌≢◌, ◌≤◌, Err, false, IfErr, IfOk, OnErr, OnOk};
 ghost use Rattle.zed_document.specs.Authoring.{authored};
 ghost use Rattle.zed_action.specs.Deeds.{Acts, Authors, Deletes, Ends, Inserts, Leaves, LeavesDeletion, LeavesStart, LeavesWords, Performs, Starts};
+ghost use Rattle.zed_action.specs.Refusals.{memory};
 ghost use Rattle.zed_action.specs.Words.{words_of};
 
 use crate::deed::{Deed, deed_of};
@@ -19,7 +20,7 @@ fn author(document: &mut Document, replica: u16, op: Op) -> Result<Edit, ActionE
     ensures made { IfOk result (λ e. e ≡ authored document.old.edits replica op) }
     ensures kept { OnErr result (document.new.edits ≡ document.old.edits) }
     ensures sound { OnOk result (document.new.is_stale ≡ false) }
-    ensures stale { (result ≢ Err ActionError.Memory) → document.new.is_stale ≡ false }
+    ensures stale { (result ≢ Err memory) → document.new.is_stale ≡ false }
     ensures world { document.new.world ≡ document.old.world }
 {
     let edit = document.author(replica, op)?;
@@ -39,7 +40,7 @@ fn insert(
         result document.new.edits }
     ensures kept { OnErr result (document.new.edits ≡ document.old.edits) }
     ensures sound { OnOk result (document.new.is_stale ≡ false) }
-    ensures stale { (result ≢ Err ActionError.Memory) → document.new.is_stale ≡ false }
+    ensures stale { (result ≢ Err memory) → document.new.is_stale ≡ false }
     ensures world { document.new.world ≡ document.old.world }
 {
     document.insert_text(replica, text, position as usize, bytes)?;
@@ -59,7 +60,7 @@ fn delete(
     ensures ends { Ends (Deletes document.old replica text from to) result document.new.edits }
     ensures kept { IfErr result (λ e.
         LeavesDeletion document.old replica text from to e document.new.edits) }
-    ensures stale { (result ≢ Err ActionError.Memory) → document.new.is_stale ≡ false }
+    ensures stale { (result ≢ Err memory) → document.new.is_stale ≡ false }
     ensures world { document.new.world ≡ document.old.world }
 {
     document.delete_text(replica, text, from as usize, to as usize)?;
@@ -76,7 +77,7 @@ fn start(
     requires { document.old.is_stale ≡ false }
     ensures ends { Ends (Starts document.old replica stat bytes) result document.new.edits }
     ensures kept { OnErr result (LeavesStart document.old replica bytes document.new.edits) }
-    ensures stale { (result ≢ Err ActionError.Memory) → document.new.is_stale ≡ false }
+    ensures stale { (result ≢ Err memory) → document.new.is_stale ≡ false }
     ensures world { document.new.world ≡ document.old.world }
 {
     let edit = author(document, replica, Op::TextAdd)?;
@@ -92,7 +93,7 @@ fn perform(document: &mut Document, replica: u16, deed: Deed) -> Result<(), Acti
     requires replica { 1 ≤ replica }
     ensures ends { Ends (Performs document.old replica deed) result document.new.edits }
     ensures kept { IfErr result (λ e. Leaves document.old replica deed e document.new.edits) }
-    ensures stale { (result ≢ Err ActionError.Memory) → document.new.is_stale ≡ false }
+    ensures stale { (result ≢ Err memory) → document.new.is_stale ≡ false }
     ensures world { document.new.world ≡ document.old.world }
 {
     match deed {
@@ -122,7 +123,7 @@ pub fn act(
     ensures ends { Ends (Acts document.old replica (words_of words.now)) result document.new.edits }
     ensures kept { IfErr result (λ e.
         LeavesWords document.old replica (words_of words.now) e document.new.edits) }
-    ensures stale { (result ≢ Err ActionError.Memory) → document.new.is_stale ≡ false }
+    ensures stale { (result ≢ Err memory) → document.new.is_stale ≡ false }
     ensures world { document.new.world ≡ document.old.world }
 {
     let action = parse(alloc, words)?;

@@ -1,12 +1,10 @@
 //! What an action comes to, by the names of the things that it speaks of.
 ghost use Rattle.std.specs.Prelude.{◌≡◌, false};
 ghost use Rattle.zed_edit.specs.Replay.{replay};
-ghost use Rattle.zed_document.specs.Reading.{text_of};
-ghost use Rattle.zed_action.specs.Deeds.{board_in, deed_of, deletion_in, exit_in, fields_of, insertion_in, name_in, stat_in, target_in};
+ghost use Rattle.zed_action.specs.Deeds.{board_in, deed_of, exit_in, fields_of, insertion_of, name_in, stat_in, target_in};
 
 use crate::action::Action;
-use crate::error::ActionError;
-use zed_document::Document;
+use zed_document::{Document, DocumentError};
 use zed_edit::Op;
 use zed_types::{
     BoardId, BoardSetting, BoardText, Bytes, Side, StatFields, StatId, TextId, ThirdParameter,
@@ -25,37 +23,29 @@ pub(crate) enum Deed {
     Delete(TextId, u32, u32),
 }
 
-fn board_in(document: &Document, number: u16) -> Result<BoardId, ActionError>
+fn board_in(document: &Document, number: u16) -> Result<BoardId, DocumentError>
     requires { document.now.is_stale ≡ false }
     ensures { result ≡ board_in (replay document.now.edits) number }
 {
     match document.board(usize::from(number))? {
         Some(board) => Ok(board),
-        None => Err(ActionError::NoSuch),
+        None => Err(DocumentError::NoSuch),
     }
 }
 
-fn stat_in(document: &Document, board: u16, number: u16) -> Result<StatId, ActionError>
+fn stat_in(document: &Document, board: u16, number: u16) -> Result<StatId, DocumentError>
     requires { document.now.is_stale ≡ false }
     ensures { result ≡ stat_in (replay document.now.edits) board number }
 {
     let board = board_in(document, board)?;
     match document.stat(board, usize::from(number))? {
         Some(stat) => Ok(stat),
-        None => Err(ActionError::NoSuch),
+        None => Err(DocumentError::NoSuch),
     }
 }
 
-fn text_in(document: &Document, stat: StatId) -> Result<Option<TextId>, ActionError>
-    requires { document.now.is_stale ≡ false }
-    ensures { result ≡ Ok (text_of (replay document.now.edits) stat) }
-{
-    let text = document.text_of(stat)?;
-    Ok(text)
-}
-
 /// The board that an exit leads to; 0 is none.
-fn target_in(document: &Document, number: u16) -> Result<Option<BoardId>, ActionError>
+fn target_in(document: &Document, number: u16) -> Result<Option<BoardId>, DocumentError>
     requires { document.now.is_stale ≡ false }
     ensures { result ≡ target_in (replay document.now.edits) number }
 {
@@ -79,7 +69,7 @@ fn fields_of(x: u8, y: u8, cycle: i16) -> StatFields
 }
 
 /// A board gets a name.
-fn name_of(document: &Document, board: u16, name: Bytes) -> Result<Deed, ActionError>
+fn name_of(document: &Document, board: u16, name: Bytes) -> Result<Deed, DocumentError>
     requires { document.now.is_stale ≡ false }
     ensures { result ≡ name_in (replay document.now.edits) board name }
 {
@@ -89,7 +79,7 @@ fn name_of(document: &Document, board: u16, name: Bytes) -> Result<Deed, ActionE
 }
 
 /// A board gets an exit.
-fn exit_of(document: &Document, board: u16, side: Side, to: u16) -> Result<Deed, ActionError>
+fn exit_of(document: &Document, board: u16, side: Side, to: u16) -> Result<Deed, DocumentError>
     requires { document.now.is_stale ≡ false }
     ensures { result ≡ exit_in (replay document.now.edits) board side to }
 {
@@ -101,48 +91,27 @@ fn exit_of(document: &Document, board: u16, side: Side, to: u16) -> Result<Deed,
 
 /// Bytes go into the text of a stat, or into a new one.
 fn insertion_of(
-    document: &Document,
-    board: u16,
-    stat: u16,
+    stat: StatId,
+    text: Option<TextId>,
     position: u32,
     bytes: Bytes,
-) -> Result<Deed, ActionError>
-    requires { document.now.is_stale ≡ false }
-    ensures { result ≡ insertion_in (replay document.now.edits) board stat position bytes }
+) -> Result<Deed, DocumentError>
+    ensures { result ≡ insertion_of stat text position bytes }
 {
-    let stat = stat_in(document, board, stat)?;
-    match text_in(document, stat)? {
+    match text {
         Some(text) => Ok(Deed::Insert(text, position, bytes)),
         None => {
             if position == 0 {
                 Ok(Deed::Start(stat, bytes))
             } else {
-                Err(ActionError::OutOfRange)
+                Err(DocumentError::OutOfRange)
             }
         }
     }
 }
 
-/// Bytes of the text of a stat are deleted.
-fn deletion_of(
-    document: &Document,
-    board: u16,
-    stat: u16,
-    from: u32,
-    to: u32,
-) -> Result<Deed, ActionError>
-    requires { document.now.is_stale ≡ false }
-    ensures { result ≡ deletion_in (replay document.now.edits) board stat from to }
-{
-    let stat = stat_in(document, board, stat)?;
-    match text_in(document, stat)? {
-        Some(text) => Ok(Deed::Delete(text, from, to)),
-        None => Err(ActionError::NoSuch),
-    }
-}
-
 /// The deed of an action. It takes no memory.
-pub(crate) fn deed_of(document: &Document, action: Action) -> Result<Deed, ActionError>
+pub(crate) fn deed_of(document: &Document, action: Action) -> Result<Deed, DocumentError>
     requires { document.now.is_stale ≡ false }
     ensures { result ≡ deed_of (replay document.now.edits) action }
 {
@@ -171,12 +140,22 @@ pub(crate) fn deed_of(document: &Document, action: Action) -> Result<Deed, Actio
             stat,
             position,
             bytes,
-        } => insertion_of(document, board, stat, position, bytes),
+        } => {
+            let stat = stat_in(document, board, stat)?;
+            let text = document.text_of(stat)?;
+            insertion_of(stat, text, position, bytes)
+        }
         Action::Delete {
             board,
             stat,
             from,
             to,
-        } => deletion_of(document, board, stat, from, to),
+        } => {
+            let stat = stat_in(document, board, stat)?;
+            match document.text_of(stat)? {
+                Some(text) => Ok(Deed::Delete(text, from, to)),
+                None => Err(DocumentError::NoSuch),
+            }
+        }
     }
 }

@@ -1,5 +1,5 @@
 -- A document that has one more edit keeps what it shows.
-use Rattle.std.proofs.Common.{◌≡◌, Bool, true, false, cond, ltb, List, [], ◌∷◌, ◌++◌, length, ap, sym, subst, ◌∙◌}
+use Rattle.std.proofs.Common.{◌≡◌, Bool, false, ltb, List, [], ◌∷◌, ◌++◌, length, ap, sym, subst, ◌∙◌}
 use Rattle.std.specs.Prelude.{count_by, not}
 use Rattle.zed_types.specs.declared.stamp.Stamp.{Stamp}
 use Rattle.zed_op.specs.declared.op.Edit.{Edit}
@@ -7,8 +7,7 @@ use Rattle.zed_edit.specs.declared.plain.Plain.{Plain}
 use Rattle.zed_edit.specs.Document.{empty_document}
 use Rattle.zed_op.specs.Fit.{Fits}
 use Rattle.zed_op.specs.Set.{with_edit}
-use Rattle.zed_op.specs.Sizes.{HasSizes, HaveSizes}
-use Rattle.zed_types.specs.Stamp.{before, same_stamp}
+use Rattle.zed_op.specs.Sizes.{HasSizes}
 use Rattle.zed_edit.specs.Replay.{replay, step}
 use Rattle.zed_document.specs.declared.delivered.Delivered.{Delivered}
 use Rattle.zed_document.specs.Delivery.{TellsNew, state_of}
@@ -17,16 +16,7 @@ use Rattle.zed_document.specs.Kept.{IsKept, AllBelow}
 use Rattle.zed_document.proofs.Passed.{passed-below, step-passed, is_among-one_more, count-one_more}
 use Rattle.zed_laws.specs.Laws.{OneMoreIsOneStep}
 use Rattle.zed_op.specs.SetLaws.{EditKeepsRising, EditKeepsFit}
-
--- the sizes of a set with one more edit
-sized : (e : Edit) (es : List Edit) → HasSizes e → HaveSizes es → HaveSizes (with_edit e es)
-sized e [] h k = (h, tt)
-sized e (f ∷ fs) h k = go (before e.stamp f.stamp) (same_stamp e.stamp f.stamp) (sized e fs h k.1)
-  where
-    go : (a b : Bool) → HaveSizes (with_edit e fs) → HaveSizes (cond a (e ∷ f ∷ fs) (cond b (f ∷ fs) (f ∷ with_edit e fs)))
-    go true b more = (h, k)
-    go false true more = k
-    go false false more = (k.0, more)
+use Rattle.zed_op.proofs.SetLaws.{each-with_edit}
 
 pub kept-append : OneMoreIsOneStep → EditKeepsRising → EditKeepsFit → (es : List Edit) (e : Edit) (p q : Plain) (b : Bool) → IsKept es b p → b ≡ false → Fits e → HasSizes e → with_edit e es ≡ es ++ e ∷ [] → q ≡ step p e → IsKept (es ++ e ∷ []) b q
 kept-append law rises fit es e p q b k f fits sizes last made =
@@ -34,7 +24,7 @@ kept-append law rises fit es e p q b k f fits sizes last made =
     let is : q ≡ replay (es ++ e ∷ []) = made ∙ ap (λ x. step x e) was ∙ sym (law es e) in
     record {
       fit = rw last at (fit e es fits k.fit);
-      sizes = rw last at (sized e es sizes k.sizes);
+      sizes = rw last at (each-with_edit HasSizes e es sizes k.sizes);
       rising = rw last at (rises e es k.rising);
       held = ap (λ x. x.held) is;
       shown = λ _. is;
@@ -58,7 +48,7 @@ tells-append law es e old new d b last was is state count =
 pub kept-insert : EditKeepsRising → EditKeepsFit → (es fs : List Edit) (e : Edit) (p q : Plain) (b : Bool) → IsKept es b p → Fits e → HasSizes e → with_edit e es ≡ fs → q ≡ replay fs → IsKept fs b q
 kept-insert rises fit es fs e p q b k fits sizes is made = record {
   fit = rw is at (fit e es fits k.fit);
-  sizes = rw is at (sized e es sizes k.sizes);
+  sizes = rw is at (each-with_edit HasSizes e es sizes k.sizes);
   rising = rw is at (rises e es k.rising);
   held = ap (λ x. x.held) made;
   shown = λ _. made;

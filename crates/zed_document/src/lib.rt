@@ -2,6 +2,7 @@
 //! who made them in stamp order.
 #![tactic(auto)]
 
+mod appending;
 mod author;
 mod batch;
 mod clock;
@@ -9,17 +10,26 @@ mod deletion;
 mod delivered;
 mod document;
 mod error;
+mod field;
+mod header;
 mod held;
 mod insertion;
 mod laws;
 mod merge;
 mod place;
+mod property;
 mod readers;
+mod register;
 mod same;
 mod view;
 
+pub use appending::{append_text, append_text_at};
 pub use delivered::{Delivered, State};
 pub use document::Document;
 pub use error::DocumentError;
+pub use field::{Follower, Leader, P3, StatText};
+pub use header::{CurrentBoard, Saved, WorldName};
 pub use laws::{deliveries_come_to_sets, edits_decide, merging_is_of_sets};
+pub use property::TimeLimit;
+pub use register::Register;
 pub use view::{MadeBoard, MadeStat, View};

@@ -41,7 +41,7 @@ pub same_answer : EditsDecide → (d o : Replica) (r : Result Bool DocumentError
 same_answer decide d o r h is answer = told_same r (AreSame d o) (decide d o h.world is) (rw (h.sound, h.other_sound) at answer)
 
 -- answers that want of memory alone keeps from one value are alike
-alike : {X Y : Type 0} (view : X → Y) (y : Result Y ExportError) (a b : Result X ExportError) → Answers view y a → Answers view y b → AreAlike view a b
+pub alike : {X Y : Type 0} (view : X → Y) (y : Result Y ExportError) (a b : Result X ExportError) → Answers view y a → Answers view y b → AreAlike view a b
 alike view (Ok y) (Ok x) (Ok z) h k = inr (inr (h ∙ sym k))
 alike view (Ok y) (Ok x) (Err e) h k = inr (inl (ap (λ f. Err f) k))
 alike view (Ok y) (Err e) b h k = inl (ap (λ f. Err f) h)
@@ -51,12 +51,10 @@ alike view (Err e) (Err f) b h k = inr (inr (k ∙ sym h))
 given : {Y : Type 0} (d : Replica) (gives : Plain → Result Y ExportError) → d.is_stale ≡ false → unless_stale d gives ≡ gives (replay d.edits)
 given d gives sound = rw sound refl
 
-pub answers_alike : {X Y : Type 0} (view : X → Y) (gives : Plain → Result Y ExportError) (d o : Replica) (a b : Result X ExportError)
-    → HaveAcceptedTheSame d o → d.edits ≡ o.edits
-    → Answers view (unless_stale d gives) a → Answers view (unless_stale o gives) b → AreAlike view a b
-answers_alike view gives d o a b h is one other =
-    let path : unless_stale o gives ≡ unless_stale d gives = given o gives h.other_sound ∙ ap (λ es. gives (replay es)) (sym is) ∙ sym (given d gives h.sound) in
-    alike view (unless_stale d gives) a b one (subst (λ y. Answers view y b) path other)
+-- a document that isn't stale answers what its edits come to
+pub answers_by : {X Y : Type 0} (view : X → Y) (gives : Plain → Result Y ExportError) (d : Replica) (es : List Edit) (a : Result X ExportError)
+    → d.is_stale ≡ false → d.edits ≡ es → Answers view (unless_stale d gives) a → Answers view (gives (replay es)) a
+answers_by view gives d es a sound is h = subst (λ y. Answers view y a) (given d gives sound ∙ ap (λ fs. gives (replay fs)) is) h
 
 -- the exported world is that of the edits
 pub exported_is : (d : Replica) (limit : ℕ) (w : Result Contents ExportError) → d.is_stale ≡ false → Answers (λ x. x) (unless_stale d (exported limit)) w

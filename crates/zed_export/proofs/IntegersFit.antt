@@ -1,12 +1,9 @@
 -- The world of a document whose signed numbers are of sixteen bits: each fits in its field.
-use Rattle.std.proofs.Common.{◌≡◌, ◌≤◌, ℕ, zero, suc, ℤ, pos, get_or, rules, Bool, true, false, not, cond, List, [], ◌∷◌, ◌++◌, map, Option, None}
+use Rattle.std.proofs.Common.{◌≡◌, ◌≤◌, ℕ, zero, suc, ℤ, pos, get_or, rules, not, List, [], ◌∷◌, ◌++◌, map, Option, None}
 use Rattle.std.specs.Prelude.{filter}
 use Rattle.std.specs.List.{AllByRecursion}
 use Rattle.zed_types.specs.declared.names.TextId.{TextId}
-use Rattle.zed_types.specs.Stamp.{before, same_stamp}
 use Rattle.zed_world.specs.Normal.{HasNormalParts, IsInteger}
-use Rattle.zed_op.specs.declared.op.Edit.{Edit}
-use Rattle.zed_op.specs.Set.{with_edit, union, set_of}
 use Rattle.zed_edit.specs.declared.plain.Board.{Board}
 use Rattle.zed_edit.specs.declared.plain.Stat.{Stat}
 use Rattle.zed_edit.specs.declared.plain.Plain.{Plain}
@@ -18,24 +15,6 @@ use Rattle.zed_export.specs.Fields.{FitsStat, FitsBoard}
 use Rattle.zed_export.specs.Limits.{refusal_of}
 use Rattle.zed_export.proofs.Each.{each_filtered}
 use Rattle.zed_export.proofs.Normality.{world_normal}
-
--- ---- what holds of each edit of a list holds of each edit of its set
-
-each_with : (P : Edit → Type 0) (e : Edit) (es : List Edit) → P e → AllByRecursion P es → AllByRecursion P (with_edit e es)
-each_with P e [] k h = (k, tt)
-each_with P e (f ∷ fs) k h = go (before e.stamp f.stamp) (same_stamp e.stamp f.stamp) (each_with P e fs k h.1)
-  where
-    go : (c d : Bool) → AllByRecursion P (with_edit e fs) → AllByRecursion P (cond c (e ∷ f ∷ fs) (cond d (f ∷ fs) (f ∷ with_edit e fs)))
-    go true d more = (k, h)
-    go false true more = h
-    go false false more = (h.0, more)
-
-each_union : (P : Edit → Type 0) (es fs : List Edit) → AllByRecursion P es → AllByRecursion P fs → AllByRecursion P (union es fs)
-each_union P es [] h k = h
-each_union P es (f ∷ fs) h k = each_union P (with_edit f es) fs (each_with P f es k.0 h) k.1
-
-pub each_of_set : (P : Edit → Type 0) (es : List Edit) → AllByRecursion P es → AllByRecursion P (set_of es)
-each_of_set P es h = each_union P [] es tt h
 
 -- ---- the exported world
 

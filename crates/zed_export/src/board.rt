@@ -12,7 +12,7 @@ use crate::header::copy_of;
 use crate::numbers::{Names, board_number, exit_number, stat_names, stat_number};
 use crate::program::program_of;
 use std::alloc::{AllocError, Global};
-use zed_document::View;
+use zed_document::{Follower, Leader, P3, StatText, TimeLimit, View};
 use zed_types::{
     BoardByte, BoardFlag, BoardText, Seq, Side, StatByte, StatNumber, ThirdParameter, Tile,
 };
@@ -47,25 +47,25 @@ fn stat_of(view: &View, boards: &Names, stats: &Names, i: usize, j: usize, code:
         ≡ stat_with view.now (board_at view.now i) (stat_at (board_at view.now i) j) code }
     ensures fits { FitsStat result }
 {
-    let x = view.stat_byte(i, j, StatByte::X);
-    let y = view.stat_byte(i, j, StatByte::Y);
+    let x = view.field(i, j, StatByte::X);
+    let y = view.field(i, j, StatByte::Y);
     let on_passage = is_passage(view.table(i), x, y);
     StatData {
         x,
         y,
-        step_x: view.stat_number(i, j, StatNumber::StepX),
-        step_y: view.stat_number(i, j, StatNumber::StepY),
-        cycle: view.stat_number(i, j, StatNumber::Cycle),
-        p1: view.stat_byte(i, j, StatByte::P1),
-        p2: view.stat_byte(i, j, StatByte::P2),
-        p3: parameter_of(boards, on_passage, view.third_parameter(i, j)),
-        follower: stat_number(stats, view.follower(i, j)),
-        leader: stat_number(stats, view.leader(i, j)),
+        step_x: view.field(i, j, StatNumber::StepX),
+        step_y: view.field(i, j, StatNumber::StepY),
+        cycle: view.field(i, j, StatNumber::Cycle),
+        p1: view.field(i, j, StatByte::P1),
+        p2: view.field(i, j, StatByte::P2),
+        p3: parameter_of(boards, on_passage, view.field(i, j, P3)),
+        follower: stat_number(stats, view.field(i, j, Follower)),
+        leader: stat_number(stats, view.field(i, j, Leader)),
         under: Tile {
-            element: view.stat_byte(i, j, StatByte::UnderElement),
-            colour: view.stat_byte(i, j, StatByte::UnderColour),
+            element: view.field(i, j, StatByte::UnderElement),
+            colour: view.field(i, j, StatByte::UnderColour),
         },
-        position: view.stat_number(i, j, StatNumber::Position),
+        position: view.field(i, j, StatNumber::Position),
         code,
     }
 }
@@ -84,17 +84,17 @@ fn properties_of(
     ensures fits { IfOk result (λ properties. IsInteger properties.time_limit) }
 {
     Ok(Properties {
-        max_shots: view.board_byte(i, BoardByte::MaxShots),
-        dark: view.board_flag(i, BoardFlag::Dark),
-        north: exit_number(boards, view.exit(i, Side::North)),
-        south: exit_number(boards, view.exit(i, Side::South)),
-        west: exit_number(boards, view.exit(i, Side::West)),
-        east: exit_number(boards, view.exit(i, Side::East)),
-        re_enter: view.board_flag(i, BoardFlag::ReEnter),
-        message: copy_of(alloc, view.board_text(i, BoardText::Message))?,
-        start_x: view.board_byte(i, BoardByte::StartX),
-        start_y: view.board_byte(i, BoardByte::StartY),
-        time_limit: view.time_limit(i),
+        max_shots: view.property(i, BoardByte::MaxShots),
+        dark: view.property(i, BoardFlag::Dark),
+        north: exit_number(boards, view.property(i, Side::North)),
+        south: exit_number(boards, view.property(i, Side::South)),
+        west: exit_number(boards, view.property(i, Side::West)),
+        east: exit_number(boards, view.property(i, Side::East)),
+        re_enter: view.property(i, BoardFlag::ReEnter),
+        message: copy_of(alloc, view.property(i, BoardText::Message))?,
+        start_x: view.property(i, BoardByte::StartX),
+        start_y: view.property(i, BoardByte::StartY),
+        time_limit: view.property(i, TimeLimit),
     })
 }
 
@@ -129,7 +129,7 @@ fn stats_of(
     let mut out = Vec::new(alloc);
     for j in 0..view.stats(i) {
         if is_there(view, i, j) {
-            let text = view.text_of(i, j);
+            let text = view.field(i, j, StatText);
             let code = program_of(alloc, view, &texts, &out, text)?;
             out.push(stat_of(view, boards, stats, i, j, code))?;
             texts.push(text)?;
@@ -157,8 +157,8 @@ pub(crate) fn board_of(
     let stats = stats_of(alloc, view, boards, &names, i)?;
     let properties = properties_of(alloc, view, boards, i)?;
     Ok(BoardData {
-        name: copy_of(alloc, view.board_text(i, BoardText::Name))?,
-        tiles: view.tiles(i),
+        name: copy_of(alloc, view.property(i, BoardText::Name))?,
+        tiles: *view.table(i),
         properties,
         stats,
     })

@@ -1,4 +1,4 @@
-//! The world that a document shows, and its file.
+//! The world that a document shows, and its file, which is read as that world.
 ghost use Rattle.std.specs.Prelude.{◌≡◌, ◌≤◌, None, Ok, IfErr, IfOk, MatchResult, length};
 ghost use Rattle.std.specs.List.{AllByRecursion};
 ghost use Rattle.zed_world.specs.Reading.{world_at};
@@ -10,7 +10,8 @@ ghost use Rattle.zed_laws.specs.NameOrder.{IsOrdered};
 ghost use Rattle.zed_edit.specs.Replay.{replay};
 ghost use Rattle.zed_export.specs.World.{exported_boards, world_of};
 ghost use Rattle.zed_export.specs.Fields.{board_names as names_of_boards, FitsBoard};
-ghost use Rattle.zed_export.specs.Limits.{Answers, IsRefusal, IsShown, exported, refusal_of, saved, unless_stale};
+ghost use Rattle.zed_export.specs.Headline.{AuthoredIsRead};
+ghost use Rattle.zed_export.specs.Limits.{Answers, IsRefusal, IsShown, SavedIsRead, exported, refusal_of, saved, unless_stale};
 
 use crate::board::board_of;
 use crate::error::ExportError;
@@ -20,8 +21,9 @@ use crate::numbers::{Names, board_names};
 use std::alloc::{AllocError, Global};
 use zed_document::{Document, View};
 use zed_laws::{replay_is_ordered, replay_is_regular};
+use zed_op::sets_stay_fit;
 use zed_types::Seq;
-use zed_world::{BoardData, World, write_world};
+use zed_world::{BoardData, World, write_world, written_is_read};
 
 /// The boards of the world, which have these names.
 fn boards_of(alloc: Global, view: &View, names: &Names) -> Result<Seq<BoardData>, AllocError>
@@ -121,4 +123,14 @@ pub fn save(alloc: Global, document: &Document, limit: usize) -> Result<Vec<u8>,
 {
     let view = shown_within(alloc, document, limit)?;
     file_within(alloc, &view, limit)
+}
+
+/// What is saved is read as the exported world: where that world can stand in a file, as that of edits that authors made can.
+pub fn saved_is_read()
+    ensures normal { SavedIsRead }
+    ensures authored { AuthoredIsRead }
+{
+    sets_stay_fit();
+    replay_is_regular();
+    written_is_read();
 }

@@ -6,7 +6,7 @@ ghost use Rattle.zed_export.specs.Fields.{board_names, FitsHeader};
 
 use crate::numbers::{Names, board_number};
 use std::alloc::{AllocError, Global};
-use zed_document::View;
+use zed_document::{CurrentBoard, Saved, View, WorldName};
 use zed_types::{Bytes, FlagSlot, HeaderNumber, KeyColour, Seq};
 use zed_world::Header;
 
@@ -29,13 +29,13 @@ fn keys_of(view: &View) -> [bool; 7]
     ensures { result ≡ view.now.header.keys }
 {
     [
-        view.key(KeyColour::Blue),
-        view.key(KeyColour::Green),
-        view.key(KeyColour::Cyan),
-        view.key(KeyColour::Red),
-        view.key(KeyColour::Purple),
-        view.key(KeyColour::Yellow),
-        view.key(KeyColour::White),
+        view.header(KeyColour::Blue),
+        view.header(KeyColour::Green),
+        view.header(KeyColour::Cyan),
+        view.header(KeyColour::Red),
+        view.header(KeyColour::Purple),
+        view.header(KeyColour::Yellow),
+        view.header(KeyColour::White),
     ]
 }
 
@@ -52,7 +52,7 @@ fn flags_of(alloc: Global, view: &View) -> Result<Seq<Bytes>, AllocError>
 {
     let mut flags = Vec::new(alloc);
     for slot in &SLOTS {
-        flags.push(copy_of(alloc, view.flag(*slot))?)?;
+        flags.push(copy_of(alloc, view.header(*slot))?)?;
     }
     Ok(Seq::from_vec(flags))
 }
@@ -66,19 +66,19 @@ pub(crate) fn header_of(alloc: Global, view: &View, boards: &Names) -> Result<He
     ensures fits { IfOk result (λ header. FitsHeader header) }
 {
     Ok(Header {
-        ammo: view.header_number(HeaderNumber::Ammo),
-        gems: view.header_number(HeaderNumber::Gems),
+        ammo: view.header(HeaderNumber::Ammo),
+        gems: view.header(HeaderNumber::Gems),
         keys: keys_of(view),
-        health: view.header_number(HeaderNumber::Health),
-        current_board: board_number(boards, view.current_board()),
-        torches: view.header_number(HeaderNumber::Torches),
-        torch_ticks: view.header_number(HeaderNumber::TorchTicks),
-        energizer_ticks: view.header_number(HeaderNumber::EnergizerTicks),
-        score: view.header_number(HeaderNumber::Score),
-        name: copy_of(alloc, view.world_name())?,
+        health: view.header(HeaderNumber::Health),
+        current_board: board_number(boards, view.header(CurrentBoard)),
+        torches: view.header(HeaderNumber::Torches),
+        torch_ticks: view.header(HeaderNumber::TorchTicks),
+        energizer_ticks: view.header(HeaderNumber::EnergizerTicks),
+        score: view.header(HeaderNumber::Score),
+        name: copy_of(alloc, view.header(WorldName))?,
         flags: flags_of(alloc, view)?,
-        time_passed: view.header_number(HeaderNumber::TimePassed),
-        hundredths: view.header_number(HeaderNumber::Hundredths),
-        saved: view.is_saved(),
+        time_passed: view.header(HeaderNumber::TimePassed),
+        hundredths: view.header(HeaderNumber::Hundredths),
+        saved: view.header(Saved),
     })
 }

@@ -5,7 +5,6 @@ mod board;
 mod error;
 mod exporting;
 mod header;
-mod laws;
 mod limits;
 mod numbers;
 mod program;
@@ -14,7 +13,6 @@ mod size;
 mod warning;
 
 pub use error::ExportError;
-pub use exporting::{export, save};
-pub use laws::saved_is_read;
+pub use exporting::{export, save, saved_is_read};
 pub use replicas::{SideBySide, headline, merging_brings_the_same};
 pub use warning::{Warning, warnings};

@@ -6,7 +6,7 @@ ghost use Rattle.zed_export.specs.World.{is_of as is_text_of, user_of as lowest_
 ghost use Rattle.zed_export.specs.Fields.{IsOwned};
 
 use std::alloc::{AllocError, Global};
-use zed_document::View;
+use zed_document::{View, append_text_at};
 use zed_types::{Bytes, TextId};
 use zed_world::{Code, StatData};
 
@@ -60,7 +60,7 @@ fn text_bytes(alloc: Global, view: &View, text: TextId) -> Result<Vec<u8>, Alloc
 {
     let mut bytes = Vec::new(alloc);
     if let Some(k) = view.text_number(text) {
-        view.append_text_at(k, &mut bytes)?;
+        append_text_at(view, k, &mut bytes)?;
     }
     Ok(bytes)
 }

@@ -1,7 +1,8 @@
 //! What replicas that accepted the same edits have in common, by what the calls on them answer.
 ghost use Rattle.std.specs.Prelude.{◌≡◌, ◌≤◌, IfOk, IsOkAnd, Ok, true};
-ghost use Rattle.zed_edit.specs.Replay.{held};
+ghost use Rattle.zed_edit.specs.Replay.{held, replay};
 ghost use Rattle.zed_world.specs.Reading.{world_at};
+ghost use Rattle.zed_export.specs.Limits.{Answers, exported, saved};
 ghost use Rattle.zed_export.specs.Headline.{AreAlike, HaveAcceptedTheSame, HoldsOneAuthors, IsOneAuthors, MergingAssociates, MergingCommutes, MergingItself, MergingRepeats};
 
 use crate::error::ExportError;
@@ -25,8 +26,8 @@ pub struct SideBySide<'a> {
 }
 
 /// Replicas that accepted the same edits, in any order and with any repeats, hold the document that one author would have who made
-/// those edits in stamp order; each saves the same world file, byte for byte, or refuses it for the same named limit; and the saved
-/// file reads back as the exported world. Want of memory is set aside.
+/// those edits in stamp order; each exports and saves what this document comes to at the limit asked for: the same world file, byte for
+/// byte, or the same named refusal; and the saved file reads back as the exported world. Want of memory is set aside.
 pub fn headline<'a>(
     alloc: Global,
     one: &'a Document,
@@ -40,7 +41,13 @@ pub fn headline<'a>(
     ensures other_document { IsOkAnd result.other_view (λ v. IsOneAuthors one.now.edits v) }
     ensures held { HoldsOneAuthors one.now.edits }
     ensures other_held { held other.now.edits ≡ held one.now.edits }
+    ensures world { Answers (λ w. w) (exported limit (replay one.now.edits)) result.world }
+    ensures other_world { Answers (λ w. w)
+        (exported limit (replay one.now.edits)) result.other_world }
     ensures worlds { AreAlike (λ w. w) result.world result.other_world }
+    ensures file { Answers (λ f. f.items) (saved limit (replay one.now.edits)) result.file }
+    ensures other_file { Answers (λ f. f.items)
+        (saved limit (replay one.now.edits)) result.other_file }
     ensures files { AreAlike (λ f. f.items) result.file result.other_file }
     ensures back { IfOk result.file (λ f. IfOk result.world (λ w. world_at f.items ≡ Ok w)) }
 {

@@ -13,7 +13,7 @@ ghost use Rattle.zed_export.specs.Limits.{told};
 use crate::program::{text_length, user_of};
 use smallvec::SmallVec;
 use std::alloc::Global;
-use zed_document::View;
+use zed_document::{StatText, View};
 use zed_runs::{greedy_is_the_one, runs_len};
 use zed_types::{TILES, TextId, Tile};
 
@@ -55,7 +55,7 @@ fn stats_bytes(alloc: Global, view: &View, i: usize) -> usize
     let mut bytes: usize = 0;
     for j in 0..view.stats(i) {
         if !view.stat(i, j).removed {
-            let text = view.text_of(i, j);
+            let text = view.field(i, j, StatText);
             let program = program_bytes(view, texts.as_slice(), text);
             bytes = bytes.saturating_add(STAT).saturating_add(program);
             texts.push_reserved(text);

@@ -16,10 +16,10 @@ returns-clause-result c =
     let q = (board_at p c.args.i).properties in
     let number : (n : ℕ) (x o : Option BoardId) → n ≡ exit_place c.args.boards.now x → x ≡ o → n ≡ exit_number p o
     = λ n x o e f. e ∙ ap (λ (names : List Name). exit_place names x) c.requires.boards ∙ ap (exit_place (board_names p)) f ∙ exit_places p o in
-    let north = number c.exit_number.result c.exit.result (exit North q) c.exit_number.ensures c.exit.ensures in
-    let south = number c.exit_number-2.result c.exit-2.result (exit South q) c.exit_number-2.ensures c.exit-2.ensures in
-    let west = number c.exit_number-3.result c.exit-3.result (exit West q) c.exit_number-3.ensures c.exit-3.ensures in
-    let east = number c.exit_number-4.result c.exit-4.result (exit East q) c.exit_number-4.ensures c.exit-4.ensures in
-    let message : c.in_ok-copy_of.field-0 ≡ board_text Message q = c.in_ok-copy_of.ensures ∙ c.board_text.ensures in
-    let limit = kept c.time_limit.result q.time_limit (search rules) c.time_limit.ensures in
-    rw (c.board_byte.ensures, c.board_flag.ensures, north, south, west, east, c.board_flag-2.ensures, message, c.board_byte-2.ensures, c.board_byte-3.ensures, limit) refl
+    let north = number c.exit_number.result c.property-3.result (exit North q) c.exit_number.ensures c.property-3.ensures in
+    let south = number c.exit_number-2.result c.property-4.result (exit South q) c.exit_number-2.ensures c.property-4.ensures in
+    let west = number c.exit_number-3.result c.property-5.result (exit West q) c.exit_number-3.ensures c.property-5.ensures in
+    let east = number c.exit_number-4.result c.property-6.result (exit East q) c.exit_number-4.ensures c.property-6.ensures in
+    let message : c.in_ok-copy_of.field-0 ≡ board_text Message q = c.in_ok-copy_of.ensures ∙ c.property-8.ensures in
+    let limit = kept c.property-11.result q.time_limit (search rules) c.property-11.ensures in
+    rw (c.property.ensures, c.property-2.ensures, north, south, west, east, c.property-7.ensures, message, c.property-9.ensures, c.property-10.ensures, limit) refl

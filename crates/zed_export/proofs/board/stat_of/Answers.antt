@@ -21,17 +21,17 @@ returns-clause-result c =
     let s = stat_at b c.args.j in
     let number : (n x o : Option StatId) → x ≡ o → stat_place c.args.stats.now x ≡ option_and_then (number_of_stat b) o
     = λ n x o f. ap (λ (names : List Name). stat_place names x) c.requires.stats ∙ ap (stat_place (stat_names b)) f ∙ stat_places b o in
-    let follower = c.stat_number-4.ensures ∙ number s.follower c.follower.result s.follower c.follower.ensures in
-    let leader = c.stat_number-5.ensures ∙ number s.leader c.leader.result s.leader c.leader.ensures in
+    let follower = c.stat_number.ensures ∙ number s.follower c.field-7.result s.follower c.field-7.ensures in
+    let leader = c.stat_number-2.ensures ∙ number s.leader c.field-8.result s.leader c.field-8.ensures in
     let passage : c.is_passage-on_passage.result ≡ is_passage_at b.tiles (stat_byte X s) (stat_byte Y s)
-    = c.is_passage-on_passage.ensures ∙ ap (λ (ts : List Tile). is_passage_at ts c.stat_byte-x.result c.stat_byte-y.result) c.table.ensures ∙ ap (λ (x : ℕ). is_passage_at b.tiles x c.stat_byte-y.result) c.stat_byte-x.ensures ∙ ap (is_passage_at b.tiles (stat_byte X s)) c.stat_byte-y.ensures in
+    = c.is_passage-on_passage.ensures ∙ ap (λ (ts : List Tile). is_passage_at ts c.field-x.result c.field-y.result) c.table.ensures ∙ ap (λ (x : ℕ). is_passage_at b.tiles x c.field-y.result) c.field-x.ensures ∙ ap (is_passage_at b.tiles (stat_byte X s)) c.field-y.ensures in
     let p3 : c.parameter_of.result ≡ parameter p (is_passage_at b.tiles (stat_byte X s) (stat_byte Y s)) s.fields.p3
-    = c.parameter_of.ensures ∙ ap (λ (names : List Name). place_parameter names c.is_passage-on_passage.result c.third_parameter.result) c.requires.boards
-    ∙ ap (λ (t : Bool). place_parameter (board_names p) t c.third_parameter.result) passage
-    ∙ ap (place_parameter (board_names p) (is_passage_at b.tiles (stat_byte X s) (stat_byte Y s))) c.third_parameter.ensures
+    = c.parameter_of.ensures ∙ ap (λ (names : List Name). place_parameter names c.is_passage-on_passage.result c.field-6.result) c.requires.boards
+    ∙ ap (λ (t : Bool). place_parameter (board_names p) t c.field-6.result) passage
+    ∙ ap (place_parameter (board_names p) (is_passage_at b.tiles (stat_byte X s) (stat_byte Y s))) c.field-6.ensures
     ∙ parameter_places p (is_passage_at b.tiles (stat_byte X s) (stat_byte Y s)) s.fields.p3 in
-    let step_x = kept c.stat_number.result (stat_number StepX s) (search rules) c.stat_number.ensures in
-    let step_y = kept c.stat_number-2.result (stat_number StepY s) (search rules) c.stat_number-2.ensures in
-    let cycle = kept c.stat_number-3.result (stat_number Cycle s) (search rules) c.stat_number-3.ensures in
-    let position = kept c.stat_number-6.result (stat_number Position s) (search rules) c.stat_number-6.ensures in
-    rw (c.stat_byte-x.ensures, c.stat_byte-y.ensures, step_x, step_y, cycle, c.stat_byte.ensures, c.stat_byte-2.ensures, p3, follower, leader, c.stat_byte-3.ensures, c.stat_byte-4.ensures, position) refl
+    let step_x = kept c.field.result (stat_number StepX s) (search rules) c.field.ensures in
+    let step_y = kept c.field-2.result (stat_number StepY s) (search rules) c.field-2.ensures in
+    let cycle = kept c.field-3.result (stat_number Cycle s) (search rules) c.field-3.ensures in
+    let position = kept c.field-11.result (stat_number Position s) (search rules) c.field-11.ensures in
+    rw (c.field-x.ensures, c.field-y.ensures, step_x, step_y, cycle, c.field-4.ensures, c.field-5.ensures, p3, follower, leader, c.field-9.ensures, c.field-10.ensures, position) refl

@@ -29,11 +29,11 @@ loop-j-preserved c =
           let next = next_passes is_live b.stats c.loop-j.j no_stat within live in
           let x = w.stat_of.result in
           let rest = exported_above p b (before ++ s.fields.text ∷ []) left in
-          let text : w.text_of-text.result ≡ s.fields.text = w.text_of-text.ensures in
+          let text : w.field-text.result ≡ s.fields.text = w.field-text.ensures in
           let items : c.if-is_there.texts.items ≡ before ++ s.fields.text ∷ [] = cc (w.in_ok-push-2.ensures.items) in
           let out : c.if-is_there.out.items ≡ done ++ x ∷ [] = cc (w.in_ok-push.ensures.items) in
           let code : w.in_ok-code.code ≡ exported_code p before s.fields.text
-          = w.in_ok-code.ensures ∙ ap (λ (texts : List (Option TextId)). exported_code p texts w.text_of-text.result) w.deref.ensures.value ∙ ap (exported_code p before) text in
+          = w.in_ok-code.ensures ∙ ap (λ (texts : List (Option TextId)). exported_code p texts w.field-text.result) w.deref.ensures.value ∙ ap (exported_code p before) text in
           let is : x ≡ exported_stat p b before s = w.stat_of.ensures.result ∙ ap (stat_with p b s) code in
           record {
             completes = rw (items, out) (append_assoc done (x ∷ []) rest ∙ ap (λ (y : StatData). done ++ y ∷ rest) is ∙ ap (λ (ss : List Stat). done ++ exported_above p b before ss) (sym next) ∙ c.loop-j.invariant.completes);

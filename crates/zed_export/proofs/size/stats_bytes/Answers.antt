@@ -27,10 +27,10 @@ loop-j-preserved c =
       | then-not-stat w ↦
           let live : not s.removed ≡ true = ap (λ (m : MadeStat). not m.removed) (sym c.stat.ensures) ∙ w.if-not-stat.true in
           let next = next_passes is_live b.stats c.loop-j.j no_stat within live in
-          let text : w.text_of-text.result ≡ s.fields.text = w.text_of-text.ensures in
+          let text : w.field-text.result ≡ s.fields.text = w.field-text.ensures in
           let items : c.if-not-stat.texts.items ≡ before ++ s.fields.text ∷ [] = cc in
           let program : w.program_bytes-program.result ≡ length (code_text (exported_code p before s.fields.text))
-          = w.program_bytes-program.ensures ∙ ap (λ (xs : List (Option TextId)). length (code_text (exported_code p xs w.text_of-text.result))) w.as_slice.ensures ∙ ap (λ (t : Option TextId). length (code_text (exported_code p before t))) text in
+          = w.program_bytes-program.ensures ∙ ap (λ (xs : List (Option TextId)). length (code_text (exported_code p xs w.field-text.result))) w.as_slice.ensures ∙ ap (λ (t : Option TextId). length (code_text (exported_code p before t))) text in
           let bytes : c.if-not-stat.bytes ≡ told (told (c.loop-j.bytes + 33) + w.program_bytes-program.result)
           = w.bytes-is ∙ w.saturating_add-bytes.ensures ∙ ap (λ (n : ℕ). told (n + w.program_bytes-program.result)) w.saturating_add.ensures in
           let room : length before + length (filter is_live (drop c.loop-j.j b.stats)) ≤ 151 = c.loop-j.invariant.room in

@@ -1,6 +1,6 @@
 use Rattle.std.proofs.Common.{◌≡◌, ◌≤◌, ◌++◌, length, take, drop}
 use Rattle.zed_types.specs.Text.{alive_bytes}
-use Rattle.zed_document.proofs.view.push_live.Given as goal
+use Rattle.zed_document.proofs.appending.push_live.Given as goal
 
 -- the bytes so far, with those of the rest, are all
 abbrev pub invariant-loop-element : goal.invariant-loop-element

@@ -16,9 +16,10 @@ use Rattle.zed_export.specs.declared.error.ExportError.{ExportError}
 use Rattle.zed_export.specs.World.{exported_boards, world_of}
 use Rattle.zed_export.specs.Limits.{refusal_of, unless_over, SavedIsRead}
 use Rattle.zed_export.specs.Headline.{AuthoredIsRead}
-use Rattle.zed_export.proofs.IntegersFit.{each_of_set, integers_normal}
+use Rattle.zed_op.proofs.SetLaws.{each-set}
+use Rattle.zed_export.proofs.IntegersFit.{integers_normal}
 use Rattle.zed_export.proofs.Within.{boards_within, all_readable}
-use Rattle.zed_export.proofs.laws.saved_is_read.Goals as goal
+use Rattle.zed_export.proofs.exporting.saved_is_read.Goals as goal
 
 WrittenIsRead : Type 0
 WrittenIsRead = (w : Contents) (rest : List ℕ) → HasNormalParts w → AllByRecursion (λ b. length (body_text b) ≤ 32767) w.boards → world_at (world_text w ++ rest) ≡ Ok w
@@ -40,7 +41,7 @@ authored_is_read read fit regular integers limit es file authored low answer = g
     p = replay (set_of es)
 
     normal : refusal_of limit p ≡ None → HasNormalParts (world_of p)
-    normal within = integers_normal limit p (regular (set_of es) (fit es authored.fit)) (integers (set_of es) (each_of_set HasSizes es authored.sizes)) low within
+    normal within = integers_normal limit p (regular (set_of es) (fit es authored.fit)) (integers (set_of es) (each-set HasSizes es authored.sizes)) low within
 
     go : (o : Option ExportError) → refusal_of limit p ≡ o → unless_over o (world_text (world_of p)) ≡ Ok file → world_at file ≡ Ok (world_of p)
     go (Some refusal) h a = absurd (cc)
