@@ -74,9 +74,7 @@ impl Case {
     /// One board with a player and nothing else.
     pub fn new(alloc: Global) -> Result<Case, AllocError> {
         let mut stats = Vec::new(alloc);
-        let mut player = new_stat(START);
-        player.cycle = 1;
-        stats.push(player)?;
+        stats.push(StatData::standing(START.x, START.y))?;
         let mut case = Case {
             boards: 1,
             tiles: [Tile::EMPTY; TILES],
@@ -97,6 +95,10 @@ impl Case {
         };
         let _ = case.put(START, PLAYER);
         Ok(case)
+    }
+
+    fn alloc(&self) -> Global {
+        *self.stats.allocator()
     }
 
     fn put(&mut self, place: Place, tile: Tile) -> Result<(), Trouble> {
@@ -192,11 +194,11 @@ impl Case {
         }
     }
 
-    fn lengthen_program(&mut self, alloc: Global, line: &mut Line) -> Result<(), Trouble> {
+    fn lengthen_program(&mut self, line: &mut Line) -> Result<(), Trouble> {
         let times = line.count()?;
         let text = line.text();
         let mut bytes = match self.stats.get(self.told) {
-            Some(stat) => Vec::from_slice(alloc, own_bytes(&stat.code))?,
+            Some(stat) => Vec::from_slice(self.alloc(), own_bytes(&stat.code))?,
             None => return Err(Trouble::Line),
         };
         for _ in 0..times {
@@ -220,21 +222,16 @@ impl Case {
         }
     }
 
-    fn describe_stat(
-        &mut self,
-        alloc: Global,
-        name: &str,
-        line: &mut Line,
-    ) -> Result<bool, Trouble> {
+    fn describe_stat(&mut self, name: &str, line: &mut Line) -> Result<bool, Trouble> {
         match name {
             "stat" => self.add_stat(line)?,
             "change" => self.change_stat(line)?,
             "program" => {
-                let mut bytes = Vec::new(alloc);
+                let mut bytes = Vec::new(self.alloc());
                 put_bytes(line.text(), &mut bytes)?;
                 self.set_program(Code::Own(Bytes::new(bytes)))?;
             }
-            "longer" => self.lengthen_program(alloc, line)?,
+            "longer" => self.lengthen_program(line)?,
             "shares" => self.share_program(line)?,
             _ => return Ok(false),
         }
@@ -254,9 +251,9 @@ impl Case {
         Ok(true)
     }
 
-    fn set_flag(&mut self, alloc: Global, line: &mut Line) -> Result<(), Trouble> {
+    fn set_flag(&mut self, line: &mut Line) -> Result<(), Trouble> {
         let i = usize::from(line.byte()?);
-        let mut bytes = Vec::new(alloc);
+        let mut bytes = Vec::new(self.alloc());
         put_bytes(line.text(), &mut bytes)?;
         if bytes.len() > FLAG_BYTES {
             return Err(Trouble::Line);
@@ -290,15 +287,10 @@ impl Case {
         Ok(())
     }
 
-    fn describe_rest(
-        &mut self,
-        alloc: Global,
-        name: &str,
-        line: &mut Line,
-    ) -> Result<bool, Trouble> {
+    fn describe_rest(&mut self, name: &str, line: &mut Line) -> Result<bool, Trouble> {
         match name {
             "boards" => self.boards = line.byte()?,
-            "flag" => self.set_flag(alloc, line)?,
+            "flag" => self.set_flag(line)?,
             "keys" => self.set_keys(line)?,
             "shots" => self.max_shots = line.byte()?,
             "exits" => self.set_exits(line)?,
@@ -308,17 +300,12 @@ impl Case {
     }
 
     /// Takes in a line of this name, if it is one that describes a world.
-    pub fn describe(
-        &mut self,
-        alloc: Global,
-        name: &str,
-        line: &mut Line,
-    ) -> Result<bool, Trouble> {
+    pub fn describe(&mut self, name: &str, line: &mut Line) -> Result<bool, Trouble> {
         Ok(
             self.describe_table(name, line)?
-                || self.describe_stat(alloc, name, line)?
+                || self.describe_stat(name, line)?
                 || self.describe_counter(name, line)?
-                || self.describe_rest(alloc, name, line)?,
+                || self.describe_rest(name, line)?,
         )
     }
 

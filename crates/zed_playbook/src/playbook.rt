@@ -68,7 +68,7 @@ impl Script {
     fn take(&mut self, alloc: Global, number: usize, line: &str) -> Result<(), Trouble> {
         let mut words = Line::new(line);
         let name = words.word()?;
-        if self.acts.is_empty() && self.case.describe(alloc, name, &mut words)? {
+        if self.acts.is_empty() && self.case.describe(name, &mut words)? {
             return words.end();
         }
         let act = act_of(alloc, name, &mut words)?;

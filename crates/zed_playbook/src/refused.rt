@@ -5,7 +5,7 @@ use crate::changes::put_changes;
 use crate::file::{play_of, world_of};
 use crate::growths::{MOST, refuse, was_refused};
 use crate::playbook::{Playbook, Script};
-use crate::seen::{Before, put_step, put_turn, put_turned};
+use crate::seen::{Before, put_step, put_turned, turn_on_copy};
 use crate::trouble::Trouble;
 use std::alloc::{AllocError, Global};
 use std::fmt::Write;
@@ -74,14 +74,6 @@ fn try_turn(
     (turned, was_refused)
 }
 
-/// What is seen of a turn with ample memory.
-fn plain_turn(alloc: Global, board: &Scene, stat: usize, words: &[u16]) -> Result<String, Trouble> {
-    let mut scene = board.copy(alloc)?;
-    let mut seen = String::new(alloc);
-    put_turn(alloc, board, &mut scene, stat, words, &mut seen)?;
-    Ok(seen)
-}
-
 fn turn_outcome(
     alloc: Global,
     board: &Scene,
@@ -96,7 +88,8 @@ fn turn_outcome(
     }
     let mut seen = String::new(alloc);
     put_turned(board, &scene, &turned, &mut seen)?;
-    let wanted = plain_turn(alloc, board, stat, words)?;
+    // With ample memory.
+    let wanted = turn_on_copy(alloc, board, stat, words)?;
     Ok(whole_outcome(seen.as_str() == wanted.as_str()))
 }
 

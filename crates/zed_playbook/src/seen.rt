@@ -54,47 +54,29 @@ pub fn put_turned(
     }
 }
 
-/// Appends what is seen of a turn on a board that is like another.
-pub fn put_turn(
-    alloc: Global,
-    before: &Scene,
-    scene: &mut Scene,
-    stat: usize,
-    words: &[u16],
-    out: &mut String,
-) -> Result<(), Trouble> {
-    let turned = turn(alloc, scene, stat, words);
-    put_turned(before, scene, &turned, out)
-}
-
-/// Appends what is seen of a turn on a copy of a board.
-fn put_turn_on_copy(
+/// What is seen of a turn on a copy of a board.
+pub fn turn_on_copy(
     alloc: Global,
     board: &Scene,
     stat: usize,
     words: &[u16],
-    out: &mut String,
-) -> Result<(), Trouble> {
+) -> Result<String, Trouble> {
     let mut copy = board.copy(alloc)?;
-    put_turn(alloc, board, &mut copy, stat, words, out)
+    let turned = turn(alloc, &mut copy, stat, words);
+    let mut seen = String::new(alloc);
+    put_turned(board, &copy, &turned, &mut seen)?;
+    Ok(seen)
 }
 
-/// Appends what is seen of a turn on a copy of a board, and whether it isn't seen of a copy of a copy.
-fn put_turn_on_copies(
-    alloc: Global,
-    board: &Scene,
-    stat: usize,
-    words: &[u16],
-    out: &mut String,
-) -> Result<(), Trouble> {
-    put_turn_on_copy(alloc, board, stat, words, out)?;
+/// The same, and whether it isn't seen of a copy of a copy.
+fn turn_twice(alloc: Global, board: &Scene, stat: usize, words: &[u16]) -> Result<String, Trouble> {
+    let mut seen = turn_on_copy(alloc, board, stat, words)?;
     let copy = board.copy(alloc)?;
-    let mut again = String::new(alloc);
-    put_turn_on_copy(alloc, &copy, stat, words, &mut again)?;
-    if again.as_str() != out.as_str() {
-        out.push_str("copies differ\n")?;
+    let again = turn_on_copy(alloc, &copy, stat, words)?;
+    if again.as_str() != seen.as_str() {
+        seen.push_str("copies differ\n")?;
     }
-    Ok(())
+    Ok(seen)
 }
 
 /// Whether the message lines, the first `gone` of them left out, are those that begin the later ones.
@@ -282,7 +264,9 @@ impl<'a> Stage<'a> {
         out: &mut String,
     ) -> Result<(), Trouble> {
         let play = play_of(alloc, self.case, 1)?;
-        put_turn_on_copies(alloc, play.board(), stat, words, out)
+        let seen = turn_twice(alloc, play.board(), stat, words)?;
+        out.push_str(seen.as_str())?;
+        Ok(())
     }
 
     fn open(&mut self, alloc: Global, tick: u16) -> Result<(), Trouble> {

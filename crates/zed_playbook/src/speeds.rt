@@ -26,7 +26,7 @@ const WALKER: &str = "#walk n|:wait|/i|#send wait|:thud|#walk opp flow|#send wai
 fn describe(alloc: Global, case: &mut Case, text: &str) -> Result<(), Trouble> {
     let mut line = Line::new(text);
     let name = line.word()?;
-    if case.describe(alloc, name, &mut line)? {
+    if case.describe(name, &mut line)? {
         line.end()
     } else {
         Err(Trouble::Line)

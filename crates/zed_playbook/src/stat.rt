@@ -9,21 +9,9 @@ const FIELDS: u8 = 32;
 
 /// A stat of which nothing is told but its place.
 pub fn new_stat(place: Place) -> StatData {
-    StatData {
-        x: place.x,
-        y: place.y,
-        step_x: 0,
-        step_y: 0,
-        cycle: 0,
-        p1: 0,
-        p2: 0,
-        p3: 0,
-        follower: None,
-        leader: None,
-        under: Tile::EMPTY,
-        position: 0,
-        code: Code::None,
-    }
+    let mut stat = StatData::standing(place.x, place.y);
+    stat.cycle = 0;
+    stat
 }
 
 /// The bytes of a program that isn't another stat's.
