@@ -1,0 +1,3 @@
+mod Latests
+mod Rows
+mod Stamped

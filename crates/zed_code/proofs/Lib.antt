@@ -1,0 +1,9 @@
+pub mod Alive
+pub mod Cuts
+pub mod Keeping
+pub mod Killing
+pub mod Places
+pub mod PutBytes
+pub mod Rests
+pub mod RisingEdits
+pub mod Spelling

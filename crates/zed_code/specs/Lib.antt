@@ -1,0 +1,10 @@
+pub mod Cursors
+pub mod Cutting
+pub mod Kept
+pub mod Pieces
+pub mod Reading
+pub mod Rising
+pub mod Runs
+pub mod Text
+pub mod There
+pub mod Visits

@@ -1,0 +1,39 @@
+-- What contracts say of a text.
+use Rattle.std.specs.Prelude.{◌≡◌, ◌≤◌, ℕ, ◌+◌, true, false, List, map, length, Option, Some, None}
+use Rattle.std.specs.List.{AllByRecursion, list_any, filter}
+use Rattle.zed_types.specs.declared.stamp.Stamp.{Stamp}
+use Rattle.zed_types.specs.declared.names.ElemId.{ElemId}
+use Rattle.zed_types.specs.declared.text.TextByte.{TextByte}
+use Rattle.zed_types.specs.declared.text.ByteRange.{ByteRange}
+use Rattle.zed_types.specs.Stamp.{before, same_stamp}
+use Rattle.zed_types.specs.Names.{same_element}
+use Rattle.zed_code.specs.Pieces.{Shown, written_out}
+
+-- the elements of a text, dead ones included
+abbrev pub elements : Shown → List TextByte
+elements t = written_out t.cutting
+
+-- the element named, if one is, is there, of an earlier edit
+abbrev pub StandsAfter : Option ElemId → Stamp → List TextByte → Type 0
+StandsAfter None s xs = Unit {0}
+StandsAfter (Some a) s xs = (before a.name.stamp s ≡ true) × (list_any (λ x. same_element x.id a) xs ≡ true)
+
+-- the stamp of the edit that makes the world
+abbrev pub genesis : Stamp
+genesis = record { time = 1; replica = 0 }
+
+-- bytes from..to, both included, of the edit `s`
+abbrev pub bytes_from : Stamp → ℕ → ℕ → ByteRange
+bytes_from s from to = record { stamp = s; first = from; last = to }
+
+-- no element has this stamp
+abbrev pub IsNewStamp : Stamp → List TextByte → Type 0
+IsNewStamp s xs = AllByRecursion (λ x. same_stamp x.id.name.stamp s ≡ false) xs
+
+-- at most so many more runs
+abbrev pub HasMore : ℕ → Shown → Shown → Type 0
+HasMore n old new = length new.cutting ≤ length old.cutting + n
+
+-- the names of the bytes that are alive
+abbrev pub alive_names : List TextByte → List ElemId
+alive_names xs = map (λ x. x.id) (filter (λ x. x.alive) xs)

@@ -1,0 +1,128 @@
+//! Texts that came by edits in several orders, and how many runs were looked at.
+ghost use Rattle.std.specs.Prelude.{◌≡◌, ◌∷◌, [], IfOk, Some};
+ghost use Rattle.zed_types.specs.Names.{byte_of as byte_at};
+ghost use Rattle.zed_types.specs.Text.{run_from};
+ghost use Rattle.zed_code.specs.Text.{elements, genesis};
+
+use crate::{CodeError, Text};
+use std::alloc::Global;
+use std::test::Fail;
+use zed_types::{ElemId, Stamp};
+
+/// The stamps of the edits that put in x, y, w and z.
+const X: Stamp = Stamp {
+    time: 2,
+    replica: 1,
+};
+
+const Y: Stamp = Stamp {
+    time: 2,
+    replica: 2,
+};
+
+const W: Stamp = Stamp {
+    time: 3,
+    replica: 2,
+};
+
+const Z: Stamp = Stamp {
+    time: 3,
+    replica: 3,
+};
+
+/// The first byte of an edit.
+fn first_of(stamp: Stamp) -> Option<ElemId>
+    ensures { result ≡ Some (byte_at stamp 0) }
+{
+    Some(ElemId::new(stamp, 0))
+}
+
+/// The text `AB` of the edit that makes the world.
+fn letters(alloc: Global) -> Result<Text, CodeError>
+    ensures { IfOk result (λ t. elements t ≡ run_from genesis 0 (65 ∷ 66 ∷ [])) }
+{
+    Text::genesis(alloc, b"AB")
+}
+
+#[test]
+fn two_insertions_come_in_either_order(rt: HostRuntime) -> Result<(), Fail> {
+    let a = first_of(Stamp::GENESIS);
+    let mut text = letters(rt.alloc())?;
+    text.insert(a, X, b"x")?;
+    text.insert(a, Y, b"y")?;
+    let mut other = letters(rt.alloc())?;
+    other.insert(a, Y, b"y")?;
+    other.insert(a, X, b"x")?;
+    assert_eq!(rt; text.text()?.as_slice(), b"AyxB".as_slice());
+    assert_eq!(rt; other.text()?.as_slice(), b"AyxB".as_slice());
+    assert!(rt; text.same(&other));
+    Ok(())
+}
+
+#[test]
+fn later_insertions_are_passed_with_what_stands_behind_them(rt: HostRuntime) -> Result<(), Fail> {
+    let a = first_of(Stamp::GENESIS);
+    let mut text = letters(rt.alloc())?;
+    assert_eq!(rt; text.visits(), 0);
+    text.insert(a, Y, b"y")?;
+    let first = text.visits();
+    text.insert(first_of(Y), W, b"w")?;
+    let second = text.visits() - first;
+    text.insert(a, X, b"x")?;
+    let third = text.visits() - first - second;
+    assert_eq!(rt; text.text()?.as_slice(), b"AywxB".as_slice());
+    for (visits, most) in [(first, 2), (second, 4), (third, 6)] {
+        assert!(rt; 1 <= visits && visits <= most, "{visits} of {most}");
+    }
+    let before = text.visits();
+    text.delete(Stamp::GENESIS, 0, 0)?;
+    assert!(rt; text.visits() - before <= 8);
+    assert_eq!(rt; text.text()?.as_slice(), b"ywxB".as_slice());
+    assert_eq!(rt; text.length(), 4);
+    for (place, byte, name) in [(0, b'y', Y), (1, b'w', W), (2, b'x', X)] {
+        assert_eq!(rt; text.byte_at(place), Some(byte), "at {place}");
+        assert_eq!(rt; text.elem_at(place), first_of(name), "at {place}");
+    }
+    assert_eq!(rt; text.byte_at(4), None);
+    Ok(())
+}
+
+#[test]
+fn dead_bytes_keep_their_places(rt: HostRuntime) -> Result<(), Fail> {
+    let mut text = letters(rt.alloc())?;
+    text.insert(first_of(Stamp::GENESIS), X, b"x")?;
+    let mut other = letters(rt.alloc())?;
+    other.insert(first_of(Stamp::GENESIS), X, b"x")?;
+    other.insert(first_of(X), Z, b"z")?;
+    other.delete(Z, 0, 0)?;
+    assert_eq!(rt; text.text()?.as_slice(), b"AxB".as_slice());
+    assert_eq!(rt; other.text()?.as_slice(), b"AxB".as_slice());
+    assert!(rt; !text.same(&other));
+    Ok(())
+}
+
+#[test]
+fn cuttings_do_not_matter(rt: HostRuntime) -> Result<(), Fail> {
+    let mut at_once = Text::genesis(rt.alloc(), b"ABC")?;
+    at_once.delete(Stamp::GENESIS, 0, 2)?;
+    let mut one_by_one = Text::genesis(rt.alloc(), b"ABC")?;
+    for place in 0..3 {
+        one_by_one.delete(Stamp::GENESIS, place, place)?;
+    }
+    assert!(rt; at_once.same(&one_by_one));
+    assert_eq!(rt; at_once.length(), 0);
+    Ok(())
+}
+
+#[test]
+fn an_insertion_of_nothing_changes_nothing(rt: HostRuntime) -> Result<(), Fail> {
+    let mut text = Text::new(rt.alloc());
+    text.insert(None, X, b"")?;
+    assert_eq!(rt; text.visits(), 0);
+    text.insert(None, X, b"x")?;
+    let before = text.visits();
+    text.insert(None, Y, b"")?;
+    assert_eq!(rt; text.visits(), before + 1);
+    assert_eq!(rt; text.text()?.as_slice(), b"x".as_slice());
+    Ok(())
+}

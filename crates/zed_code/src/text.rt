@@ -1,0 +1,220 @@
+//! A text as contracts see it.
+
+ghost use Rattle.std.specs.Prelude.{◌≡◌, ◌↔◌, IsTrue, ◌<◌, ◌≤◌, ◌+◌, ◌^◌, length, [], false, true, map, OnOk, OnErr, IfOk, IfErr, Some, None, MatchOption, slice_get};
+ghost use Rattle.std.specs.List.{AllByRecursion, filter};
+ghost use Rattle.zed_types.specs.Stamp.{before, same_stamp};
+ghost use Rattle.zed_types.specs.Text.{run_from, put_late, kill, alive_bytes};
+ghost use Rattle.zed_code.specs.Text.{elements, StandsAfter, IsNewStamp, HasMore, alive_names, bytes_from, genesis};
+ghost use Rattle.zed_code.specs.Runs.{if_any, whole};
+ghost use Rattle.zed_code.specs.Visits.{raised, LooksAtSome};
+
+use crate::cut::cut;
+use crate::error::CodeError;
+use crate::insertion::put;
+use crate::place::look_once;
+use crate::readers::{count_live, live_at};
+use crate::run::Run;
+use crate::same::spell_same;
+use std::alloc::Global;
+use std::marker::Model;
+use zed_types::{ByteRange, ElemId, Stamp};
+
+/// One text: its bytes in order, dead ones included, kept as runs.
+#[derive(Drop)]
+pub struct Text {
+    store: Vec<u8>,
+    runs: Vec<Run>,
+    visits: u64,
+    // where the last insertion went: the next mostly follows it
+    near: usize,
+}
+
+impl Model for Text {
+    ghost use Rattle.zed_code.specs.Cutting.{piece_in};
+    ghost use Rattle.zed_code.specs.Kept.{AreKept};
+    ghost use Rattle.zed_code.specs.Pieces.{Shown};
+    ghost use Rattle.std.specs.Prelude.{map};
+
+    ghost Value = { Shown };
+
+    ghost view = { λ t. record {
+      cutting = map (piece_in t.store.items) t.runs.items;
+      visits = t.visits;
+    } };
+
+    ghost invariant = { λ t. AreKept t.store.items t.runs.items };
+}
+
+/// The runs of a text that is made with so many bytes.
+fn first_runs(alloc: Global, len: u32) -> Result<Vec<Run>, CodeError>
+    ensures ok { IfOk result (λ runs. runs.items ≡ if_any (whole genesis 0 len)) }
+{
+    let mut runs = Vec::new(alloc);
+    if len > 0 {
+        let run = Run::whole(Stamp::GENESIS, 0, len);
+        if runs.push(run).is_err() {
+            return Err(CodeError::Memory);
+        }
+    }
+    Ok(runs)
+}
+
+impl Text {
+    /// A text without a byte. It takes no memory.
+    pub fn new(alloc: Global) -> Text
+        ensures { result ≡ record { cutting = []; visits = 0 } }
+    {
+        Text {
+            store: Vec::new(alloc),
+            runs: Vec::new(alloc),
+            visits: 0,
+            near: 0,
+        }
+    }
+
+    /// A text of the edit that makes the world: its bytes, numbered from 0.
+    pub fn genesis(alloc: Global, bytes: &[u8]) -> Result<Text, CodeError>
+        requires { length bytes.now ≤ 32767 }
+        ensures ok { IfOk result (λ t. elements t ≡ run_from genesis 0 bytes.now) }
+        ensures runs { IfOk result (λ t. length t.cutting ≤ 1) }
+        ensures visits { IfOk result (λ t. t.visits ≡ 0) }
+    {
+        let store = Vec::from_slice(alloc, bytes).map_err(CodeError::of_growth)?;
+        let runs = first_runs(alloc, bytes.len() as u32)?;
+        Ok(Text {
+            store,
+            runs,
+            visits: 0,
+            near: 0,
+        })
+    }
+
+    /// Puts bytes behind the byte named, or at the head, past the bytes of later edits.
+    /// The edit that puts them has this stamp, and its bytes are numbered from 0.
+    /// Memory leaves the text as it was.
+    pub fn insert(
+        &mut self,
+        after: Option<ElemId>,
+        stamp: Stamp,
+        bytes: &[u8],
+    ) -> Result<(), CodeError>
+        requires there { StandsAfter after stamp (elements self.old) }
+        requires new { IsNewStamp stamp (elements self.old) }
+        requires most { length bytes.now ≤ 32767 }
+        ensures ok { OnOk result (elements self.new
+            ≡ put_late after stamp (run_from stamp 0 bytes.now) (elements self.old)) }
+        ensures kept { OnErr result (self.new ≡ self.old) }
+        ensures runs { HasMore 2 self.old self.new }
+        ensures visits { OnOk result
+            (LooksAtSome (length self.old.cutting) self.old.visits self.new.visits) }
+    {
+        if bytes.is_empty() {
+            look_once(&self.runs, &mut self.visits);
+            return Ok(());
+        }
+        self.insert_some(after, stamp, bytes)
+    }
+
+    fn insert_some(
+        &mut self,
+        after: Option<ElemId>,
+        stamp: Stamp,
+        bytes: &[u8],
+    ) -> Result<(), CodeError>
+        requires there { StandsAfter after stamp (elements self.old) }
+        requires new { IsNewStamp stamp (elements self.old) }
+        requires some { 0 < length bytes.now }
+        requires most { length bytes.now ≤ 32767 }
+        ensures ok { OnOk result (elements self.new
+            ≡ put_late after stamp (run_from stamp 0 bytes.now) (elements self.old)) }
+        ensures kept { OnErr result (self.new ≡ self.old) }
+        ensures runs { HasMore 2 self.old self.new }
+        ensures visits { OnOk result
+            (LooksAtSome (length self.old.cutting) self.old.visits self.new.visits) }
+    {
+        self.store
+            .reserve(bytes.len())
+            .map_err(CodeError::of_growth)?;
+        self.runs.reserve(2).map_err(CodeError::of_growth)?;
+        let run = Run::whole(stamp, self.store.len(), bytes.len() as u32);
+        let near = put(&mut self.runs, after, run, self.near, &mut self.visits);
+        self.store.extend_from_slice(bytes).unwrap();
+        self.near = near;
+        Ok(())
+    }
+
+    /// Marks bytes from..to, both included, of the insertion with a stamp dead. Memory leaves the text as it was.
+    pub fn delete(&mut self, stamp: Stamp, from: u32, to: u32) -> Result<(), CodeError>
+        ensures ok { OnOk result (elements self.new
+            ≡ kill (bytes_from stamp from to) (elements self.old)) }
+        ensures kept { OnErr result (self.new ≡ self.old) }
+        ensures runs { HasMore 2 self.old self.new }
+        ensures visits { OnOk result
+            (LooksAtSome (length self.old.cutting) self.old.visits self.new.visits) }
+    {
+        self.runs.reserve(2).map_err(CodeError::of_growth)?;
+        let range = ByteRange {
+            stamp,
+            first: from,
+            last: to,
+        };
+        cut(&mut self.runs, range, &mut self.visits);
+        Ok(())
+    }
+
+    /// The live bytes, in order.
+    pub fn text(&self) -> Result<Vec<u8>, CodeError>
+        ensures ok { IfOk result (λ bytes. bytes.items ≡ alive_bytes (elements self.now)) }
+    {
+        let mut out = Vec::new(*self.store.allocator());
+        for run in &self.runs {
+            if run.alive {
+                out.extend_from_slice(run.bytes_of(&self.store))
+                    .map_err(CodeError::of_growth)?;
+            }
+        }
+        Ok(out)
+    }
+
+    /// Whether two texts have the same elements, dead ones included.
+    #[tactic(auto, using(crate::proofs::PutBytes::cutting_spells))]
+    pub fn same(&self, other: &Text) -> bool
+        ensures { IsTrue result ↔ elements self.now ≡ elements other.now }
+    {
+        spell_same(&self.store, &self.runs, &other.store, &other.runs)
+    }
+
+    /// How many runs were looked at since the text was made.
+    pub fn visits(&self) -> u64
+        ensures { result ≡ self.now.visits }
+    {
+        self.visits
+    }
+
+    /// How many bytes are alive.
+    pub fn length(&self) -> usize
+        ensures { result ≡ length (alive_bytes (elements self.now)) }
+    {
+        count_live(&self.runs)
+    }
+
+    /// The name of the k-th live byte, if there are so many.
+    pub fn elem_at(&self, k: usize) -> Option<ElemId>
+        ensures { result ≡ slice_get (alive_names (elements self.now)) k }
+    {
+        match live_at(&self.runs, k) {
+            Some((run, i)) => Some(run.name(i)),
+            None => None,
+        }
+    }
+
+    /// The k-th live byte, if there are so many.
+    pub fn byte_at(&self, k: usize) -> Option<u8>
+        ensures { result ≡ slice_get (alive_bytes (elements self.now)) k }
+    {
+        match live_at(&self.runs, k) {
+            Some((run, i)) => Some(self.store[run.start + i as usize]),
+            None => None,
+        }
+    }
+}

@@ -1,0 +1,124 @@
+//! An inbox: edits that wait.
+ghost use Rattle.std.specs.Prelude.{◌≡◌, length, [], map, false, IfOk, IfErr, OnOk, OnErr};
+ghost use Rattle.std.specs.List.{find, list_any};
+ghost use Rattle.zed_types.specs.Stamp.{same_stamp};
+ghost use Rattle.zed_op.specs.Set.{IsRising, with_edit, stamps_of};
+ghost use Rattle.zed_inbox.specs.Waiting.{naming, not_naming, without};
+
+use crate::error::InboxError;
+use crate::naming::is_named;
+use std::alloc::Global;
+use std::collections::BTreeMap;
+use std::marker::Model;
+use zed_op::{Edit, Thing, sets_rise};
+use zed_types::Stamp;
+
+/// Edits that wait for things that they name. Contracts see them as a list in stamp order.
+#[derive(Drop)]
+pub struct Inbox {
+    edits: BTreeMap<Stamp, Edit>,
+    alloc: Global,
+}
+
+impl Model for Inbox {
+    ghost use Rattle.std.specs.Prelude.{List};
+    ghost use Rattle.std.specs.Map.{values_of};
+    ghost use Rattle.zed_op.specs.declared.op.Edit.{Edit as TheEdit};
+    ghost use Rattle.zed_inbox.specs.Kept.{AreKept};
+
+    ghost Value = { List TheEdit };
+
+    ghost view = { λ i. values_of i.edits.entries };
+
+    ghost invariant = { λ i. AreKept i.edits.entries };
+}
+
+impl Inbox {
+    /// An inbox in which nothing waits. It takes no memory.
+    pub fn new(alloc: Global) -> Inbox
+        ensures result { result ≡ [] }
+    {
+        Inbox {
+            edits: BTreeMap::new(alloc),
+            alloc,
+        }
+    }
+
+    /// An edit waits from now on, unless one of its stamp does. Memory leaves the inbox as it was.
+    pub fn hold(&mut self, edit: Edit) -> Result<(), InboxError>
+        ensures ok { OnOk result (self.new ≡ with_edit edit self.old) }
+        ensures err { IfErr result (λ e. e ≡ InboxError.Memory) }
+        ensures kept { OnErr result (self.new ≡ self.old) }
+        ensures memory_only_when { OnErr result
+            (list_any (λ e. same_stamp e.stamp edit.stamp) self.old ≡ false) }
+    {
+        sets_rise();
+        let stamp = edit.stamp;
+        if self.edits.contains_key(&stamp) {
+            return Ok(());
+        }
+        match self.edits.insert(stamp, edit) {
+            Ok(_) => Ok(()),
+            Err(_) => Err(InboxError::Memory),
+        }
+    }
+
+    /// The edits that wait for a thing, in stamp order. They no longer wait, and the others do. Memory leaves the inbox as it was.
+    pub fn release(&mut self, thing: Thing) -> Result<Vec<Edit>, InboxError>
+        ensures ok { IfOk result (λ edits. edits.items ≡ naming thing self.old) }
+        ensures others { OnOk result (self.new ≡ not_naming thing self.old) }
+        ensures err { IfErr result (λ e. e ≡ InboxError.Memory) }
+        ensures kept { OnErr result (self.new ≡ self.old) }
+    {
+        let stamps = self.stamps_for(thing)?;
+        let mut released = Vec::with_capacity(self.alloc, stamps.len()).map_err(
+            InboxError::of_growth,
+        )?;
+        for stamp in &stamps {
+            match self.take(*stamp) {
+                Some(edit) => released.push(edit).unwrap(),
+                None => {}
+            }
+        }
+        Ok(released)
+    }
+
+    /// How many edits wait. They rise in stamp order.
+    pub fn held(&self) -> usize
+        ensures result { result ≡ length self.now }
+        ensures rising { IsRising self.now }
+    {
+        self.edits.len()
+    }
+
+    /// Whether the edit with a stamp waits.
+    pub fn is_held(&self, stamp: Stamp) -> bool
+        ensures result { result ≡ list_any (λ e. same_stamp e.stamp stamp) self.now }
+    {
+        self.edits.contains_key(&stamp)
+    }
+
+    /// The stamps of the edits that wait for a thing.
+    fn stamps_for(&self, thing: Thing) -> Result<Vec<Stamp>, InboxError>
+        ensures ok { IfOk result (λ stamps. stamps.items ≡ stamps_of (naming thing self.now)) }
+        ensures err { IfErr result (λ e. e ≡ InboxError.Memory) }
+    {
+        let mut stamps = Vec::new(self.alloc);
+        for edit in self.edits.values() {
+            if is_named(self.alloc, edit, thing) {
+                if stamps.push(edit.stamp).is_err() {
+                    return Err(InboxError::Memory);
+                }
+            }
+        }
+        Ok(stamps)
+    }
+
+    /// The edit with a stamp, which no longer waits.
+    fn take(&mut self, stamp: Stamp) -> Option<Edit>
+        ensures result { result ≡ find (λ e. same_stamp e.stamp stamp) self.old }
+        ensures others { self.new ≡ without stamp self.old }
+    {
+        self.edits.remove(&stamp)
+    }
+}

@@ -1,0 +1,4 @@
+pub mod Header
+pub mod Properties
+pub mod Shown
+pub mod Shows

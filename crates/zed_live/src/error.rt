@@ -1,0 +1,22 @@
+//! Why a live document doesn't take an edit.
+ghost use Rattle.std.specs.Prelude.{◌≡◌};
+
+use std::alloc::AllocError;
+use thiserror::Error;
+
+/// Why a live document doesn't take an edit. Its text is for whoever debugs; the program prints none of it.
+#[derive(Clone, Copy, Debug, PartialEq, Eq, Error)]
+pub enum LiveError {
+    /// A growth was refused.
+    #[error("out of memory")]
+    Memory,
+}
+
+impl LiveError {
+    /// The refusal for a growth that was refused.
+    pub(crate) fn of_growth(_refused: AllocError) -> LiveError
+        ensures { result ≡ LiveError.Memory }
+    {
+        LiveError::Memory
+    }
+}

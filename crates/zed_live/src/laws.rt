@@ -1,0 +1,29 @@
+//! What a live document shows, in whatever order the edits came.
+ghost use Rattle.zed_live.specs.Shows.{NoneIsUnwritten, HeaderTakes};
+ghost use Rattle.zed_live.specs.Shown.{ReplayIsShown};
+ghost use Rattle.zed_live.specs.Properties.{NoneAreUnwritten, PropertiesTakeSettings, PropertiesTakeMaking, PropertiesPassOthers};
+
+use zed_world::read_is_normal;
+
+/// Each register of the header has the latest write of the edits that were put in, in whatever order they came.
+pub fn header_shows_its_edits()
+    ensures none { NoneIsUnwritten }
+    ensures takes { HeaderTakes }
+{
+    read_is_normal();
+}
+
+/// A header that has the latest write of the edits taken in each register shows the one of their replay.
+pub fn header_shows_the_replay()
+    ensures { ReplayIsShown }
+{
+    read_is_normal();
+}
+
+/// Each property of a board has the latest write of the edits that were put in, its making counted as a write of all.
+pub fn properties_show_their_edits()
+    ensures none { NoneAreUnwritten }
+    ensures settings { PropertiesTakeSettings }
+    ensures making { PropertiesTakeMaking }
+    ensures others { PropertiesPassOthers }
+{}

@@ -1,0 +1,17 @@
+//! A live document: the registers of its header and of the properties of its boards, each with its latest write, put in
+//! edit by edit as they come.
+#![tactic(auto)]
+
+mod error;
+mod header;
+mod laws;
+mod properties;
+mod reading;
+
+pub use error::LiveError;
+pub use header::LiveHeader;
+pub use laws::{header_shows_its_edits, header_shows_the_replay, properties_show_their_edits};
+pub use properties::LiveProperties;
+
+#[cfg(test)]
+mod tests;

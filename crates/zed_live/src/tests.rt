@@ -1,0 +1,175 @@
+//! Headers by example, and growths refused.
+use crate::{LiveError, LiveHeader, LiveProperties};
+use std::alloc::{AllocError, Global};
+use std::test::Fail;
+use zed_edit::{Edit, Op, check};
+use zed_types::{
+    BoardByte, BoardId, BoardSetting, Bytes, FlagSlot, HeaderNumber, HeaderSetting, KeyColour,
+    Stamp, Written,
+};
+
+/// The size that the allocator of the sweep over refused growths listens to.
+const MARK: usize = 3_141_592;
+
+/// Most growths that a sweep goes through.
+const MOST_GROWTHS: usize = 64;
+
+/// Bytes, and how many zeros follow them.
+type Piece = (&'static [u8], u16);
+
+/// A world file of an empty title and its player, with 42 shots and 5 gems.
+const WORLD: &[Piece] = &[
+    (b"\xff\xff\0\0\x2a\0\x05", 505),
+    (b"\xc4", 52),
+    (
+        b"\xff\0\0\xff\0\0\xb3\0\0\x01\x04\x1f\xff\0\0\xff\0\0\xff\0\0\x2d\0\0\xff",
+        65,
+    ),
+    (b"\x1e\x0c", 20),
+    (b"\x1e\x0c\0\0\0\0\x01\0\0\0\0\xff\xff\xff\xff", 18),
+];
+
+fn world(alloc: Global) -> Result<Op, AllocError> {
+    let mut out = Vec::new(alloc);
+    for (bytes, zeros) in WORLD {
+        out.extend_from_slice(*bytes)?;
+        for _ in 0..*zeros {
+            out.push(0)?;
+        }
+    }
+    Ok(Op::Genesis(Bytes::new(out)))
+}
+
+fn number(time: u64, field: HeaderNumber, value: i16) -> Edit {
+    Edit {
+        stamp: Stamp { time, replica: 1 },
+        op: Op::SetHeader(HeaderSetting::Number(field, value)),
+    }
+}
+
+fn name(alloc: Global, time: u64, bytes: &[u8]) -> Result<Edit, AllocError> {
+    Ok(Edit {
+        stamp: Stamp { time, replica: 1 },
+        op: Op::SetHeader(HeaderSetting::WorldName(Bytes::new(bytes.to_vec(alloc)?))),
+    })
+}
+
+fn genesis(alloc: Global) -> Result<Edit, AllocError> {
+    Ok(Edit {
+        stamp: Stamp::GENESIS,
+        op: world(alloc)?,
+    })
+}
+
+/// Puts one of five edits into a header.
+fn take(alloc: Global, header: &mut LiveHeader, which: u8) -> Result<(), Fail> {
+    let edit = match which {
+        0 => genesis(alloc)?,
+        1 => number(3, HeaderNumber::Ammo, 9),
+        2 => number(4, HeaderNumber::Ammo, 7),
+        3 => name(alloc, 2, b"EARLY")?,
+        _ => name(alloc, 9, b"LATE")?,
+    };
+    check(alloc, &edit)?;
+    header.take(alloc, &edit)?;
+    Ok(())
+}
+
+#[test]
+fn a_header_forgets_the_order_of_its_edits(rt: HostRuntime) -> Result<(), Fail> {
+    for order in [
+        [0, 1, 2, 3, 4],
+        [4, 3, 2, 1, 0],
+        [2, 0, 4, 1, 3],
+        [1, 4, 0, 3, 2],
+    ] {
+        let mut header = LiveHeader::new();
+        for which in order {
+            take(rt.alloc(), &mut header, which)?;
+        }
+        assert_eq!(rt; header.number(HeaderNumber::Ammo), 7);
+        assert_eq!(rt; header.number(HeaderNumber::Gems), 5);
+        assert_eq!(rt; header.number(HeaderNumber::Health), 0);
+        assert_eq!(rt; header.world_name(), b"LATE".as_slice());
+    }
+    Ok(())
+}
+
+#[test]
+fn what_was_never_written_is_empty(rt: HostRuntime) -> Result<(), Fail> {
+    let mut header = LiveHeader::new();
+    let second = Stamp {
+        time: 2,
+        replica: 1,
+    };
+    header.write(second, &HeaderSetting::Key(KeyColour::Red, true))?;
+    header.write(second, &HeaderSetting::Saved(true))?;
+    assert!(rt; header.key(KeyColour::Red));
+    assert!(rt; !header.key(KeyColour::White));
+    assert!(rt; header.saved());
+    assert_eq!(rt; header.current_board(), BoardId::TITLE);
+    assert_eq!(rt; header.number(HeaderNumber::Score), 0);
+    assert_eq!(rt; header.world_name(), b"".as_slice());
+    assert_eq!(rt; header.flag(FlagSlot::Tenth), b"".as_slice());
+    Ok(())
+}
+
+/// The time and the value of a register's write.
+fn kept(slot: &Option<Written<u8>>) -> Option<(u64, u8)> {
+    match slot {
+        Some(write) => Some((write.stamp.time, write.value)),
+        None => None,
+    }
+}
+
+#[test]
+fn a_property_keeps_the_later_write(rt: HostRuntime) -> Result<(), Fail> {
+    let mut properties = LiveProperties::new();
+    for (time, shots) in [(4, 40), (6, 60), (5, 50)] {
+        properties.write(
+            Stamp { time, replica: 1 },
+            &BoardSetting::Byte(BoardByte::MaxShots, shots),
+        )?;
+    }
+    assert_eq!(rt; kept(&properties.bytes[0]), Some((6, 60)));
+    assert_eq!(rt; kept(&properties.bytes[1]), None);
+    assert!(rt; properties.time_limit.is_none());
+    Ok(())
+}
+
+/// Asks that the growth `nth` from here on is refused. An allocator that doesn't listen refuses the request alone.
+fn refuse(alloc: Global, nth: usize) {
+    let _ = Vec::<u8>::with_capacity(alloc, MARK.saturating_add(nth));
+}
+
+/// Ends what `refuse` asked for, and says whether a growth was refused.
+fn was_refused(alloc: Global) -> bool {
+    Vec::<u8>::with_capacity(alloc, MARK).is_err()
+}
+
+/// Whether each growth of an edit, refused in turn, leaves a header empty, up to the call that met none and took the edit.
+fn sweep(alloc: Global, edit: &Edit) -> Result<bool, Fail> {
+    for nth in 1..=MOST_GROWTHS {
+        let mut header = LiveHeader::new();
+        check(alloc, edit)?;
+        refuse(alloc, nth);
+        let answer = header.take(alloc, edit);
+        if !was_refused(alloc) {
+            return Ok(answer.is_ok());
+        }
+        let is_empty = header.number(HeaderNumber::Ammo) == 0 && header.world_name().is_empty();
+        if answer != Err(LiveError::Memory) || !is_empty {
+            return Ok(false);
+        }
+    }
+    Ok(false)
+}
+
+#[test]
+fn a_refused_growth_leaves_the_header(rt: HostRuntime) -> Result<(), Fail> {
+    let world = genesis(rt.alloc())?;
+    assert!(rt; sweep(rt.alloc(), &world)?);
+    let title = name(rt.alloc(), 2, b"TITLE")?;
+    assert!(rt; sweep(rt.alloc(), &title)?);
+    Ok(())
+}

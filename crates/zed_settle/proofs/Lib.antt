@@ -1,0 +1,16 @@
+pub mod BoardFields
+pub mod BoardReads
+pub mod EarlierThings
+pub mod Found
+pub mod Fresh
+pub mod HeaderFields
+pub mod HeldAlone
+pub mod Homes
+pub mod Making
+pub mod OrderedLists
+pub mod OwnNames
+pub mod Settling
+pub mod StatFields
+pub mod StatReads
+pub mod WholeSteps
+pub mod Winning

@@ -1,0 +1,4 @@
+mod Changed
+mod FieldWrites
+mod Numbers
+mod Sorting

@@ -1,0 +1,3 @@
+pub mod Arrivals
+pub mod Fields
+pub mod Stats

@@ -1,0 +1,17 @@
+//! The stats of a board in the order of their names, each with its registers, for edits in any order.
+#![tactic(auto)]
+
+mod error;
+mod field;
+mod laws;
+mod stat;
+mod stats;
+
+pub use error::StatsError;
+pub use field::StatField;
+pub use laws::fields_hold_the_latest;
+pub use stat::{LiveStat, StatValues};
+pub use stats::{MadeStat, Stats};
+
+#[cfg(test)]
+mod tests;

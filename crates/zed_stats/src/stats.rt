@@ -1,0 +1,144 @@
+//! The stats of a board.
+
+ghost use Rattle.std.specs.Prelude.{◌≡◌, ◌<◌, [], length, false, OnOk, OnErr, IfErr, Some};
+ghost use Rattle.zed_stats.specs.Fields.{new_stat, write, remove as removed};
+ghost use Rattle.zed_stats.specs.Stats.{has as is_there, add as added, change, number_of as number_in, made_at, field_at};
+
+use crate::error::StatsError;
+use crate::field::StatField;
+use crate::stat::{LiveStat, StatValues};
+use indexmap::IndexMap;
+use std::alloc::Global;
+use std::marker::Model;
+use zed_types::{Stamp, StatId, StatSetting};
+
+/// A stat that was made, and whether it is removed.
+#[derive(Clone, Copy, Debug, PartialEq, Eq)]
+pub struct MadeStat {
+    pub id: StatId,
+    pub removed: bool,
+}
+
+/// The stats of a board, removed ones too, in the order of their names: by stamp, and then by index.
+#[derive(Drop)]
+pub struct Stats {
+    entries: IndexMap<StatId, LiveStat>,
+}
+
+impl Model for Stats {
+    ghost use Rattle.std.specs.Prelude.{List, IsSorted};
+    ghost use Rattle.zed_types.specs.declared.names.StatId.{StatId as TheId};
+    ghost use Rattle.zed_stats.specs.declared.stat.LiveStat.{LiveStat as TheStat};
+    ghost use Rattle.zed_stats.specs.Stats.{stat_cmp};
+    ghost use Rattle.indexmap.specs.IndexMap.{keys};
+
+    ghost Value = { List (TheId × TheStat) };
+
+    ghost view = { λ s. s.entries.entries };
+
+    ghost invariant = { λ s. IsSorted stat_cmp (keys s.entries) };
+}
+
+impl Stats {
+    /// No stat.
+    pub fn new(alloc: Global) -> Stats
+        ensures { result ≡ [] }
+    {
+        Stats {
+            entries: IndexMap::new(alloc),
+        }
+    }
+
+    /// Adds a stat at its place. One that was added before stays as it is, removed or not.
+    pub fn add(&mut self, id: StatId, is_player: bool, values: StatValues) -> Result<(), StatsError>
+        ensures ok { OnOk result
+            (self.new ≡ added id (new_stat is_player id.name.stamp values) self.old) }
+        ensures err { IfErr result (λ e. e ≡ StatsError.Memory) }
+        ensures kept { OnErr result (self.new ≡ self.old) }
+        ensures memory_only_when { OnErr result (is_there id self.old ≡ false) }
+    {
+        if self.entries.contains_key(&id) {
+            return Ok(());
+        }
+        match self
+            .entries
+            .insert_sorted(id, LiveStat::new(is_player, id.name.stamp, values))
+        {
+            Ok(_) => Ok(()),
+            Err(_) => Err(StatsError::Memory),
+        }
+    }
+
+    /// Whether a stat of this name was added, removed or not.
+    pub fn has(&self, id: StatId) -> bool
+        ensures { result ≡ is_there id self.now }
+    {
+        self.entries.contains_key(&id)
+    }
+
+    /// Marks a stat removed, but for a player. It keeps its name and its fields.
+    pub fn remove(&mut self, id: StatId)
+        ensures { self.new ≡ change id removed self.old }
+    {
+        if let Some(i) = self.entries.get_index_of(&id) {
+            if let Some(stat) = self.entries.get_index_mut(i) {
+                stat.remove();
+            }
+        }
+    }
+
+    /// Gives a field of a stat a value, unless it has one with a stamp as late or later.
+    pub fn set_field(&mut self, id: StatId, stamp: Stamp, setting: StatSetting)
+        ensures { self.new ≡ change id (write stamp setting) self.old }
+    {
+        if let Some(i) = self.entries.get_index_of(&id) {
+            if let Some(stat) = self.entries.get_index_mut(i) {
+                stat.write(stamp, setting);
+            }
+        }
+    }
+
+    /// The number of a stat among those that are not removed; none for a removed one.
+    pub fn number_of(&self, id: StatId) -> Option<usize>
+        ensures { result ≡ number_in id self.now }
+    {
+        let mut number = 0;
+        for (name, stat) in self.entries.iter() {
+            if !stat.removed {
+                if *name == id {
+                    return Some(number);
+                }
+                number += 1;
+            }
+        }
+        None
+    }
+
+    /// How many stats were added, removed ones too.
+    pub fn count(&self) -> usize
+        ensures { result ≡ length self.now }
+    {
+        self.entries.len()
+    }
+
+    /// Stat j in the order of names.
+    pub fn at(&self, j: usize) -> MadeStat
+        requires { j < length self.now }
+        ensures { made_at j self.now ≡ Some result }
+    {
+        let (id, stat) = self.entries.get_index(j).unwrap();
+        MadeStat {
+            id: *id,
+            removed: stat.removed,
+        }
+    }
+
+    /// A field of stat j in the order of names.
+    pub fn field(&self, j: usize, field: StatField) -> StatSetting
+        requires { j < length self.now }
+        ensures { field_at j field self.now ≡ Some result }
+    {
+        let (_, stat) = self.entries.get_index(j).unwrap();
+        stat.values.value(field)
+    }
+}
