@@ -1,0 +1,6 @@
+pub mod EndsLaws
+pub mod Deliveries
+pub mod Tallies
+pub mod Readings
+pub mod Outcomes
+pub mod Files

@@ -1,0 +1,15 @@
+use Rattle.std.proofs.Common.{◌≡◌, ◌∙◌, ◌++◌, ◌+◌, drop, refl, sym, ap, take, take-append-drop, rules}
+use Rattle.std.proofs.lemmas.List.{drop-drop}
+use Rattle.zed_link.proofs.memory.MemoryLinkLink.read.Goals as goal
+
+pub returns-clause-ok : goal.returns-clause-ok
+returns-clause-ok c =
+    let all = drop c.args.self.now.at c.args.self.now.handed.items in
+    let n = c.hand_over-count.result in
+    let left : c.left_from-left.result.now ≡ all = search rules in
+    let front : take n c.hand_over-count.new.into ≡ take n all = c.hand_over-count.ensures.front ∙ ap (take n) left in
+    let back : drop n all ≡ drop (c.args.self.now.at + n) c.args.self.now.handed.items = drop-drop n c.args.self.now.at c.args.self.now.handed.items in (
+      record { left = drop (c.args.self.now.at + n) c.args.self.now.handed.items; taken = c.args.self.now.taken.items },
+      (sym (take-append-drop n all) ∙ ap (λ z. z ++ drop n all) (sym front) ∙ ap (λ z. take n c.hand_over-count.new.into ++ z) back, refl),
+      refl,
+    )

@@ -1,0 +1,16 @@
+use Rattle.std.proofs.Common.{◌≡◌, ◌++◌, List}
+use Rattle.zed_op.specs.declared.op.Edit.{Edit}
+use Rattle.zed_link.specs.Pull.{AllDelivered}
+use Rattle.zed_link.specs.Tally.{states, tally}
+use Rattle.zed_link.proofs.receiving.deliver_each.Given as goal
+
+-- all before were delivered and counted
+abbrev pub invariant-loop-edit : goal.invariant-loop-edit
+invariant-loop-edit l = record {
+  done : List Edit;
+  whole : l.fn.edits.items ≡ done ++ l.edit-iterator.rest.items;
+  all : AllDelivered l.fn.document done l.document.edits;
+  counted : l.pulled ≡ tally (states l.fn.document.edits done);
+  world : l.document.world ≡ l.fn.document.world;
+  sound : l.document.is_stale ≡ l.fn.document.is_stale;
+}

@@ -1,0 +1,39 @@
+-- What a pull makes of a link that holds a whole file.
+use Rattle.std.specs.Prelude.{◌≡◌, ◌≤◌, ◌<◌, ◌^◌, ℕ, List, length, Option, Some, Result, Ok, Err, OnOk}
+use Rattle.zed_op.specs.declared.op.Edit.{Edit}
+use Rattle.zed_editfile.specs.Spelling.{file_text}
+use Rattle.zed_editfile.specs.Stream.{AreRecords}
+use Rattle.zed_document.specs.declared.error.DocumentError.TheVariants as document
+use Rattle.zed_document.specs.Delivery.{DeliversEach}
+use Rattle.zed_document.specs.Replica.{Replica}
+use Rattle.zed_link.specs.declared.error.LinkError.{LinkError}
+use Rattle.zed_link.specs.declared.error.LinkError.TheVariants.{Memory, Clash, LinkFault, TooManyTurns}
+use Rattle.zed_link.specs.declared.pulled.Pulled.{Pulled}
+use Rattle.zed_link.specs.Ends.{Changed, HandedAll, LinkEnds}
+use Rattle.zed_link.specs.Pull.{AllDelivered, FrontDelivered, Pull, most_reads}
+use Rattle.zed_link.specs.Tally.{states, tally}
+
+-- the link tells its ends, and what is left on it is the text of a file of these edits, of the document's world
+pub record HoldsFile (d : Replica) (es : List Edit) (link : Option LinkEnds) : Type 0 where
+  pub ends : LinkEnds
+  pub told : link ≡ Some ends
+  pub number : d.world < 2 ^ 64
+  pub records : AreRecords es
+  pub text : ends.left ≡ file_text d.world es
+
+-- what comes of the edits of a whole file: all are delivered and counted, or those up to one that clashes; or memory, the link or the
+-- number of reads, if the file has as many bytes, ran out behind the first of them
+abbrev pub PullsFile : Replica → List Edit → Result Pulled LinkError → List Edit → Type 0
+PullsFile d es (Ok pulled) left = AllDelivered d es left × (pulled ≡ tally (states d.edits es))
+PullsFile d es (Err (Clash s)) left = DeliversEach d es (Err (document.Clash s)) left
+PullsFile d es (Err Memory) left = FrontDelivered d es left
+PullsFile d es (Err LinkFault) left = FrontDelivered d es left
+PullsFile d es (Err TooManyTurns) left = FrontDelivered d es left × (most_reads ≤ length (file_text d.world es))
+PullsFile d es (Err e) left = ⊥
+
+-- a link that holds the text of a file of the document's world hands over the edits of it, and where all went well nothing is left on it
+abbrev pub FilesArePulled : Type 0
+FilesArePulled =
+    (d : Replica) (es : List Edit) (old new : Option LinkEnds) (count count' : ℕ) (r : Result Pulled LinkError) (left : List Edit)
+    → HoldsFile d es old → Pull d old new count count' r left
+    → PullsFile d es r left × OnOk r (Changed (HandedAll (file_text d.world es)) old new)

@@ -1,0 +1,41 @@
+-- What becomes of the edits that one piece of a file completes.
+use Rattle.std.specs.Prelude.{◌≡◌, ◌⊎◌, List, [], ◌∷◌, Some, None, Result, Ok, Err}
+use Rattle.zed_types.specs.declared.stamp.Stamp.{Stamp}
+use Rattle.zed_op.specs.declared.op.Edit.{Edit}
+use Rattle.zed_editfile.specs.declared.error.EditFileError.{EditFileError}
+use Rattle.zed_editfile.specs.Stream.{Progress}
+use Rattle.zed_document.specs.declared.error.DocumentError.TheVariants as document
+use Rattle.zed_document.specs.declared.delivered.State.{State}
+use Rattle.zed_document.specs.Delivery.{DeliversEach}
+use Rattle.zed_document.specs.Replica.{Replica}
+use Rattle.zed_link.specs.declared.error.LinkError.{LinkError}
+use Rattle.zed_link.specs.declared.error.LinkError.TheVariants.{Memory, Clash}
+use Rattle.zed_link.specs.declared.pulled.Pulled.{Pulled}
+use Rattle.zed_link.specs.Pull.{AllDelivered, FrontDelivered}
+use Rattle.zed_link.specs.Refusals.{file_refusal}
+use Rattle.zed_link.specs.Tally.{state_in, states, tally}
+
+-- edits were delivered up to the first that was refused, for a clash or for want of memory
+abbrev pub IsStopped : Replica → List Edit → LinkError → List Edit → Type 0
+IsStopped d es e left =
+    ((e ≡ Memory) × FrontDelivered d es left)
+    ⊎ ((s : Stamp) × (e ≡ Clash s) × DeliversEach d es (Err (document.Clash s)) left)
+
+-- an edit was delivered, and its state told, or refused
+abbrev pub DeliversOne : Replica → Edit → Result State LinkError → List Edit → Type 0
+DeliversOne d e (Ok state) left = AllDelivered d (e ∷ []) left × (state ≡ state_in d.edits e)
+DeliversOne d e (Err refusal) left =
+    ((refusal ≡ Memory) × (left ≡ d.edits))
+    ⊎ ((s : Stamp) × (refusal ≡ Clash s) × DeliversEach d (e ∷ []) (Err (document.Clash s)) left)
+
+-- edits were delivered and counted, or stopped
+abbrev pub DeliversCounting : Replica → List Edit → Result Pulled LinkError → List Edit → Type 0
+DeliversCounting d es (Ok pulled) left = AllDelivered d es left × (pulled ≡ tally (states d.edits es))
+DeliversCounting d es (Err e) left = IsStopped d es e left
+
+-- the same of the edits of a piece, after which the reader may have a fault
+abbrev pub TakesPiece : Replica → List Edit → Progress → Result Pulled LinkError → List Edit → Type 0
+TakesPiece d es p (Ok pulled) left = (p.fault ≡ None) × AllDelivered d es left × (pulled ≡ tally (states d.edits es))
+TakesPiece d es p (Err e) left =
+    IsStopped d es e left
+    ⊎ ((f : EditFileError) × (e ≡ file_refusal f) × (p.fault ≡ Some f) × AllDelivered d es left)

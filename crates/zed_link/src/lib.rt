@@ -1,0 +1,21 @@
+//! Links: two-way streams of bytes that are handed in, over which replicas exchange their edits.
+#![tactic(auto)]
+
+mod error;
+mod laws;
+mod link;
+mod memory;
+mod pulled;
+mod receiving;
+mod sending;
+
+pub use error::LinkError;
+pub use laws::files_are_pulled;
+pub use link::{Failed, Link};
+pub use memory::MemoryLink;
+pub use pulled::Pulled;
+pub use receiving::receive;
+pub use sending::send;
+
+#[cfg(test)]
+mod tests;

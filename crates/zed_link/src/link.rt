@@ -1,0 +1,50 @@
+//! A link, as whoever hands one in has to make it.
+ghost use Rattle.std.specs.Prelude.{◌≡◌, ◌≢◌, ◌≤◌, ℕ, [], length, take, Option, Ok, IfOk, OnErr, is_err};
+ghost use Rattle.zed_link.specs.Counting.{Counted, Counts, takes_none};
+ghost use Rattle.zed_link.specs.Ends.{LinkEnds, Changed, HandedOver, Took, TookFront, AtItsEnd};
+
+/// A call of a link failed.
+#[derive(Clone, Copy, Debug, PartialEq, Eq)]
+pub struct Failed;
+
+/// A two-way stream of bytes.
+pub trait Link: Drop {
+    /// The bytes that are left to read and those that it took, or that this isn't told.
+    ghost ends: { Self → Option LinkEnds };
+
+    /// How many reads were made.
+    ghost reads: { Self → ℕ };
+
+    /// How many calls failed.
+    ghost failed: { Self → ℕ };
+
+    /// How many writes of some bytes took none of them.
+    ghost stalls: { Self → ℕ };
+
+    /// Puts the next bytes at the front of `into`, and answers how many. Where there is room, none is the end. A read that fails hands
+    /// over nothing and loses nothing: a link that can't promise that doesn't tell its ends.
+    fn read(&mut self, into: &mut [u8]) -> Result<usize, Failed>
+        ensures within { IfOk result (λ n. n ≤ length into.old) }
+        ensures ok { IfOk result (λ n.
+            Changed (HandedOver (take n into.new)) (ends self.old) (ends self.new)) }
+        ensures end { result ≡ Ok 0 → into.old ≢ [] → AtItsEnd (ends self.old) }
+        ensures half { OnErr result (Changed (HandedOver []) (ends self.old) (ends self.new)) }
+        ensures reads { Counted 1 (reads self.old) (reads self.new) }
+        ensures failures { Counts (is_err result) (failed self.old) (failed self.new) }
+        ensures stalls { stalls self.new ≡ stalls self.old };
+
+    /// Takes bytes from the front of these, and answers how many. A write that fails may have taken a front of them.
+    fn write(&mut self, bytes: &[u8]) -> Result<usize, Failed>
+        ensures within { IfOk result (λ n. n ≤ length bytes.now) }
+        ensures ok { IfOk result (λ n.
+            Changed (Took (take n bytes.now)) (ends self.old) (ends self.new)) }
+        ensures half { OnErr result (Changed (TookFront bytes.now) (ends self.old) (ends self.new)) }
+        ensures reads { reads self.new ≡ reads self.old }
+        ensures failures { Counts (is_err result) (failed self.old) (failed self.new) }
+        ensures stalls { Counts (takes_none bytes.now result)
+            (stalls self.old) (stalls self.new) };
+
+    /// How many calls failed, up to the greatest `u64`.
+    fn failures(&self) -> u64
+        ensures { result ≡ failed self.now };
+}

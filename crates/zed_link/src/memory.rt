@@ -1,0 +1,144 @@
+//! A link over memory, for tests.
+ghost use Rattle.std.specs.Prelude.{◌≡◌, ◌≢◌, ◌-◌, ◌<◌, ◌≤◌, nat_lt, [], ◌++◌, drop, length, take, Some, IfSome, OnErr, OnOk};
+ghost use Rattle.zed_link.specs.Counting.{Counted, Rose, most_counted};
+
+use crate::link::{Failed, Link};
+use std::alloc::Global;
+
+/// A link over memory. It hands over and takes at most so many bytes by a call, and the device may be told to fail at one of its calls.
+#[derive(Drop)]
+pub struct MemoryLink {
+    handed: Vec<u8>,
+    // how many of these were read
+    at: usize,
+    taken: Vec<u8>,
+    piece: usize,
+    reads: u64,
+    failures: u64,
+    // the writes of some bytes that took none
+    stalls: u64,
+    // the calls that pass before one fails
+    passing: u64,
+}
+
+impl MemoryLink {
+    /// A link that hands over these bytes, `piece` of them by a read and at least one, takes at most `piece` by a write, and fails at
+    /// the one call after `passing` of them. It fails again after 2^64 - 1 calls more, and so on.
+    pub fn new(alloc: Global, handed: Vec<u8>, piece: usize, passing: u64) -> MemoryLink
+        ensures ends { ⟦<MemoryLink as Link>⟧.ends result
+            ≡ Some (record { left = handed.items; taken = [] }) }
+        ensures reads { ⟦<MemoryLink as Link>⟧.reads result ≡ 0 }
+        ensures failures { ⟦<MemoryLink as Link>⟧.failed result ≡ 0 }
+        ensures stalls { ⟦<MemoryLink as Link>⟧.stalls result ≡ 0 }
+    {
+        MemoryLink {
+            handed,
+            at: 0,
+            taken: Vec::new(alloc),
+            piece,
+            reads: 0,
+            failures: 0,
+            stalls: 0,
+            passing,
+        }
+    }
+
+    /// What it took.
+    pub fn taken(&self) -> &[u8]
+        ensures { IfSome (⟦<MemoryLink as Link>⟧.ends self.now) (λ t. result.now ≡ t.taken) }
+    {
+        self.taken.as_slice()
+    }
+
+    /// How many reads were made, up to the greatest `u64`.
+    pub fn reads(&self) -> u64
+        ensures { result ≡ ⟦<MemoryLink as Link>⟧.reads self.now }
+    {
+        self.reads
+    }
+}
+
+// Counts one more.
+fn count(counter: &mut u64)
+    ensures rises { Rose counter.old counter.new }
+    ensures one { Counted 1 counter.old counter.new }
+{
+    *counter = counter.saturating_add(1);
+}
+
+// Whether a call passes, where so many still do before one fails. After that one the next 2^64 - 1 do.
+fn passes(passing: &mut u64) -> bool {
+    if *passing == 0 {
+        *passing = u64::MAX;
+        return false;
+    }
+    *passing -= 1;
+    true
+}
+
+// What is left of bytes of which so many were read.
+fn left_from(bytes: &[u8], at: usize) -> &[u8]
+    ensures { result.now ≡ drop at bytes.now }
+{
+    if at < bytes.len() {
+        let (_, left) = bytes.split_at(at);
+        left
+    } else {
+        &[]
+    }
+}
+
+// Puts the front of `left` to the front of `into`: at most `piece` bytes, and at least one where there is one and room for it.
+fn hand_over(left: &[u8], piece: usize, into: &mut [u8]) -> usize
+    ensures within { result ≤ length into.old }
+    ensures left { result ≤ length left.now }
+    ensures front { take result into.new ≡ take result left.now }
+    ensures end { result ≡ 0 → into.old ≢ [] → left.now ≡ [] }
+{
+    let count = piece.max(1).min(into.len()).min(left.len());
+    let (front, _) = left.split_at(count);
+    into[..count].copy_from_slice(front);
+    count
+}
+
+impl Link for MemoryLink {
+    ghost ends = { λ link. Some (record { left = drop link.at link.handed.items; taken = link.taken.items }) };
+
+    ghost reads = { λ link. link.reads };
+
+    ghost failed = { λ link. link.failures };
+
+    ghost stalls = { λ link. link.stalls };
+
+    fn read(&mut self, into: &mut [u8]) -> Result<usize, Failed> {
+        count(&mut self.reads);
+        if !passes(&mut self.passing) {
+            count(&mut self.failures);
+            return Err(Failed);
+        }
+        let left = left_from(self.handed.as_slice(), self.at);
+        let count = hand_over(left, self.piece, into);
+        self.at += count;
+        Ok(count)
+    }
+
+    fn write(&mut self, bytes: &[u8]) -> Result<usize, Failed> {
+        if !passes(&mut self.passing) {
+            count(&mut self.failures);
+            return Err(Failed);
+        }
+        let (front, _) = bytes.split_at(self.piece.min(bytes.len()));
+        if self.taken.extend_from_slice(front).is_err() {
+            count(&mut self.failures);
+            return Err(Failed);
+        }
+        if front.is_empty() && !bytes.is_empty() {
+            count(&mut self.stalls);
+        }
+        Ok(front.len())
+    }
+
+    fn failures(&self) -> u64 {
+        self.failures
+    }
+}

@@ -1,0 +1,157 @@
+//! Edit files received over a link.
+ghost use Rattle.std.specs.Prelude.{◌≡◌, ◌≢◌, ◌≤◌, ◌+◌, ◌↔◌, List, [], ◌∷◌, length, take, true, false, Some, None, Ok, Err, IfOk, IfErr, OnOk, OnErr, MatchResult};
+ghost use Rattle.zed_types.specs.declared.stamp.Stamp.{Stamp as TheStamp};
+ghost use Rattle.zed_op.specs.declared.op.Edit.{Edit as TheEdit};
+ghost use Rattle.zed_op.specs.Fit.{Fits};
+ghost use Rattle.zed_op.specs.Set.{AllFit};
+ghost use Rattle.zed_editfile.specs.Stream.{Feeds};
+ghost use Rattle.zed_link.specs.Counting.{Counted, Counts};
+ghost use Rattle.zed_link.specs.Ends.{Changed, HandedAll, HandedOver};
+ghost use Rattle.zed_link.specs.Pieces.{DeliversCounting, DeliversOne, TakesPiece};
+ghost use Rattle.zed_link.specs.Pull.{Pull, most_reads};
+ghost use Rattle.zed_link.specs.Refusals.{is_fault};
+ghost use Rattle.zed_link.specs.Tally.{state_in};
+
+use crate::error::LinkError;
+use crate::link::{Failed, Link};
+use crate::pulled::Pulled;
+use std::alloc::Global;
+use zed_document::{Document, DocumentError, State};
+use zed_edit::Edit;
+use zed_editfile::{EditReader, fronts_are_read};
+
+/// The most bytes that one read asks for.
+const PIECE: usize = 4096;
+
+/// The most reads of one pull.
+const MOST_READS: u32 = 1_048_576;
+
+/// Delivers an edit that fits.
+fn deliver_one(document: &mut Document, edit: Edit) -> Result<State, LinkError>
+    requires sound { document.old.is_stale ≡ false }
+    requires fits { Fits edit }
+    ensures result { DeliversOne document.old edit result document.new.edits }
+    ensures world { document.new.world ≡ document.old.world }
+    ensures stale { (result ≢ Err LinkError.Memory)
+        → document.new.is_stale ≡ document.old.is_stale }
+{
+    match document.deliver(edit) {
+        Ok(told) => Ok(told.state),
+        Err(DocumentError::Clash(stamp)) => Err(LinkError::Clash(stamp)),
+        // it isn't stale, and the edit fits
+        Err(
+            DocumentError::Memory
+            | DocumentError::OtherWorld
+            | DocumentError::BadEdit(_)
+            | DocumentError::Stale
+            | DocumentError::NoSuch
+            | DocumentError::OutOfRange
+            | DocumentError::ClockSpent,
+        ) => Err(LinkError::Memory),
+    }
+}
+
+/// Delivers edits one after the other, up to the first that is refused, and counts them.
+fn deliver_each(document: &mut Document, edits: Vec<Edit>) -> Result<Pulled, LinkError>
+    requires sound { document.old.is_stale ≡ false }
+    requires fit { AllFit edits.items }
+    ensures result { DeliversCounting document.old edits.items result document.new.edits }
+    ensures world { document.new.world ≡ document.old.world }
+    ensures stale { (result ≢ Err LinkError.Memory)
+        → document.new.is_stale ≡ document.old.is_stale }
+{
+    let mut pulled = Pulled::NONE;
+    for edit in edits {
+        let state = deliver_one(document, edit)?;
+        pulled.count(state);
+    }
+    Ok(pulled)
+}
+
+/// Reads a piece of an edit file, and delivers the edits that it completes, before any fault that it shows.
+#[tactic(auto, using(crate::proofs::Readings::fed_edits_fit))]
+fn take_piece(
+    alloc: Global,
+    reader: &mut EditReader,
+    piece: &[u8],
+    document: &mut Document,
+) -> Result<Pulled, LinkError>
+    requires sound { document.old.is_stale ≡ false }
+    ensures result { (es : List TheEdit) × Feeds piece.now [] es reader.old reader.new
+        × TakesPiece document.old es reader.new result document.new.edits }
+    ensures asked { reader.new.asked ≡ reader.old.asked }
+    ensures world { document.new.world ≡ document.old.world }
+    ensures stale { (result ≢ Err LinkError.Memory)
+        → document.new.is_stale ≡ document.old.is_stale }
+{
+    let mut edits = Vec::new(alloc);
+    let fed = reader.feed(piece, &mut edits);
+    let pulled = deliver_each(document, edits)?;
+    fed?;
+    Ok(pulled)
+}
+
+/// Reads the next bytes of a link to the front of `into`, and answers how many.
+#[tactic(auto, using(crate::proofs::EndsLaws::end_comes))]
+fn read_some(link: &mut dyn Link, into: &mut [u8]) -> Result<usize, LinkError>
+    requires { into.old ≢ [] }
+    ensures within { IfOk result (λ n. n ≤ length into.new) }
+    ensures ok { IfOk result (λ n.
+        Changed (HandedOver (take n into.new)) (ends link.old) (ends link.new)) }
+    ensures end { result ≡ Ok 0 → Changed (HandedAll []) (ends link.old) (ends link.new) }
+    ensures half { OnErr result (Changed (HandedOver []) (ends link.old) (ends link.new)) }
+    ensures err { IfErr result (λ e. e ≡ LinkError.LinkFault) }
+    ensures length { length into.new ≡ length into.old }
+    ensures reads { Counted 1 (reads link.old) (reads link.new) }
+    ensures failures { Counts (is_fault result) (failed link.old) (failed link.new) }
+    ensures stalls { stalls link.new ≡ stalls link.old }
+{
+    match link.read(into) {
+        Ok(count) => Ok(count),
+        Err(Failed) => Err(LinkError::LinkFault),
+    }
+}
+
+/// Reads an edit file of the document's world from a link, to the end of input, and delivers each of its edits as soon as it is whole.
+///
+/// # Errors
+/// Stale first, and then nothing is read. Else what comes first: LinkFault where a read fails; the refusals of an edit file; Clash; Memory,
+/// after which the document may be stale; TooManyTurns after 1,048,576 reads that weren't the end. What was delivered before stays,
+/// and after what comes first nothing more is read.
+pub fn receive(
+    alloc: Global,
+    link: &mut dyn Link,
+    document: &mut Document,
+) -> Result<Pulled, LinkError>
+    ensures pull { document.old.is_stale ≡ false
+        → Pull document.old (ends link.old) (ends link.new) (reads link.old) (reads link.new)
+        result document.new.edits }
+    ensures stale_first { (result ≡ Err LinkError.Stale) ↔ (document.old.is_stale ≡ true) }
+    ensures kept { document.old.is_stale ≡ true
+        → (document.new ≡ document.old) × (link.new ≡ link.old) }
+    ensures world { document.new.world ≡ document.old.world }
+    ensures stale { (result ≢ Err LinkError.Memory)
+        → document.new.is_stale ≡ document.old.is_stale }
+    ensures reads { reads link.new ≤ reads link.old + most_reads }
+    ensures failures { Counts (is_fault result) (failed link.old) (failed link.new) }
+    ensures stalls { stalls link.new ≡ stalls link.old }
+{
+    if document.view().is_err() {
+        return Err(LinkError::Stale);
+    }
+    // no fault in the midst is taken for a cut end
+    fronts_are_read();
+    let mut reader = EditReader::new(alloc, Some(document.world()));
+    let mut pulled = Pulled::NONE;
+    let mut buffer = [0; PIECE];
+    for reads in 0..MOST_READS {
+        let count = read_some(link, &mut buffer)?;
+        if count == 0 {
+            reader.finish()?;
+            return Ok(pulled);
+        }
+        let (piece, _) = buffer.split_at(count);
+        pulled = pulled.plus(take_piece(alloc, &mut reader, piece, document)?);
+    }
+    Err(LinkError::TooManyTurns)
+}

@@ -1,0 +1,314 @@
+//! Links over memory, as tables.
+ghost use Rattle.std.specs.Prelude.{None};
+
+use crate::{Failed, Link, LinkError, MemoryLink, Pulled, receive, send};
+use std::alloc::Global;
+use std::test::Fail;
+use zed_document::Document;
+use zed_op::Cause;
+use zed_types::Stamp;
+
+/// The size that the allocator of the sweep over refused growths listens to.
+const MARK: usize = 3_141_592;
+
+/// Most growths that a sweep goes through.
+const MOST_GROWTHS: usize = 64;
+
+/// A file of world 7: its head, and an edit of cells at (2,1) of a board that isn't made.
+const CELLS: [u8; 43] = [
+    0x5a, 0x45, 0x44, 1, 7, 0, 0, 0, 0, 0, 0, 0, 0x1b, 0, 0, 0, 2, 0, 0, 0, 0, 0, 1, 0, 6, 1, 0, 0,
+    0, 0, 0, 0, 0, 0, 0, 0, 0, 5, 5, 5, 5, 0x15, 0x0e,
+];
+
+/// The record of a text added at (3,1).
+const TEXT: [u8; 13] = [9, 0, 0, 0, 3, 0, 0, 0, 0, 0, 1, 0, 10];
+
+/// The record of a text added at (2,1), the stamp of the cells.
+const OTHER: [u8; 13] = [9, 0, 0, 0, 2, 0, 0, 0, 0, 0, 1, 0, 10];
+
+/// The record of an edit that there isn't.
+const BAD: [u8; 13] = [9, 0, 0, 0, 3, 0, 0, 0, 0, 0, 1, 0, 13];
+
+/// The stamp of the cells.
+const FIRST: Stamp = Stamp {
+    time: 2,
+    replica: 1,
+};
+
+/// Asks that the growth `nth` from here on is refused. An allocator that doesn't listen refuses the request alone.
+fn refuse(alloc: Global, nth: usize) {
+    let _ = Vec::<u8>::with_capacity(alloc, MARK.saturating_add(nth));
+}
+
+/// Ends what `refuse` asked for, and says whether a growth was refused.
+fn was_refused(alloc: Global) -> bool {
+    Vec::<u8>::with_capacity(alloc, MARK).is_err()
+}
+
+/// The file of cells, and these records behind it.
+fn file(rt: &HostRuntime, records: &[[u8; 13]]) -> Result<Vec<u8>, Fail> {
+    let mut bytes = Vec::from_slice(rt.alloc(), &CELLS)?;
+    for record in records {
+        bytes.extend_from_slice(record)?;
+    }
+    Ok(bytes)
+}
+
+#[test]
+fn a_file_is_received_in_pieces_of_every_length(rt: HostRuntime) -> Result<(), Fail> {
+    for piece in 1..=50 {
+        let bytes = file(&rt, &[TEXT, TEXT])?;
+        let mut link = MemoryLink::new(rt.alloc(), bytes, piece, u64::MAX);
+        let mut document = Document::new(rt.alloc(), 7);
+        let pulled = receive(rt.alloc(), &mut link, &mut document);
+        assert_eq!(rt;
+            pulled,
+            Ok(Pulled {
+                taken: 1,
+                held: 1,
+                known: 1
+            })
+        );
+        assert_eq!(rt; document.edits().len(), 2);
+        assert_eq!(rt; link.failures(), 0);
+    }
+    Ok(())
+}
+
+#[test]
+fn each_growth_of_receive_refused(rt: HostRuntime) -> Result<(), Fail> {
+    for nth in 1..=MOST_GROWTHS {
+        let bytes = file(&rt, &[TEXT, TEXT])?;
+        let mut link = MemoryLink::new(rt.alloc(), bytes, 20, u64::MAX);
+        let mut document = Document::new(rt.alloc(), 7);
+        refuse(rt.alloc(), nth);
+        let pulled = receive(rt.alloc(), &mut link, &mut document);
+        if !was_refused(rt.alloc()) {
+            assert_eq!(rt; pulled.is_ok(), true);
+            assert_eq!(rt; document.edits().len(), 2);
+            return Ok(());
+        }
+        assert_eq!(rt; pulled, Err(LinkError::Memory), "growth {nth}");
+        // the first of the file's edits are there, and after a repair another pull brings all
+        let edits = document.edits();
+        assert_eq!(rt; edits.len() <= 2, true, "growth {nth}");
+        assert_eq!(rt;
+            edits.first().is_none_or(|edit| edit.stamp == FIRST),
+            true,
+            "growth {nth}"
+        );
+        document.repair()?;
+        let bytes = file(&rt, &[TEXT, TEXT])?;
+        let mut again = MemoryLink::new(rt.alloc(), bytes, 20, u64::MAX);
+        assert_eq!(rt;
+            receive(rt.alloc(), &mut again, &mut document).is_ok(),
+            true
+        );
+        assert_eq!(rt; document.edits().len(), 2, "growth {nth}");
+    }
+    Err(Fail::new("more growths than expected"))
+}
+
+#[test]
+fn a_read_that_fails_leaves_the_edits_before_it(rt: HostRuntime) -> Result<(), Fail> {
+    for passing in 0..9 {
+        let bytes = file(&rt, &[TEXT])?;
+        let mut link = MemoryLink::new(rt.alloc(), bytes, 7, passing);
+        let mut document = Document::new(rt.alloc(), 7);
+        let pulled = receive(rt.alloc(), &mut link, &mut document);
+        assert_eq!(rt; pulled, Err(LinkError::LinkFault));
+        let whole = match passing {
+            0..=6 => 0,
+            7 => 1,
+            _ => 2,
+        };
+        assert_eq!(rt; document.edits().len(), whole);
+        assert_eq!(rt; link.failures(), 1);
+        assert_eq!(rt; link.reads(), passing + 1);
+    }
+    Ok(())
+}
+
+#[test]
+fn each_read_is_counted_the_one_of_the_end_too(rt: HostRuntime) -> Result<(), Fail> {
+    for (piece, reads) in [
+        (1, 70),
+        (2, 36),
+        (7, 11),
+        (50, 3),
+        (68, 3),
+        (69, 2),
+        (100, 2),
+    ] {
+        let bytes = file(&rt, &[TEXT, TEXT])?;
+        let mut link = MemoryLink::new(rt.alloc(), bytes, piece, u64::MAX);
+        let mut document = Document::new(rt.alloc(), 7);
+        let pulled = receive(rt.alloc(), &mut link, &mut document);
+        assert_eq!(rt; pulled.is_ok(), true);
+        assert_eq!(rt; link.reads(), reads);
+    }
+    Ok(())
+}
+
+#[test]
+fn bytes_are_sent_in_pieces_of_every_length(rt: HostRuntime) -> Result<(), Fail> {
+    for piece in 1..=50 {
+        let mut link = MemoryLink::new(rt.alloc(), Vec::new(rt.alloc()), piece, u64::MAX);
+        assert_eq!(rt; send(&mut link, &CELLS), Ok(()));
+        assert_eq!(rt; link.taken(), CELLS.as_slice());
+    }
+    Ok(())
+}
+
+#[test]
+fn a_write_that_fails_leaves_a_front(rt: HostRuntime) -> Result<(), Fail> {
+    for passing in 0..8 {
+        let mut link = MemoryLink::new(rt.alloc(), Vec::new(rt.alloc()), 5, passing);
+        assert_eq!(rt; send(&mut link, &CELLS), Err(LinkError::LinkFault));
+        assert_eq!(rt; link.taken().len(), 5 * (passing as usize));
+        assert_eq!(rt; CELLS.starts_with(link.taken()), true);
+        assert_eq!(rt; link.failures(), 1);
+    }
+    Ok(())
+}
+
+#[test]
+fn a_link_that_takes_nothing_is_a_fault(rt: HostRuntime) -> Result<(), Fail> {
+    let mut link = MemoryLink::new(rt.alloc(), Vec::new(rt.alloc()), 0, u64::MAX);
+    assert_eq!(rt; send(&mut link, &CELLS), Err(LinkError::LinkFault));
+    assert_eq!(rt; link.failures(), 0);
+    assert_eq!(rt; send(&mut link, &[]), Ok(()));
+    Ok(())
+}
+
+#[test]
+fn what_is_wrong_comes_first(rt: HostRuntime) -> Result<(), Fail> {
+    // the bytes up to the one that shows what is wrong, and the edits before it; the next call of the link would fail
+    for (world, place, byte, refusal, shown, edits) in [
+        (7, 2, 0x45, LinkError::Magic, 3, 0),
+        (7, 3, 2, LinkError::NewVersion, 4, 0),
+        (8, 0, 0x5a, LinkError::OtherWorld, 12, 0),
+        (7, 12, 8, LinkError::RecordLength, 16, 0),
+        (7, 24, 13, LinkError::BadEdit(Cause::Op), 43, 0),
+        (7, 37, 6, LinkError::BadEdit(Cause::Range), 43, 0),
+        (7, 43, 8, LinkError::RecordLength, 47, 1),
+        (7, 0, 0x5a, LinkError::Clash(FIRST), 56, 1),
+    ] {
+        for (piece, passing) in [(1, shown), (100, 1)] {
+            let mut bytes = file(&rt, &[OTHER])?;
+            if let Some(there) = bytes.get_mut(place) {
+                *there = byte;
+            }
+            let mut link = MemoryLink::new(rt.alloc(), bytes, piece, passing);
+            let mut document = Document::new(rt.alloc(), world);
+            let pulled = receive(rt.alloc(), &mut link, &mut document);
+            assert_eq!(rt; pulled, Err(refusal));
+            assert_eq!(rt; document.edits().len(), edits);
+            assert_eq!(rt; link.reads(), passing);
+            assert_eq!(rt; link.failures(), 0);
+        }
+    }
+    Ok(())
+}
+
+#[test]
+fn of_two_wrong_records_the_first_is_told(rt: HostRuntime) -> Result<(), Fail> {
+    // the bytes up to the end of the first wrong record, and the edits before it; the next call of the link would fail
+    for (records, refusal, shown, edits) in [
+        ([TEXT, BAD], LinkError::BadEdit(Cause::Op), 69, 2),
+        ([TEXT, OTHER], LinkError::Clash(FIRST), 69, 2),
+        ([BAD, TEXT], LinkError::BadEdit(Cause::Op), 56, 1),
+        ([BAD, OTHER], LinkError::BadEdit(Cause::Op), 56, 1),
+        ([OTHER, TEXT], LinkError::Clash(FIRST), 56, 1),
+        ([OTHER, BAD], LinkError::Clash(FIRST), 56, 1),
+    ] {
+        for (piece, passing) in [(1, shown), (100, 1)] {
+            let bytes = file(&rt, &records)?;
+            let mut link = MemoryLink::new(rt.alloc(), bytes, piece, passing);
+            let mut document = Document::new(rt.alloc(), 7);
+            let pulled = receive(rt.alloc(), &mut link, &mut document);
+            assert_eq!(rt; pulled, Err(refusal));
+            assert_eq!(rt; document.edits().len(), edits);
+            assert_eq!(rt; link.reads(), passing);
+            assert_eq!(rt; link.failures(), 0);
+        }
+    }
+    Ok(())
+}
+
+#[test]
+fn a_cut_file_is_cut_short(rt: HostRuntime) -> Result<(), Fail> {
+    for length in 0..43 {
+        let (front, _) = CELLS.split_at(length);
+        let bytes = Vec::from_slice(rt.alloc(), front)?;
+        let mut link = MemoryLink::new(rt.alloc(), bytes, 100, u64::MAX);
+        let mut document = Document::new(rt.alloc(), 7);
+        let pulled = receive(rt.alloc(), &mut link, &mut document);
+        let none = Pulled {
+            taken: 0,
+            held: 0,
+            known: 0,
+        };
+        let end = if length == 12 {
+            Ok(none)
+        } else {
+            Err(LinkError::CutShort)
+        };
+        assert_eq!(rt; pulled, end);
+        assert_eq!(rt; document.edits().len(), 0);
+    }
+    Ok(())
+}
+
+/// A link that hands over a head, and then one record for ever, a byte by a read.
+#[derive(Drop)]
+struct Endless {
+    at: usize,
+    reads: u64,
+}
+
+impl Link for Endless {
+    ghost ends = { λ _. None };
+
+    ghost reads = { λ link. link.reads };
+
+    ghost failed = { λ _. 0 };
+
+    ghost stalls = { λ _. 0 };
+
+    fn read(&mut self, into: &mut [u8]) -> Result<usize, Failed> {
+        self.reads = self.reads.saturating_add(1);
+        if into.is_empty() {
+            return Ok(0);
+        }
+        into[0] = *CELLS.get(self.at).unwrap_or(&0);
+        self.at = if self.at >= 42 { 12 } else { self.at + 1 };
+        Ok(1)
+    }
+
+    fn write(&mut self, bytes: &[u8]) -> Result<usize, Failed> {
+        Ok(bytes.len())
+    }
+
+    fn failures(&self) -> u64 {
+        0
+    }
+}
+
+#[test]
+fn a_link_without_an_end_takes_too_many_turns(rt: HostRuntime) -> Result<(), Fail> {
+    let mut document = Document::new(rt.alloc(), 7);
+    let mut link = Endless { at: 0, reads: 0 };
+    let pulled = receive(rt.alloc(), &mut link, &mut document);
+    assert_eq!(rt; pulled, Err(LinkError::TooManyTurns));
+    assert_eq!(rt; link.reads, 1_048_576);
+    assert_eq!(rt; document.edits().len(), 1);
+    assert_eq!(rt;
+        document
+            .edits()
+            .first()
+            .is_some_and(|edit| edit.stamp == FIRST),
+        true
+    );
+    Ok(())
+}

@@ -1,0 +1,43 @@
+//! Sources of keys, as boxed objects that are handed in.
+ghost use Rattle.std.specs.Prelude.{◌≡◌, ℕ, List, Option, IfErr, IfOk, IfSome, OnErr, OnOk, is_err};
+ghost use Rattle.zed_session.specs.Devices.{Counts, first_of, without_first};
+
+use crate::error::SessionError;
+use crate::screen::Failed;
+use zed_play::Key;
+
+/// A source of keys, which come one after the other.
+pub trait Keys: Drop {
+    ghost use Rattle.zed_play.specs.declared.key.Key.{Key};
+
+    /// The keys that are left; or that these aren't told.
+    ghost left: { Self → Option (List Key) };
+
+    /// How many calls of `next` failed.
+    ghost key_failures: { Self → ℕ };
+
+    /// The next key, or None where no more come. Where that fails, no key is taken.
+    fn next(&mut self) -> Result<Option<Key>, Failed>
+        ensures key { IfOk result (λ key. IfSome (left self.old) (λ keys. key ≡ first_of keys)) }
+        ensures ok { OnOk result (left self.new ≡ without_first (left self.old)) }
+        ensures err { OnErr result (left self.new ≡ left self.old) }
+        ensures failures { Counts (is_err result) (key_failures self.old) (key_failures self.new) };
+
+    /// How many calls of `next` failed, up to the greatest `u64`.
+    fn failures(&self) -> u64
+        ensures { result ≡ key_failures self.now };
+}
+
+/// The next key of a boxed source.
+pub(crate) fn next_of(keys: &mut Box<dyn Keys>) -> Result<Option<Key>, SessionError>
+    ensures key { IfOk result (λ key. IfSome (left keys.old) (λ told. key ≡ first_of told)) }
+    ensures ok { OnOk result (left keys.new ≡ without_first (left keys.old)) }
+    ensures kept { OnErr result (left keys.new ≡ left keys.old) }
+    ensures err { IfErr result (λ e. e ≡ SessionError.KeyFault) }
+    ensures failures { Counts (is_err result) (key_failures keys.old) (key_failures keys.new) }
+{
+    match keys.next() {
+        Ok(key) => Ok(key),
+        Err(Failed) => Err(SessionError::KeyFault),
+    }
+}

@@ -1,0 +1,23 @@
+//! The session of an editor: a document, the links over which it exchanges its edits, and a stage, which is a screen and a source of keys
+//! that are handed in, with the playtest that goes on there.
+#![tactic(auto)]
+
+mod boards;
+mod error;
+mod file;
+mod keys;
+mod over;
+mod playing;
+mod screen;
+mod session;
+mod stage;
+
+pub use error::SessionError;
+pub use keys::Keys;
+pub use playing::Playing;
+pub use screen::{Failed, Screen};
+pub use session::Session;
+pub use stage::Stage;
+
+#[cfg(test)]
+mod tests;

@@ -1,0 +1,46 @@
+//! Screens, as boxed objects that are handed in.
+ghost use Rattle.std.specs.Prelude.{◌≡◌, ℕ, Option, IfErr, OnErr, OnOk, is_err, is_some};
+ghost use Rattle.zed_session.specs.Devices.{Counts, showing};
+
+use crate::error::SessionError;
+use zed_screen::Frame;
+
+/// What a device answers that failed.
+#[derive(Clone, Copy, Debug, PartialEq, Eq)]
+pub struct Failed;
+
+/// A screen, on which frames are shown one after the other.
+pub trait Screen: Drop {
+    ghost use Rattle.zed_screen.specs.declared.frame.Frame.{Frame};
+
+    /// The frame that it shows, if there is one; or that this isn't told.
+    ghost shown: { Self → Option (Option Frame) };
+
+    /// How many calls of `show` failed.
+    ghost screen_failures: { Self → ℕ };
+
+    /// Shows a frame in place of the one before. Where that fails, what it shows may be anything.
+    fn show(&mut self, frame: &Frame) -> Result<(), Failed>
+        ensures ok { OnOk result (shown self.new ≡ showing frame.now (shown self.old)) }
+        ensures err { OnErr result (is_some (shown self.new) ≡ is_some (shown self.old)) }
+        ensures failures { Counts (is_err result)
+            (screen_failures self.old) (screen_failures self.new) };
+
+    /// How many calls of `show` failed, up to the greatest `u64`.
+    fn failures(&self) -> u64
+        ensures { result ≡ screen_failures self.now };
+}
+
+/// Shows a frame on a boxed screen.
+pub(crate) fn show_on(screen: &mut Box<dyn Screen>, frame: &Frame) -> Result<(), SessionError>
+    ensures ok { OnOk result (shown screen.new ≡ showing frame.now (shown screen.old)) }
+    ensures told { OnErr result (is_some (shown screen.new) ≡ is_some (shown screen.old)) }
+    ensures err { IfErr result (λ e. e ≡ SessionError.ScreenFault) }
+    ensures failures { Counts (is_err result)
+        (screen_failures screen.old) (screen_failures screen.new) }
+{
+    match screen.show(frame) {
+        Ok(()) => Ok(()),
+        Err(Failed) => Err(SessionError::ScreenFault),
+    }
+}

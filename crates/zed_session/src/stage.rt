@@ -1,0 +1,142 @@
+//! The stage: a screen, a source of keys, and a playtest.
+ghost use Rattle.std.specs.Prelude.{◌≡◌, ◌⊎◌, None, IfErr, IfOk, IfSome, MatchResult, OnErr, OnOk, is_some, option_map, true};
+ghost use Rattle.zed_session.specs.Devices.{Counts};
+ghost use Rattle.zed_session.specs.Refusals.{ShownAfter, is_key_fault, is_screen_fault};
+ghost use Rattle.zed_session.specs.Boards.{Answers, ShowsBoard, Starts, world_shown};
+ghost use Rattle.zed_session.specs.Play.{PlaysKey, ShowsKey, ShowsPlay, Takes};
+
+use crate::boards::{picture_of, playtest_of};
+use crate::error::SessionError;
+use crate::keys::{Keys, next_of};
+use crate::playing::Playing;
+use crate::screen::{Screen, show_on};
+use std::alloc::Global;
+use zed_document::Document;
+use zed_play::{Key, Play};
+use zed_screen::draw_play;
+
+/// A screen and a source of keys, with what is being played there.
+#[derive(Drop)]
+pub struct Stage {
+    alloc: Global,
+    pub screen: Box<dyn Screen>,
+    pub keys: Box<dyn Keys>,
+    pub playing: Playing,
+}
+
+impl Stage {
+    /// A stage where nothing was played yet. It takes no memory.
+    pub fn new(alloc: Global, screen: Box<dyn Screen>, keys: Box<dyn Keys>) -> Stage
+        ensures screen { result.screen ≡ screen }
+        ensures keys { result.keys ≡ keys }
+        ensures playing { result.playing ≡ record { playtest = None; kept = None } }
+    {
+        Stage {
+            alloc,
+            screen,
+            keys,
+            playing: Playing::nothing(),
+        }
+    }
+
+    /// The playtest that was started last, if one was.
+    pub fn playtest(&self) -> Option<&Play>
+        ensures result { option_map (λ play. play.now) result ≡ self.now.playing.playtest }
+    {
+        self.playing.playtest.as_ref()
+    }
+
+    /// Shows the board of this number of the world that the document exports, at the limit of 20,000 bytes. The refusals, the first that
+    /// applies: those of the export; NoBoard where the world has no such board; ScreenFault where the screen failed.
+    pub fn show(&mut self, document: &Document, board: usize) -> Result<(), SessionError>
+        ensures result { Answers (world_shown document.now) board
+            (ShowsBoard (shown self.old.screen) (shown self.new.screen)) result }
+        ensures err { IfErr result (λ e.
+            ShownAfter e (shown self.old.screen) (shown self.new.screen)) }
+        ensures screen_faults { Counts (is_screen_fault result)
+            (screen_failures self.old.screen) (screen_failures self.new.screen) }
+        ensures keys { self.new.keys ≡ self.old.keys }
+        ensures playing { self.new.playing ≡ self.old.playing }
+    {
+        let frame = picture_of(self.alloc, document, board)?;
+        show_on(&mut self.screen, &frame)
+    }
+
+    /// Starts a playtest, at tick 1, of the board of this number of the world that the document exports, at the limit of 20,000 bytes; a
+    /// key that was kept is dropped. The refusals, the first that applies: those of the export; NoBoard where the world has no such
+    /// board; Memory. After each of them the playtest before and a key that was kept are as they were.
+    pub fn play(&mut self, document: &Document, board: usize) -> Result<(), SessionError>
+        ensures result { Answers (world_shown document.now) board (Starts self.new.playing) result }
+        ensures err { OnErr result (self.new.playing ≡ self.old.playing) }
+        ensures screen { self.new.screen ≡ self.old.screen }
+        ensures keys { self.new.keys ≡ self.old.keys }
+    {
+        let play = playtest_of(self.alloc, document, board)?;
+        self.playing = Playing {
+            playtest: Some(play),
+            kept: None,
+        };
+        Ok(())
+    }
+
+    /// The key that was kept, or else the next one of the source.
+    fn take_key(&mut self) -> Result<Option<Key>, SessionError>
+        ensures ok { IfOk result (λ key. Takes
+            self.old.playing.kept (left self.old.keys) key (left self.new.keys)) }
+        ensures playing { self.new.playing ≡ record self.old.playing { kept = None } }
+        ensures none_kept { OnErr result (self.old.playing.kept ≡ None) }
+        ensures err { IfErr result (λ e. e ≡ SessionError.KeyFault) }
+        ensures left { OnErr result (left self.new.keys ≡ left self.old.keys) }
+        ensures failures { Counts (is_key_fault result)
+            (key_failures self.old.keys) (key_failures self.new.keys) }
+        ensures screen { self.new.screen ≡ self.old.screen }
+    {
+        match self.playing.kept.take() {
+            Some(key) => Ok(Some(key)),
+            None => next_of(&mut self.keys),
+        }
+    }
+
+    /// Shows the playtest as it stands.
+    fn show_playtest(&mut self) -> Result<(), SessionError>
+        ensures ok { OnOk result (ShowsPlay
+            self.old.playing.playtest (shown self.old.screen) (shown self.new.screen)) }
+        ensures told { OnErr result
+            (is_some (shown self.new.screen) ≡ is_some (shown self.old.screen)) }
+        ensures err { IfErr result (λ e. e ≡ SessionError.ScreenFault) }
+        ensures failures { Counts (is_screen_fault result)
+            (screen_failures self.old.screen) (screen_failures self.new.screen) }
+        ensures keys { self.new.keys ≡ self.old.keys }
+        ensures playing { self.new.playing ≡ self.old.playing }
+    {
+        match &self.playing.playtest {
+            Some(play) => show_on(&mut self.screen, &draw_play(play)),
+            None => Ok(()),
+        }
+    }
+
+    /// Takes a key, makes a step of the playtest by it and shows that, and tells how many words of chance it used; None where no key is
+    /// left. The refusals, the first that applies: Over where no playtest goes on; KeyFault where the source of keys failed; NoWords
+    /// where the step lacks a word, with the key kept for the next call; Memory, with which the playtest has ended; ScreenFault where
+    /// the screen failed, after a step that stands.
+    pub fn play_key(&mut self, words: &[u16]) -> Result<Option<usize>, SessionError>
+        ensures result { PlaysKey result words.now
+            self.old.playing (left self.old.keys) self.new.playing (left self.new.keys) }
+        ensures shown { ShowsKey result
+            self.new.playing.playtest (shown self.old.screen) (shown self.new.screen) }
+        ensures key_faults { Counts (is_key_fault result)
+            (key_failures self.old.keys) (key_failures self.new.keys) }
+        ensures screen_faults { Counts (is_screen_fault result)
+            (screen_failures self.old.screen) (screen_failures self.new.screen) }
+    {
+        if !self.playing.goes_on() {
+            return Err(SessionError::Over);
+        }
+        let Some(key) = self.take_key()? else {
+            return Ok(None);
+        };
+        let used = self.playing.step(key, words)?;
+        self.show_playtest()?;
+        Ok(Some(used))
+    }
+}

@@ -1,0 +1,90 @@
+//! Sessions with devices and links over memory, as tables.
+use std::alloc::Global;
+use std::test::Fail;
+use zed_document::Document;
+
+mod desk;
+mod devices;
+mod growths;
+mod links;
+mod stages;
+mod wires;
+mod worlds;
+
+use desk::{Case, Desk, Told, attach, desk_of, outcome_of, wanted_of};
+use devices::Fails;
+use links::LINKS;
+use stages::STAGES;
+use wires::{Wired, wire_over};
+use worlds::GEM_WORLD;
+
+/// A link that never fails.
+const WIRED: Wired = Wired {
+    handed: b"",
+    piece: 100,
+    passing: u64::MAX,
+};
+
+/// What a link took to which a document with three edits was pushed, if it comes out as it should.
+fn sent(alloc: Global, desk: &mut Desk) -> Result<Option<Vec<u8>>, Fail> {
+    let link = wire_over(alloc, Vec::new(alloc), WIRED, &desk.traces)?;
+    if attach(desk, Ok(link)) != Told::Number(0)
+        || desk.session.push(0) != Ok(3)
+        || desk.session.detach(0) != Ok(())
+    {
+        return Ok(None);
+    }
+    Ok(desk.traces.left.take())
+}
+
+/// Whether an empty document comes to be the same as another, whose file this is.
+fn becomes_the_same(alloc: Global, file: Vec<u8>, document: &Document) -> Result<bool, Fail> {
+    let mut desk = desk_of(alloc, &[], &[], (Fails::Never, Fails::Never))?;
+    let link = wire_over(alloc, file, WIRED, &desk.traces)?;
+    let is_there = attach(&mut desk, Ok(link)) == Told::Number(0);
+    Ok(
+        is_there
+            && desk.session.pull(0).is_ok()
+            && matches!(desk.session.document().same(document), Ok(true)),
+    )
+}
+
+fn comes_over(alloc: Global) -> Result<bool, Fail> {
+    let mut desk = desk_of(alloc, GEM_WORLD, &[], (Fails::Never, Fails::Never))?;
+    match sent(alloc, &mut desk)? {
+        Some(file) => becomes_the_same(alloc, file, desk.session.document()),
+        None => Ok(false),
+    }
+}
+
+#[test]
+fn a_document_comes_over_a_link(rt: HostRuntime) -> Result<(), Fail> {
+    assert_eq!(rt; comes_over(rt.alloc())?, true);
+    Ok(())
+}
+
+#[test]
+fn boards_are_shown_and_played(rt: HostRuntime) -> Result<(), Fail> {
+    for case in STAGES {
+        let outcome = outcome_of(rt.alloc(), case)?;
+        assert_eq!(rt; outcome, wanted_of(case), "{}", case.name);
+    }
+    Ok(())
+}
+
+#[test]
+fn edits_go_over_links(rt: HostRuntime) -> Result<(), Fail> {
+    for (name, acts) in LINKS {
+        let case = Case {
+            name,
+            edits: GEM_WORLD,
+            keys: &[],
+            screen: Fails::Never,
+            source: Fails::Never,
+            acts,
+        };
+        let outcome = outcome_of(rt.alloc(), &case)?;
+        assert_eq!(rt; outcome, wanted_of(&case), "{}", name);
+    }
+    Ok(())
+}

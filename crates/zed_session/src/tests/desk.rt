@@ -1,0 +1,303 @@
+//! A session whose devices and links are over memory, what is done with it, and what is seen then.
+use super::devices::{Fails, MemoryKeys, MemoryScreen, Traces};
+use super::wires::{Wired, sink_of, wire_of};
+use super::worlds::{Does, document_of};
+use crate::{Session, SessionError};
+use std::alloc::{AllocError, Global};
+use std::collections::VecDeque;
+use std::test::Fail;
+use zed_link::{Link, Pulled};
+use zed_play::{Ending, Key};
+
+/// What is done with a session.
+#[derive(Clone, Copy)]
+pub enum Act {
+    Show(usize),
+    Play(usize),
+    Press(&'static [u16]),
+    Wire(Wired),
+    /// Attaches a link that takes all that it is given, and hands over a file.
+    Sink,
+    Detach(usize),
+    Push(usize),
+    Pull(usize),
+    /// Pulls where the document is stale, which is refused and lets no link go, and then repairs the document.
+    Mend(usize),
+}
+
+/// What it answers.
+#[derive(Clone, Copy, Debug, PartialEq, Eq)]
+pub enum Told {
+    Done,
+    /// The place of a link, the edits that were pushed, or the words that a step used.
+    Number(usize),
+    NoKey,
+    Edits(Pulled),
+    Refused(SessionError),
+    /// What it should never do.
+    Wrong,
+}
+
+/// What is seen then.
+#[derive(Clone, Copy)]
+pub enum Sees {
+    /// The character at a column and a row of the frame shown last, both counted from 0.
+    At(usize, usize, u8),
+    /// The gems and the tick of the playtest.
+    Playtest(i16, u16),
+    NoPlaytest,
+    /// The playtest ended for want of memory.
+    Failed,
+    /// So many links, and at least and at most so many edits.
+    Links(usize, usize, usize),
+    /// The bytes that the link took that was let go last.
+    Left(&'static [u8]),
+    /// How many bytes sinks took.
+    Sunk(u64),
+}
+
+/// A document and devices, and what is done with them, act by act.
+#[derive(Clone, Copy)]
+pub struct Case {
+    pub name: &'static str,
+    pub edits: &'static [Does],
+    pub keys: &'static [Key],
+    pub screen: Fails,
+    pub source: Fails,
+    pub acts: &'static [(Act, Told, Sees)],
+}
+
+/// A session, and what its devices and links leave.
+#[derive(Drop)]
+pub struct Desk {
+    pub alloc: Global,
+    pub session: Session,
+    pub traces: Traces,
+}
+
+fn keys_of(alloc: Global, keys: &[Key]) -> Result<VecDeque<Key>, AllocError> {
+    let mut out = VecDeque::new(alloc);
+    for key in keys {
+        out.push_back(*key)?;
+    }
+    Ok(out)
+}
+
+fn session_of(
+    alloc: Global,
+    edits: &[Does],
+    keys: &[Key],
+    fails: (Fails, Fails),
+    traces: &Traces,
+) -> Result<Session, Fail> {
+    let screen = Box::new(alloc, MemoryScreen::new(fails.0, traces)?)?;
+    let source = MemoryKeys::new(keys_of(alloc, keys)?, fails.1, traces)?;
+    let source = Box::new(alloc, source)?;
+    let document = document_of(alloc, edits)?;
+    Ok(Session::new(alloc, document, screen, source))
+}
+
+/// A desk with the document that these edits make, and these keys.
+pub fn desk_of(
+    alloc: Global,
+    edits: &[Does],
+    keys: &[Key],
+    fails: (Fails, Fails),
+) -> Result<Desk, Fail> {
+    let traces = Traces::new(alloc)?;
+    let session = session_of(alloc, edits, keys, fails, &traces)?;
+    Ok(Desk {
+        alloc,
+        session,
+        traces,
+    })
+}
+
+fn done(answer: Result<(), SessionError>) -> Told {
+    match answer {
+        Ok(()) => Told::Done,
+        Err(error) => Told::Refused(error),
+    }
+}
+
+fn number(answer: Result<usize, SessionError>) -> Told {
+    match answer {
+        Ok(number) => Told::Number(number),
+        Err(error) => Told::Refused(error),
+    }
+}
+
+fn used(answer: Result<Option<usize>, SessionError>) -> Told {
+    match answer {
+        Ok(Some(words)) => Told::Number(words),
+        Ok(None) => Told::NoKey,
+        Err(error) => Told::Refused(error),
+    }
+}
+
+fn pulled(answer: Result<Pulled, SessionError>) -> Told {
+    match answer {
+        Ok(edits) => Told::Edits(edits),
+        Err(error) => Told::Refused(error),
+    }
+}
+
+/// Attaches a link, if it was made. One that is handed back comes to its end here, and not before.
+pub fn attach(desk: &mut Desk, link: Result<Box<dyn Link>, AllocError>) -> Told {
+    let Ok(link) = link else {
+        return Told::Refused(SessionError::Memory);
+    };
+    let ends = desk.traces.ends.get();
+    match desk.session.attach(link) {
+        Ok(place) => Told::Number(place),
+        Err(back) => {
+            let was_kept = desk.traces.ends.get() == ends;
+            drop(back);
+            if was_kept && desk.traces.ends.get() > ends {
+                Told::Refused(SessionError::Memory)
+            } else {
+                Told::Wrong
+            }
+        }
+    }
+}
+
+fn mended(session: &mut Session, i: usize) -> Told {
+    let links = session.links();
+    if session.document().view().is_err()
+        && (session.pull(i) != Err(SessionError::Stale) || session.links() != links)
+    {
+        return Told::Wrong;
+    }
+    match session.document_mut().repair() {
+        Ok(()) => Told::Done,
+        Err(_) => Told::Wrong,
+    }
+}
+
+pub fn told_by(desk: &mut Desk, act: Act) -> Told {
+    match act {
+        Act::Show(board) => done(desk.session.show(board)),
+        Act::Play(board) => done(desk.session.play(board)),
+        Act::Press(words) => used(desk.session.play_key(words)),
+        Act::Wire(wired) => {
+            let link = wire_of(desk.alloc, wired, &desk.traces);
+            attach(desk, link)
+        }
+        Act::Sink => {
+            let link = sink_of(desk.alloc, &desk.traces);
+            attach(desk, link)
+        }
+        Act::Detach(i) => done(desk.session.detach(i)),
+        Act::Push(i) => number(desk.session.push(i)),
+        Act::Pull(i) => pulled(desk.session.pull(i)),
+        Act::Mend(i) => mended(&mut desk.session, i),
+    }
+}
+
+fn shows(traces: &Traces, column: usize, row: usize, character: u8) -> bool {
+    let Some(frame) = traces.frame.get() else {
+        return false;
+    };
+    match frame
+        .cells
+        .get(row.saturating_mul(80).saturating_add(column))
+    {
+        Some(cell) => cell.character == character,
+        None => false,
+    }
+}
+
+fn has_left(traces: &Traces, bytes: &[u8]) -> bool {
+    match traces.left.take() {
+        Some(left) => left.as_slice() == bytes,
+        None => false,
+    }
+}
+
+pub fn is_seen(desk: &Desk, sees: Sees) -> bool {
+    let session = &desk.session;
+    match sees {
+        Sees::At(column, row, character) => shows(&desk.traces, column, row, character),
+        Sees::Playtest(gems, tick) => match session.playtest() {
+            Some(play) => play.counters().counters.gems == gems && play.tick() == tick,
+            None => false,
+        },
+        Sees::NoPlaytest => session.playtest().is_none(),
+        Sees::Failed => match session.playtest() {
+            Some(play) => play.ending() == Some(Ending::Failed),
+            None => false,
+        },
+        Sees::Links(links, least, most) => {
+            let edits = session.document().edits().len();
+            session.links() == links && least <= edits && edits <= most
+        }
+        Sees::Left(bytes) => has_left(&desk.traces, bytes),
+        Sees::Sunk(bytes) => desk.traces.sunk.get() == bytes,
+    }
+}
+
+/// How many calls of the screen and the source of keys failed.
+fn faults_of(session: &Session) -> u64 {
+    session
+        .stage
+        .screen
+        .failures()
+        .saturating_add(session.stage.keys.failures())
+}
+
+/// How many acts come out as they should.
+fn acts_that_hold(desk: &mut Desk, acts: &[(Act, Told, Sees)]) -> usize {
+    let mut held = 0_usize;
+    for (act, told, sees) in acts {
+        if told_by(desk, *act) == *told && is_seen(desk, *sees) {
+            held = held.saturating_add(1);
+        }
+    }
+    held
+}
+
+/// What a case comes to: how many acts come out as they should, how many calls of devices failed, and how many devices and links came
+/// to their end.
+#[derive(Clone, Copy, Debug, PartialEq, Eq)]
+pub struct Outcome {
+    held: usize,
+    faults: u64,
+    ends: u32,
+}
+
+/// What a case should come to.
+pub fn wanted_of(case: &Case) -> Outcome {
+    let mut faults = 0_u64;
+    let mut ends = 2_u32;
+    for (act, told, _) in case.acts {
+        if matches!(
+            told,
+            Told::Refused(SessionError::ScreenFault | SessionError::KeyFault)
+        ) {
+            faults = faults.saturating_add(1);
+        }
+        if matches!(act, Act::Wire(_) | Act::Sink) {
+            ends = ends.saturating_add(1);
+        }
+    }
+    Outcome {
+        held: case.acts.len(),
+        faults,
+        ends,
+    }
+}
+
+pub fn outcome_of(alloc: Global, case: &Case) -> Result<Outcome, Fail> {
+    let mut desk = desk_of(alloc, case.edits, case.keys, (case.screen, case.source))?;
+    let held = acts_that_hold(&mut desk, case.acts);
+    let faults = faults_of(&desk.session);
+    let Desk {
+        session,
+        traces,
+        ..
+    } = desk;
+    drop(session);
+    let ends = traces.ends.get();
+    Ok(Outcome { held, faults, ends })
+}
