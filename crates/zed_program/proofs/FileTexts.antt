@@ -18,6 +18,7 @@ use Rattle.zed_program.specs.Collected.{IsCollected}
 use Rattle.zed_program.specs.Files.{IsFile, IsStream, Stream, edits_then, end_by, joined, stream_after, texts_of_lists}
 use Rattle.zed_program.specs.Outcome.{ComesTo, Effect, EndsCalmly, HasStatus, file_of, made_of, unless_over, writes_world, written_to}
 use Rattle.zed_program.specs.HostContents.{HostContents, file_in}
+use Rattle.zed_session.specs.Links.{LinkSeen}
 use Rattle.zed_program.specs.Commands.{Save}
 use Rattle.zed_program.specs.Lines.{bytes_line}
 use Rattle.zed_program.proofs.Endings.{reads_are}
@@ -49,11 +50,11 @@ file_is law asked n es found end small good own file =
     let read = law n es found file.progress small good (ap (λ a. is_other a n) file.asks ∙ own) file.reads file.sound in
     (read.0, file.ends ∙ ap₂ end_by read.1 read.2)
 
-records_left : (es fs : List Edit) → AreRecords (es ++ fs) → AreRecords es
+pub records_left : (es fs : List Edit) → AreRecords (es ++ fs) → AreRecords es
 records_left [] fs h = tt
 records_left (e ∷ es) fs h = (h.0, records_left es fs h.1)
 
-records_right : (es fs : List Edit) → AreRecords (es ++ fs) → AreRecords fs
+pub records_right : (es fs : List Edit) → AreRecords (es ++ fs) → AreRecords fs
 records_right [] fs h = h
 records_right (e ∷ es) fs h = records_right es fs h.1
 
@@ -92,7 +93,7 @@ texts_are law n es lists s small good reads =
     first_is law None n es lists s small (records_left es (joined lists) good) refl
     (λ rest is. others_are law n lists rest small (records_right es (joined lists) good) is) reads
 
-no_clash : (es : List Edit) (c : Stamp) → Agrees es → IsFirstClash es c → ⊥
+pub no_clash : (es : List Edit) (c : Stamp) → Agrees es → IsFirstClash es c → ⊥
 no_clash es c agrees clash =
     let other = clash.clashes in
     let left : Contains es other.0 = subst (λ l. Contains l other.0) (sym clash.whole) (Contains-append_left clash.before (clash.edit ∷ clash.after) other.0 other.1) in
@@ -120,17 +121,17 @@ none_made : file_of (set_of []) ≡ Err NoWorld
 none_made = refl
 
 -- so the world file of their set is what `save` writes, or its first limit is told
-saved_set : WrittenIsRead → (t : HostContents) (out : List ℕ) (names : List (List ℕ)) (n : ℕ) (lists : List (List Edit)) (r : Result Effect Refusal)
+saved_set : (links : List LinkSeen) → WrittenIsRead → (t : HostContents) (out : List ℕ) (names : List (List ℕ)) (n : ℕ) (lists : List (List Edit)) (r : Result Effect Refusal)
     → map (file_in t) names ≡ texts_of_lists n lists → n < 2 ^ 64 → AreRecords (joined lists) → Agrees (joined lists)
-    → ComesTo ⊥ (Save out names) t r → r ≡ writes_world out (file_of (set_of (joined lists)))
-saved_set law t out names n [] r texts small good agrees comes =
+    → ComesTo ⊥ links (Save out names) t r → r ≡ writes_world out (file_of (set_of (joined lists)))
+saved_set links law t out names n [] r texts small good agrees comes =
     let made = comes.1 in
     let collects = made.1 in
     let stream = collects.1 in
     let reads = reads_are t names stream.0 stream.1 ∙ texts in
     let set = none_saved collects.0 made.0 (subst (λ files. IsStream None files collects.0) reads stream.2) collects.2 in
     comes.2 ∙ ap (writes_world out) (made.2 ∙ ap (made_of file_of) set ∙ sym none_made)
-saved_set law t out names n (es ∷ lists) r texts small good agrees comes =
+saved_set links law t out names n (es ∷ lists) r texts small good agrees comes =
     let made = comes.1 in
     let collects = made.1 in
     let stream = collects.1 in
@@ -140,19 +141,19 @@ saved_set law t out names n (es ∷ lists) r texts small good agrees comes =
     comes.2 ∙ ap (writes_world out) (made.2 ∙ ap (made_of file_of) set)
 
 -- and `run` ends so
-pub run_of_texts : WrittenIsRead → (words : List (List ℕ)) (t : HostContents) (out : List ℕ) (n : ℕ) (lists : List (List Edit)) (status : ℕ) (new : Option HostContents)
-    → (asks : AsksToSave words t out n lists) → EndsCalmly (Save out asks.files) t status new → SavesSet out t (joined lists) status new
-run_of_texts law words t out n lists status new asks ended =
+pub run_of_texts : (links : List LinkSeen) → WrittenIsRead → (words : List (List ℕ)) (t : HostContents) (out : List ℕ) (n : ℕ) (lists : List (List Edit)) (status : ℕ) (new : Option HostContents)
+    → (asks : AsksToSave words t out n lists) → EndsCalmly links (Save out asks.files) t status new → SavesSet out t (joined lists) status new
+run_of_texts links law words t out n lists status new asks ended =
     elim ended [
       | inl done ↦ (
-          let is = saved_set law t out asks.files n lists done.0 asks.spelled asks.is_number asks.records asks.agree done.1 in
+          let is = saved_set links law t out asks.files n lists done.0 asks.spelled asks.is_number asks.records asks.agree done.1 in
           inl (subst (λ r. HasStatus r t status new) is done.2))
       | inr memory ↦ inr memory
     ]
 
 -- ---- what is saved is read
 
-records_fit : (es : List Edit) → AreRecords es → AllFit es
+pub records_fit : (es : List Edit) → AreRecords es → AllFit es
 records_fit [] h = tt
 records_fit (e ∷ es) h = (h.0.0, records_fit es h.1)
 

@@ -1,3 +1,4 @@
+pub mod Chances
 pub mod ClapLemmas
 pub mod Readings
 pub mod Opened
@@ -11,3 +12,6 @@ pub mod FileEnds
 pub mod FileTexts
 pub mod Streams
 pub mod Worlds
+pub mod Stepping
+pub mod Played
+pub mod Joined

@@ -1,5 +1,5 @@
 -- What an edit file comes to when it is opened for an action.
-use Rattle.std.proofs.Common.{◌≡◌, ◌∙◌, ◌≢◌, ℕ, zero, suc, false, List, Some, None, Result, Ok, Err, refl, ap, sym}
+use Rattle.std.proofs.Common.{[], ◌≡◌, ◌∙◌, ◌≢◌, ℕ, zero, suc, false, List, Some, None, Result, Ok, Err, refl, ap, sym}
 use Rattle.std.specs.Prelude.{MatchResult}
 use mathlib.Core.Logic.{◌⊎◌, inl, inr}
 use Rattle.zed_types.specs.declared.stamp.Stamp.{Stamp}
@@ -8,7 +8,7 @@ use Rattle.zed_op.specs.Set.{Agrees, set_of}
 use Rattle.zed_editfile.specs.declared.error.EditFileError.{EditFileError}
 use Rattle.zed_document.specs.Replica.{Replica}
 use Rattle.zed_action.specs.declared.error.ActionError.{ActionError}
-use Rattle.zed_action.specs.declared.error.ActionError.TheVariants as action
+use Rattle.zed_action.specs.Refusals.{memory as no_memory}
 use Rattle.zed_action.specs.Deeds.{Acts}
 use Rattle.zed_program.specs.declared.refusal.Refusal.{Refusal}
 use Rattle.zed_program.specs.declared.refusal.Refusal.TheVariants.{Memory, Clash, File}
@@ -82,10 +82,10 @@ edited_done failed t file replica words d new some sound is world acts =
 
 -- the action was refused
 pub edited_refused : (failed : Type 0) (t : HostContents) (file : List ℕ) (replica : ℕ) (words : List (List ℕ)) (d : Replica) (e : ActionError) (told : Refusal) → replica ≢ 0 → d.is_stale ≡ false → OpensAs failed t file (Ok (d.world, d.edits))
-    → told ≡ action_refusal e → (e ≡ action.Memory) ⊎ Acts d replica words (Err e) → (told ≡ Memory) ⊎ IsEdited failed t file replica words (Err told)
+    → told ≡ action_refusal e → (e ≡ no_memory) ⊎ Acts d replica words (Err e) → (told ≡ Memory) ⊎ IsEdited failed t file replica words (Err told)
 edited_refused failed t file replica words d e told some sound is said why =
     elim why [
-      | inl memory ↦ inl (said ∙ ap action_refusal memory)
+      | inl lacks ↦ inl (said ∙ ap action_refusal lacks)
       | inr acts ↦ inr (edited_by failed t file replica words (Err told) (Ok (d.world, d.edits)) some is (d, has_own d sound, (Err e, acts, ap (λ x. Err x) said)))
     ]
 
@@ -97,5 +97,5 @@ edited_not_opened failed t file replica words e some why =
 
 -- where there are no edits, none are written
 pub not_edited : (failed : Type 0) (t : HostContents) (file : List ℕ) (replica : ℕ) (words : List (List ℕ)) (e : Refusal) → (e ≡ Memory) ⊎ IsEdited failed t file replica words (Err e)
-    → (e ≡ Memory) ⊎ ComesTo failed (EditFile file replica words) t (Err e)
+    → (e ≡ Memory) ⊎ ComesTo failed [] (EditFile file replica words) t (Err e)
 not_edited failed t file replica words e why = elim why [ inl memory ↦ inl memory | inr is ↦ inr (Err e, is, refl) ]

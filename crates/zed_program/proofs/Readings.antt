@@ -9,7 +9,7 @@ use Rattle.clap.specs.Matches.{ReadsOne, first_value, matched_of, one_text, raw_
 use Rattle.clap.specs.Walk.{Text, rows_of}
 use Rattle.clap.specs.declared.parser.matches.Found.{Found}
 use Rattle.clap.proofs.WalkLemmas.{both, first_value-rows, one_text-rows, raw_values-rows}
-use Rattle.zed_program.specs.Commands.{Command, Save, Check, New, Edit, check_of, edit_of, new_of, number_of, save_of}
+use Rattle.zed_program.specs.Commands.{Command, Save, Check, New, Edit, Merge, Show, Play, check_of, edit_of, merge_of, new_of, number_of, play_of, save_of, show_of}
 
 abbrev pub text_in : Option (Bor Text) → Option Text
 text_in = option_map (λ s. s.now)
@@ -94,3 +94,32 @@ pub edit_read : (f : Found) (file : Option (Bor Text)) (replica : Option ℕ) (w
     → made_edit (text_in file) replica (texts_in words) ≡ edit_of (rows_of f)
 edit_read f file replica words a b c =
     rw (a, b, c, first_value-rows f (codes "FILE"), one_text-rows f (codes "REPLICA"), raw_values-rows f (codes "WORDS")) refl
+
+abbrev pub made_merge : Option Text → Option ℕ → Option (List Text) → Option Command
+made_merge out world files = option_and_then (λ o. option_and_then (λ w. option_map (λ fs. Merge o w fs) files) world) out
+
+pub merge_read : (f : Found) (out : Option (Bor Text)) (world : Option ℕ) (files : Option (Bor (List (Bor Text))))
+    → text_in out ≡ first_value f (codes "OUT") → world ≡ option_and_then (number_of 64) (one_text f (codes "WORLD"))
+    → texts_in files ≡ option_map raw_values (matched_of f (codes "FILES"))
+    → made_merge (text_in out) world (texts_in files) ≡ merge_of (rows_of f)
+merge_read f out world files a b c =
+    rw (a, b, c, first_value-rows f (codes "OUT"), one_text-rows f (codes "WORLD"), raw_values-rows f (codes "FILES")) refl
+
+abbrev pub made_show : Option ℕ → Option (List Text) → Option Command
+made_show board files = option_and_then (λ b. option_map (λ fs. Show b fs) files) board
+
+pub show_read : (f : Found) (board : Option ℕ) (files : Option (Bor (List (Bor Text))))
+    → board ≡ option_and_then (number_of 16) (one_text f (codes "BOARD"))
+    → texts_in files ≡ option_map raw_values (matched_of f (codes "FILES"))
+    → made_show board (texts_in files) ≡ show_of (rows_of f)
+show_read f board files a b = rw (a, b, one_text-rows f (codes "BOARD"), raw_values-rows f (codes "FILES")) refl
+
+abbrev pub made_play : Option ℕ → Option Text → Option (List Text) → Option Command
+made_play board chance files = option_and_then (λ b. option_and_then (λ c. option_map (λ fs. Play b c fs) files) chance) board
+
+pub play_read : (f : Found) (board : Option ℕ) (chance : Option (Bor Text)) (files : Option (Bor (List (Bor Text))))
+    → board ≡ option_and_then (number_of 16) (one_text f (codes "BOARD")) → text_in chance ≡ first_value f (codes "WORDS")
+    → texts_in files ≡ option_map raw_values (matched_of f (codes "FILES"))
+    → made_play board (text_in chance) (texts_in files) ≡ play_of (rows_of f)
+play_read f board chance files a b c =
+    rw (a, b, c, one_text-rows f (codes "BOARD"), first_value-rows f (codes "WORDS"), raw_values-rows f (codes "FILES")) refl

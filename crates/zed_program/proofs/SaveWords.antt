@@ -216,8 +216,9 @@ save_words out file files plain few = ap₂ unless_refused
 -- ---- a first word that names no subcommand
 
 unknown_met : (word : Text) → bytes_eq (codes "save") word ≡ false → bytes_eq (codes "check") word ≡ false → bytes_eq (codes "new") word ≡ false → bytes_eq (codes "edit") word ≡ false
+    → bytes_eq (codes "merge") word ≡ false → bytes_eq (codes "show") word ≡ false → bytes_eq (codes "play") word ≡ false
     → bytes_eq (codes "help") word ≡ false → subcommand_met (names_of (built zzted_app)) idle word ≡ None
-unknown_met word a b c d e = rw (a, b, c, d, e) refl
+unknown_met word a b c d e f g h = rw (a, b, c, d, e, f, g, h) refl
 
 unknown_turn : (word : Text) → is_plain word ≡ true → subcommand_met (names_of (built zzted_app)) idle word ≡ None
     → turn_fault top (names_of (built zzted_app)) (walk_from nothing_held) word ≡ kind.UnknownArgument ∷ kind.InvalidSubcommand ∷ []
@@ -230,11 +231,12 @@ first_fault_wins turn rest end o e = ap (λ ks. unless_refused (or_else (or_else
 
 pub unknown_word : (word : Text) (rest : List Text) → is_plain word ≡ true
     → bytes_eq (codes "save") word ≡ false → bytes_eq (codes "check") word ≡ false → bytes_eq (codes "new") word ≡ false → bytes_eq (codes "edit") word ≡ false
+    → bytes_eq (codes "merge") word ≡ false → bytes_eq (codes "show") word ≡ false → bytes_eq (codes "play") word ≡ false
     → bytes_eq (codes "help") word ≡ false → command_of (word ∷ rest) ≡ None
 unfolding command_of walk_fault
-unknown_word word rest plain a b c d e =
+unknown_word word rest plain a b c d e f g h =
     first_fault_wins (turn_fault top (names_of (built zzted_app)) (walk_from nothing_held) word)
     (walk_fault top (names_of (built zzted_app)) (walked top.rules (names_of (built zzted_app)) (walk_from nothing_held) word) rest)
     (top_tail (walk top.rules (names_of (built zzted_app)) nothing_held (word ∷ rest)))
     (option_and_then subcommand_asks (subcommand_of zzted_app (word ∷ rest)))
-    (unknown_turn word plain (unknown_met word a b c d e))
+    (unknown_turn word plain (unknown_met word a b c d e f g h))

@@ -1,11 +1,9 @@
 -- The edit that makes a world, and the world of a new edit file.
-use Rattle.std.proofs.Common.{◌≡◌, ◌∙◌, ◌+◌, ◌*◌, ◌≤◌, ◌++◌, add-one, ℕ, zero, suc, arith, rules, true, List, [], ◌∷◌, length, refl, ap, sym, subst}
+use Rattle.std.proofs.Common.{◌≡◌, ◌∙◌, ◌+◌, ◌*◌, ◌≤◌, ◌++◌, add-one, ℕ, zero, suc, arith, rules, List, [], ◌∷◌, length, refl, ap, sym, subst}
 use Rattle.std.specs.Prelude.{replicate}
-use Rattle.std.specs.Str.{bytes_eq}
-use Rattle.std.proofs.lemmas.Slice.Eq.{bytes_eq-Decides}
 use Rattle.std.proofs.lemmas.List.{length-take, append-nil}
 use Rattle.zed_edit.specs.Board.{new_table}
-use Rattle.zed_op.specs.Fit.{Fits, is_canonical, is_rewritten, is_text_of}
+use Rattle.zed_op.specs.Fit.{Fits}
 use Rattle.zed_world.specs.declared.header.Header.{Header}
 use Rattle.zed_world.specs.declared.board.BoardData.{BoardData}
 use Rattle.zed_world.specs.Contents.{Contents}
@@ -15,20 +13,13 @@ use Rattle.zed_runs.specs.Runs.{greedy}
 use Rattle.zed_runs.proofs.Greedy.{greedy_short}
 use Rattle.zed_world.specs.Normal.{HasNormalParts, HasShortBody}
 use Rattle.zed_world.specs.Writing.{body_text, stat_text}
+use Rattle.zed_world.proofs.Rewritten.{canonical_tested}
 use Rattle.zed_world.proofs.Sizes.{length_body, length_stat}
 use Rattle.zed_program.specs.Fresh.{fresh_header, fresh_player, fresh_world, genesis_of, title_of}
 
-bytes_same : (bytes : List ℕ) → bytes_eq bytes bytes ≡ true
-bytes_same bytes = (bytes_eq-Decides bytes bytes).1 refl
-
--- the bytes of a canonical world file pass the test
-pub canonical_passes : (bytes : List ℕ) → IsCanonical bytes → is_canonical bytes ≡ true
-unfolding is_canonical
-canonical_passes bytes h = ap (is_rewritten bytes) h.read ∙ ap (is_text_of bytes) h.rewritten ∙ bytes_same bytes
-
--- so the edit that makes their world fits
+-- the edit that makes the world of a canonical file fits
 pub genesis_fits : (bytes : List ℕ) → IsCanonical bytes → Fits (genesis_of bytes)
-genesis_fits bytes h = rw (canonical_passes bytes h) refl
+genesis_fits bytes h = rw ((canonical_tested bytes).1 h) refl
 
 -- one more of the same at the end
 pub replicate_more : {X : Type 0} (n : ℕ) (x : X) → replicate n x ++ x ∷ [] ≡ replicate (n + 1) x

@@ -18,6 +18,9 @@ pub data Command : Type 0 where
   Check : (files : List Text) → Command
   New : (out : Text) → (world : ℕ) → (from : Option Text) → (name : Option Text) → Command
   Edit : (file : Text) → (replica : ℕ) → (words : List Text) → Command
+  Merge : (out : Text) → (world : ℕ) → (files : List Text) → Command
+  Show : (board : ℕ) → (files : List Text) → Command
+  Play : (board : ℕ) → (chance : Text) → (files : List Text) → Command
 
 -- what a command of the code says
 abbrev pub meaning_of : Spoken → Command
@@ -25,6 +28,9 @@ meaning_of (spoken.Save out files) = Save out.now (map (λ s. s.now) files.items
 meaning_of (spoken.Check files) = Check (map (λ s. s.now) files.items)
 meaning_of (spoken.New out world from name) = New out.now world (option_map (λ s. s.now) from) (option_map (λ s. s.now) name)
 meaning_of (spoken.Edit file replica words) = Edit file.now replica (map (λ s. s.now) words.items)
+meaning_of (spoken.Merge out world files) = Merge out.now world (map (λ s. s.now) files.items)
+meaning_of (spoken.Show board files) = Show board (map (λ s. s.now) files.items)
+meaning_of (spoken.Play board chance files) = Play board chance.now (map (λ s. s.now) files.items)
 
 -- the number below 2^bits that digits write, where a plus may stand first
 abbrev pub number_of : ℕ → Text → Option ℕ
@@ -53,13 +59,33 @@ edit_of rows = option_and_then (λ file. option_and_then (λ replica. option_map
     Edit file replica words) (all_of (codes "WORDS") rows))
     (option_and_then (number_of 16) (one_of (codes "REPLICA") rows))) (first_of (codes "FILE") rows)
 
+-- for `merge`
+abbrev pub merge_of : List Row → Option Command
+merge_of rows = option_and_then (λ out. option_and_then (λ world. option_map (λ files.
+    Merge out world files) (all_of (codes "FILES") rows))
+    (option_and_then (number_of 64) (one_of (codes "WORLD") rows))) (first_of (codes "OUT") rows)
+
+-- for `show`
+abbrev pub show_of : List Row → Option Command
+show_of rows = option_and_then (λ board. option_map (λ files. Show board files)
+    (all_of (codes "FILES") rows)) (option_and_then (number_of 16) (one_of (codes "BOARD") rows))
+
+-- for `play`
+abbrev pub play_of : List Row → Option Command
+play_of rows = option_and_then (λ board. option_and_then (λ chance. option_map (λ files.
+    Play board chance files) (all_of (codes "FILES") rows))
+    (first_of (codes "WORDS") rows)) (option_and_then (number_of 16) (one_of (codes "BOARD") rows))
+
 -- by the name of the subcommand
 abbrev pub subcommand_asks : Text × List Row → Option Command
 subcommand_asks p =
     if bytes_eq p.0 (codes "save") then save_of p.1
     else (if bytes_eq p.0 (codes "check") then check_of p.1
     else (if bytes_eq p.0 (codes "new") then new_of p.1
-    else (if bytes_eq p.0 (codes "edit") then edit_of p.1 else None)))
+    else (if bytes_eq p.0 (codes "edit") then edit_of p.1
+    else (if bytes_eq p.0 (codes "merge") then merge_of p.1
+    else (if bytes_eq p.0 (codes "show") then show_of p.1
+    else (if bytes_eq p.0 (codes "play") then play_of p.1 else None))))))
 
 -- what is asked for where `clap` finds no fault
 abbrev pub unless_refused : Kinds → Option Command → Option Command

@@ -27,6 +27,10 @@ world_rule = record (required_rule (codes "WORLD")) { parser = Some (value.Unsig
 abbrev pub replica_rule : Rule
 replica_rule = record (required_rule (codes "REPLICA")) { parser = Some (value.Signed (pos 0) (pos 65535)) }
 
+-- the number of a board
+abbrev pub board_rule : Rule
+board_rule = record (required_rule (codes "BOARD")) { parser = Some (value.Signed (pos 0) (pos 65535)) }
+
 -- the words of an action
 abbrev pub words_rule : Rule
 words_rule = several_rule (codes "WORDS")
@@ -55,10 +59,26 @@ create_shape = shape_with (codes "new") (required_rule (codes "OUT") ∷ world_r
 abbrev pub edit_shape : Shape
 edit_shape = shape_with (codes "edit") (required_rule (codes "FILE") ∷ replica_rule ∷ words_rule ∷ [])
 
+-- `merge OUT WORLD FILES...`
+abbrev pub merge_shape : Shape
+merge_shape = shape_with (codes "merge") (required_rule (codes "OUT") ∷ world_rule ∷ files_rule ∷ [])
+
+-- `show BOARD FILES...`
+abbrev pub show_shape : Shape
+show_shape = shape_with (codes "show") (board_rule ∷ files_rule ∷ [])
+
+-- `play BOARD WORDS FILES...`
+abbrev pub play_shape : Shape
+play_shape = shape_with (codes "play") (board_rule ∷ required_rule (codes "WORDS") ∷ files_rule ∷ [])
+
 -- the program without its subcommands
 abbrev pub top_app : App
 top_app = on_top (λ s. record s { no_binary_name = true; subcommand_required = true }) (new_app (codes "zzted"))
 
+-- with the commands on edit files
+abbrev pub files_app : App
+files_app = with_subcommand (with_subcommand (with_subcommand (with_subcommand top_app save_shape) check_shape) create_shape) edit_shape
+
 -- the whole command line
 abbrev pub zzted_app : App
-zzted_app = with_subcommand (with_subcommand (with_subcommand (with_subcommand top_app save_shape) check_shape) create_shape) edit_shape
+zzted_app = with_subcommand (with_subcommand (with_subcommand files_app merge_shape) show_shape) play_shape

@@ -4,10 +4,13 @@ pub mod Faults
 pub mod Files
 pub mod Fresh
 pub mod Grammar
+pub mod Joining
 pub mod Lines
+pub mod Merged
 pub mod Memory
 pub mod Outcome
 pub mod Refusals
 pub mod Saving
+pub mod Shown
 pub mod HostContents
 pub mod Commands

@@ -1,5 +1,5 @@
 -- The lines that the program prints.
-use Rattle.std.specs.Prelude.{ℕ, Bool, true, false, List, [], ◌∷◌, ◌++◌, codes, length}
+use Rattle.std.specs.Prelude.{ℕ, Bool, true, false, List, [], ◌∷◌, ◌++◌, Option, Some, None, codes, length}
 use Rattle.std.specs.List.{flat_map}
 use Rattle.std.specs.Fmt.{decimal}
 use Rattle.zed_op.specs.declared.cause.Cause.{Cause}
@@ -11,9 +11,12 @@ use Rattle.zed_world.specs.Writing.{world_text}
 use Rattle.zed_export.specs.Warnings.{warnings_of}
 use Rattle.zed_export.specs.declared.warning.Warning.{Warning}
 use Rattle.zed_export.specs.declared.warning.Warning.TheVariants.{PlayerTile, OffBoard, SamePlace}
+use Rattle.zed_play.specs.declared.ending.Ending.{Ending}
+use Rattle.zed_play.specs.declared.ending.Ending.TheVariants.{Left, Died, Failed}
+use Rattle.zed_play.specs.Playtest.{Playtest}
 use Rattle.zed_program.specs.declared.refusal.Refusal.{Refusal}
 use Rattle.zed_program.specs.declared.refusal.Refusal.TheVariants.{Memory, NotZzt, TooManyBoards, Truncated, BadBoardSize, TooManyStats, BadShare, Magic, NewVersion, OtherWorld, RecordLength, BadEdit, CutShort}
-use Rattle.zed_program.specs.declared.refusal.Refusal.TheVariants.{Clash, Stale, ClockSpent, NoSuch, OutOfRange, BadAction, NoWorld, BoardsOver, StatsOver, BoardOver, File}
+use Rattle.zed_program.specs.declared.refusal.Refusal.TheVariants.{Clash, Stale, ClockSpent, NoSuch, OutOfRange, BadAction, NoWorld, BoardsOver, StatsOver, BoardOver, File, NoBoard, NoWords, Over, LinkFault, ScreenFault, KeyFault, TooManyTurns, NoLink}
 
 -- a text with a line feed at its end
 abbrev pub ended : List ℕ → List ℕ
@@ -60,6 +63,14 @@ refusal_name (StatsOver b n) = codes "StatsOver " ++ pair_of b n
 refusal_name (BoardOver b n) = codes "BoardOver " ++ pair_of b n
 refusal_name BadAction = codes "BadAction"
 refusal_name File = codes "File"
+refusal_name NoBoard = codes "NoBoard"
+refusal_name NoWords = codes "NoWords"
+refusal_name Over = codes "Over"
+refusal_name LinkFault = codes "LinkFault"
+refusal_name ScreenFault = codes "ScreenFault"
+refusal_name KeyFault = codes "KeyFault"
+refusal_name TooManyTurns = codes "TooManyTurns"
+refusal_name NoLink = codes "NoLink"
 
 -- the refusals that tell numbers
 abbrev pub has_numbers : Refusal → Bool
@@ -91,6 +102,29 @@ warning_line (SamePlace b s) = ended (codes "SamePlace " ++ pair_of b s)
 abbrev pub counts_line : ℕ → ℕ → ℕ → ℕ → List ℕ
 counts_line edits held boards bytes =
     decimal edits ++ (codes " edits, " ++ (decimal held ++ (codes " held, " ++ (decimal boards ++ (codes " boards, " ++ bytes_line bytes)))))
+
+-- the counts of edits and of held ones
+abbrev pub held_line : ℕ → ℕ → List ℕ
+held_line edits held = decimal edits ++ (codes " edits, " ++ (decimal held ++ ended (codes " held")))
+
+-- those of a set of edits
+abbrev pub joined_line : List Edit → List ℕ
+joined_line es = held_line (length es) (length (held_stamps es))
+
+-- a message of a playtest
+abbrev pub message_line : List ℕ → List ℕ
+message_line text = codes "> " ++ ended text
+
+-- how a playtest stands: the tick of the next step, or how it ended
+abbrev pub standing_line : Option Ending → ℕ → List ℕ
+standing_line (Some (Left board)) tick = codes "left " ++ ended (decimal board)
+standing_line (Some Died) tick = ended (codes "died")
+standing_line (Some Failed) tick = codes "tick " ++ ended (decimal tick)
+standing_line None tick = codes "tick " ++ ended (decimal tick)
+
+-- what is told of a playtest: its messages, and how it stands
+abbrev pub told_of : Playtest → List ℕ
+told_of p = flat_map message_line p.game.messages ++ standing_line p.ending p.tick
 
 -- the warnings of a world, one a line, and then the counts of the edits that it was made of
 abbrev pub report_of : Contents → List Edit → List ℕ

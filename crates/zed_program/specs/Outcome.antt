@@ -9,16 +9,21 @@ use Rattle.zed_edit.specs.Replay.{replay}
 use Rattle.zed_export.specs.Limits.{refusal_of}
 use Rattle.zed_export.specs.World.{world_of}
 use Rattle.zed_editfile.specs.Spelling.{file_text}
+use Rattle.zed_program.specs.declared.program.Product.{Product}
+use Rattle.zed_program.specs.declared.program.Product.TheVariants.{WorldFile, Report}
 use Rattle.zed_program.specs.declared.refusal.Refusal.{Refusal}
 use Rattle.zed_program.specs.declared.refusal.Refusal.TheVariants.{File, Memory}
 use Rattle.zed_program.specs.Collected.{IsCollected}
 use Rattle.zed_program.specs.Edited.{FileEdits, IsEdited}
 use Rattle.zed_program.specs.Files.{IsStream, Stream}
 use Rattle.zed_program.specs.Fresh.{genesis_of, made_by, taken_from}
-use Rattle.zed_program.specs.Lines.{bytes_line, edits_line, has_numbers, line_of, report_of}
+use Rattle.zed_program.specs.Lines.{bytes_line, edits_line, has_numbers, joined_line, line_of, report_of}
 use Rattle.zed_program.specs.Refusals.{export_refusal}
 use Rattle.zed_program.specs.HostContents.{AreRead, HalfComplained, HalfPrinted, HalfWritten, HostContents, IsRead, Rose, StillTells, with_complaint, with_file, with_printed}
-use Rattle.zed_program.specs.Commands.{Command, Save, Check, New, Edit as EditFile}
+use Rattle.zed_session.specs.Links.{LinkSeen}
+use Rattle.zed_program.specs.Commands.{Command, Save, Check, New, Edit as EditFile, Merge, Show, Play}
+use Rattle.zed_program.specs.Merged.{IsMerged}
+use Rattle.zed_program.specs.Shown.{IsShown, OfSet, PlaysFile}
 
 -- the bytes of several texts
 abbrev pub texts_of : List (Bor (List ℕ)) → List (List ℕ)
@@ -58,15 +63,22 @@ file_of es = unless_over (refusal_of 20000 (replay es)) (world_text (world_of (r
 abbrev pub report_on : List Edit → Result (List ℕ) Refusal
 report_on es = unless_over (refusal_of 20000 (replay es)) (report_of (world_of (replay es)) es)
 
--- what a command does at its end: it writes a file and a line that counts, or prints a text
+-- the one or the other
+abbrev pub product_of : Product → List Edit → Result (List ℕ) Refusal
+product_of WorldFile = file_of
+product_of Report = report_on
+
+-- what a command does at its end: it writes a file and a line that counts, or prints a text, or leaves the host as it is
 pub data Effect : Type 0 where
   Writes : (out : List ℕ) → (bytes : List ℕ) → (line : List ℕ) → Effect
   Prints : (text : List ℕ) → Effect
+  Leaves : Effect
 
 -- what the host holds after it
 abbrev pub after : Effect → HostContents → HostContents
 after (Writes out bytes line) t = written_to out bytes line t
 after (Prints text) t = with_printed text t
+after Leaves t = t
 
 -- what it may hold where the host failed at it: perhaps a front of the file; or the file is there, but
 -- the line isn't printed whole; or the text isn't
@@ -74,6 +86,7 @@ abbrev pub HalfDone : Effect → HostContents → HostContents → Type 0
 HalfDone (Writes out bytes line) t u = HalfWritten out bytes t u
     ⊎ ((bytes_eq out (codes "stdout") ≡ false) × HalfPrinted line (with_file out bytes t) u)
 HalfDone (Prints text) t u = HalfPrinted text t u
+HalfDone Leaves t u = ⊥
 
 -- a world file is written, with the line that tells its length
 abbrev pub writes_world : List ℕ → Result (List ℕ) Refusal → Result Effect Refusal
@@ -115,35 +128,57 @@ abbrev pub writes_edits : List ℕ → Result FileEdits Refusal → Result Effec
 writes_edits file (Ok (world, es)) = Ok (Writes file (file_text world es) (edits_line (length es)))
 writes_edits file (Err e) = Err e
 
--- what a command comes to: its effect, or the first refusal
-abbrev pub ComesTo : Type 0 → Command → HostContents → Result Effect Refusal → Type 0
-ComesTo failed (Save out files) t r =
+-- an edit file of a world is written, with the line that counts its edits and those held
+abbrev pub writes_joined : List ℕ → ℕ → Result (List Edit) Refusal → Result Effect Refusal
+writes_joined out world (Ok es) = Ok (Writes out (file_text world es) (joined_line es))
+writes_joined out world (Err e) = Err e
+
+-- a picture is on the screen
+abbrev pub leaves_all : Result (Unit {0}) Refusal → Result Effect Refusal
+leaves_all (Ok u) = Ok Leaves
+leaves_all (Err e) = Err e
+
+-- what is told of a playtest of a board of the world of these files, by the words of the first file
+abbrev pub IsPlayedOf : Type 0 → HostContents → ℕ → List ℕ → List (List ℕ) → Result (List ℕ) Refusal → Type 0
+IsPlayedOf failed t board chance files told =
+    (read : Option (List ℕ)) × IsRead failed t chance read × PlaysFile read board (Collects failed t files) told
+
+-- what a command comes to, by what its links hold: its effect, or the first refusal
+abbrev pub ComesTo : Type 0 → List LinkSeen → Command → HostContents → Result Effect Refusal → Type 0
+ComesTo failed links (Save out files) t r =
     (m : Result (List ℕ) Refusal) × IsMade failed t files file_of m × (r ≡ writes_world out m)
-ComesTo failed (Check files) t r =
+ComesTo failed links (Check files) t r =
     (m : Result (List ℕ) Refusal) × IsMade failed t files report_on m × (r ≡ prints_report m)
-ComesTo failed (New out world from name) t r =
+ComesTo failed links (New out world from name) t r =
     (m : Result (List ℕ) Refusal) × IsFirstWorld failed t from name m × (r ≡ writes_genesis out world m)
-ComesTo failed (EditFile file replica words) t r =
+ComesTo failed links (EditFile file replica words) t r =
     (m : Result FileEdits Refusal) × IsEdited failed t file replica words m × (r ≡ writes_edits file m)
+ComesTo failed links (Merge out world files) t r =
+    (m : Result (List Edit) Refusal) × IsMerged world (length files) links m × (r ≡ writes_joined out world m)
+ComesTo failed links (Show board files) t r =
+    (set : Result (List Edit) Refusal) × (done : Result (Unit {0}) Refusal) × Collects failed t files set
+    × OfSet set board IsShown done × (r ≡ leaves_all done)
+ComesTo failed links (Play board chance files) t r =
+    (told : Result (List ℕ) Refusal) × IsPlayedOf failed t board chance files told × (r ≡ prints_report told)
 
 -- a command is refused before its effect, which leaves all as it was
-abbrev pub RefusedBefore : Type 0 → Command → HostContents → Refusal → HostContents → Type 0
-RefusedBefore failed command t e u = (u ≡ t) × ((e ≡ Memory) ⊎ ComesTo failed command t (Err e))
+abbrev pub RefusedBefore : Type 0 → List LinkSeen → Command → HostContents → Refusal → HostContents → Type 0
+RefusedBefore failed links command t e u = (u ≡ t) × ((e ≡ Memory) ⊎ ComesTo failed links command t (Err e))
 
 -- the host fails at its effect
-abbrev pub FailedAt : Type 0 → Command → HostContents → Refusal → HostContents → Type 0
-FailedAt failed command t e u =
-    failed × (e ≡ File) × ((x : Effect) × ComesTo failed command t (Ok x) × HalfDone x t u)
+abbrev pub FailedAt : Type 0 → List LinkSeen → Command → HostContents → Refusal → HostContents → Type 0
+FailedAt failed links command t e u =
+    failed × (e ≡ File) × ((x : Effect) × ComesTo failed links command t (Ok x) × HalfDone x t u)
 
 -- either of them
-abbrev pub IsRefused : Type 0 → Command → HostContents → Refusal → HostContents → Type 0
-IsRefused failed command t e u = RefusedBefore failed command t e u ⊎ FailedAt failed command t e u
+abbrev pub IsRefused : Type 0 → List LinkSeen → Command → HostContents → Refusal → HostContents → Type 0
+IsRefused failed links command t e u = RefusedBefore failed links command t e u ⊎ FailedAt failed links command t e u
 
 -- a command ends so
-abbrev pub Ends : Type 0 → Command → HostContents → Result ⊤ Refusal → Option HostContents → Type 0
-Ends failed command t result new = MatchResult result
-    (λ _. (x : Effect) × ComesTo failed command t (Ok x) × (new ≡ Some (after x t)))
-    (λ e. StillTells (IsRefused failed command t e) new)
+abbrev pub Ends : Type 0 → List LinkSeen → Command → HostContents → Result ⊤ Refusal → Option HostContents → Type 0
+Ends failed links command t result new = MatchResult result
+    (λ _. (x : Effect) × ComesTo failed links command t (Ok x) × (new ≡ Some (after x t)))
+    (λ e. StillTells (IsRefused failed links command t e) new)
 
 -- a text is on the standard error, or the host failed at it
 abbrev pub IsComplained : Type 0 → List ℕ → HostContents → Option HostContents → Type 0
@@ -160,21 +195,21 @@ IsTold failed e t new = (line : List ℕ) × IsLineOf e line × IsComplained fai
 
 -- a command is refused and the user is told; the faults are counted from `old`, to `middle` before the
 -- user is told, and to `now`
-pub record RefusedRun (command : Command) (t : HostContents) (old now : ℕ) (new : Option HostContents) : Type 0 where
+pub record RefusedRun (links : List LinkSeen) (command : Command) (t : HostContents) (old now : ℕ) (new : Option HostContents) : Type 0 where
   pub refusal : Refusal
   pub left : HostContents
   pub middle : ℕ
-  pub refused : IsRefused (Rose old middle) command t refusal left
+  pub refused : IsRefused (Rose old middle) links command t refusal left
   pub told : IsTold (Rose middle now) refusal left new
   pub rises : (old ≤ middle) × (middle ≤ now)
 
 -- a command is carried out with status 0, or refused with status 1. Words that are refused change no
 -- file; the status is 2, or 1 where memory ran out
-abbrev pub EndsRun : Option Command → HostContents → ℕ → ℕ → ℕ → Option HostContents → Type 0
-EndsRun (Some command) t old now status new =
-    ((x : Effect) × ComesTo (Rose old now) command t (Ok x) × (status ≡ 0) × (new ≡ Some (after x t)))
-    ⊎ ((status ≡ 1) × RefusedRun command t old now new)
-EndsRun None t old now status new =
+abbrev pub EndsRun : List LinkSeen → Option Command → HostContents → ℕ → ℕ → ℕ → Option HostContents → Type 0
+EndsRun links (Some command) t old now status new =
+    ((x : Effect) × ComesTo (Rose old now) links command t (Ok x) × (status ≡ 0) × (new ≡ Some (after x t)))
+    ⊎ ((status ≡ 1) × RefusedRun links command t old now new)
+EndsRun links None t old now status new =
     ((status ≡ 2) × ((text : List ℕ) × IsComplained (Rose old now) text t new))
     ⊎ ((status ≡ 1) × IsComplained (Rose old now) (line_of Memory) t new)
 
@@ -184,7 +219,7 @@ HasStatus (Ok x) t status new = (status ≡ 0) × (new ≡ Some (after x t))
 HasStatus (Err e) t status new = (status ≡ 1) × (new ≡ Some (with_complaint (line_of e) t))
 
 -- a command ends so where the host didn't fail
-abbrev pub EndsCalmly : Command → HostContents → ℕ → Option HostContents → Type 0
-EndsCalmly command t status new =
-    ((r : Result Effect Refusal) × ComesTo ⊥ command t r × HasStatus r t status new)
+abbrev pub EndsCalmly : List LinkSeen → Command → HostContents → ℕ → Option HostContents → Type 0
+EndsCalmly links command t status new =
+    ((r : Result Effect Refusal) × ComesTo ⊥ links command t r × HasStatus r t status new)
     ⊎ HasStatus (Err Memory) t status new

@@ -10,9 +10,13 @@ use Rattle.zed_document.specs.declared.error.DocumentError.{DocumentError}
 use Rattle.zed_document.specs.declared.error.DocumentError.TheVariants as document
 use Rattle.zed_export.specs.declared.error.ExportError.{ExportError}
 use Rattle.zed_export.specs.declared.error.ExportError.TheVariants as export
+use Rattle.zed_link.specs.declared.error.LinkError.{LinkError}
+use Rattle.zed_link.specs.declared.error.LinkError.TheVariants as link
+use Rattle.zed_session.specs.declared.error.SessionError.{SessionError}
+use Rattle.zed_session.specs.declared.error.SessionError.TheVariants as session
 use Rattle.zed_program.specs.declared.refusal.Refusal.{Refusal}
 use Rattle.zed_program.specs.declared.refusal.Refusal.TheVariants.{Memory, NotZzt, TooManyBoards, Truncated, BadBoardSize, TooManyStats, BadShare, Magic, NewVersion, OtherWorld, RecordLength, BadEdit, CutShort, Clash, Stale, NoSuch}
-use Rattle.zed_program.specs.declared.refusal.Refusal.TheVariants.{ClockSpent, OutOfRange, BadAction, NoWorld, BoardsOver, StatsOver, BoardOver, File}
+use Rattle.zed_program.specs.declared.refusal.Refusal.TheVariants.{ClockSpent, OutOfRange, BadAction, NoWorld, BoardsOver, StatsOver, BoardOver, File, NoBoard, NoWords, Over, LinkFault, ScreenFault, KeyFault, TooManyTurns, NoLink}
 
 -- the refusal of a command for one of an edit file
 abbrev pub file_refusal : EditFileError → Refusal
@@ -48,15 +52,8 @@ world_refusal (world.BoardOver b n) = BoardOver b n
 
 -- the refusal of a command for one of an action
 abbrev pub action_refusal : ActionError → Refusal
-action_refusal action.Memory = Memory
 action_refusal action.BadAction = BadAction
-action_refusal action.NoSuch = NoSuch
-action_refusal action.OutOfRange = OutOfRange
-action_refusal action.ClockSpent = ClockSpent
-action_refusal (action.BadEdit c) = BadEdit c
-action_refusal (action.Clash s) = Clash s
-action_refusal action.OtherWorld = OtherWorld
-action_refusal action.Stale = Stale
+action_refusal (action.Document e) = document_refusal e
 
 -- the refusal of a command for one of an export
 abbrev pub export_refusal : ExportError → Refusal
@@ -66,6 +63,44 @@ export_refusal export.NoWorld = NoWorld
 export_refusal (export.BoardsOver n) = BoardsOver n
 export_refusal (export.StatsOver b n) = StatsOver b n
 export_refusal (export.BoardOver b n) = BoardOver b n
+
+-- the refusal of a command for one of a link
+abbrev pub link_refusal : LinkError → Refusal
+link_refusal link.Memory = Memory
+link_refusal link.Magic = Magic
+link_refusal link.NewVersion = NewVersion
+link_refusal link.OtherWorld = OtherWorld
+link_refusal link.RecordLength = RecordLength
+link_refusal (link.BadEdit c) = BadEdit c
+link_refusal link.CutShort = CutShort
+link_refusal (link.Clash s) = Clash s
+link_refusal link.Stale = Stale
+link_refusal link.LinkFault = LinkFault
+link_refusal link.TooManyTurns = TooManyTurns
+
+-- the refusal of a command for one of a session
+abbrev pub session_refusal : SessionError → Refusal
+session_refusal session.Memory = Memory
+session_refusal session.Magic = Magic
+session_refusal session.NewVersion = NewVersion
+session_refusal session.OtherWorld = OtherWorld
+session_refusal session.RecordLength = RecordLength
+session_refusal (session.BadEdit c) = BadEdit c
+session_refusal session.CutShort = CutShort
+session_refusal (session.Clash s) = Clash s
+session_refusal session.Stale = Stale
+session_refusal session.NoWorld = NoWorld
+session_refusal (session.BoardsOver n) = BoardsOver n
+session_refusal (session.StatsOver b n) = StatsOver b n
+session_refusal (session.BoardOver b n) = BoardOver b n
+session_refusal session.NoBoard = NoBoard
+session_refusal session.NoWords = NoWords
+session_refusal session.Over = Over
+session_refusal session.LinkFault = LinkFault
+session_refusal session.ScreenFault = ScreenFault
+session_refusal session.KeyFault = KeyFault
+session_refusal session.TooManyTurns = TooManyTurns
+session_refusal session.NoLink = NoLink
 
 -- whether an answer tells of a host that failed
 abbrev pub is_file_refusal : {X : Type 0} → Result X Refusal → Bool

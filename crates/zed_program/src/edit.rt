@@ -1,10 +1,9 @@
 //! An action of an author on an edit file.
-ghost use Rattle.std.specs.Prelude.{◌≡◌, ◌≤◌, ◌⊎◌, Err, IfErr, IfOk, MatchResult, Ok, Some, OnOk, ◌++◌, false};
-ghost use Rattle.std.specs.List.{flat_map};
+ghost use Rattle.std.specs.Prelude.{[], ◌≡◌, ◌≤◌, ◌⊎◌, Err, IfErr, IfOk, MatchResult, Ok, Some, false};
 ghost use Rattle.zed_op.specs.Set.{Agrees, AllFit, set_of};
 ghost use Rattle.zed_types.specs.declared.stamp.Stamp.{Stamp as TheStamp};
 ghost use Rattle.zed_document.specs.Delivery.{IsFirstClash};
-ghost use Rattle.zed_editfile.specs.Spelling.{file_text, record_text};
+ghost use Rattle.zed_editfile.specs.Spelling.{file_text};
 ghost use Rattle.zed_program.specs.Edited.{HasEdits, IsEdited, IsOpened, OpensAs};
 ghost use Rattle.zed_program.specs.Outcome.{Ends, texts_of};
 ghost use Rattle.zed_program.specs.HostContents.{HostContents, Rose};
@@ -18,7 +17,7 @@ use std::alloc::Global;
 use zed_action::act;
 use zed_document::Document;
 use zed_edit::{Cause, Edit};
-use zed_editfile::{EditFileError, write_edit, write_head};
+use zed_editfile::{EditFileError, write_file};
 
 // The document of a world with these edits.
 fn collected(alloc: Global, world: u64, edits: Vec<Edit>) -> Result<Document, Refusal>
@@ -89,27 +88,13 @@ fn edited<H: Host>(
     Ok(document)
 }
 
-// Appends the records of edits.
-fn put_all(edits: &[Edit], out: &mut Vec<u8>) -> Result<(), Refusal>
-    requires { AllFit edits.now }
-    ensures ok { OnOk result (out.new.items ≡ out.old.items ++ flat_map record_text edits.now) }
-    ensures err { IfErr result (λ e. e ≡ Refusal.Memory) }
-{
-    for edit in edits {
-        write_edit(edit, out)?;
-    }
-    Ok(())
-}
-
 /// The edit file of a document.
-fn file_of(alloc: Global, document: &Document) -> Result<Vec<u8>, Refusal>
+pub(crate) fn file_of(alloc: Global, document: &Document) -> Result<Vec<u8>, Refusal>
     ensures ok { IfOk result (λ file.
         file.items ≡ file_text document.now.world document.now.edits) }
     ensures err { IfErr result (λ e. e ≡ Refusal.Memory) }
 {
-    let mut file = Vec::new(alloc);
-    write_head(document.world(), &mut file)?;
-    put_all(document.edits(), &mut file)?;
+    let file = write_file(alloc, document.world(), document.edits())?;
     Ok(file)
 }
 
@@ -123,7 +108,7 @@ pub(crate) fn edit<H: Host>(
 ) -> Result<(), Refusal>
     ensures ends { (t : HostContents) → H.contents host.old ≡ Some t
         → let failed = Rose (H.faults host.old) (H.faults host.new) in
-        Ends failed (EditFile file.now replica (texts_of words.now)) t
+        Ends failed [] (EditFile file.now replica (texts_of words.now)) t
         result (H.contents host.new) }
     ensures rises { H.faults host.old ≤ H.faults host.new }
 {

@@ -2,7 +2,7 @@
 ghost use Rattle.std.specs.Prelude.{◌≡◌, false, IfOk};
 ghost use Rattle.clap.specs.Words.{app_of, rule_of, shape_of};
 ghost use Rattle.clap.specs.declared.builder.command.Command.TheViews.{out-Command};
-ghost use Rattle.zed_program.specs.Grammar.{check_shape, create_shape, edit_shape, files_rule, option_rule, replica_rule, required_rule, save_shape, several_rule, world_rule, zzted_app};
+ghost use Rattle.zed_program.specs.Grammar.{board_rule, check_shape, create_shape, edit_shape, files_rule, merge_shape, option_rule, play_shape, replica_rule, required_rule, save_shape, several_rule, show_shape, world_rule, zzted_app};
 
 use clap::{Arg, Command};
 use std::alloc::{AllocError, Global};
@@ -143,13 +143,69 @@ fn edit_command<'a>(alloc: Global) -> Result<Command<'a>, AllocError>
         ))
 }
 
+/// `merge OUT WORLD FILES...`
+fn merge_command<'a>(alloc: Global) -> Result<Command<'a>, AllocError>
+    ensures shape { IfOk result (λ c. shape_of c ≡ merge_shape) }
+    ensures local { IfOk result (λ c. (out-Command c).has_globals ≡ false) }
+{
+    Command::new(alloc, "merge")
+        .about("Join edit files of a world to one, with the edits in the order of their stamps")
+        .arg(required_argument(
+            alloc,
+            "OUT",
+            "The edit file to write; stdout is standard output",
+        ))?
+        .arg(world_argument(alloc))?
+        .arg(files_argument(alloc))
+}
+
+// The number of a board.
+fn board_argument<'a>(alloc: Global) -> Arg<'a>
+    ensures rule { rule_of result ≡ board_rule }
+    ensures local { result.global ≡ false }
+{
+    Arg::new(alloc, "BOARD")
+        .help("The number of a board, 0 for the title")
+        .required(true)
+        .value_parser(clap::value_parser!(u16))
+}
+
+/// `show BOARD FILES...`
+fn show_command<'a>(alloc: Global) -> Result<Command<'a>, AllocError>
+    ensures shape { IfOk result (λ c. shape_of c ≡ show_shape) }
+    ensures local { IfOk result (λ c. (out-Command c).has_globals ≡ false) }
+{
+    Command::new(alloc, "show")
+        .about("Print the picture of a board of the world of edit files")
+        .arg(board_argument(alloc))?
+        .arg(files_argument(alloc))
+}
+
+/// `play BOARD WORDS FILES...`
+fn play_command<'a>(alloc: Global) -> Result<Command<'a>, AllocError>
+    ensures shape { IfOk result (λ c. shape_of c ≡ play_shape) }
+    ensures local { IfOk result (λ c. (out-Command c).has_globals ≡ false) }
+{
+    Command::new(alloc, "play")
+        .about(
+            "Play a board of the world of edit files by keys of standard input: n s e w move, N S E W shoot, . waits",
+        )
+        .arg(board_argument(alloc))?
+        .arg(required_argument(
+            alloc,
+            "WORDS",
+            "A file of the chances of the playtest: 16-bit numbers, the low byte first",
+        ))?
+        .arg(files_argument(alloc))
+}
+
 /// The words after the program's name.
 pub(crate) fn zzted_command<'a>(alloc: Global) -> Result<Command<'a>, AllocError>
     ensures { IfOk result (λ c. app_of c ≡ zzted_app) }
 {
     Command::new(alloc, "zzted")
         .about(
-            "Makes, edits and joins edit files of a ZZT world; without words it does save stdout stdin",
+            "Makes, edits, joins, shows and plays edit files of a ZZT world; without words it does save stdout stdin",
         )
         .no_binary_name(true)
         .subcommand_required(true)
@@ -157,5 +213,8 @@ pub(crate) fn zzted_command<'a>(alloc: Global) -> Result<Command<'a>, AllocError
         .subcommand(save_command(alloc)?)?
         .subcommand(check_command(alloc)?)?
         .subcommand(new_command(alloc)?)?
-        .subcommand(edit_command(alloc)?)
+        .subcommand(edit_command(alloc)?)?
+        .subcommand(merge_command(alloc)?)?
+        .subcommand(show_command(alloc)?)?
+        .subcommand(play_command(alloc)?)
 }

@@ -6,11 +6,14 @@ mod edit;
 mod grammar;
 mod host;
 mod memory;
+mod merging;
 mod new;
 mod output;
+mod playing;
 mod program;
 mod refusal;
 mod report;
+mod showing;
 mod words;
 
 pub use host::{Host, ReadError, WriteError};

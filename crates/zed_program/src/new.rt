@@ -202,7 +202,7 @@ pub(crate) fn make_new<H: Host>(
 ) -> Result<(), Refusal>
     ensures ends { (t : HostContents) → H.contents host.old ≡ Some t
         → let failed = Rose (H.faults host.old) (H.faults host.new) in
-        Ends failed (New out.now world (text_in from.entry) (text_in name.entry)) t
+        Ends failed [] (New out.now world (text_in from.entry) (text_in name.entry)) t
         result (H.contents host.new) }
     ensures rises { H.faults host.old ≤ H.faults host.new }
 {

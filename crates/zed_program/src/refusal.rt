@@ -1,8 +1,8 @@
 //! Why a command was not carried out, and the lines that the program prints.
 ghost use Rattle.std.specs.Prelude.{◌≡◌, IfOk, IfSome, None, string_bytes, true};
 ghost use Rattle.zed_program.specs.declared.refusal.Refusal.TheVariants.{BadEdit, File, Memory};
-ghost use Rattle.zed_program.specs.Refusals.{action_refusal, document_refusal, export_refusal, file_refusal, world_refusal};
-ghost use Rattle.zed_program.specs.Lines.{bytes_line, edits_line, has_numbers, line_of as line_for};
+ghost use Rattle.zed_program.specs.Refusals.{action_refusal, document_refusal, export_refusal, file_refusal, link_refusal, session_refusal, world_refusal};
+ghost use Rattle.zed_program.specs.Lines.{bytes_line, edits_line, has_numbers, held_line, line_of as line_for};
 
 use crate::host::WriteError;
 use std::alloc::{AllocError, Global};
@@ -12,6 +12,8 @@ use zed_document::DocumentError;
 use zed_edit::Cause;
 use zed_editfile::EditFileError;
 use zed_export::ExportError;
+use zed_link::LinkError;
+use zed_session::SessionError;
 use zed_types::Stamp;
 use zed_world::WorldError;
 
@@ -67,6 +69,22 @@ pub(crate) enum Refusal {
     BadAction,
     #[error("a file can't be read or written")]
     File,
+    #[error("there is no such board")]
+    NoBoard,
+    #[error("the playtest has no words left")]
+    NoWords,
+    #[error("no playtest goes on")]
+    Over,
+    #[error("a link failed")]
+    LinkFault,
+    #[error("the screen failed")]
+    ScreenFault,
+    #[error("the source of keys failed")]
+    KeyFault,
+    #[error("a link or the keys come to no end")]
+    TooManyTurns,
+    #[error("there are fewer links than files")]
+    NoLink,
 }
 
 impl From<EditFileError> for Refusal {
@@ -124,15 +142,8 @@ impl From<ActionError> for Refusal {
 
     fn from(error: ActionError) -> Refusal {
         match error {
-            ActionError::Memory => Refusal::Memory,
             ActionError::BadAction => Refusal::BadAction,
-            ActionError::NoSuch => Refusal::NoSuch,
-            ActionError::OutOfRange => Refusal::OutOfRange,
-            ActionError::ClockSpent => Refusal::ClockSpent,
-            ActionError::BadEdit(cause) => Refusal::BadEdit(cause),
-            ActionError::Clash(stamp) => Refusal::Clash(stamp),
-            ActionError::OtherWorld => Refusal::OtherWorld,
-            ActionError::Stale => Refusal::Stale,
+            ActionError::Document(error) => Refusal::from(error),
         }
     }
 }
@@ -148,6 +159,56 @@ impl From<ExportError> for Refusal {
             ExportError::BoardsOver(boards) => Refusal::BoardsOver(boards),
             ExportError::StatsOver { board, stats } => Refusal::StatsOver { board, stats },
             ExportError::BoardOver { board, bytes } => Refusal::BoardOver { board, bytes },
+        }
+    }
+}
+
+impl From<LinkError> for Refusal {
+    ghost from_gives = { λ error refusal. refusal ≡ link_refusal error };
+
+    fn from(error: LinkError) -> Refusal {
+        match error {
+            LinkError::Memory => Refusal::Memory,
+            LinkError::Magic => Refusal::Magic,
+            LinkError::NewVersion => Refusal::NewVersion,
+            LinkError::OtherWorld => Refusal::OtherWorld,
+            LinkError::RecordLength => Refusal::RecordLength,
+            LinkError::BadEdit(cause) => Refusal::BadEdit(cause),
+            LinkError::CutShort => Refusal::CutShort,
+            LinkError::Clash(stamp) => Refusal::Clash(stamp),
+            LinkError::Stale => Refusal::Stale,
+            LinkError::LinkFault => Refusal::LinkFault,
+            LinkError::TooManyTurns => Refusal::TooManyTurns,
+        }
+    }
+}
+
+impl From<SessionError> for Refusal {
+    ghost from_gives = { λ error refusal. refusal ≡ session_refusal error };
+
+    fn from(error: SessionError) -> Refusal {
+        match error {
+            SessionError::Memory => Refusal::Memory,
+            SessionError::Magic => Refusal::Magic,
+            SessionError::NewVersion => Refusal::NewVersion,
+            SessionError::OtherWorld => Refusal::OtherWorld,
+            SessionError::RecordLength => Refusal::RecordLength,
+            SessionError::BadEdit(cause) => Refusal::BadEdit(cause),
+            SessionError::CutShort => Refusal::CutShort,
+            SessionError::Clash(stamp) => Refusal::Clash(stamp),
+            SessionError::Stale => Refusal::Stale,
+            SessionError::NoWorld => Refusal::NoWorld,
+            SessionError::BoardsOver(boards) => Refusal::BoardsOver(boards),
+            SessionError::StatsOver { board, stats } => Refusal::StatsOver { board, stats },
+            SessionError::BoardOver { board, bytes } => Refusal::BoardOver { board, bytes },
+            SessionError::NoBoard => Refusal::NoBoard,
+            SessionError::NoWords => Refusal::NoWords,
+            SessionError::Over => Refusal::Over,
+            SessionError::LinkFault => Refusal::LinkFault,
+            SessionError::ScreenFault => Refusal::ScreenFault,
+            SessionError::KeyFault => Refusal::KeyFault,
+            SessionError::TooManyTurns => Refusal::TooManyTurns,
+            SessionError::NoLink => Refusal::NoLink,
         }
     }
 }
@@ -210,6 +271,14 @@ pub(crate) fn plain_line(refusal: &Refusal) -> Option<&'static str>
         Refusal::NoWorld => "zzted: NoWorld\n",
         Refusal::BadAction => "zzted: BadAction\n",
         Refusal::File => "zzted: File\n",
+        Refusal::NoBoard => "zzted: NoBoard\n",
+        Refusal::NoWords => "zzted: NoWords\n",
+        Refusal::Over => "zzted: Over\n",
+        Refusal::LinkFault => "zzted: LinkFault\n",
+        Refusal::ScreenFault => "zzted: ScreenFault\n",
+        Refusal::KeyFault => "zzted: KeyFault\n",
+        Refusal::TooManyTurns => "zzted: TooManyTurns\n",
+        Refusal::NoLink => "zzted: NoLink\n",
         Refusal::Clash(_)
         | Refusal::BoardsOver(_)
         | Refusal::StatsOver { .. }
@@ -243,6 +312,13 @@ pub(crate) fn bytes_told(alloc: Global, count: usize) -> Result<String, AllocErr
     ensures { IfOk result (λ text. string_bytes text ≡ bytes_line count) }
 {
     format!(in alloc; "{count} bytes\n")
+}
+
+/// The line that counts edits, and those that are held.
+pub(crate) fn joined_told(alloc: Global, edits: usize, held: usize) -> Result<String, AllocError>
+    ensures { IfOk result (λ text. string_bytes text ≡ held_line edits held) }
+{
+    format!(in alloc; "{edits} edits, {held} held\n")
 }
 
 /// The line that counts edits.

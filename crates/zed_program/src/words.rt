@@ -3,7 +3,7 @@ ghost use Rattle.std.specs.Prelude.{◌≡◌, ◌⊎◌, IfOk, MatchResult, Som
 ghost use Rattle.clap.specs.Words.{FailsBy, fault_of, found_of, rows_of, subcommand_of, subcommand_rows_of};
 ghost use Rattle.zed_program.specs.declared.words.ParseError.TheVariants.{Memory};
 ghost use Rattle.zed_program.specs.Grammar.{zzted_app};
-ghost use Rattle.zed_program.specs.Commands.{subcommand_asks, check_of, edit_of, meaning_of, new_of, save_of, command_of};
+ghost use Rattle.zed_program.specs.Commands.{subcommand_asks, check_of, edit_of, meaning_of, merge_of, new_of, play_of, save_of, show_of, command_of};
 
 use crate::grammar::zzted_command;
 use clap::error::ErrorKind;
@@ -34,6 +34,23 @@ pub enum Command<'a> {
         file: &'a str,
         replica: u16,
         words: Vec<&'a str>,
+    },
+    /// Edit files of a world are to be joined to one.
+    Merge {
+        out: &'a str,
+        world: u64,
+        files: Vec<&'a str>,
+    },
+    /// A board of the world of edit files is to be shown.
+    Show {
+        board: u16,
+        files: Vec<&'a str>,
+    },
+    /// A board of the world of edit files is to be played, by the words of chance of a file.
+    Play {
+        board: u16,
+        chance: &'a str,
+        files: Vec<&'a str>,
     },
 }
 
@@ -116,6 +133,54 @@ fn edit_in<'a>(alloc: Global, matches: &ArgMatches<'a>) -> Result<Option<Command
     }
 }
 
+fn merge_in<'a>(alloc: Global, matches: &ArgMatches<'a>) -> Result<Option<Command<'a>>, AllocError>
+    ensures { IfOk result (λ a.
+        option_map meaning_of a ≡ merge_of (rows_of (found_of matches.now))) }
+{
+    let out = matches.get_str("OUT");
+    let world = matches.get_one::<u64>("WORLD");
+    let files = matches.get_strs("FILES");
+    if let (Some(out), Some(world), Some(files)) = (out, world, files) {
+        let files = Vec::from_slice(alloc, files)?;
+        Ok(Some(Command::Merge { out, world, files }))
+    } else {
+        Ok(None)
+    }
+}
+
+fn show_in<'a>(alloc: Global, matches: &ArgMatches<'a>) -> Result<Option<Command<'a>>, AllocError>
+    ensures { IfOk result (λ a.
+        option_map meaning_of a ≡ show_of (rows_of (found_of matches.now))) }
+{
+    let board = matches.get_one::<u16>("BOARD");
+    let files = matches.get_strs("FILES");
+    if let (Some(board), Some(files)) = (board, files) {
+        let files = Vec::from_slice(alloc, files)?;
+        Ok(Some(Command::Show { board, files }))
+    } else {
+        Ok(None)
+    }
+}
+
+fn play_in<'a>(alloc: Global, matches: &ArgMatches<'a>) -> Result<Option<Command<'a>>, AllocError>
+    ensures { IfOk result (λ a.
+        option_map meaning_of a ≡ play_of (rows_of (found_of matches.now))) }
+{
+    let board = matches.get_one::<u16>("BOARD");
+    let chance = matches.get_str("WORDS");
+    let files = matches.get_strs("FILES");
+    if let (Some(board), Some(chance), Some(files)) = (board, chance, files) {
+        let files = Vec::from_slice(alloc, files)?;
+        Ok(Some(Command::Play {
+            board,
+            chance,
+            files,
+        }))
+    } else {
+        Ok(None)
+    }
+}
+
 fn command_named<'a>(
     alloc: Global,
     matches: &ArgMatches<'a>,
@@ -134,6 +199,12 @@ fn command_named<'a>(
         Ok(new_in(inner))
     } else if name == "edit" {
         edit_in(alloc, inner)
+    } else if name == "merge" {
+        merge_in(alloc, inner)
+    } else if name == "show" {
+        show_in(alloc, inner)
+    } else if name == "play" {
+        play_in(alloc, inner)
     } else {
         Ok(None)
     }

@@ -1,7 +1,9 @@
 //! A desk: a document, and what a test asks of it. No contract says anything here, so that the proofs above stay small.
 use crate::rows::{Name, Row, board_id, edit_of, stamp_of, stat_id, text_id};
 use std::alloc::Global;
-use zed_document::{Delivered, Document, DocumentError, State};
+use zed_document::{
+    Delivered, Document, DocumentError, Follower, Leader, P3, State, View, append_text,
+};
 use zed_edit::{Edit, Plain, replay};
 use zed_types::{BoardId, Side, StatId, TextId, ThirdParameter, Tile};
 
@@ -34,7 +36,7 @@ pub(crate) enum Fact {
     Board(usize, Option<Name>),
     Stat(Name, usize, Option<Name>),
     TextOf(Name, Option<Name>),
-    /// An exit of a board, by the place of the board in the replay.
+    /// An exit of a board, by the place of the board among those that were made.
     Exit(usize, Side, Option<Name>),
     Cell(usize, usize, Tile),
     /// The stat at a place of a board: its name, third parameter, follower and leader.
@@ -43,7 +45,7 @@ pub(crate) enum Fact {
     Sound,
 }
 
-/// A stat of the replay.
+/// A stat that is shown.
 #[derive(Clone, Copy)]
 pub(crate) struct Registers {
     pub(crate) id: Name,
@@ -87,21 +89,12 @@ fn is_text(found: Option<TextId>, wanted: Option<Name>) -> bool {
     }
 }
 
-fn has_exit(plain: &Plain, n: usize, side: Side, wanted: Option<Name>) -> bool {
-    let Some(board) = plain.boards.as_slice().get(n) else {
-        return false;
-    };
-    is_board(board.properties.exits[usize::from(side.index())], wanted)
+fn has_exit(view: &View, n: usize, side: Side, wanted: Option<Name>) -> bool {
+    n < view.boards() && is_board(view.property(n, side), wanted)
 }
 
-fn has_tile(plain: &Plain, n: usize, place: usize, tile: Tile) -> bool {
-    let Some(board) = plain.boards.as_slice().get(n) else {
-        return false;
-    };
-    match board.tiles.get(place) {
-        Some(found) => *found == tile,
-        None => false,
-    }
+fn has_tile(view: &View, n: usize, place: usize, tile: Tile) -> bool {
+    n < view.boards() && view.table(n).get(place) == Some(&tile)
 }
 
 fn leads_to(parameter: ThirdParameter, wanted: Option<Name>) -> bool {
@@ -111,17 +104,14 @@ fn leads_to(parameter: ThirdParameter, wanted: Option<Name>) -> bool {
     }
 }
 
-fn has_registers(plain: &Plain, n: usize, j: usize, wanted: Registers) -> bool {
-    let Some(board) = plain.boards.as_slice().get(n) else {
+fn has_registers(view: &View, n: usize, j: usize, wanted: Registers) -> bool {
+    if view.boards() <= n || view.stats(n) <= j {
         return false;
-    };
-    let Some(stat) = board.stats.as_slice().get(j) else {
-        return false;
-    };
-    stat.id == stat_id(wanted.id)
-        && leads_to(stat.fields.p3, wanted.passage)
-        && is_stat(stat.follower, wanted.follower)
-        && is_stat(stat.leader, wanted.leader)
+    }
+    view.stat(n, j).id == stat_id(wanted.id)
+        && leads_to(view.field(n, j, P3), wanted.passage)
+        && is_stat(view.field(n, j, Follower), wanted.follower)
+        && is_stat(view.field(n, j, Leader), wanted.leader)
 }
 
 impl Desk {
@@ -158,6 +148,15 @@ impl Desk {
         }
     }
 
+    /// Whether the bytes that are appended of a text are these.
+    fn appends(&self, id: TextId, wanted: &str) -> bool {
+        let Ok(view) = self.document.view() else {
+            return false;
+        };
+        let mut out = Vec::new(self.alloc);
+        append_text(&view, id, &mut out).is_ok() && out.as_slice() == wanted.as_bytes()
+    }
+
     /// Whether a text reads so, by the document and by the replay of its edits.
     fn shows(&self, name: Name, wanted: &str) -> bool {
         let id = text_id(name);
@@ -174,6 +173,7 @@ impl Desk {
             && replayed.as_slice() == wanted.as_bytes()
             && self.document.length(id) == Ok(wanted.len())
             && self.document.visits(id).is_ok()
+            && self.appends(id, wanted)
             && plain.length(id) == wanted.len()
     }
 
@@ -221,15 +221,15 @@ impl Desk {
         }
     }
 
-    /// Whether this holds of the replay of the document's edits.
-    fn replays(&self, fact: Fact) -> bool {
-        let Some(plain) = self.replayed() else {
+    /// Whether the document's view shows this.
+    fn views(&self, fact: Fact) -> bool {
+        let Ok(view) = self.document.view() else {
             return false;
         };
         match fact {
-            Fact::Exit(n, side, wanted) => has_exit(&plain, n, side, wanted),
-            Fact::Cell(n, place, tile) => has_tile(&plain, n, place, tile),
-            Fact::Registers(n, j, wanted) => has_registers(&plain, n, j, wanted),
+            Fact::Exit(n, side, wanted) => has_exit(&view, n, side, wanted),
+            Fact::Cell(n, place, tile) => has_tile(&view, n, place, tile),
+            Fact::Registers(n, j, wanted) => has_registers(&view, n, j, wanted),
             _ => false,
         }
     }
@@ -245,7 +245,7 @@ impl Desk {
             Fact::Stat(board, n, wanted) => self.numbers_stat(board, n, wanted),
             Fact::TextOf(stat, wanted) => self.has_text(stat, wanted),
             Fact::Sound => self.document.repair() == Ok(()),
-            _ => self.replays(fact),
+            _ => self.views(fact),
         }
     }
 }

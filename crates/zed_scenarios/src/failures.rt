@@ -1,4 +1,5 @@
 //! Commands whose growths are refused.
+use crate::devices::{DarkScreen, NoKeys};
 use crate::growths::{MOST, refuse, was_refused};
 use crate::hosts::{Contents, File, Output, has_written, put_files, words_of};
 use crate::rows::{Does, Row};
@@ -6,6 +7,7 @@ use crate::worlds::{EMPTY, ONE_CELL};
 use std::alloc::Global;
 use std::test::Fail;
 use zed_program::{Host, MemoryHost, run};
+use zed_session::{Keys, Screen};
 use zed_types::Tile;
 
 pub(crate) const TITLE: Row = (1, 0, Does::World(EMPTY));
@@ -72,11 +74,13 @@ fn take_turn(
     alloc: Global,
     host: &mut MemoryHost,
     words: &[String],
+    devices: (Box<dyn Screen>, Box<dyn Keys>),
     command: Command,
     nth: usize,
 ) -> Turn {
+    let (screen, keys) = devices;
     refuse(alloc, nth);
-    let status = run(alloc, words, host);
+    let status = run(alloc, words, host, Vec::new(alloc), screen, keys);
     if was_refused(alloc) {
         if status == 1 && is_told(alloc, host, command.kept) {
             Turn::Refused
@@ -93,15 +97,18 @@ fn take_turn(
 fn take_turn_anew(alloc: Global, command: Command, nth: usize) -> Turn {
     let mut host = MemoryHost::new(alloc, u64::MAX);
     let words = words_of(alloc, command.words);
-    match words {
-        Ok(words) => {
-            if put_files(alloc, &mut host, FILES) {
-                take_turn(alloc, &mut host, words.as_slice(), command, nth)
-            } else {
-                Turn::Wrong
-            }
-        }
-        Err(_) => Turn::Wrong,
+    let screen = Box::new(alloc, DarkScreen { failures: 0 });
+    let keys = Box::new(alloc, NoKeys);
+    match (words, screen, keys) {
+        (Ok(words), Ok(screen), Ok(keys)) if put_files(alloc, &mut host, FILES) => take_turn(
+            alloc,
+            &mut host,
+            words.as_slice(),
+            (screen, keys),
+            command,
+            nth,
+        ),
+        _ => Turn::Wrong,
     }
 }
 

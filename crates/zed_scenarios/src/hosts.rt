@@ -1,4 +1,5 @@
 //! Commands over a host in memory, as data.
+use crate::devices::{DarkScreen, NoKeys};
 use crate::rows::{Row, edit_of};
 use crate::worlds::{Piece, spelled};
 use std::alloc::{AllocError, Global};
@@ -138,9 +139,18 @@ pub(crate) fn has_written(alloc: Global, host: &mut MemoryHost, output: Output) 
 
 /// Whether a command exits with this status.
 pub(crate) fn exits(alloc: Global, host: &mut MemoryHost, words: &[&str], status: u8) -> bool {
-    match words_of(alloc, words) {
-        Ok(words) => run(alloc, words.as_slice(), host) == status,
-        Err(_) => false,
+    let screen = Box::new(alloc, DarkScreen { failures: 0 });
+    let keys = Box::new(alloc, NoKeys);
+    match (words_of(alloc, words), screen, keys) {
+        (Ok(words), Ok(screen), Ok(keys)) => run(
+            alloc,
+            words.as_slice(),
+            host,
+            Vec::new(alloc),
+            screen,
+            keys,
+        ) == status,
+        _ => false,
     }
 }
 

@@ -12,6 +12,8 @@ mod commands;
 #[cfg(test)]
 mod desk;
 #[cfg(test)]
+mod devices;
+#[cfg(test)]
 mod failures;
 #[cfg(test)]
 mod faults;

@@ -1,6 +1,7 @@
 //! `zzted`: the program over real files and streams.
 #![tactic(auto)]
 
+mod devices;
 mod fresh;
 mod hold;
 mod leftover;
@@ -8,11 +9,13 @@ mod place;
 mod replace;
 mod system;
 
+use devices::{FileLink, Printer, Typed};
 use place::Place;
 use std::env;
 use std::io::{self, ErrorKind, Write};
 use std::process::ExitCode;
 use system::{Access, SystemHost};
+use zed_link::Link;
 use zed_program::{Command, ParseError, parse, run};
 
 // The words after the program's name. They are pushed one by one: `collect` goes on after a growth that is refused, with a smaller one.
@@ -32,16 +35,21 @@ fn place_of(rt: &HostRuntime, name: &str) -> io::Result<Option<Place>> {
     Ok(Some(Place::of(rt, name)?))
 }
 
-// How the command of these words gets to the file that it writes. Words that are refused write none; the program tells of them.
-fn access_of(rt: &HostRuntime, words: &[String]) -> io::Result<Access> {
-    match parse(rt.alloc(), words) {
-        Ok(Command::Edit { file, .. }) => Ok(Access::editing(place_of(rt, file)?)),
-        Ok(Command::Save { out, .. }) => Ok(Access::writing(place_of(rt, out)?)),
-        Ok(Command::New { out, .. }) => Ok(Access::writing(place_of(rt, out)?)),
-        Ok(Command::Check { .. }) => Ok(Access::Read),
-        Err(ParseError::Refused(_)) => Ok(Access::Read),
-        Err(ParseError::Memory) => Err(io::Error::from(ErrorKind::OutOfMemory)),
-    }
+// How the command of these words gets to the file that it writes, and the files that it pulls over links. Words that are refused have
+// neither; the program tells of them.
+fn needs_of<'a>(rt: &HostRuntime, words: &'a [String]) -> io::Result<(Access, Vec<&'a str>)> {
+    let access = match parse(rt.alloc(), words) {
+        Ok(Command::Merge { out, files, .. }) => {
+            return Ok((Access::writing(place_of(rt, out)?), files));
+        }
+        Ok(Command::Edit { file, .. }) => Access::editing(place_of(rt, file)?),
+        Ok(Command::Save { out, .. }) => Access::writing(place_of(rt, out)?),
+        Ok(Command::New { out, .. }) => Access::writing(place_of(rt, out)?),
+        Ok(Command::Check { .. } | Command::Show { .. } | Command::Play { .. }) => Access::Read,
+        Err(ParseError::Refused(_)) => Access::Read,
+        Err(ParseError::Memory) => return Err(io::Error::from(ErrorKind::OutOfMemory)),
+    };
+    Ok((access, Vec::new(rt.alloc())))
 }
 
 // The status where the words or memory can't be had: memory was refused, or a word is no UTF-8 text.
@@ -54,14 +62,27 @@ fn status_of(rt: &HostRuntime, error: &io::Error) -> u8 {
     status
 }
 
-// Carries out what the words ask for.
-fn work(rt: HostRuntime, words: &[String]) -> u8 {
+// Carries out what the words ask for, over real files and streams.
+fn carry_out(rt: HostRuntime, words: &[String]) -> io::Result<u8> {
     let alloc = rt.alloc();
-    match access_of(&rt, words) {
-        Ok(access) => {
-            let mut host = SystemHost::new(rt, access);
-            run(alloc, words, &mut host)
+    let (access, linked) = needs_of(&rt, words)?;
+    let mut links: Vec<Box<dyn Link>> = Vec::new(alloc);
+    for name in linked {
+        let link = Box::new(alloc, FileLink::new(rt, name)?)?;
+        if links.push(link).is_err() {
+            return Err(io::Error::from(ErrorKind::OutOfMemory));
         }
+    }
+    let screen = Box::new(alloc, Printer::new(rt))?;
+    let keys = Box::new(alloc, Typed::new(rt))?;
+    let mut host = SystemHost::new(rt, access);
+    Ok(run(alloc, words, &mut host, links, screen, keys))
+}
+
+// The status of what the words ask for.
+fn work(rt: HostRuntime, words: &[String]) -> u8 {
+    match carry_out(rt, words) {
+        Ok(status) => status,
         Err(error) => status_of(&rt, &error),
     }
 }

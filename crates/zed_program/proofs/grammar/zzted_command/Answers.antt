@@ -17,4 +17,7 @@ returns c =
     let one = c.in_ok-subcommand.ensures.shape c.in_ok-save_command.ensures.local ∙ ap₂ with_subcommand named c.in_ok-save_command.ensures.shape in
     let two = c.in_ok-subcommand-2.ensures.shape c.in_ok-check_command.ensures.local ∙ ap₂ with_subcommand one c.in_ok-check_command.ensures.shape in
     let three = c.in_ok-subcommand-3.ensures.shape c.in_ok-new_command.ensures.local ∙ ap₂ with_subcommand two c.in_ok-new_command.ensures.shape in
-    IfOk-weaker c.subcommand-4.result _ _ (λ r h. h.shape c.in_ok-edit_command.ensures.local ∙ ap₂ with_subcommand three c.in_ok-edit_command.ensures.shape) c.subcommand-4.ensures
+    let four = c.in_ok-subcommand-4.ensures.shape c.in_ok-edit_command.ensures.local ∙ ap₂ with_subcommand three c.in_ok-edit_command.ensures.shape in
+    let five = c.in_ok-subcommand-5.ensures.shape c.in_ok-merge_command.ensures.local ∙ ap₂ with_subcommand four c.in_ok-merge_command.ensures.shape in
+    let six = c.in_ok-subcommand-6.ensures.shape c.in_ok-show_command.ensures.local ∙ ap₂ with_subcommand five c.in_ok-show_command.ensures.shape in
+    IfOk-weaker c.subcommand-7.result _ _ (λ r h. h.shape c.in_ok-play_command.ensures.local ∙ ap₂ with_subcommand six c.in_ok-play_command.ensures.shape) c.subcommand-7.ensures

@@ -1,15 +1,16 @@
-use Rattle.std.proofs.Common.{◌≡◌, ◌≤◌, ◌∙◌, ap, arith, length, map, ◌∷◌, Some, string_bytes}
+use Rattle.std.proofs.Common.{[], ◌≡◌, ◌≤◌, ◌∙◌, ap, arith, length, map, ◌∷◌, Some, string_bytes}
 use Rattle.std.proofs.lemmas.List.{length-map}
 use Rattle.clap.specs.Lexer.{usize_max}
-use Rattle.zed_program.specs.Commands.{Save, command_of}
+use Rattle.zed_program.specs.Commands.{Merge, Save, command_of}
 use Rattle.zed_program.proofs.Endings.{run_calmly}
+use Rattle.zed_program.proofs.Joined.{run_of_links}
 use Rattle.zed_program.proofs.SaveWords.{save_words}
 use Rattle.zed_program.proofs.FileTexts.{run_of_texts, reads_back, written_is_read}
 use Rattle.zed_program.proofs.program.run.Goals as goal
 
 pub returns-clause-ends_calmly : goal.returns-clause-ends_calmly
 returns-clause-ends_calmly g c = λ t command asked at calm.
-    run_calmly command t _ _ c.run_words.result _ calm (rw asked at (c.run_words.ensures.ends t at))
+    run_calmly _ command t _ _ c.run_words.result _ calm (rw asked at (c.run_words.ensures.ends t at))
 
 pub returns-clause-saves : goal.returns-clause-saves
 returns-clause-saves g c = λ t out file files spelled plain at calm.
@@ -24,10 +25,15 @@ returns-clause-saves g c = λ t out file files spelled plain at calm.
 
 pub returns-clause-saves_sets : goal.returns-clause-saves_sets
 returns-clause-saves_sets g c = λ t out world lists asks at calm.
-    run_of_texts (written_is_read c.one_reading.ensures.one c.one_reading.ensures.file) (map string_bytes c.args.words.now) t out world lists c.run_words.result _ asks
+    run_of_texts [] (written_is_read c.one_reading.ensures.one c.one_reading.ensures.file) (map string_bytes c.args.words.now) t out world lists c.run_words.result _ asks
     (returns-clause-ends_calmly g c t (Save out asks.files) asks.asks at calm)
 
 pub returns-clause-reads_back : goal.returns-clause-reads_back
 returns-clause-reads_back g c = λ t out world lists asks at calm.
     reads_back c.saved_is_read.ensures.authored (map string_bytes c.args.words.now) t out world lists c.run_words.result _ asks
     (returns-clause-saves_sets g c t out world lists asks at calm)
+
+pub returns-clause-merges_sets : goal.returns-clause-merges_sets
+returns-clause-merges_sets g c = λ t out world lists asks at calm.
+    run_of_links c.files_are_pulled.ensures c.deliveries_come_to_sets.ensures (map string_bytes c.args.words.now) _ t out world lists c.run_words.result _ asks
+    (returns-clause-ends_calmly g c t (Merge out world asks.files) asks.asks at calm)

@@ -6,10 +6,10 @@ use Rattle.zed_program.proofs.program.run_words.Goals as goal
 pub returns-in-Ok-clause-ends : goal.returns-in-Ok-clause-ends
 returns-in-Ok-clause-ends g c = λ t at.
     let ended = c.in-Err.ensures.ends t at in
-    rw c.in-Ok.ensures (refused_run (meaning_of c.in-Ok.command) t ended.0 c.in-Err.refusal _ _ _ _ c.in-Err.ensures.rises c.complain_of.ensures.rises
+    rw c.in-Ok.ensures (refused_run _ (meaning_of c.in-Ok.command) t ended.0 c.in-Err.refusal _ _ _ _ c.in-Err.ensures.rises c.complain_of.ensures.rises
     ended.1 (c.complain_of.ensures.told ended.0 ended.2))
 
 pub returns-in-Err-Memory-clause-ends : goal.returns-in-Err-Memory-clause-ends
 returns-in-Err-Memory-clause-ends g c = λ t at.
-    memory_run (command_of (map string_bytes c.args.words.now)) t _ _ _ (counted_up _ _ _ c.complain.ensures.faults)
+    memory_run _ (command_of (map string_bytes c.args.words.now)) t _ _ _ (counted_up _ _ _ c.complain.ensures.faults)
     (complained c.complain.result _ _ _ t _ _ at (rw at at c.complain.ensures.complained) c.complain.ensures.half c.complain.ensures.faults)

@@ -1,16 +1,16 @@
 use Rattle.std.proofs.Common.{◌≡◌}
 use Rattle.std.proofs.lemmas.Result.{err_from_is_err_and}
-use Rattle.zed_program.specs.Outcome.{report_on, texts_of}
+use Rattle.zed_program.specs.Outcome.{product_of, texts_of}
 use Rattle.zed_program.proofs.Endings.{made_result, not_made}
-use Rattle.zed_program.proofs.program.report_from.Goals as goal
+use Rattle.zed_program.proofs.program.made_from.Goals as goal
 
 pub returns-in_err-document-clause-made : goal.returns-in_err-document-clause-made
 returns-in_err-document-clause-made g c = λ t at.
     let p = err_from_is_err_and c.from_residual.result c.from_residual.ensures.1 in
     let same : p.0 ≡ c.in_err-document.field-0.0 = p.2 in
-    rw (p.1, same) (not_made _ t (texts_of c.args.files.now) report_on c.in_err-document.field-0.0 (c.in_err-document.ensures.collected t at))
+    rw (p.1, same) (not_made _ t (texts_of c.args.files.now) (product_of c.args.product) c.in_err-document.field-0.0 (c.in_err-document.ensures.collected t at))
 
 pub returns-clause-made : goal.returns-clause-made
 returns-clause-made g c = λ t at.
-    made_result _ c.report.result t (texts_of c.args.files.now) report_on c.in_ok-document.document.edits
-    (c.in_ok-document.ensures.collected t at) c.report.ensures
+    made_result _ c.product_of.result t (texts_of c.args.files.now) (product_of c.args.product) c.in_ok-document.document.edits
+    (c.in_ok-document.ensures.collected t at) c.product_of.ensures

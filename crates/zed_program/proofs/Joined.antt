@@ -1,0 +1,208 @@
+-- What pulls over links that hold edit files come to.
+use Rattle.std.proofs.Common.{◌≡◌, ◌∙◌, ◌≤◌, ◌<◌, ◌^◌, ◌++◌, arith, ℕ, Bool, true, false, List, [], ◌∷◌, length, take, nat_lt, Option, Some, None, Result, Ok, Err, refl, ap, sym, subst, map, append_assoc, append-nil, inl, inr}
+use Rattle.std.specs.Prelude.{◌⊎◌, Contains, MatchBool, option_map}
+use Rattle.std.proofs.lemmas.List.{length-map, take-map}
+use Rattle.std.proofs.lemmas.List.Elements.{Contains-append_left}
+use Rattle.zed_types.specs.declared.stamp.Stamp.{Stamp}
+use Rattle.zed_op.specs.declared.op.Edit.{Edit}
+use Rattle.zed_op.specs.Set.{Agrees, AllFit, set_of}
+use Rattle.zed_editfile.specs.Spelling.{file_text}
+use Rattle.zed_editfile.specs.Stream.{AreRecords}
+use Rattle.zed_document.specs.declared.error.DocumentError.TheVariants as document
+use Rattle.zed_document.specs.declared.error.DocumentError.{DocumentError}
+use Rattle.zed_document.specs.Delivery.{DeliveriesComeToSets, DeliversEach}
+use Rattle.zed_document.specs.Replica.{Replica}
+use Rattle.zed_link.specs.declared.error.LinkError.{LinkError}
+use Rattle.zed_link.specs.declared.error.LinkError.TheVariants as link
+use Rattle.zed_link.specs.Ends.{LinkEnds}
+use Rattle.zed_link.specs.Laws.{FilesArePulled, HoldsFile, PullsFile}
+use Rattle.zed_link.specs.Pull.{AllDelivered}
+use Rattle.zed_link.proofs.Deliveries.{delivered_more}
+use Rattle.zed_link.specs.declared.pulled.Pulled.{Pulled}
+use Rattle.zed_session.specs.Links.{LinkSeen, PullsOver}
+use Rattle.zed_program.specs.declared.refusal.Refusal.{Refusal}
+use Rattle.zed_program.specs.declared.refusal.Refusal.TheVariants.{Memory, NoLink}
+use Rattle.zed_program.specs.Commands.{Merge}
+use Rattle.zed_program.specs.Files.{joined, texts_of_lists}
+use Rattle.zed_program.specs.HostContents.{HostContents}
+use Rattle.zed_program.specs.Joining.{AsksToMerge, IsOfLinks, MergesSet, left_on}
+use Rattle.zed_program.specs.Lines.{joined_line}
+use Rattle.zed_program.specs.Merged.{IsMerged, PullsEach, empty_document, with_edits}
+use Rattle.zed_program.specs.Outcome.{ComesTo, Effect, EndsCalmly, HasStatus, Writes, writes_joined}
+use Rattle.zed_program.specs.Refusals.{link_refusal}
+use Rattle.zed_program.proofs.FileTexts.{no_clash, records_fit, records_left, records_right}
+
+-- what a function makes of each element of a list
+abbrev pub each_of : {X Y : Type 0} → List X → (X → Y) → List Y
+each_of xs f = map f xs
+
+-- a document of the same world that isn't stale either is the other with its own edits
+with_own : (d m : Replica) → m.world ≡ d.world → m.is_stale ≡ d.is_stale → m ≡ with_edits m.edits d
+with_own d m w s =
+    let make : ℕ → Bool → Replica = λ w s. record { world = w; edits = m.edits; is_stale = s } in
+    let path : make m.world m.is_stale ≡ make d.world d.is_stale = rw (w, s) refl in path
+
+-- nothing was pulled yet
+pub pulls_start : {X : Type 0} (f : X → LinkSeen) (d : Replica) (world count : ℕ) (links rest : List X) (r : Result (List Edit) Refusal)
+    → d ≡ empty_document world → rest ≡ take count links → PullsEach d (map f rest) r → PullsEach (empty_document world) (take count (map f links)) r
+pulls_start f d world count links rest r new first pulls =
+    subst (λ ls. PullsEach (empty_document world) ls r) (sym (take-map f count links))
+    (subst (λ xs. PullsEach (empty_document world) (map f xs) r) first (subst (λ q. PullsEach q (map f rest) r) new pulls))
+
+-- one link more was pulled over
+pub pulls_more : {X : Type 0} (f : X → LinkSeen) (d m : Replica) (all rest : List X) (x : X) (pulled : Pulled) (gone : LinkSeen) (r : Result (List Edit) Refusal)
+    → m.world ≡ d.world → m.is_stale ≡ d.is_stale → all ≡ x ∷ rest → PullsOver d (f x) gone (Ok pulled) m.edits
+    → PullsEach m (map f rest) r → PullsEach d (map f all) r
+pulls_more f d m all rest x pulled gone r w s is over pulls =
+    subst (λ xs. PullsEach d (map f xs) r) (sym is) (inl (pulled, gone, m.edits, over, subst (λ q. PullsEach q (map f rest) r) (with_own d m w s) pulls))
+
+-- a pull was refused
+pub pulls_refused : {X : Type 0} (f : X → LinkSeen) (d : Replica) (all rest : List X) (x : X) (e : LinkError) (gone : LinkSeen) (left : List Edit)
+    → all ≡ x ∷ rest → PullsOver d (f x) gone (Err e) left → PullsEach d (map f all) (Err (link_refusal e))
+pulls_refused f d all rest x e gone left is over =
+    subst (λ xs. PullsEach d (map f xs) (Err (link_refusal e))) (sym is) (inr (e, gone, left, over, refl))
+
+-- a list of no length has no elements
+pub none_there : {X : Type 0} (xs : List X) → length xs ≡ 0 → xs ≡ []
+none_there [] none = refl
+none_there (x ∷ xs) none = absurd (omega (arith, none))
+
+-- no link is left
+pub pulls_end : {X : Type 0} (f : X → LinkSeen) (d : Replica) (rest : List X) → rest ≡ [] → PullsEach d (map f rest) (Ok d.edits)
+pulls_end f d rest none = subst (λ xs. PullsEach d (map f xs) (Ok d.edits)) (sym none) refl
+
+not_fewer : (n m : ℕ) → n ≤ m → nat_lt m n ≡ false
+not_fewer n m le = grind arith
+
+-- there are links enough
+pub is_merged : {X : Type 0} (f : X → LinkSeen) (world count n : ℕ) (links : List X) (r : Result (List Edit) Refusal) → n ≡ length links → count ≤ n
+    → PullsEach (empty_document world) (take count (map f links)) r → IsMerged world count (map f links) r
+is_merged f world count n links r all enough pulls =
+    let all_enough : count ≤ length (map f links) = rw length-map (rw all at enough) in
+    subst (λ b. MatchBool b (r ≡ Err NoLink) (PullsEach (empty_document world) (take count (map f links)) r)) (sym (not_fewer count (length (map f links)) all_enough)) pulls
+
+-- a link that holds a text tells its ends
+holds : (d : Replica) (es : List Edit) (ends : Option LinkEnds) → d.world < 2 ^ 64 → AreRecords es
+    → option_map (λ t. t.left) ends ≡ Some (file_text d.world es) → HoldsFile d es ends
+holds d es None small good is = absurd (let bad : None ≡ Some (file_text d.world es) = is in cc)
+holds d es (Some t) small good is =
+    record { ends = t; told = refl; number = small; records = good; text = (let same : Some t.left ≡ Some (file_text d.world es) = is in cc) }
+
+-- the first edits of a list that agrees agree
+agree_left : (es fs : List Edit) → Agrees (es ++ fs) → Agrees es
+agree_left es fs agrees = λ e f here there same. agrees e f (Contains-append_left es fs e here) (Contains-append_left es fs f there) same
+
+abbrev all_done : Result (Unit {0}) DocumentError
+all_done = Ok tt
+
+abbrev stopped : DocumentError → Result (Unit {0}) DocumentError
+stopped e = Err e
+
+-- the edits of a document without any, after all of these, are their set
+set_left : DeliveriesComeToSets → (d : Replica) (es left : List Edit) → d.is_stale ≡ false → d.edits ≡ [] → AllFit es → AllDelivered d es left → left ≡ set_of es
+set_left law d es left sound empty fit all =
+    elim (law d es (Ok tt) left sound empty fit all) [
+      | inl set ↦ set.2
+      | inr clash ↦ absurd (let bad : all_done ≡ stopped (document.Clash clash.0) = clash.2 in cc)
+    ]
+
+-- edits that agree don't clash
+never_clash : DeliveriesComeToSets → (d : Replica) (es left : List Edit) (s : Stamp) → d.is_stale ≡ false → d.edits ≡ [] → AllFit es → Agrees es
+    → DeliversEach d es (Err (document.Clash s)) left → ⊥
+never_clash law d es left s sound empty fit agrees each =
+    elim (law d es (Err (document.Clash s)) left sound empty fit each) [
+      | inl set ↦ (let bad : stopped (document.Clash s) ≡ all_done = set.0 in cc)
+      | inr clash ↦ no_clash es clash.0 agrees clash.1
+    ]
+
+-- a pull of a whole file was refused for what isn't of the file
+refused_so : (d : Replica) (es left : List Edit) (e : LinkError) → ((s : Stamp) → DeliversEach d es (Err (document.Clash s)) left → ⊥)
+    → PullsFile d es (Err e) left → IsOfLinks (link_refusal e)
+refused_so d es left link.Memory never pulls = inl refl
+refused_so d es left link.LinkFault never pulls = inr (inl refl)
+refused_so d es left link.TooManyTurns never pulls = inr (inr refl)
+refused_so d es left (link.Clash s) never pulls = absurd (never s pulls)
+refused_so d es left _ never pulls = absurd pulls
+
+-- what pulls come to
+abbrev pub JoinedOr : List Edit → Result (List Edit) Refusal → Type 0
+JoinedOr es r = (r ≡ Ok (set_of es)) ⊎ ((e : Refusal) × IsOfLinks e × (r ≡ Err e))
+
+-- after these edits were delivered, the links hold the files of those lists
+pulls_are : FilesArePulled → DeliveriesComeToSets → (d : Replica) (links : List LinkSeen) (lists : List (List Edit)) (before left : List Edit) (r : Result (List Edit) Refusal)
+    → d.world < 2 ^ 64 → d.is_stale ≡ false → d.edits ≡ [] → AllDelivered d before left → map left_on links ≡ texts_of_lists d.world lists
+    → AreRecords (before ++ joined lists) → Agrees (before ++ joined lists) → PullsEach (with_edits left d) links r → JoinedOr (before ++ joined lists) r
+pulls_are files sets d [] [] before left r small sound empty all held good agrees pulls =
+    let fit = records_fit before (records_left before [] good) in
+    inl (pulls ∙ ap (λ x. Ok x) (set_left sets d before left sound empty fit all ∙ ap set_of (sym (append-nil before))))
+pulls_are files sets d [] (es ∷ lists) before left r small sound empty all held good agrees pulls = absurd (cc)
+pulls_are files sets d (l ∷ links) [] before left r small sound empty all held good agrees pulls = absurd (cc)
+pulls_are files sets d (l ∷ links) (es ∷ lists) before left r small sound empty all held good agrees pulls =
+    let first : left_on l ≡ Some (file_text d.world es) = cc in
+    let rest : map left_on links ≡ texts_of_lists d.world lists = cc in
+    let records = records_left es (joined lists) (records_right before (es ++ joined lists) good) in
+    let holding = holds (with_edits left d) es l.ends small records first in
+    let whole : (before ++ es) ++ joined lists ≡ before ++ (es ++ joined lists) = append_assoc before es (joined lists) in
+    let good_all = subst AreRecords (sym whole) good in
+    let agrees_all = subst Agrees (sym whole) agrees in
+    elim pulls [
+      | inl ok ↦ (
+          let pulled = (files (with_edits left d) es l.ends ok.1.ends l.reads ok.1.reads (Ok ok.0) ok.2 holding ok.3).0 in
+          let next = delivered_more d (with_edits left d) before es (Ok tt) ok.2 refl refl all pulled.0 in
+          subst (λ x. JoinedOr x r) whole (pulls_are files sets d links lists (before ++ es) ok.2 r small sound empty next rest good_all agrees_all ok.4))
+      | inr err ↦ (
+          let pulled = (files (with_edits left d) es l.ends err.1.ends l.reads err.1.reads (Err err.0) err.2 holding err.3).0 in
+          let fit = records_fit (before ++ es) (records_left (before ++ es) (joined lists) good_all) in
+          let agree = agree_left (before ++ es) (joined lists) agrees_all in
+          let never : (s : Stamp) → DeliversEach (with_edits left d) es (Err (document.Clash s)) err.2 → ⊥ = λ s clash. never_clash sets d (before ++ es) err.2 s sound empty fit agree
+          (delivered_more d (with_edits left d) before es (Err (document.Clash s)) err.2 refl refl all clash) in
+          inr (link_refusal err.0, refused_so (with_edits left d) es err.2 err.0 never pulled, err.4))
+    ]
+
+-- the edits of links that hold files of a world
+merged_are : FilesArePulled → DeliveriesComeToSets → (world count : ℕ) (links : List LinkSeen) (lists : List (List Edit)) (r : Result (List Edit) Refusal)
+    → world < 2 ^ 64 → count ≤ length links → map left_on (take count links) ≡ texts_of_lists world lists → AreRecords (joined lists) → Agrees (joined lists)
+    → IsMerged world count links r → JoinedOr (joined lists) r
+merged_are files sets world count links lists r small enough held good agrees merged =
+    let there : MatchBool false (r ≡ Err NoLink) (PullsEach (empty_document world) (take count links) r) =
+    subst (λ b. MatchBool b (r ≡ Err NoLink) (PullsEach (empty_document world) (take count links) r)) (not_fewer count (length links) enough) merged in
+    pulls_are files sets (empty_document world) (take count links) lists [] [] r small refl refl (refl, refl) held good agrees there
+
+has_status : (out : List ℕ) (world : ℕ) (es : List Edit) (m : Result (List Edit) Refusal) (r : Result Effect Refusal) (t : HostContents) (status : ℕ) (new : Option HostContents)
+    → JoinedOr es m → r ≡ writes_joined out world m → HasStatus r t status new → MergesSet out t world es status new
+has_status out world es m r t status new is made has =
+    elim is [
+      | inl all ↦ inl (subst (λ x. HasStatus x t status new) (made ∙ ap (writes_joined out world) all) has)
+      | inr e ↦ inr (e.0, e.1, subst (λ x. HasStatus x t status new) (made ∙ ap (writes_joined out world) e.2) has)
+    ]
+
+-- `run` ends so
+pub run_of_links : FilesArePulled → DeliveriesComeToSets → (words : List (List ℕ)) (links : List LinkSeen) (t : HostContents) (out : List ℕ) (world : ℕ) (lists : List (List Edit)) (status : ℕ) (new : Option HostContents)
+    → (asks : AsksToMerge words links out world lists) → EndsCalmly links (Merge out world asks.files) t status new → MergesSet out t world (joined lists) status new
+run_of_links files sets words links t out world lists status new asks ended =
+    elim ended [
+      | inl done ↦ (
+          let comes = done.1 in
+          has_status out world (joined lists) comes.0 done.0 t status new
+          (merged_are files sets world (length asks.files) links lists comes.0 asks.is_number asks.enough asks.held asks.records asks.agree comes.1) comes.2 done.2)
+      | inr memory ↦ inr (Memory, inl refl, memory)
+    ]
+
+-- ---- the end of `merge`
+
+-- a list has as many elements as what is made of each
+pub as_many : {X Y : Type 0} (f : X → Y) (xs : List X) → length xs ≡ length (map f xs)
+as_many f xs = sym (length-map xs f)
+
+-- the edits of the links are written
+pub merge_comes : (failed : Type 0) (links : List LinkSeen) (out : List ℕ) (world count : ℕ) (names : List (List ℕ)) (t : HostContents) (es : List Edit) (bytes line : List ℕ)
+    → count ≡ length names → IsMerged world count links (Ok es) → bytes ≡ file_text world es → line ≡ joined_line es
+    → ComesTo failed links (Merge out world names) t (Ok (Writes out bytes line))
+merge_comes failed links out world count names t es bytes line many merged text told =
+    (Ok es, subst (λ n. IsMerged world n links (Ok es)) many merged, rw (text, told) refl)
+
+-- or none
+pub not_merged : (failed : Type 0) (links : List LinkSeen) (out : List ℕ) (world count : ℕ) (names : List (List ℕ)) (t : HostContents) (e : Refusal)
+    → count ≡ length names → (e ≡ Memory) ⊎ IsMerged world count links (Err e) → (e ≡ Memory) ⊎ ComesTo failed links (Merge out world names) t (Err e)
+not_merged failed links out world count names t e many why =
+    elim why [ inl memory ↦ inl memory | inr is ↦ inr (Err e, subst (λ n. IsMerged world n links (Err e)) many is, refl) ]

@@ -1,0 +1,42 @@
+use Rattle.std.proofs.Common.{◌≡◌, ◌≤◌, ◌∙◌, inl, arith, ap, ap₂, length}
+use Rattle.std.proofs.lemmas.Result.{err_from_is_err_and}
+use Rattle.zed_editfile.specs.Spelling.{file_text}
+use Rattle.zed_program.specs.Lines.{held_line, joined_line}
+use Rattle.zed_program.specs.Outcome.{Writes, texts_of}
+use Rattle.zed_session.specs.Links.{seen}
+use Rattle.zed_program.specs.Commands.{Merge}
+use Rattle.zed_program.proofs.Endings.{counted_up, effect_ends, refused_ends}
+use Rattle.zed_program.proofs.Joined.{as_many, each_of, merge_comes, not_merged}
+use Rattle.zed_program.proofs.merging.merge.Goals as goal
+
+pub returns-clause-ends : goal.returns-clause-ends
+returns-clause-ends g c = λ t at.
+    let links = each_of c.args.links.items (λ link. seen ((goal.Link-dyn g (link.vtable, link.value)).ends link.value) ((goal.Link-dyn g (link.vtable, link.value)).reads link.value)) in
+    let d = c.in_ok-document.document in
+    let line : c.as_str.result.now ≡ joined_line d.edits =
+    c.as_str.ensures.value ∙ c.in_ok-line.ensures ∙ ap₂ held_line (ap length c.edits.ensures.all) c.held.ensures in
+    let text : c.as_slice.result.now ≡ file_text c.args.world d.edits =
+    c.as_slice.ensures.value ∙ c.in_ok-text.ensures.ok ∙ ap (λ w. file_text w d.edits) c.in_ok-document.ensures.world in
+    let same : g.H.Host.faults c.args.host.now ≤ g.H.Host.faults c.args.host.now = omega arith in
+    effect_ends links c.write_out.result _ _ _ (Merge c.args.out.now c.args.world (texts_of c.args.files.now)) t (Writes c.args.out.now c.as_slice.result.now c.as_str.result.now) _
+    same (counted_up _ _ _ c.write_out.ensures.faults)
+    (merge_comes ⊥ links c.args.out.now c.args.world (length c.args.files.now) (texts_of c.args.files.now) t d.edits c.as_slice.result.now c.as_str.result.now (as_many _ c.args.files.now) c.in_ok-document.ensures.pulled text line)
+    (c.write_out.ensures.ok t at) (c.write_out.ensures.half t at) c.write_out.ensures.err c.write_out.ensures.faults
+
+pub returns-in_err-document-clause-ends : goal.returns-in_err-document-clause-ends
+returns-in_err-document-clause-ends g c = λ t at.
+    let links = each_of c.args.links.items (λ link. seen ((goal.Link-dyn g (link.vtable, link.value)).ends link.value) ((goal.Link-dyn g (link.vtable, link.value)).reads link.value)) in
+    let p = err_from_is_err_and c.from_residual.result c.from_residual.ensures.1 in
+    let same : p.0 ≡ c.in_err-document.field-0.0 = p.2 in
+    rw (p.1, same) (refused_ends links _ (Merge c.args.out.now c.args.world (texts_of c.args.files.now)) t c.in_err-document.field-0.0 _ at
+    (not_merged ⊥ links c.args.out.now c.args.world (length c.args.files.now) (texts_of c.args.files.now) t c.in_err-document.field-0.0 (as_many _ c.args.files.now) c.in_err-document.ensures.pulled))
+
+pub returns-in_err-text-clause-ends : goal.returns-in_err-text-clause-ends
+returns-in_err-text-clause-ends g c = λ t at.
+    let p = err_from_is_err_and c.from_residual-in_err-text.result c.from_residual-in_err-text.ensures.1 in
+    rw p.1 (refused_ends _ _ (Merge c.args.out.now c.args.world (texts_of c.args.files.now)) t p.0 _ at (inl (p.2 ∙ c.in_err-text.ensures.err)))
+
+pub returns-in_err-line-clause-ends : goal.returns-in_err-line-clause-ends
+returns-in_err-line-clause-ends g c = λ t at.
+    let p = err_from_is_err_and c.from_residual-in_err-line.result c.from_residual-in_err-line.ensures.1 in
+    rw p.1 (refused_ends _ _ (Merge c.args.out.now c.args.world (texts_of c.args.files.now)) t p.0 _ at (inl p.2))

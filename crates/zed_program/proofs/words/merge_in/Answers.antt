@@ -1,0 +1,25 @@
+use Rattle.std.proofs.Common.{codes}
+use Rattle.clap.specs.Words.{found_of, one_text}
+use Rattle.zed_program.proofs.Readings.{merge_read, unsigned_read}
+use Rattle.zed_program.proofs.words.merge_in.Goals as goal
+use Rattle.zed_program.proofs.words.merge_in.Goals.{in_default-via-in-Some+in-Some+in_default, in_default-via-in-Some+in_default, in_default-via-in_default}
+
+pub returns-in_ok-files : goal.returns-in_ok-files
+returns-in_ok-files c =
+    let f = found_of c.args.matches.now in
+    let world = unsigned_read 64 (one_text f (codes "WORLD")) c.get_one-world.result c.get_one-world.ensures.none c.get_one-world.ensures.value in
+    let read = merge_read f c.get_str-out.result c.get_one-world.result c.get_strs-files.result
+    c.get_str-out.ensures world c.get_strs-files.ensures in
+    rw c.in_ok-files.ensures.items (rw (c.in-Some-Some-Some.is-0, c.in-Some-Some-Some.is-1, c.in-Some-Some-Some.is-2) at read)
+
+pub returns-in_default : goal.returns-in_default
+returns-in_default c =
+    let f = found_of c.args.matches.now in
+    let world = unsigned_read 64 (one_text f (codes "WORLD")) c.get_one-world.result c.get_one-world.ensures.none c.get_one-world.ensures.value in
+    let read = merge_read f c.get_str-out.result c.get_one-world.result c.get_strs-files.result
+    c.get_str-out.ensures world c.get_strs-files.ensures in
+    elim c.in_default.branch [
+      | in_default-via-in-Some+in-Some+in_default w ↦ rw (w.in_default.is-0, w.in_default.is-1, w.in_default.is-2) at read
+      | in_default-via-in-Some+in_default w ↦ rw (w.in_default.is-0, w.in_default.is-1) at read
+      | in_default-via-in_default w ↦ rw w.in_default.is-0 at read
+    ]

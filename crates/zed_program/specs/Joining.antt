@@ -1,0 +1,36 @@
+-- What `merge` makes of links that hold edit files.
+use Rattle.std.specs.Prelude.{◌≡◌, ◌≤◌, ◌<◌, ◌^◌, ◌⊎◌, ℕ, List, Option, Some, Ok, Err, length, map, option_map, take}
+use Rattle.zed_op.specs.declared.op.Edit.{Edit}
+use Rattle.zed_op.specs.Set.{Agrees, set_of}
+use Rattle.zed_editfile.specs.Stream.{AreRecords}
+use Rattle.zed_session.specs.Links.{LinkSeen}
+use Rattle.zed_program.specs.declared.refusal.Refusal.{Refusal}
+use Rattle.zed_program.specs.declared.refusal.Refusal.TheVariants.{Memory, LinkFault, TooManyTurns}
+use Rattle.zed_program.specs.Commands.{Merge, command_of}
+use Rattle.zed_program.specs.Files.{joined, texts_of_lists}
+use Rattle.zed_program.specs.HostContents.{HostContents}
+use Rattle.zed_program.specs.Outcome.{HasStatus, writes_joined}
+
+-- the bytes that are left to read on a link, if it tells them
+abbrev pub left_on : LinkSeen → Option (List ℕ)
+left_on link = option_map (λ t. t.left) link.ends
+
+-- the words ask to merge files of a world, and for each of these a link holds the text of a list of edits; all edits agree
+pub record AsksToMerge (words : List (List ℕ)) (links : List LinkSeen) (out : List ℕ) (world : ℕ) (lists : List (List Edit)) : Type 0 where
+  pub files : List (List ℕ)
+  pub asks : command_of words ≡ Some (Merge out world files)
+  pub enough : length files ≤ length links
+  pub held : map left_on (take (length files) links) ≡ texts_of_lists world lists
+  pub is_number : world < 2 ^ 64
+  pub records : AreRecords (joined lists)
+  pub agree : Agrees (joined lists)
+
+-- a link failed or came to no end, or memory ran out
+abbrev pub IsOfLinks : Refusal → Type 0
+IsOfLinks e = (e ≡ Memory) ⊎ (e ≡ LinkFault) ⊎ (e ≡ TooManyTurns)
+
+-- the edit file of the set of these edits is written; or a link failed or came to no end, or memory ran out
+abbrev pub MergesSet : List ℕ → HostContents → ℕ → List Edit → ℕ → Option HostContents → Type 0
+MergesSet out t world es status new =
+    HasStatus (writes_joined out world (Ok (set_of es))) t status new
+    ⊎ ((e : Refusal) × IsOfLinks e × HasStatus (Err e) t status new)

@@ -1,0 +1,45 @@
+//! Devices for commands that use none.
+ghost use Rattle.std.specs.Prelude.{None};
+
+use zed_play::Key;
+use zed_screen::Frame;
+use zed_session::{Failed, Keys, Screen};
+
+/// A screen that shows nothing, and fails.
+#[derive(Drop)]
+pub(crate) struct DarkScreen {
+    pub(crate) failures: u64,
+}
+
+impl Screen for DarkScreen {
+    ghost shown = { λ _. None };
+
+    ghost screen_failures = { λ s. s.failures };
+
+    fn show(&mut self, _frame: &Frame) -> Result<(), Failed> {
+        self.failures = self.failures.saturating_add(1);
+        Err(Failed)
+    }
+
+    fn failures(&self) -> u64 {
+        self.failures
+    }
+}
+
+/// A source without keys.
+#[derive(Drop)]
+pub(crate) struct NoKeys;
+
+impl Keys for NoKeys {
+    ghost left = { λ _. None };
+
+    ghost key_failures = { λ _. 0 };
+
+    fn next(&mut self) -> Result<Option<Key>, Failed> {
+        Ok(None)
+    }
+
+    fn failures(&self) -> u64 {
+        0
+    }
+}

@@ -1,0 +1,225 @@
+//! Real links, screen and keys.
+ghost use Rattle.std.specs.Prelude.{◌≡◌, None, IfOk, ◌≤◌, length};
+
+use std::fs::{self, File};
+use std::io::{self, ErrorKind, Read, Write};
+use zed_link::{Failed as LinkFailed, Link};
+use zed_play::Key;
+use zed_screen::{Frame, ascii};
+use zed_session::{Failed, Keys, Screen};
+
+/// A read that was interrupted is made again, so many times.
+const TRIES: u32 = 1024;
+
+/// So many line feeds in a row are a failure.
+const LINE_FEEDS: u32 = 4096;
+
+// Reads the next bytes, again where a signal came between.
+fn read_some<R: Read>(reader: &mut R, into: &mut [u8]) -> io::Result<usize>
+    ensures within { IfOk result (λ n. n ≤ length into.old) }
+{
+    for _ in 0..TRIES {
+        match reader.read(into) {
+            Err(error) if error.kind() == ErrorKind::Interrupted => {}
+            read => return read,
+        }
+    }
+    Err(io::Error::from(ErrorKind::Interrupted))
+}
+
+/// A file that is read, from its first read on; `stdin` is standard input. Nothing can be written to it, and it doesn't tell what it
+/// holds.
+#[derive(Drop)]
+pub struct FileLink {
+    rt: HostRuntime,
+    name: String,
+    file: Option<File>,
+    reads: u64,
+    failures: u64,
+}
+
+impl FileLink {
+    /// The file of a name. It isn't opened yet.
+    ///
+    /// # Errors
+    /// `OutOfMemory`.
+    pub fn new(rt: HostRuntime, name: &str) -> io::Result<FileLink> {
+        Ok(FileLink {
+            rt,
+            name: String::from_str(rt.alloc(), name)?,
+            file: None,
+            reads: 0,
+            failures: 0,
+        })
+    }
+
+    // Reads from the file, which is opened if it wasn't yet.
+    fn read_file(&mut self, into: &mut [u8]) -> io::Result<usize>
+        ensures within { IfOk result (λ n. n ≤ length into.old) }
+        ensures reads { self.new.reads ≡ self.old.reads }
+        ensures failures { self.new.failures ≡ self.old.failures }
+    {
+        if self.name.as_str() == "stdin" {
+            return read_some(&mut self.rt.stdin(), into);
+        }
+        if self.file.is_none() {
+            self.file = Some(fs::open(&self.rt, self.name.as_str())?);
+        }
+        match &mut self.file {
+            Some(file) => read_some(file, into),
+            None => Err(io::Error::from(ErrorKind::NotFound)),
+        }
+    }
+}
+
+impl Link for FileLink {
+    ghost ends = { λ _. None };
+
+    ghost reads = { λ l. l.reads };
+
+    ghost failed = { λ l. l.failures };
+
+    ghost stalls = { λ _. 0 };
+
+    fn read(&mut self, into: &mut [u8]) -> Result<usize, LinkFailed> {
+        self.reads = self.reads.saturating_add(1);
+        match self.read_file(into) {
+            Ok(count) => Ok(count),
+            Err(_) => {
+                self.failures = self.failures.saturating_add(1);
+                Err(LinkFailed)
+            }
+        }
+    }
+
+    fn write(&mut self, _bytes: &[u8]) -> Result<usize, LinkFailed> {
+        self.failures = self.failures.saturating_add(1);
+        Err(LinkFailed)
+    }
+
+    fn failures(&self) -> u64 {
+        self.failures
+    }
+}
+
+/// Pictures as lines of text on standard output.
+#[derive(Drop)]
+pub struct Printer {
+    rt: HostRuntime,
+    failures: u64,
+}
+
+impl Printer {
+    /// Nothing was shown yet.
+    pub fn new(rt: HostRuntime) -> Printer {
+        Printer { rt, failures: 0 }
+    }
+
+    // Prints the 25 lines of a picture.
+    fn print(&self, frame: &Frame) -> io::Result<()> {
+        let lines = ascii(frame);
+        for line in lines.iter() {
+            self.print_line(line)?;
+        }
+        Ok(())
+    }
+
+    // Prints a line of a picture.
+    fn print_line(&self, line: &[u8; 80]) -> io::Result<()> {
+        self.rt.stdout().write_all(line.as_slice())?;
+        self.rt.stdout().write_all(b"\n")
+    }
+}
+
+impl Screen for Printer {
+    ghost shown = { λ _. None };
+
+    ghost screen_failures = { λ s. s.failures };
+
+    fn show(&mut self, frame: &Frame) -> Result<(), Failed> {
+        if self.print(frame).is_ok() {
+            return Ok(());
+        }
+        self.failures = self.failures.saturating_add(1);
+        Err(Failed)
+    }
+
+    fn failures(&self) -> u64 {
+        self.failures
+    }
+}
+
+/// Keys as they come from standard input.
+#[derive(Drop)]
+pub struct Typed {
+    rt: HostRuntime,
+    failures: u64,
+}
+
+// What a byte asks for; nothing where it is no key.
+fn key_of(byte: u8) -> Option<Key> {
+    match byte {
+        b'.' => Some(Key::Wait),
+        b'n' => Some(Key::North),
+        b's' => Some(Key::South),
+        b'w' => Some(Key::West),
+        b'e' => Some(Key::East),
+        b'N' => Some(Key::ShootNorth),
+        b'S' => Some(Key::ShootSouth),
+        b'W' => Some(Key::ShootWest),
+        b'E' => Some(Key::ShootEast),
+        _ => None,
+    }
+}
+
+impl Typed {
+    /// No key was taken yet.
+    pub fn new(rt: HostRuntime) -> Typed {
+        Typed { rt, failures: 0 }
+    }
+
+    // The next byte that is no line feed, a byte at a time, since nobody waits for a full buffer; nothing at the end.
+    fn next_byte(&self) -> io::Result<Option<u8>> {
+        for _ in 0..LINE_FEEDS {
+            let mut byte = [b'\n'];
+            if read_some(&mut self.rt.stdin(), &mut byte)? == 0 {
+                return Ok(None);
+            }
+            if byte[0] != b'\n' {
+                return Ok(Some(byte[0]));
+            }
+        }
+        Err(io::Error::from(ErrorKind::InvalidData))
+    }
+
+    // The next key.
+    fn next_key(&self) -> io::Result<Option<Key>> {
+        let Some(byte) = self.next_byte()? else {
+            return Ok(None);
+        };
+        match key_of(byte) {
+            Some(key) => Ok(Some(key)),
+            None => Err(io::Error::from(ErrorKind::InvalidData)),
+        }
+    }
+}
+
+impl Keys for Typed {
+    ghost left = { λ _. None };
+
+    ghost key_failures = { λ k. k.failures };
+
+    fn next(&mut self) -> Result<Option<Key>, Failed> {
+        match self.next_key() {
+            Ok(key) => Ok(key),
+            Err(_) => {
+                self.failures = self.failures.saturating_add(1);
+                Err(Failed)
+            }
+        }
+    }
+
+    fn failures(&self) -> u64 {
+        self.failures
+    }
+}
