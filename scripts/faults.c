@@ -1,7 +1,8 @@
 /* For LD_PRELOAD: lets one call of a program fail, or ends the program there, and tells what it did. It stands on no header.
    $FAULT is `KIND NTH HOW`: of the calls of this kind the one of this number fails (HOW is `fail`), the program is ended before it (`end`), or
    half of its bytes are written and then the program is ended (`half`). KIND is growth, open, list, read, write, sync, rename, lock, look, mode, or
-   any for each of these. Once that has come, $FAULT_MET has a line. Each call that changes what a folder holds adds a line to $FAULT_TRACE. */
+   any for each of these. Once that has come, $FAULT_MET has a line with the call's kind and file. Each call that changes what a folder
+   holds, and each write, adds a line to $FAULT_TRACE. */
 typedef unsigned long size;
 struct statx;
 
@@ -76,11 +77,11 @@ static void tell(const char *variable, const char *first, const char *second, co
 
 static void end(void) { kill(getpid(), SIGKILL); }
 
-/* Whether the next call of a kind is the one that $FAULT names. */
-static int is_met(const char *now) {
+/* Whether the next call of a kind, at a file, is the one that $FAULT names. */
+static int is_met(const char *now, const char *file) {
     if (!is_read) read_fault();
     if (!nth || !(is_same(kind, now) || is_same(kind, "any")) || ++met != nth) return 0;
-    tell("FAULT_MET", now, "", 0);
+    tell("FAULT_MET", now, file, 0);
     if (how == END) end();
     return 1;
 }
@@ -90,36 +91,41 @@ static long failed(int error) {
     return -1;
 }
 
-static const char *path_of(int file) { return file >= 0 && file < 64 ? paths[file] : ""; }
+/* The path by which a file was opened, or the name of a standard stream. */
+static const char *path_of(int file) {
+    static const char *const streams[] = {"stdin", "stdout", "stderr"};
+    if (file < 0 || file >= 64) return "";
+    return file < 3 && !*paths[file] ? streams[file] : paths[file];
+}
 
 static int opened(int file, const char *path) {
     if (file >= 0 && file < 64) word(path, paths[file], sizeof paths[file]);
     return file;
 }
 
-void *malloc(size length) { return is_met("growth") ? 0 : __libc_malloc(length); }
+void *malloc(size length) { return is_met("growth", "") ? 0 : __libc_malloc(length); }
 
-void *realloc(void *at, size length) { return is_met("growth") ? 0 : __libc_realloc(at, length); }
+void *realloc(void *at, size length) { return is_met("growth", "") ? 0 : __libc_realloc(at, length); }
 
 int open(const char *path, int flags, ...) {
     __builtin_va_list more;
     __builtin_va_start(more, flags);
     unsigned mode = __builtin_va_arg(more, unsigned);
     __builtin_va_end(more);
-    if (is_met("open")) return (int) failed(EIO);
+    if (is_met("open", path)) return (int) failed(EIO);
     return opened(NEXT(open)(path, flags, mode), path);
 }
 
 int openat(int folder, const char *path, int flags, ...) {
-    return is_met("list") ? (int) failed(EIO) : opened(NEXT(openat)(folder, path, flags, 0), path);
+    return is_met("list", path) ? (int) failed(EIO) : opened(NEXT(openat)(folder, path, flags, 0), path);
 }
 
-long getdents64(int file, void *to, size length) { return is_met("list") ? failed(EIO) : NEXT(getdents64)(file, to, length); }
+long getdents64(int file, void *to, size length) { return is_met("list", path_of(file)) ? failed(EIO) : NEXT(getdents64)(file, to, length); }
 
-long read(int file, void *to, size length) { return is_met("read") ? failed(EIO) : NEXT(read)(file, to, length); }
+long read(int file, void *to, size length) { return is_met("read", path_of(file)) ? failed(EIO) : NEXT(read)(file, to, length); }
 
 long write(int file, const void *from, size length) {
-    if (is_met("write")) {
+    if (is_met("write", path_of(file))) {
         if (how == HALF) NEXT(write)(file, from, length / 2), end();
         return failed(ENOSPC);
     }
@@ -130,23 +136,23 @@ long write(int file, const void *from, size length) {
 long __write(int file, const void *from, size length) { return write(file, from, length); }
 
 int fsync(int file) {
-    if (is_met("sync")) return (int) failed(EIO);
+    if (is_met("sync", path_of(file))) return (int) failed(EIO);
     tell("FAULT_TRACE", "sync", path_of(file), 0);
     return NEXT(fsync)(file);
 }
 
 int rename(const char *from, const char *to) {
-    if (is_met("rename")) return (int) failed(EIO);
+    if (is_met("rename", from)) return (int) failed(EIO);
     tell("FAULT_TRACE", "rename", from, to);
     return NEXT(rename)(from, to);
 }
 
-int flock(int file, int wanted) { return is_met("lock") ? (int) failed(EIO) : NEXT(flock)(file, wanted); }
+int flock(int file, int wanted) { return is_met("lock", path_of(file)) ? (int) failed(EIO) : NEXT(flock)(file, wanted); }
 
-int fchmod(int file, unsigned mode) { return is_met("mode") ? (int) failed(EIO) : NEXT(fchmod)(file, mode); }
+int fchmod(int file, unsigned mode) { return is_met("mode", path_of(file)) ? (int) failed(EIO) : NEXT(fchmod)(file, mode); }
 
 int statx(int folder, const char *path, int flags, unsigned wanted, struct statx *to) {
-    return is_met("look") ? (int) failed(EIO) : NEXT(statx)(folder, path, flags, wanted, to);
+    return is_met("look", path) ? (int) failed(EIO) : NEXT(statx)(folder, path, flags, wanted, to);
 }
 
-long readlink(const char *path, char *to, size length) { return is_met("look") ? failed(EIO) : NEXT(readlink)(path, to, length); }
+long readlink(const char *path, char *to, size length) { return is_met("look", path) ? failed(EIO) : NEXT(readlink)(path, to, length); }
