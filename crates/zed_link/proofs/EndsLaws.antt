@@ -1,7 +1,7 @@
 -- What several calls of a link do together.
-use Rattle.std.proofs.Common.{◌≡◌, ◌∙◌, ◌++◌, ◌+◌, ◌<◌, ◌≤◌, ℕ, List, [], Option, Some, None, refl, sym, ap, subst, append_assoc, arith}
+use Rattle.std.proofs.Common.{◌≡◌, ◌∙◌, ◌++◌, ◌+◌, ◌<◌, ◌≤◌, ℕ, false, List, [], Option, Some, None, refl, sym, ap, subst, append_assoc, arith}
 use Rattle.zed_link.specs.Counting.{Counted}
-use Rattle.zed_link.specs.Ends.{AtItsEnd, Changed, HandedAll, HandedOver, LinkEnds, Took, TookFront}
+use Rattle.zed_link.specs.Ends.{AtItsEnd, Changed, FailedBehind, HandedAll, HandedOver, LinkEnds, Took, TookFront}
 
 -- none was counted yet
 pub none_counted : (a : ℕ) → Counted 0 a a
@@ -28,7 +28,7 @@ pub took_more : (xs ys : List ℕ) (a b c : Option LinkEnds) → Changed (Took x
 took_more xs ys None b c h k = tt
 took_more xs ys (Some t) b c h k =
     let l = subst (λ b. Changed (Took ys) b c) h.2 k in
-    (l.0, (l.1.0 ∙ ap (λ z. z ++ ys) h.1.0 ∙ append_assoc t.taken xs ys, l.1.1 ∙ h.1.1), l.2)
+    (l.0, (l.1.0 ∙ ap (λ z. z ++ ys) h.1.0 ∙ append_assoc t.taken xs ys, l.1.1 ∙ h.1.1, l.1.2 ∙ h.1.2), l.2)
 
 -- bytes were taken, and then a front of the rest
 pub took_front : (xs ys whole : List ℕ) (a b c : Option LinkEnds) → whole ≡ xs ++ ys → Changed (Took xs) a b → Changed (TookFront ys) b c → Changed (TookFront whole) a c
@@ -43,7 +43,7 @@ took_front xs ys whole (Some t) b c is h k =
         xs ++ front,
         back,
         is ∙ ap (λ z. xs ++ z) l.1.2 ∙ sym (append_assoc xs front back),
-        (took.0 ∙ ap (λ z. z ++ front) h.1.0 ∙ append_assoc t.taken xs front, took.1 ∙ h.1.1),
+        (took.0 ∙ ap (λ z. z ++ front) h.1.0 ∙ append_assoc t.taken xs front, took.1 ∙ h.1.1, took.2 ∙ h.1.2),
       ),
       l.2,
     )
@@ -53,19 +53,19 @@ pub handed_more : (xs ys : List ℕ) (a b c : Option LinkEnds) → Changed (Hand
 handed_more xs ys None b c h k = tt
 handed_more xs ys (Some t) b c h k =
     let l = subst (λ b. Changed (HandedOver ys) b c) h.2 k in
-    (l.0, (h.1.0 ∙ ap (λ z. xs ++ z) l.1.0 ∙ sym (append_assoc xs ys l.0.left), l.1.1 ∙ h.1.1), l.2)
+    (l.0, (h.1.0 ∙ ap (λ z. xs ++ z) l.1.0 ∙ sym (append_assoc xs ys l.0.left), l.1.1 ∙ h.1.1, l.1.2 ∙ h.1.2), l.2)
 
--- bytes were handed over, and then none
-pub none_more : (xs : List ℕ) (a b c : Option LinkEnds) → Changed (HandedOver xs) a b → Changed (HandedOver []) b c → Changed (HandedOver xs) a c
-none_more xs None b c h k = tt
-none_more xs (Some t) b c h k =
-    let l = subst (λ b. Changed (HandedOver []) b c) h.2 k in
-    (l.0, (h.1.0 ∙ ap (λ z. xs ++ z) l.1.0, l.1.1 ∙ h.1.1), l.2)
+-- bytes were handed over, and then a read failed
+pub fails_behind : (xs : List ℕ) (a b c : Option LinkEnds) → Changed (HandedOver xs) a b → Changed (FailedBehind []) b c → Changed (FailedBehind xs) a c
+fails_behind xs None b c h k = tt
+fails_behind xs (Some t) b c h k =
+    let l = subst (λ b. Changed (FailedBehind []) b c) h.2 k in
+    (l.0, ((h.1.0 ∙ ap (λ z. xs ++ z) l.1.0.0, l.1.0.1 ∙ h.1.1, l.1.0.2 ∙ h.1.2), sym h.1.2 ∙ l.1.1), l.2)
 
 -- nothing was handed over yet
 pub none_handed : (a : Option LinkEnds) → Changed (HandedOver []) a a
 none_handed None = tt
-none_handed (Some t) = (t, (refl, refl), refl)
+none_handed (Some t) = (t, (refl, refl, refl), refl)
 
 -- a read of nothing is the end
 pub end_comes : (a b : Option LinkEnds) → Changed (HandedOver []) a b → AtItsEnd a → Changed (HandedAll []) a b
@@ -77,8 +77,16 @@ pub handed_all : (xs : List ℕ) (a b c : Option LinkEnds) → Changed (HandedOv
 handed_all xs None b c h k = tt
 handed_all xs (Some t) b c h k =
     let l = subst (λ b. Changed (HandedAll []) b c) h.2 k in
-    (l.0, ((h.1.0 ∙ ap (λ z. xs ++ z) l.1.0.0, l.1.0.1 ∙ h.1.1), l.1.1), l.2)
+    (l.0, ((h.1.0 ∙ ap (λ z. xs ++ z) l.1.0.0, l.1.0.1 ∙ h.1.1, l.1.0.2 ∙ h.1.2), l.1.1), l.2)
 
 pub handed_over : (xs : List ℕ) (a b : Option LinkEnds) → Changed (HandedAll xs) a b → Changed (HandedOver xs) a b
 handed_over xs None b h = tt
 handed_over xs (Some t) b h = (h.0, h.1.0, h.2)
+
+pub failed_over : (xs : List ℕ) (a b : Option LinkEnds) → Changed (FailedBehind xs) a b → Changed (HandedOver xs) a b
+failed_over xs None b h = tt
+failed_over xs (Some t) b h = (h.0, h.1.0, h.2)
+
+-- a link whose ends are told failed, and so it may
+pub may_fail : (xs : List ℕ) (t : LinkEnds) (a b : Option LinkEnds) → a ≡ Some t → Changed (FailedBehind xs) a b → t.unfailing ≡ false
+may_fail xs t a b told h = (subst (λ (o : Option LinkEnds). Changed (FailedBehind xs) o b) told h).1.1

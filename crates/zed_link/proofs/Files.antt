@@ -1,5 +1,5 @@
 -- A pull of a whole file.
-use Rattle.std.proofs.Common.{◌≡◌, ◌∙◌, ◌++◌, ◌≤◌, ◌<◌, ◌^◌, ◌≢◌, ◌⊎◌, eqb, not, false, true, ℕ, List, [], ◌∷◌, Option, Some, None, Ok, Err, refl, ap, sym, subst, arith, length, append_assoc, rules, OnOk}
+use Rattle.std.proofs.Common.{◌≡◌, ◌∙◌, ◌++◌, ◌≤◌, ◌<◌, ◌^◌, ◌≢◌, ◌⊎◌, eqb, not, false, true, ℕ, Bool, List, [], ◌∷◌, Option, Some, None, Ok, Err, refl, ap, sym, subst, arith, length, append_assoc, rules, OnOk}
 use mathlib.Core.Logic.{inl, inr}
 use Rattle.std.proofs.lemmas.List.{append-nil, length-append}
 use Rattle.zed_op.specs.declared.op.Edit.{Edit}
@@ -18,7 +18,7 @@ use Rattle.zed_link.specs.Laws.{FilesArePulled, PullsFile}
 use Rattle.zed_link.specs.Pull.{AllDelivered, FrontDelivered, LeavesDocument, LeavesLink, Pull, reads_made}
 use Rattle.zed_link.specs.Tally.{states, tally}
 use Rattle.zed_link.proofs.Deliveries.{all_is_front, refused_before}
-use Rattle.zed_link.proofs.EndsLaws.{handed_over}
+use Rattle.zed_link.proofs.EndsLaws.{failed_over, handed_over, may_fail}
 use Rattle.zed_link.proofs.Outcomes.{Answer, refused}
 
 -- ---- the link
@@ -26,6 +26,7 @@ use Rattle.zed_link.proofs.Outcomes.{Answer, refused}
 bytes_over : (r : Answer) (n : ℕ) (bytes : List ℕ) (old new : Option LinkEnds) → LeavesLink r n bytes old new → Changed (HandedOver bytes) old new
 bytes_over (Ok pulled) n bytes old new l = handed_over bytes old new l.0
 bytes_over (Err CutShort) n bytes old new l = handed_over bytes old new l.0
+bytes_over (Err LinkFault) n bytes old new l = failed_over bytes old new l.0
 bytes_over (Err TooManyTurns) n bytes old new l = l.0
 bytes_over (Err e) n bytes old new l = l.0
 
@@ -107,24 +108,25 @@ record Known (d : Replica) (es found : List Edit) (bytes : List ℕ) (n : ℕ) (
   all : (pulled : Pulled) → r ≡ Ok pulled → AreRecords found → bytes ≡ file_text d.world found → found ≡ es
   end : r ≡ refused CutShort → p.fault ≡ None → ending p ≡ None
 
-comes_to : (d : Replica) (es found : List Edit) (bytes : List ℕ) (n reads : ℕ) (p : Progress) (r : Answer) (left : List Edit) (old new : Option LinkEnds) → Known d es found bytes n p r
-    → reads ≡ reads_made r n → LeavesLink r reads bytes old new → LeavesDocument d bytes found p r left → PullsFile d es r left
-comes_to d es found bytes n reads p (Ok pulled) left old new k made link (good, text, all, counted) =
+comes_to : (t : LinkEnds) (d : Replica) (es found : List Edit) (bytes : List ℕ) (n reads : ℕ) (p : Progress) (r : Answer) (left : List Edit) (old new : Option LinkEnds) → old ≡ Some t → Known d es found bytes n p r
+    → reads ≡ reads_made r n → LeavesLink r reads bytes old new → LeavesDocument d bytes found p r left → PullsFile t.unfailing d es r left
+comes_to t d es found bytes n reads p (Ok pulled) left old new told k made link (good, text, all, counted) =
     let same : found ≡ es = k.all pulled refl good text in
-    subst (λ (t : List Edit). AllDelivered d t left × (pulled ≡ tally (states d.edits t))) same (all, counted)
-comes_to d es found bytes n reads p (Err (Clash s)) left old new k made link of =
-    subst (λ (t : List Edit). DeliversEach d t (Err (document.Clash s)) left) (sym k.first.1) (refused_before d found k.first.0 (document.Clash s) left of)
-comes_to d es found bytes n reads p (Err Memory) left old new k made link of = front_of_front d found es left k.first of
-comes_to d es found bytes n reads p (Err LinkFault) left old new k made link of = front_of_front d found es left k.first (all_is_front d found left of.1)
-comes_to d es found bytes n reads p (Err TooManyTurns) left old new k made link of =
+    subst (λ (fs : List Edit). AllDelivered d fs left × (pulled ≡ tally (states d.edits fs))) same (all, counted)
+comes_to t d es found bytes n reads p (Err (Clash s)) left old new told k made link of =
+    subst (λ (fs : List Edit). DeliversEach d fs (Err (document.Clash s)) left) (sym k.first.1) (refused_before d found k.first.0 (document.Clash s) left of)
+comes_to t d es found bytes n reads p (Err Memory) left old new told k made link of = front_of_front d found es left k.first of
+comes_to t d es found bytes n reads p (Err LinkFault) left old new told k made link of =
+    (front_of_front d found es left k.first (all_is_front d found left of.1), may_fail bytes t old new told link.0)
+comes_to t d es found bytes n reads p (Err TooManyTurns) left old new told k made link of =
     (front_of_front d found es left k.first (all_is_front d found left of.1), let few = k.short in let many = k.many in let most = link.1 in omega arith)
-comes_to d es found bytes n reads p (Err Magic) left old new k made link of = absurd (no_refusal p file.Magic (λ h. cc) (λ h. cc) k.calm of.0)
-comes_to d es found bytes n reads p (Err NewVersion) left old new k made link of = absurd (no_refusal p file.NewVersion (λ h. cc) (λ h. cc) k.calm of.0)
-comes_to d es found bytes n reads p (Err OtherWorld) left old new k made link of = absurd (no_refusal p file.OtherWorld (λ h. cc) (λ h. cc) k.calm of.0)
-comes_to d es found bytes n reads p (Err RecordLength) left old new k made link of = absurd (no_refusal p file.RecordLength (λ h. cc) (λ h. cc) k.calm of.0)
-comes_to d es found bytes n reads p (Err (BadEdit c)) left old new k made link of = absurd (no_refusal p (file.BadEdit c) (λ h. cc) (λ h. cc) k.calm of.0)
-comes_to d es found bytes n reads p (Err CutShort) left old new k made link of = absurd (no_cut p k.calm (k.end refl) of.0)
-comes_to d es found bytes n reads p (Err Stale) left old new k made link of = absurd of
+comes_to t d es found bytes n reads p (Err Magic) left old new told k made link of = absurd (no_refusal p file.Magic (λ h. cc) (λ h. cc) k.calm of.0)
+comes_to t d es found bytes n reads p (Err NewVersion) left old new told k made link of = absurd (no_refusal p file.NewVersion (λ h. cc) (λ h. cc) k.calm of.0)
+comes_to t d es found bytes n reads p (Err OtherWorld) left old new told k made link of = absurd (no_refusal p file.OtherWorld (λ h. cc) (λ h. cc) k.calm of.0)
+comes_to t d es found bytes n reads p (Err RecordLength) left old new told k made link of = absurd (no_refusal p file.RecordLength (λ h. cc) (λ h. cc) k.calm of.0)
+comes_to t d es found bytes n reads p (Err (BadEdit c)) left old new told k made link of = absurd (no_refusal p (file.BadEdit c) (λ h. cc) (λ h. cc) k.calm of.0)
+comes_to t d es found bytes n reads p (Err CutShort) left old new told k made link of = absurd (no_cut p k.calm (k.end refl) of.0)
+comes_to t d es found bytes n reads p (Err Stale) left old new told k made link of = absurd of
 
 -- nothing is left where all went well
 leaves_nothing : (d : Replica) (es found : List Edit) (bytes : List ℕ) (n reads : ℕ) (p : Progress) (r : Answer) (left : List Edit) (old new : Option LinkEnds) → Known d es found bytes n p r
@@ -159,4 +161,4 @@ files_are_pulled one texts fronts d es old new count count' r left h pull =
           let whole = all_over pull.handed old new h.ends h.told link.0 ∙ h.text in
           whole_end one texts w es pull.edits p h.number h.records other calm (subst (λ (t : List ℕ). Reads t pull.edits p) whole pull.spells);
     } in
-    (comes_to d es pull.edits pull.handed pull.pieces pull.reads p r left old new known pull.made pull.link pull.document, leaves_nothing d es pull.edits pull.handed pull.pieces pull.reads p r left old new known pull.link pull.document)
+    (comes_to h.ends d es pull.edits pull.handed pull.pieces pull.reads p r left old new h.told known pull.made pull.link pull.document, leaves_nothing d es pull.edits pull.handed pull.pieces pull.reads p r left old new known pull.link pull.document)

@@ -14,13 +14,13 @@ use Rattle.zed_link.specs.declared.error.LinkError.{LinkError}
 use Rattle.zed_link.specs.declared.error.LinkError.TheVariants.{Memory, Magic, NewVersion, OtherWorld, RecordLength, BadEdit, CutShort, Clash, LinkFault, TooManyTurns}
 use Rattle.zed_link.specs.declared.pulled.Pulled.{Pulled}
 use Rattle.zed_link.specs.Counting.{Counted}
-use Rattle.zed_link.specs.Ends.{Changed, HandedAll, HandedOver, LinkEnds}
+use Rattle.zed_link.specs.Ends.{Changed, FailedBehind, HandedAll, HandedOver, LinkEnds}
 use Rattle.zed_link.specs.Pieces.{TakesPiece}
 use Rattle.zed_link.specs.Pull.{AllDelivered, FromReads, LeavesDocument, LeavesLink, Pull, most_reads, reads_made}
 use Rattle.zed_link.specs.Refusals.{file_refusal}
 use Rattle.zed_link.specs.Tally.{plus, states, tally}
 use Rattle.zed_link.proofs.Deliveries.{all_is_front, counted_more, delivered_more, front_more}
-use Rattle.zed_link.proofs.EndsLaws.{handed_all, handed_more, none_counted, none_handed, none_more, one_more}
+use Rattle.zed_link.proofs.EndsLaws.{handed_all, handed_more, none_counted, none_handed, fails_behind, one_more}
 use Rattle.zed_link.proofs.Readings.{asked_world, cut_short, fault_ends, few_edits}
 use Rattle.zed_link.proofs.Tallies.{tally_below}
 
@@ -109,7 +109,7 @@ room d old mid a b n p q m counts got piece es going within few feeds is =
 
 -- a read failed
 pub read_failed : (d : Replica) (old mid now : Option LinkEnds) (a b c n : ℕ) (p : Progress) (m : Replica) (counts : Pulled) → n < most_reads
-    → Going d old mid a b n p m counts → Changed (HandedOver []) mid now → Counted 1 b c → Pull d old now a c (Err LinkFault) m.edits
+    → Going d old mid a b n p m counts → Changed (FailedBehind []) mid now → Counted 1 b c → Pull d old now a c (Err LinkFault) m.edits
 read_failed d old mid now a b c n p m counts within going none more = record {
   handed = going.handed;
   pieces = n;
@@ -121,7 +121,7 @@ read_failed d old mid now a b c n p m counts within going none more = record {
   size = going.size;
   made = refl;
   counted = one_more n a b c going.made more;
-  link = (none_more going.handed old mid now going.link none, omega arith);
+  link = (fails_behind going.handed old mid now going.link none, omega arith);
   memory_only_when = λ bad. absurd (let it : refused LinkFault ≡ refused Memory = bad in cc);
   document = (going.calm, going.all);
 }

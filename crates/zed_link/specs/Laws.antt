@@ -1,8 +1,9 @@
--- What a pull makes of a link that holds a whole file.
-use Rattle.std.specs.Prelude.{◌≡◌, ◌≤◌, ◌<◌, ◌^◌, ℕ, List, length, Option, Some, Result, Ok, Err, OnOk}
+-- What a pull makes of a link that holds a whole file, and deliveries after others.
+use Rattle.std.specs.Prelude.{◌≡◌, ◌≤◌, ◌<◌, ◌^◌, ℕ, Bool, false, List, ◌++◌, length, Option, Some, Result, Ok, Err, OnOk}
 use Rattle.zed_op.specs.declared.op.Edit.{Edit}
 use Rattle.zed_editfile.specs.Spelling.{file_text}
 use Rattle.zed_editfile.specs.Stream.{AreRecords}
+use Rattle.zed_document.specs.declared.error.DocumentError.{DocumentError}
 use Rattle.zed_document.specs.declared.error.DocumentError.TheVariants as document
 use Rattle.zed_document.specs.Delivery.{DeliversEach}
 use Rattle.zed_document.specs.Replica.{Replica}
@@ -21,19 +22,27 @@ pub record HoldsFile (d : Replica) (es : List Edit) (link : Option LinkEnds) : T
   pub records : AreRecords es
   pub text : ends.left ≡ file_text d.world es
 
--- what comes of the edits of a whole file: all are delivered and counted, or those up to one that clashes; or memory, the link or the
--- number of reads, if the file has as many bytes, ran out behind the first of them
-abbrev pub PullsFile : Replica → List Edit → Result Pulled LinkError → List Edit → Type 0
-PullsFile d es (Ok pulled) left = AllDelivered d es left × (pulled ≡ tally (states d.edits es))
-PullsFile d es (Err (Clash s)) left = DeliversEach d es (Err (document.Clash s)) left
-PullsFile d es (Err Memory) left = FrontDelivered d es left
-PullsFile d es (Err LinkFault) left = FrontDelivered d es left
-PullsFile d es (Err TooManyTurns) left = FrontDelivered d es left × (most_reads ≤ length (file_text d.world es))
-PullsFile d es (Err e) left = ⊥
+-- what comes of the edits of a whole file: all are delivered and counted, or those up to one that clashes; or behind the first of them
+-- memory ran out, the link failed, if it isn't unfailing, or too many reads were made, if the file has as many bytes
+abbrev pub PullsFile : Bool → Replica → List Edit → Result Pulled LinkError → List Edit → Type 0
+PullsFile unfailing d es (Ok pulled) left = AllDelivered d es left × (pulled ≡ tally (states d.edits es))
+PullsFile unfailing d es (Err (Clash s)) left = DeliversEach d es (Err (document.Clash s)) left
+PullsFile unfailing d es (Err Memory) left = FrontDelivered d es left
+PullsFile unfailing d es (Err LinkFault) left = FrontDelivered d es left × (unfailing ≡ false)
+PullsFile unfailing d es (Err TooManyTurns) left = FrontDelivered d es left × (most_reads ≤ length (file_text d.world es))
+PullsFile unfailing d es (Err e) left = ⊥
 
 -- a link that holds the text of a file of the document's world hands over the edits of it, and where all went well nothing is left on it
 abbrev pub FilesArePulled : Type 0
 FilesArePulled =
     (d : Replica) (es : List Edit) (old new : Option LinkEnds) (count count' : ℕ) (r : Result Pulled LinkError) (left : List Edit)
-    → HoldsFile d es old → Pull d old new count count' r left
-    → PullsFile d es r left × OnOk r (Changed (HandedAll (file_text d.world es)) old new)
+    → (file : HoldsFile d es old) → Pull d old new count count' r left
+    → PullsFile file.ends.unfailing d es r left × OnOk r (Changed (HandedAll (file_text d.world es)) old new)
+
+-- deliveries of a list of edits, and then of another to what they leave, are those of both
+abbrev pub DeliveriesGoOn : Type 0
+DeliveriesGoOn =
+    (d : Replica) (first next mid left : List Edit) (r : Result (Unit {0}) DocumentError)
+    → AllDelivered d first mid
+    → DeliversEach (record d { edits = mid }) next r left
+    → DeliversEach d (first ++ next) r left

@@ -12,7 +12,7 @@ use Rattle.zed_link.specs.declared.error.LinkError.{LinkError}
 use Rattle.zed_link.specs.declared.error.LinkError.TheVariants.{Memory, Magic, NewVersion, OtherWorld, RecordLength, BadEdit, CutShort, Clash, Stale, LinkFault, TooManyTurns}
 use Rattle.zed_link.specs.declared.pulled.Pulled.{Pulled}
 use Rattle.zed_link.specs.Counting.{Counted}
-use Rattle.zed_link.specs.Ends.{Changed, HandedAll, HandedOver, LinkEnds}
+use Rattle.zed_link.specs.Ends.{Changed, FailedBehind, HandedAll, HandedOver, LinkEnds}
 use Rattle.zed_link.specs.Tally.{states, tally}
 
 -- how many reads a pull makes at most
@@ -31,10 +31,11 @@ reads_made (Err CutShort) n = n + 1
 reads_made (Err e) n = n
 
 -- how the ends of the link changed, after so many reads, by which these bytes were handed over: an Ok comes at the end of input, and so does
--- CutShort; too many reads are just as many as may be made; and no refusal loses a byte
+-- CutShort; LinkFault comes of a link that may fail; too many reads are just as many as may be made; and no refusal loses a byte
 abbrev pub LeavesLink : Result Pulled LinkError → ℕ → List ℕ → Option LinkEnds → Option LinkEnds → Type 0
 LeavesLink (Ok pulled) n bytes old new = Changed (HandedAll bytes) old new × (n ≤ most_reads)
 LeavesLink (Err CutShort) n bytes old new = Changed (HandedAll bytes) old new × (n ≤ most_reads)
+LeavesLink (Err LinkFault) n bytes old new = Changed (FailedBehind bytes) old new × (n ≤ most_reads)
 LeavesLink (Err TooManyTurns) n bytes old new = Changed (HandedOver bytes) old new × (n ≡ most_reads)
 LeavesLink (Err e) n bytes old new = Changed (HandedOver bytes) old new × (n ≤ most_reads)
 

@@ -1,5 +1,5 @@
-//! What comes over a link that holds a whole file.
-ghost use Rattle.zed_link.specs.Laws.{FilesArePulled};
+//! What comes over a link that holds a whole file, and deliveries after others.
+ghost use Rattle.zed_link.specs.Laws.{DeliveriesGoOn, FilesArePulled};
 
 use zed_editfile::{fronts_are_read, one_reading};
 
@@ -11,3 +11,8 @@ pub fn files_are_pulled()
     one_reading();
     fronts_are_read();
 }
+
+/// Deliveries of some edits, and then of others to the document that they leave, are deliveries of all of them.
+pub fn deliveries_go_on()
+    ensures { DeliveriesGoOn }
+{}

@@ -10,7 +10,7 @@ mod receiving;
 mod sending;
 
 pub use error::LinkError;
-pub use laws::files_are_pulled;
+pub use laws::{deliveries_go_on, files_are_pulled};
 pub use link::{Failed, Link};
 pub use memory::MemoryLink;
 pub use pulled::Pulled;

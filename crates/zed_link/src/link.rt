@@ -1,7 +1,7 @@
 //! A link, as whoever hands one in has to make it.
 ghost use Rattle.std.specs.Prelude.{◌≡◌, ◌≢◌, ◌≤◌, ℕ, [], length, take, Option, Ok, IfOk, OnErr, is_err};
 ghost use Rattle.zed_link.specs.Counting.{Counted, Counts, takes_none};
-ghost use Rattle.zed_link.specs.Ends.{LinkEnds, Changed, HandedOver, Took, TookFront, AtItsEnd};
+ghost use Rattle.zed_link.specs.Ends.{LinkEnds, Changed, FailedBehind, HandedOver, Took, TookFront, AtItsEnd};
 
 /// A call of a link failed.
 #[derive(Clone, Copy, Debug, PartialEq, Eq)]
@@ -9,7 +9,7 @@ pub struct Failed;
 
 /// A two-way stream of bytes.
 pub trait Link: Drop {
-    /// The bytes that are left to read and those that it took, or that this isn't told.
+    /// The bytes that are left to read, those that it took, and whether no read ever fails; or that this isn't told.
     ghost ends: { Self → Option LinkEnds };
 
     /// How many reads were made.
@@ -28,7 +28,7 @@ pub trait Link: Drop {
         ensures ok { IfOk result (λ n.
             Changed (HandedOver (take n into.new)) (ends self.old) (ends self.new)) }
         ensures end { result ≡ Ok 0 → into.old ≢ [] → AtItsEnd (ends self.old) }
-        ensures half { OnErr result (Changed (HandedOver []) (ends self.old) (ends self.new)) }
+        ensures half { OnErr result (Changed (FailedBehind []) (ends self.old) (ends self.new)) }
         ensures reads { Counted 1 (reads self.old) (reads self.new) }
         ensures failures { Counts (is_err result) (failed self.old) (failed self.new) }
         ensures stalls { stalls self.new ≡ stalls self.old };

@@ -1,5 +1,5 @@
 //! A link over memory, for tests.
-ghost use Rattle.std.specs.Prelude.{◌≡◌, ◌≢◌, ◌-◌, ◌<◌, ◌≤◌, nat_lt, [], ◌++◌, drop, length, take, Some, IfSome, OnErr, OnOk};
+ghost use Rattle.std.specs.Prelude.{◌≡◌, false, is_none, ◌≢◌, ◌-◌, ◌<◌, ◌≤◌, nat_lt, [], ◌++◌, drop, length, take, Some, IfSome, OnErr, OnOk};
 ghost use Rattle.zed_link.specs.Counting.{Counted, Rose, most_counted};
 
 use crate::link::{Failed, Link};
@@ -17,16 +17,16 @@ pub struct MemoryLink {
     failures: u64,
     // the writes of some bytes that took none
     stalls: u64,
-    // the calls that pass before one fails
-    passing: u64,
+    // the calls that pass before one fails, or that none fails by itself
+    passing: Option<u64>,
 }
 
 impl MemoryLink {
-    /// A link that hands over these bytes, `piece` of them by a read and at least one, takes at most `piece` by a write, and fails at
-    /// the one call after `passing` of them. It fails again after 2^64 - 1 calls more, and so on.
-    pub fn new(alloc: Global, handed: Vec<u8>, piece: usize, passing: u64) -> MemoryLink
+    /// A link that hands over these bytes, `piece` of them by a read and at least one, and takes at most `piece` by a write. It fails at
+    /// the one call after `passing` of them, and again after 2^64 - 1 calls more, and so on; or none of its reads ever fails.
+    pub fn new(alloc: Global, handed: Vec<u8>, piece: usize, passing: Option<u64>) -> MemoryLink
         ensures ends { ⟦<MemoryLink as Link>⟧.ends result
-            ≡ Some (record { left = handed.items; taken = [] }) }
+            ≡ Some (record { left = handed.items; taken = []; unfailing = is_none passing }) }
         ensures reads { ⟦<MemoryLink as Link>⟧.reads result ≡ 0 }
         ensures failures { ⟦<MemoryLink as Link>⟧.failed result ≡ 0 }
         ensures stalls { ⟦<MemoryLink as Link>⟧.stalls result ≡ 0 }
@@ -67,13 +67,21 @@ fn count(counter: &mut u64)
 }
 
 // Whether a call passes, where so many still do before one fails. After that one the next 2^64 - 1 do.
-fn passes(passing: &mut u64) -> bool {
-    if *passing == 0 {
-        *passing = u64::MAX;
-        return false;
+fn passes(passing: &mut Option<u64>) -> bool
+    ensures fails { result ≡ false → is_none passing.old ≡ false }
+    ensures kind { is_none passing.new ≡ is_none passing.old }
+{
+    match passing {
+        None => true,
+        Some(0) => {
+            *passing = Some(u64::MAX);
+            false
+        }
+        Some(count) => {
+            *count -= 1;
+            true
+        }
     }
-    *passing -= 1;
-    true
 }
 
 // What is left of bytes of which so many were read.
@@ -102,7 +110,8 @@ fn hand_over(left: &[u8], piece: usize, into: &mut [u8]) -> usize
 }
 
 impl Link for MemoryLink {
-    ghost ends = { λ link. Some (record { left = drop link.at link.handed.items; taken = link.taken.items }) };
+    ghost ends = { λ link. Some (record {
+        left = drop link.at link.handed.items; taken = link.taken.items; unfailing = is_none link.passing }) };
 
     ghost reads = { λ link. link.reads };
 

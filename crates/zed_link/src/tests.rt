@@ -58,7 +58,7 @@ fn file(rt: &HostRuntime, records: &[[u8; 13]]) -> Result<Vec<u8>, Fail> {
 fn a_file_is_received_in_pieces_of_every_length(rt: HostRuntime) -> Result<(), Fail> {
     for piece in 1..=50 {
         let bytes = file(&rt, &[TEXT, TEXT])?;
-        let mut link = MemoryLink::new(rt.alloc(), bytes, piece, u64::MAX);
+        let mut link = MemoryLink::new(rt.alloc(), bytes, piece, None);
         let mut document = Document::new(rt.alloc(), 7);
         let pulled = receive(rt.alloc(), &mut link, &mut document);
         assert_eq!(rt;
@@ -79,7 +79,7 @@ fn a_file_is_received_in_pieces_of_every_length(rt: HostRuntime) -> Result<(), F
 fn each_growth_of_receive_refused(rt: HostRuntime) -> Result<(), Fail> {
     for nth in 1..=MOST_GROWTHS {
         let bytes = file(&rt, &[TEXT, TEXT])?;
-        let mut link = MemoryLink::new(rt.alloc(), bytes, 20, u64::MAX);
+        let mut link = MemoryLink::new(rt.alloc(), bytes, 20, None);
         let mut document = Document::new(rt.alloc(), 7);
         refuse(rt.alloc(), nth);
         let pulled = receive(rt.alloc(), &mut link, &mut document);
@@ -99,7 +99,7 @@ fn each_growth_of_receive_refused(rt: HostRuntime) -> Result<(), Fail> {
         );
         document.repair()?;
         let bytes = file(&rt, &[TEXT, TEXT])?;
-        let mut again = MemoryLink::new(rt.alloc(), bytes, 20, u64::MAX);
+        let mut again = MemoryLink::new(rt.alloc(), bytes, 20, None);
         assert_eq!(rt;
             receive(rt.alloc(), &mut again, &mut document).is_ok(),
             true
@@ -113,7 +113,7 @@ fn each_growth_of_receive_refused(rt: HostRuntime) -> Result<(), Fail> {
 fn a_read_that_fails_leaves_the_edits_before_it(rt: HostRuntime) -> Result<(), Fail> {
     for passing in 0..9 {
         let bytes = file(&rt, &[TEXT])?;
-        let mut link = MemoryLink::new(rt.alloc(), bytes, 7, passing);
+        let mut link = MemoryLink::new(rt.alloc(), bytes, 7, Some(passing));
         let mut document = Document::new(rt.alloc(), 7);
         let pulled = receive(rt.alloc(), &mut link, &mut document);
         assert_eq!(rt; pulled, Err(LinkError::LinkFault));
@@ -141,7 +141,7 @@ fn each_read_is_counted_the_one_of_the_end_too(rt: HostRuntime) -> Result<(), Fa
         (100, 2),
     ] {
         let bytes = file(&rt, &[TEXT, TEXT])?;
-        let mut link = MemoryLink::new(rt.alloc(), bytes, piece, u64::MAX);
+        let mut link = MemoryLink::new(rt.alloc(), bytes, piece, None);
         let mut document = Document::new(rt.alloc(), 7);
         let pulled = receive(rt.alloc(), &mut link, &mut document);
         assert_eq!(rt; pulled.is_ok(), true);
@@ -153,7 +153,7 @@ fn each_read_is_counted_the_one_of_the_end_too(rt: HostRuntime) -> Result<(), Fa
 #[test]
 fn bytes_are_sent_in_pieces_of_every_length(rt: HostRuntime) -> Result<(), Fail> {
     for piece in 1..=50 {
-        let mut link = MemoryLink::new(rt.alloc(), Vec::new(rt.alloc()), piece, u64::MAX);
+        let mut link = MemoryLink::new(rt.alloc(), Vec::new(rt.alloc()), piece, None);
         assert_eq!(rt; send(&mut link, &CELLS), Ok(()));
         assert_eq!(rt; link.taken(), CELLS.as_slice());
     }
@@ -163,7 +163,7 @@ fn bytes_are_sent_in_pieces_of_every_length(rt: HostRuntime) -> Result<(), Fail>
 #[test]
 fn a_write_that_fails_leaves_a_front(rt: HostRuntime) -> Result<(), Fail> {
     for passing in 0..8 {
-        let mut link = MemoryLink::new(rt.alloc(), Vec::new(rt.alloc()), 5, passing);
+        let mut link = MemoryLink::new(rt.alloc(), Vec::new(rt.alloc()), 5, Some(passing));
         assert_eq!(rt; send(&mut link, &CELLS), Err(LinkError::LinkFault));
         assert_eq!(rt; link.taken().len(), 5 * (passing as usize));
         assert_eq!(rt; CELLS.starts_with(link.taken()), true);
@@ -174,7 +174,7 @@ fn a_write_that_fails_leaves_a_front(rt: HostRuntime) -> Result<(), Fail> {
 
 #[test]
 fn a_link_that_takes_nothing_is_a_fault(rt: HostRuntime) -> Result<(), Fail> {
-    let mut link = MemoryLink::new(rt.alloc(), Vec::new(rt.alloc()), 0, u64::MAX);
+    let mut link = MemoryLink::new(rt.alloc(), Vec::new(rt.alloc()), 0, None);
     assert_eq!(rt; send(&mut link, &CELLS), Err(LinkError::LinkFault));
     assert_eq!(rt; link.failures(), 0);
     assert_eq!(rt; send(&mut link, &[]), Ok(()));
@@ -199,7 +199,7 @@ fn what_is_wrong_comes_first(rt: HostRuntime) -> Result<(), Fail> {
             if let Some(there) = bytes.get_mut(place) {
                 *there = byte;
             }
-            let mut link = MemoryLink::new(rt.alloc(), bytes, piece, passing);
+            let mut link = MemoryLink::new(rt.alloc(), bytes, piece, Some(passing));
             let mut document = Document::new(rt.alloc(), world);
             let pulled = receive(rt.alloc(), &mut link, &mut document);
             assert_eq!(rt; pulled, Err(refusal));
@@ -224,7 +224,7 @@ fn of_two_wrong_records_the_first_is_told(rt: HostRuntime) -> Result<(), Fail> {
     ] {
         for (piece, passing) in [(1, shown), (100, 1)] {
             let bytes = file(&rt, &records)?;
-            let mut link = MemoryLink::new(rt.alloc(), bytes, piece, passing);
+            let mut link = MemoryLink::new(rt.alloc(), bytes, piece, Some(passing));
             let mut document = Document::new(rt.alloc(), 7);
             let pulled = receive(rt.alloc(), &mut link, &mut document);
             assert_eq!(rt; pulled, Err(refusal));
@@ -241,7 +241,7 @@ fn a_cut_file_is_cut_short(rt: HostRuntime) -> Result<(), Fail> {
     for length in 0..43 {
         let (front, _) = CELLS.split_at(length);
         let bytes = Vec::from_slice(rt.alloc(), front)?;
-        let mut link = MemoryLink::new(rt.alloc(), bytes, 100, u64::MAX);
+        let mut link = MemoryLink::new(rt.alloc(), bytes, 100, None);
         let mut document = Document::new(rt.alloc(), 7);
         let pulled = receive(rt.alloc(), &mut link, &mut document);
         let none = Pulled {
