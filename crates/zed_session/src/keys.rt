@@ -1,6 +1,7 @@
 //! Sources of keys, as boxed objects that are handed in.
 ghost use Rattle.std.specs.Prelude.{◌≡◌, ℕ, List, Option, IfErr, IfOk, IfSome, OnErr, OnOk, is_err};
-ghost use Rattle.zed_session.specs.Devices.{Counts, first_of, without_first};
+ghost use Rattle.zed_link.specs.Counting.{Counts};
+ghost use Rattle.zed_session.specs.Devices.{first_of, without_first};
 
 use crate::error::SessionError;
 use crate::screen::Failed;

@@ -1,6 +1,7 @@
 //! Screens, as boxed objects that are handed in.
 ghost use Rattle.std.specs.Prelude.{◌≡◌, ℕ, Option, IfErr, OnErr, OnOk, is_err, is_some};
-ghost use Rattle.zed_session.specs.Devices.{Counts, showing};
+ghost use Rattle.zed_link.specs.Counting.{Counts};
+ghost use Rattle.zed_session.specs.Devices.{showing};
 
 use crate::error::SessionError;
 use zed_screen::Frame;

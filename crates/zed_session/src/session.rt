@@ -3,7 +3,7 @@ ghost use Rattle.std.specs.Prelude.{◌≡◌, ◌≢◌, ◌≤◌, ◌<◌, �
 ghost use Rattle.zed_editfile.specs.Spelling.{file_text};
 ghost use Rattle.zed_link.specs.Ends.{Changed, Took};
 ghost use Rattle.zed_session.specs.Boards.{Answers, ShowsBoard, Starts, world_shown};
-ghost use Rattle.zed_session.specs.Devices.{Counts};
+ghost use Rattle.zed_link.specs.Counting.{Counts};
 ghost use Rattle.zed_session.specs.Play.{PlaysKey, ShowsKey};
 ghost use Rattle.zed_session.specs.Refusals.{ShownAfter, is_key_fault, is_screen_fault};
 ghost use Rattle.zed_session.specs.Links.{PullsOver, RefusesPull, ends_at, seen, seen_at};

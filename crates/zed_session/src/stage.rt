@@ -1,6 +1,6 @@
 //! The stage: a screen, a source of keys, and a playtest.
 ghost use Rattle.std.specs.Prelude.{◌≡◌, ◌⊎◌, None, IfErr, IfOk, IfSome, MatchResult, OnErr, OnOk, is_some, option_map, true};
-ghost use Rattle.zed_session.specs.Devices.{Counts};
+ghost use Rattle.zed_link.specs.Counting.{Counts};
 ghost use Rattle.zed_session.specs.Refusals.{ShownAfter, is_key_fault, is_screen_fault};
 ghost use Rattle.zed_session.specs.Boards.{Answers, ShowsBoard, Starts, world_shown};
 ghost use Rattle.zed_session.specs.Play.{PlaysKey, ShowsKey, ShowsPlay, Takes};

@@ -22,7 +22,7 @@ use worlds::GEM_WORLD;
 const WIRED: Wired = Wired {
     handed: b"",
     piece: 100,
-    passing: u64::MAX,
+    passing: None,
 };
 
 /// What a link took to which a document with three edits was pushed, if it comes out as it should.

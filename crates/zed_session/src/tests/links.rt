@@ -33,42 +33,42 @@ const CUT_SHORT: Told = Told::Refused(SessionError::CutShort);
 const EMPTY: Act = Act::Wire(Wired {
     handed: b"",
     piece: 9,
-    passing: u64::MAX,
+    passing: None,
 });
 
 /// One that takes nothing either.
 const DEAF: Act = Act::Wire(Wired {
     handed: b"",
     piece: 0,
-    passing: u64::MAX,
+    passing: None,
 });
 
 /// One that takes five bytes, and then fails.
 const TAKES_FIVE: Act = Act::Wire(Wired {
     handed: b"",
     piece: 5,
-    passing: 1,
+    passing: Some(1),
 });
 
 /// A link that hands over the file, byte by byte.
 const SLOW: Act = Act::Wire(Wired {
     handed: FILE,
     piece: 1,
-    passing: u64::MAX,
+    passing: None,
 });
 
 /// One that hands it over at once.
 const FAST: Act = Act::Wire(Wired {
     handed: FILE,
     piece: 100,
-    passing: u64::MAX,
+    passing: None,
 });
 
 /// One that fails once it handed over the first edit.
 const GIVES_ONE: Act = Act::Wire(Wired {
     handed: FILE,
     piece: 7,
-    passing: 7,
+    passing: Some(7),
 });
 
 /// What is done with a document of three edits, and its name.

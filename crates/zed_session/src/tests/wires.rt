@@ -18,7 +18,7 @@ pub const FILE: &[u8] = &[
 pub struct Wired {
     pub handed: &'static [u8],
     pub piece: usize,
-    pub passing: u64,
+    pub passing: Option<u64>,
 }
 
 /// A link over memory that leaves what it took when it is let go.
