@@ -10,10 +10,11 @@ use Rattle.zed_program.specs.declared.host.WriteError.{WriteError}
 use Rattle.zed_program.specs.declared.refusal.Refusal.{Refusal}
 use Rattle.zed_program.specs.declared.refusal.Refusal.TheVariants.{File, Memory}
 use Rattle.zed_session.specs.Links.{LinkSeen}
-use Rattle.zed_program.specs.Commands.{Command, Save, Check, New, Edit as EditFile, Merge, Show, Play}
+use Rattle.zed_words.specs.Commands.{Command, Save, Check, New, Edit as EditFile, Merge, Show, Play}
 use Rattle.zed_program.specs.Shown.{IsPlayed, IsShown, OfSet, PlaysFile, words_in}
 use Rattle.zed_program.specs.Edited.{FileEdits, IsEdited}
-use Rattle.zed_program.specs.HostContents.{AreRead, Counts, HalfComplained, HalfPrinted, HalfWritten, HostContents, IsRead, NothingFailed, Rose, StillTells, file_in, most_counted, with_complaint, with_file}
+use Rattle.zed_link.specs.Counting.{Counts, Rose, most_counted}
+use Rattle.zed_program.specs.HostContents.{AreRead, HalfComplained, HalfPrinted, HalfWritten, HostContents, IsRead, NothingFailed, StillTells, file_in, with_complaint, with_file}
 use Rattle.zed_program.specs.Fresh.{refused_as, rewritten}
 use Rattle.zed_world.specs.Reading.{world_at}
 use Rattle.zed_program.specs.Lines.{line_of}

@@ -19,7 +19,7 @@ use Rattle.zed_program.specs.Files.{IsFile, IsStream, Stream, edits_then, end_by
 use Rattle.zed_program.specs.Outcome.{ComesTo, Effect, EndsCalmly, HasStatus, file_of, made_of, unless_over, writes_world, written_to}
 use Rattle.zed_program.specs.HostContents.{HostContents, file_in}
 use Rattle.zed_session.specs.Links.{LinkSeen}
-use Rattle.zed_program.specs.Commands.{Save}
+use Rattle.zed_words.specs.Commands.{Save}
 use Rattle.zed_program.specs.Lines.{bytes_line}
 use Rattle.zed_program.proofs.Endings.{reads_are}
 use Rattle.zed_program.specs.Saving.{AsksToSave, SavedReadsBack, SavesSet}

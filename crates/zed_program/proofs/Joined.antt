@@ -1,7 +1,7 @@
 -- What pulls over links that hold edit files come to.
-use Rattle.std.proofs.Common.{◌≡◌, ◌∙◌, ◌≤◌, ◌<◌, ◌^◌, ◌++◌, arith, ℕ, Bool, true, false, List, [], ◌∷◌, length, take, nat_lt, Option, Some, None, Result, Ok, Err, refl, ap, sym, subst, map, append_assoc, append-nil, inl, inr}
+use Rattle.std.proofs.Common.{◌≡◌, ◌∙◌, ◌≤◌, ◌<◌, ◌^◌, ◌++◌, arith, ℕ, Bool, true, false, List, [], ◌∷◌, length, take, drop, suc, nat_lt, Option, Some, None, Result, Ok, Err, refl, ap, sym, subst, map, append_assoc, append-nil, inl, inr}
 use Rattle.std.specs.Prelude.{◌⊎◌, Contains, MatchBool, option_map}
-use Rattle.std.proofs.lemmas.List.{length-map, take-map}
+use Rattle.std.proofs.lemmas.List.{length-map, take-append-drop, take-map}
 use Rattle.std.proofs.lemmas.List.Elements.{Contains-append_left}
 use Rattle.zed_types.specs.declared.stamp.Stamp.{Stamp}
 use Rattle.zed_op.specs.declared.op.Edit.{Edit}
@@ -15,14 +15,13 @@ use Rattle.zed_document.specs.Replica.{Replica}
 use Rattle.zed_link.specs.declared.error.LinkError.{LinkError}
 use Rattle.zed_link.specs.declared.error.LinkError.TheVariants as link
 use Rattle.zed_link.specs.Ends.{LinkEnds}
-use Rattle.zed_link.specs.Laws.{FilesArePulled, HoldsFile, PullsFile}
+use Rattle.zed_link.specs.Laws.{DeliveriesGoOn, FilesArePulled, HoldsFile, PullsFile}
 use Rattle.zed_link.specs.Pull.{AllDelivered}
-use Rattle.zed_link.proofs.Deliveries.{delivered_more}
 use Rattle.zed_link.specs.declared.pulled.Pulled.{Pulled}
 use Rattle.zed_session.specs.Links.{LinkSeen, PullsOver}
 use Rattle.zed_program.specs.declared.refusal.Refusal.{Refusal}
 use Rattle.zed_program.specs.declared.refusal.Refusal.TheVariants.{Memory, NoLink}
-use Rattle.zed_program.specs.Commands.{Merge}
+use Rattle.zed_words.specs.Commands.{Merge}
 use Rattle.zed_program.specs.Files.{joined, texts_of_lists}
 use Rattle.zed_program.specs.HostContents.{HostContents}
 use Rattle.zed_program.specs.Joining.{AsksToMerge, IsOfLinks, MergesSet, left_on}
@@ -115,29 +114,49 @@ never_clash law d es left s sound empty fit agrees each =
       | inr clash ↦ no_clash es clash.0 agrees clash.1
     ]
 
--- a pull of a whole file was refused for what isn't of the file
-refused_so : (d : Replica) (es left : List Edit) (e : LinkError) → ((s : Stamp) → DeliversEach d es (Err (document.Clash s)) left → ⊥)
-    → PullsFile d es (Err e) left → IsOfLinks (link_refusal e)
-refused_so d es left link.Memory never pulls = inl refl
-refused_so d es left link.LinkFault never pulls = inr (inl refl)
-refused_so d es left link.TooManyTurns never pulls = inr (inr refl)
-refused_so d es left (link.Clash s) never pulls = absurd (never s pulls)
-refused_so d es left _ never pulls = absurd pulls
+here : {X : Type 0} (x : X) (xs : List X) → Contains (x ∷ xs) x
+here x xs = (0, omega arith, refl)
 
--- what pulls come to
-abbrev pub JoinedOr : List Edit → Result (List Edit) Refusal → Type 0
-JoinedOr es r = (r ≡ Ok (set_of es)) ⊎ ((e : Refusal) × IsOfLinks e × (r ≡ Err e))
+there : {X : Type 0} (y x : X) (xs : List X) → Contains xs x → Contains (y ∷ xs) x
+there y x xs c = let within = c.1 in (suc c.0, omega arith, c.2)
+
+-- a pull of a whole file of the first of these links was refused for what isn't of the file
+refused_so : (d : Replica) (l : LinkSeen) (links : List LinkSeen) (es left : List Edit) (lists : List (List Edit)) (file : HoldsFile d es l.ends) (e : LinkError)
+    → ((s : Stamp) → DeliversEach d es (Err (document.Clash s)) left → ⊥) → PullsFile file.ends.unfailing d es (Err e) left
+    → IsOfLinks d.world (l ∷ links) (es ∷ lists) (link_refusal e)
+refused_so d l links es left lists file link.Memory never pulls = inl refl
+refused_so d l links es left lists file link.LinkFault never pulls = inr (inl (refl, (l, file.ends, here l links, file.told, pulls.1)))
+refused_so d l links es left lists file link.TooManyTurns never pulls = inr (inr (refl, (es, here es lists, pulls.1)))
+refused_so d l links es left lists file (link.Clash s) never pulls = absurd (never s pulls)
+refused_so d l links es left lists file _ never pulls = absurd pulls
+
+-- what is of some links and lists is of more
+of_more : (world : ℕ) (l : LinkSeen) (links : List LinkSeen) (es : List Edit) (lists : List (List Edit)) (e : Refusal) → IsOfLinks world links lists e → IsOfLinks world (l ∷ links) (es ∷ lists) e
+of_more world l links es lists e (inl memory) = inl memory
+of_more world l links es lists e (inr (inl (is, may))) = inr (inl (is, (may.0, may.1, there l may.0 links may.2, may.3, may.4)))
+of_more world l links es lists e (inr (inr (is, long))) = inr (inr (is, (long.0, there es long.0 lists long.1, long.2)))
+
+-- what pulls over links that hold the files of these lists come to, after other edits were delivered
+abbrev pub JoinedOr : ℕ → List LinkSeen → List Edit → List (List Edit) → Result (List Edit) Refusal → Type 0
+JoinedOr world links before lists r =
+    (r ≡ Ok (set_of (before ++ joined lists))) ⊎ ((e : Refusal) × IsOfLinks world links lists e × (r ≡ Err e))
+
+-- the same with the first of the lists among the edits before
+one_before : (world : ℕ) (l : LinkSeen) (links : List LinkSeen) (before es : List Edit) (lists : List (List Edit)) (r : Result (List Edit) Refusal)
+    → JoinedOr world links (before ++ es) lists r → JoinedOr world (l ∷ links) before (es ∷ lists) r
+one_before world l links before es lists r (inl all) = inl (all ∙ ap (λ (fs : List Edit). Ok (set_of fs)) (append_assoc before es (joined lists)))
+one_before world l links before es lists r (inr why) = inr (why.0, of_more world l links es lists why.0 why.1, why.2)
 
 -- after these edits were delivered, the links hold the files of those lists
-pulls_are : FilesArePulled → DeliveriesComeToSets → (d : Replica) (links : List LinkSeen) (lists : List (List Edit)) (before left : List Edit) (r : Result (List Edit) Refusal)
+pulls_are : FilesArePulled → DeliveriesGoOn → DeliveriesComeToSets → (d : Replica) (links : List LinkSeen) (lists : List (List Edit)) (before left : List Edit) (r : Result (List Edit) Refusal)
     → d.world < 2 ^ 64 → d.is_stale ≡ false → d.edits ≡ [] → AllDelivered d before left → map left_on links ≡ texts_of_lists d.world lists
-    → AreRecords (before ++ joined lists) → Agrees (before ++ joined lists) → PullsEach (with_edits left d) links r → JoinedOr (before ++ joined lists) r
-pulls_are files sets d [] [] before left r small sound empty all held good agrees pulls =
+    → AreRecords (before ++ joined lists) → Agrees (before ++ joined lists) → PullsEach (with_edits left d) links r → JoinedOr d.world links before lists r
+pulls_are files more sets d [] [] before left r small sound empty all held good agrees pulls =
     let fit = records_fit before (records_left before [] good) in
     inl (pulls ∙ ap (λ x. Ok x) (set_left sets d before left sound empty fit all ∙ ap set_of (sym (append-nil before))))
-pulls_are files sets d [] (es ∷ lists) before left r small sound empty all held good agrees pulls = absurd (cc)
-pulls_are files sets d (l ∷ links) [] before left r small sound empty all held good agrees pulls = absurd (cc)
-pulls_are files sets d (l ∷ links) (es ∷ lists) before left r small sound empty all held good agrees pulls =
+pulls_are files more sets d [] (es ∷ lists) before left r small sound empty all held good agrees pulls = absurd (cc)
+pulls_are files more sets d (l ∷ links) [] before left r small sound empty all held good agrees pulls = absurd (cc)
+pulls_are files more sets d (l ∷ links) (es ∷ lists) before left r small sound empty all held good agrees pulls =
     let first : left_on l ≡ Some (file_text d.world es) = cc in
     let rest : map left_on links ≡ texts_of_lists d.world lists = cc in
     let records = records_left es (joined lists) (records_right before (es ++ joined lists) good) in
@@ -148,43 +167,52 @@ pulls_are files sets d (l ∷ links) (es ∷ lists) before left r small sound em
     elim pulls [
       | inl ok ↦ (
           let pulled = (files (with_edits left d) es l.ends ok.1.ends l.reads ok.1.reads (Ok ok.0) ok.2 holding ok.3).0 in
-          let next = delivered_more d (with_edits left d) before es (Ok tt) ok.2 refl refl all pulled.0 in
-          subst (λ x. JoinedOr x r) whole (pulls_are files sets d links lists (before ++ es) ok.2 r small sound empty next rest good_all agrees_all ok.4))
+          let next = more d before es left ok.2 (Ok tt) all pulled.0 in
+          one_before d.world l links before es lists r (pulls_are files more sets d links lists (before ++ es) ok.2 r small sound empty next rest good_all agrees_all ok.4))
       | inr err ↦ (
           let pulled = (files (with_edits left d) es l.ends err.1.ends l.reads err.1.reads (Err err.0) err.2 holding err.3).0 in
           let fit = records_fit (before ++ es) (records_left (before ++ es) (joined lists) good_all) in
           let agree = agree_left (before ++ es) (joined lists) agrees_all in
           let never : (s : Stamp) → DeliversEach (with_edits left d) es (Err (document.Clash s)) err.2 → ⊥ = λ s clash. never_clash sets d (before ++ es) err.2 s sound empty fit agree
-          (delivered_more d (with_edits left d) before es (Err (document.Clash s)) err.2 refl refl all clash) in
-          inr (link_refusal err.0, refused_so (with_edits left d) es err.2 err.0 never pulled, err.4))
+          (more d before es left err.2 (Err (document.Clash s)) all clash) in
+          inr (link_refusal err.0, refused_so (with_edits left d) l links es err.2 lists holding err.0 never pulled, err.4))
     ]
 
 -- the edits of links that hold files of a world
-merged_are : FilesArePulled → DeliveriesComeToSets → (world count : ℕ) (links : List LinkSeen) (lists : List (List Edit)) (r : Result (List Edit) Refusal)
+merged_are : FilesArePulled → DeliveriesGoOn → DeliveriesComeToSets → (world count : ℕ) (links : List LinkSeen) (lists : List (List Edit)) (r : Result (List Edit) Refusal)
     → world < 2 ^ 64 → count ≤ length links → map left_on (take count links) ≡ texts_of_lists world lists → AreRecords (joined lists) → Agrees (joined lists)
-    → IsMerged world count links r → JoinedOr (joined lists) r
-merged_are files sets world count links lists r small enough held good agrees merged =
+    → IsMerged world count links r → JoinedOr world (take count links) [] lists r
+merged_are files more sets world count links lists r small enough held good agrees merged =
     let there : MatchBool false (r ≡ Err NoLink) (PullsEach (empty_document world) (take count links) r) =
     subst (λ b. MatchBool b (r ≡ Err NoLink) (PullsEach (empty_document world) (take count links) r)) (not_fewer count (length links) enough) merged in
-    pulls_are files sets (empty_document world) (take count links) lists [] [] r small refl refl (refl, refl) held good agrees there
+    pulls_are files more sets (empty_document world) (take count links) lists [] [] r small refl refl (refl, refl) held good agrees there
 
-has_status : (out : List ℕ) (world : ℕ) (es : List Edit) (m : Result (List Edit) Refusal) (r : Result Effect Refusal) (t : HostContents) (status : ℕ) (new : Option HostContents)
-    → JoinedOr es m → r ≡ writes_joined out world m → HasStatus r t status new → MergesSet out t world es status new
-has_status out world es m r t status new is made has =
+-- what is of the first links is of all
+of_all : (world count : ℕ) (links : List LinkSeen) (lists : List (List Edit)) (e : Refusal) → IsOfLinks world (take count links) lists e → IsOfLinks world links lists e
+of_all world count links lists e (inl memory) = inl memory
+of_all world count links lists e (inr (inl (is, may))) = inr (inl (is, (may.0, may.1, in_all may.0 may.2, may.3, may.4)))
+  where
+    in_all : (l : LinkSeen) → Contains (take count links) l → Contains links l
+    in_all l first = subst (λ (ls : List LinkSeen). Contains ls l) (take-append-drop count links) (Contains-append_left (take count links) (drop count links) l first)
+of_all world count links lists e (inr (inr long)) = inr (inr long)
+
+has_status : (out : List ℕ) (world count : ℕ) (links : List LinkSeen) (lists : List (List Edit)) (m : Result (List Edit) Refusal) (r : Result Effect Refusal) (t : HostContents) (status : ℕ) (new : Option HostContents)
+    → JoinedOr world (take count links) [] lists m → r ≡ writes_joined out world m → HasStatus r t status new → MergesSet out t world links lists status new
+has_status out world count links lists m r t status new is made has =
     elim is [
       | inl all ↦ inl (subst (λ x. HasStatus x t status new) (made ∙ ap (writes_joined out world) all) has)
-      | inr e ↦ inr (e.0, e.1, subst (λ x. HasStatus x t status new) (made ∙ ap (writes_joined out world) e.2) has)
+      | inr e ↦ inr (e.0, of_all world count links lists e.0 e.1, subst (λ x. HasStatus x t status new) (made ∙ ap (writes_joined out world) e.2) has)
     ]
 
 -- `run` ends so
-pub run_of_links : FilesArePulled → DeliveriesComeToSets → (words : List (List ℕ)) (links : List LinkSeen) (t : HostContents) (out : List ℕ) (world : ℕ) (lists : List (List Edit)) (status : ℕ) (new : Option HostContents)
-    → (asks : AsksToMerge words links out world lists) → EndsCalmly links (Merge out world asks.files) t status new → MergesSet out t world (joined lists) status new
-run_of_links files sets words links t out world lists status new asks ended =
+pub run_of_links : FilesArePulled → DeliveriesGoOn → DeliveriesComeToSets → (words : List (List ℕ)) (links : List LinkSeen) (t : HostContents) (out : List ℕ) (world : ℕ) (lists : List (List Edit)) (status : ℕ) (new : Option HostContents)
+    → (asks : AsksToMerge words links out world lists) → EndsCalmly links (Merge out world asks.files) t status new → MergesSet out t world links lists status new
+run_of_links files more sets words links t out world lists status new asks ended =
     elim ended [
       | inl done ↦ (
           let comes = done.1 in
-          has_status out world (joined lists) comes.0 done.0 t status new
-          (merged_are files sets world (length asks.files) links lists comes.0 asks.is_number asks.enough asks.held asks.records asks.agree comes.1) comes.2 done.2)
+          has_status out world (length asks.files) links lists comes.0 done.0 t status new
+          (merged_are files more sets world (length asks.files) links lists comes.0 asks.is_number asks.enough asks.held asks.records asks.agree comes.1) comes.2 done.2)
       | inr memory ↦ inr (Memory, inl refl, memory)
     ]
 

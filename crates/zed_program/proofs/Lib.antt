@@ -1,10 +1,5 @@
 pub mod Chances
-pub mod ClapLemmas
-pub mod Readings
 pub mod Opened
-pub mod Parsing
-pub mod PlainWords
-pub mod SaveWords
 pub mod Entries
 pub mod Deliveries
 pub mod Endings

@@ -14,7 +14,7 @@ use Rattle.zed_program.specs.declared.refusal.Refusal.{Refusal}
 use Rattle.zed_program.specs.declared.refusal.Refusal.TheVariants.{Memory, Clash, File}
 use Rattle.zed_document.specs.Delivery.{IsFirstClash}
 use Rattle.zed_program.specs.Edited.{FileEdits, HasEdits, IsActed, IsEdited, IsOpened, OpensAs}
-use Rattle.zed_program.specs.Commands.{Edit as EditFile}
+use Rattle.zed_words.specs.Commands.{Edit as EditFile}
 use Rattle.zed_program.specs.Files.{IsFile}
 use Rattle.zed_program.specs.Outcome.{ComesTo}
 use Rattle.zed_program.specs.Refusals.{action_refusal, file_refusal}

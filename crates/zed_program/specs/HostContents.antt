@@ -1,8 +1,9 @@
 -- What a host holds, and how its calls change that.
-use Rattle.std.specs.Prelude.{◌≡◌, ◌<◌, ◌≤◌, ◌⊎◌, ℕ, Bool, true, false, List, [], ◌∷◌, ◌++◌, Option, Some, None}
+use Rattle.std.specs.Prelude.{◌≡◌, ◌<◌, ◌⊎◌, ℕ, List, [], ◌∷◌, ◌++◌, Option, Some, None}
 use Rattle.std.specs.Ordering.{nat_cmp}
 use Rattle.std.specs.Cmp.Lexicographic.{slice_cmp}
 use Rattle.std.specs.FinMap as map
+use Rattle.zed_link.specs.Counting.{most_counted}
 
 -- files by name, and what was written to the standard output and the standard error
 pub record HostContents : Type 0 where
@@ -56,19 +57,6 @@ HalfComplained bytes t u = (u ≡ t) ⊎ ((part : List ℕ) × IsFront part byte
 -- the host still tells what it holds, which is so related to what it held
 abbrev pub StillTells : (HostContents → Type 0) → Option HostContents → Type 0
 StillTells R new = (u : HostContents) × R u × (new ≡ Some u)
-
--- the greatest count, at which it stays
-abbrev pub most_counted : ℕ
-most_counted = 18446744073709551615
-
--- the count rose, where it can
-abbrev pub Rose : ℕ → ℕ → Type 0
-Rose old new = (old ≤ new) × (old < most_counted → old < new)
-
--- a call that counts raises the count, and another leaves it
-abbrev pub Counts : Bool → ℕ → ℕ → Type 0
-Counts false old new = new ≡ old
-Counts true old new = Rose old new
 
 -- nothing failed between the two counts
 abbrev pub NothingFailed : ℕ → ℕ → Type 0

@@ -3,7 +3,6 @@ pub mod Edited
 pub mod Faults
 pub mod Files
 pub mod Fresh
-pub mod Grammar
 pub mod Joining
 pub mod Lines
 pub mod Merged
@@ -13,4 +12,3 @@ pub mod Refusals
 pub mod Saving
 pub mod Shown
 pub mod HostContents
-pub mod Commands

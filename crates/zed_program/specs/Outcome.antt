@@ -19,9 +19,10 @@ use Rattle.zed_program.specs.Files.{IsStream, Stream}
 use Rattle.zed_program.specs.Fresh.{genesis_of, made_by, taken_from}
 use Rattle.zed_program.specs.Lines.{bytes_line, edits_line, has_numbers, joined_line, line_of, report_of}
 use Rattle.zed_program.specs.Refusals.{export_refusal}
-use Rattle.zed_program.specs.HostContents.{AreRead, HalfComplained, HalfPrinted, HalfWritten, HostContents, IsRead, Rose, StillTells, with_complaint, with_file, with_printed}
+use Rattle.zed_link.specs.Counting.{Rose}
+use Rattle.zed_program.specs.HostContents.{AreRead, HalfComplained, HalfPrinted, HalfWritten, HostContents, IsRead, StillTells, with_complaint, with_file, with_printed}
 use Rattle.zed_session.specs.Links.{LinkSeen}
-use Rattle.zed_program.specs.Commands.{Command, Save, Check, New, Edit as EditFile, Merge, Show, Play}
+use Rattle.zed_words.specs.Commands.{Command, Save, Check, New, Edit as EditFile, Merge, Show, Play}
 use Rattle.zed_program.specs.Merged.{IsMerged}
 use Rattle.zed_program.specs.Shown.{IsShown, OfSet, PlaysFile}
 

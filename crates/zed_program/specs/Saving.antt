@@ -11,7 +11,7 @@ use Rattle.zed_program.specs.Files.{joined, texts_of_lists}
 use Rattle.zed_program.specs.Lines.{bytes_line}
 use Rattle.zed_program.specs.Outcome.{HasStatus, file_of, writes_world, written_to}
 use Rattle.zed_program.specs.HostContents.{HostContents, file_in}
-use Rattle.zed_program.specs.Commands.{Save, command_of}
+use Rattle.zed_words.specs.Commands.{Save, command_of}
 
 -- the words ask to save files, and these spell lists of edits of one world, which agree
 pub record AsksToSave (words : List (List ℕ)) (t : HostContents) (out : List ℕ) (world : ℕ) (lists : List (List Edit)) : Type 0 where

@@ -7,7 +7,8 @@ ghost use Rattle.zed_document.specs.Delivery.{IsFirstClash};
 ghost use Rattle.zed_program.specs.Files.{IsFile, edits_then, end_of as no_world};
 ghost use Rattle.zed_program.specs.Outcome.{Collects, IsStreamIn, texts_of};
 ghost use Rattle.zed_program.specs.Refusals.{is_file_refusal};
-ghost use Rattle.zed_program.specs.HostContents.{Counts, HostContents, IsRead, Rose, file_in};
+ghost use Rattle.zed_link.specs.Counting.{Counts, Rose};
+ghost use Rattle.zed_program.specs.HostContents.{HostContents, IsRead, file_in};
 
 use crate::host::{Host, ReadError};
 use crate::refusal::Refusal;

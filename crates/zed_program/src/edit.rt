@@ -6,8 +6,9 @@ ghost use Rattle.zed_document.specs.Delivery.{IsFirstClash};
 ghost use Rattle.zed_editfile.specs.Spelling.{file_text};
 ghost use Rattle.zed_program.specs.Edited.{HasEdits, IsEdited, IsOpened, OpensAs};
 ghost use Rattle.zed_program.specs.Outcome.{Ends, texts_of};
-ghost use Rattle.zed_program.specs.HostContents.{HostContents, Rose};
-ghost use Rattle.zed_program.specs.Commands.{Edit as EditFile};
+ghost use Rattle.zed_link.specs.Counting.{Rose};
+ghost use Rattle.zed_program.specs.HostContents.{HostContents};
+ghost use Rattle.zed_words.specs.Commands.{Edit as EditFile};
 
 use crate::collect::{deliver_all, read_file, read_one};
 use crate::host::Host;

@@ -3,7 +3,6 @@
 
 mod collect;
 mod edit;
-mod grammar;
 mod host;
 mod memory;
 mod merging;
@@ -14,9 +13,7 @@ mod program;
 mod refusal;
 mod report;
 mod showing;
-mod words;
 
 pub use host::{Host, ReadError, WriteError};
 pub use memory::MemoryHost;
 pub use program::run;
-pub use words::{Command, ParseError, parse};

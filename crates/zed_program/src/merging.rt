@@ -1,8 +1,9 @@
 //! Edit files joined to one.
 ghost use Rattle.std.specs.Prelude.{◌≡◌, ◌≤◌, ◌⊎◌, Err, IfOk, MatchResult, Ok, OnOk, Some, false, length, map};
 ghost use Rattle.zed_session.specs.Links.{PullsOver, seen};
-ghost use Rattle.zed_program.specs.Commands.{Merge};
-ghost use Rattle.zed_program.specs.HostContents.{HostContents, Rose};
+ghost use Rattle.zed_words.specs.Commands.{Merge};
+ghost use Rattle.zed_link.specs.Counting.{Rose};
+ghost use Rattle.zed_program.specs.HostContents.{HostContents};
 ghost use Rattle.zed_program.specs.Merged.{IsMerged};
 ghost use Rattle.zed_program.specs.Outcome.{Ends, texts_of};
 ghost use Rattle.zed_program.specs.Refusals.{link_refusal};

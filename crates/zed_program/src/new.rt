@@ -7,8 +7,9 @@ ghost use Rattle.zed_program.specs.Fresh.{fresh_header, fresh_properties, fresh_
 ghost use Rattle.zed_world.specs.Writing.{written};
 ghost use Rattle.zed_world.specs.Reading.{world_at};
 ghost use Rattle.zed_program.specs.Outcome.{Ends, IsFirstWorld, text_in};
-ghost use Rattle.zed_program.specs.HostContents.{HostContents, Rose};
-ghost use Rattle.zed_program.specs.Commands.{New};
+ghost use Rattle.zed_link.specs.Counting.{Rose};
+ghost use Rattle.zed_program.specs.HostContents.{HostContents};
+ghost use Rattle.zed_words.specs.Commands.{New};
 
 use crate::collect::read_one;
 use crate::host::Host;

@@ -1,7 +1,8 @@
 //! What a command leaves with the host.
 ghost use Rattle.std.specs.Prelude.{◌≡◌, IfErr, OnErr, OnOk, Some, is_err};
 ghost use Rattle.zed_program.specs.Outcome.{HalfDone, Prints, Writes, after};
-ghost use Rattle.zed_program.specs.HostContents.{Counts, HostContents, StillTells};
+ghost use Rattle.zed_link.specs.Counting.{Counts};
+ghost use Rattle.zed_program.specs.HostContents.{HostContents, StillTells};
 
 use crate::host::Host;
 use crate::refusal::Refusal;

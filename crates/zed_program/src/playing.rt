@@ -1,8 +1,9 @@
 //! Boards played.
 ghost use Rattle.std.specs.Prelude.{[], ◌≡◌, ◌≤◌, ◌<◌, ◌⊎◌, ◌++◌, Err, IfOk, MatchResult, Ok, OnOk, Some, false, length, slice_get, string_bytes};
 ghost use Rattle.std.specs.List.{flat_map};
-ghost use Rattle.zed_program.specs.Commands.{Play as PlayBoard};
-ghost use Rattle.zed_program.specs.HostContents.{HostContents, Rose};
+ghost use Rattle.zed_words.specs.Commands.{Play as PlayBoard};
+ghost use Rattle.zed_link.specs.Counting.{Rose};
+ghost use Rattle.zed_program.specs.HostContents.{HostContents};
 ghost use Rattle.zed_program.specs.Lines.{message_line, standing_line, told_of};
 ghost use Rattle.zed_program.specs.Outcome.{Ends, IsPlayedOf, texts_of};
 ghost use Rattle.zed_program.specs.Shown.{IsPlayed, OfSet, words_in};

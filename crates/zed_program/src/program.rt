@@ -7,8 +7,9 @@ ghost use Rattle.zed_program.specs.Files.{joined};
 ghost use Rattle.zed_program.specs.Joining.{AsksToMerge, MergesSet};
 ghost use Rattle.zed_program.specs.Outcome.{Ends, EndsCalmly, EndsRun, IsMade, IsTold, product_of, texts_of};
 ghost use Rattle.zed_program.specs.Saving.{AsksToSave, SavedReadsBack, SavesSet};
-ghost use Rattle.zed_program.specs.HostContents.{HostContents, NothingFailed, Rose};
-ghost use Rattle.zed_program.specs.Commands.{Check, Command as Asked, Save, command_of, is_plain, meaning_of};
+ghost use Rattle.zed_link.specs.Counting.{Rose};
+ghost use Rattle.zed_program.specs.HostContents.{HostContents, NothingFailed};
+ghost use Rattle.zed_words.specs.Commands.{Check, Command as Asked, Save, command_of, is_plain, meaning_of};
 
 use crate::collect::load;
 use crate::edit::edit;
@@ -20,13 +21,13 @@ use crate::playing::play;
 use crate::refusal::{Refusal, bytes_told, line_of, plain_line};
 use crate::report::{report, world_file};
 use crate::showing::show;
-use crate::words::{Command, ParseError, parse};
 use std::alloc::Global;
 use zed_document::{Document, deliveries_come_to_sets};
 use zed_editfile::one_reading;
 use zed_export::saved_is_read;
-use zed_link::{Link, files_are_pulled};
+use zed_link::{Link, deliveries_go_on, files_are_pulled};
 use zed_session::{Keys, Screen};
+use zed_words::{Command, ParseError, parse, plain_words_save};
 
 // What is made of the edits that a command reads.
 #[derive(Clone, Copy)]
@@ -248,10 +249,10 @@ pub fn run<H: Host>(
     // However the words ask to merge: where the links hold the files of lists of edits of one world that
     // agree, the edit file of the set of all of them is written, and neither their order nor repeats count.
     ensures merges_sets { (t : HostContents) (out : List ℕ) (world : ℕ) (lists : List (List TheEdit))
-        → AsksToMerge (map string_bytes words.now)
-        (map (λ link. seen (ends link) (reads link)) links.items) out world lists
+        → let all = map (λ link. seen (ends link) (reads link)) links.items in
+        AsksToMerge (map string_bytes words.now) all out world lists
         → H.contents host.old ≡ Some t → NothingFailed (H.faults host.old) (H.faults host.new)
-        → MergesSet out t world (joined lists) result (H.contents host.new) }
+        → MergesSet out t world all lists result (H.contents host.new) }
 
     // The status, whatever the host does.
     ensures accepted { IsSome (command_of (map string_bytes words.now))
@@ -261,9 +262,11 @@ pub fn run<H: Host>(
 {
     // For the proof, which learns here that the words can be counted.
     let _count = count_of(words);
+    plain_words_save();
     one_reading();
     saved_is_read();
     files_are_pulled();
+    deliveries_go_on();
     deliveries_come_to_sets();
     run_words(alloc, words, host, links, screen, keys)
 }

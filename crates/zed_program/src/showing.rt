@@ -1,7 +1,8 @@
 //! Boards shown.
 ghost use Rattle.std.specs.Prelude.{[], ◌≡◌, ◌≤◌, ◌⊎◌, Err, MatchResult, Ok, Some, false};
-ghost use Rattle.zed_program.specs.Commands.{Show};
-ghost use Rattle.zed_program.specs.HostContents.{HostContents, Rose};
+ghost use Rattle.zed_words.specs.Commands.{Show};
+ghost use Rattle.zed_link.specs.Counting.{Rose};
+ghost use Rattle.zed_program.specs.HostContents.{HostContents};
 ghost use Rattle.zed_program.specs.Outcome.{Ends, texts_of};
 ghost use Rattle.zed_program.specs.Shown.{IsShown, OfSet};
 

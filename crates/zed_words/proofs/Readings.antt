@@ -9,7 +9,7 @@ use Rattle.clap.specs.Matches.{ReadsOne, first_value, matched_of, one_text, raw_
 use Rattle.clap.specs.Walk.{Text, rows_of}
 use Rattle.clap.specs.declared.parser.matches.Found.{Found}
 use Rattle.clap.proofs.WalkLemmas.{both, first_value-rows, one_text-rows, raw_values-rows}
-use Rattle.zed_program.specs.Commands.{Command, Save, Check, New, Edit, Merge, Show, Play, check_of, edit_of, merge_of, new_of, number_of, play_of, save_of, show_of}
+use Rattle.zed_words.specs.Commands.{Command, Save, Check, New, Edit, Merge, Show, Play, check_of, edit_of, merge_of, new_of, number_of, play_of, save_of, show_of}
 
 abbrev pub text_in : Option (Bor Text) → Option Text
 text_in = option_map (λ s. s.now)

@@ -14,9 +14,9 @@ use Rattle.clap.specs.declared.parser.matches.ValueSource.TheVariants.{CommandLi
 use Rattle.clap.proofs.FaultLemmas.{stopped_fault}
 use Rattle.clap.proofs.OnLiterals.{clap_on_literals}
 use Rattle.clap.proofs.WalkLemmas.{both, walk_stopped}
-use Rattle.zed_program.specs.Grammar.{save_shape, zzted_app}
-use Rattle.zed_program.specs.Commands.{Save, Command, subcommand_asks, is_plain, unless_refused, command_of}
-use Rattle.zed_program.proofs.PlainWords.{or_nothing, other_passes, other_plain, several_fit, texts_pass}
+use Rattle.zed_words.specs.Grammar.{save_shape, zzted_app}
+use Rattle.zed_words.specs.Commands.{Save, Command, subcommand_asks, is_plain, unless_refused, command_of}
+use Rattle.zed_words.proofs.PlainWords.{or_nothing, other_passes, other_plain, several_fit, texts_pass}
 
 abbrev top : Shape
 top = (built zzted_app).top
@@ -212,31 +212,3 @@ save_words out file files plain few = ap₂ unless_refused
     (sub_fault (out ∷ file ∷ files) ∙ leaf_level out file files plain few)
     (ap (option_and_then subcommand_asks) (sub_rows (out ∷ file ∷ files)
     ∙ ap (λ (w : Walk). Some (codes "save", finished save_built.rules w.held)) (leaf_walk out file files plain)))
-
--- ---- a first word that names no subcommand
-
-unknown_met : (word : Text) → bytes_eq (codes "save") word ≡ false → bytes_eq (codes "check") word ≡ false → bytes_eq (codes "new") word ≡ false → bytes_eq (codes "edit") word ≡ false
-    → bytes_eq (codes "merge") word ≡ false → bytes_eq (codes "show") word ≡ false → bytes_eq (codes "play") word ≡ false
-    → bytes_eq (codes "help") word ≡ false → subcommand_met (names_of (built zzted_app)) idle word ≡ None
-unknown_met word a b c d e f g h = rw (a, b, c, d, e, f, g, h) refl
-
-unknown_turn : (word : Text) → is_plain word ≡ true → subcommand_met (names_of (built zzted_app)) idle word ≡ None
-    → turn_fault top (names_of (built zzted_app)) (walk_from nothing_held) word ≡ kind.UnknownArgument ∷ kind.InvalidSubcommand ∷ []
-unknown_turn word plain none = ap₂ or_else (ap (λ o. other_fault top o word nothing_held) none ∙ other_passes top word nothing_held plain)
-    (ap (λ (m : Held × Step). step_fault top 1 m.0 m.1) (ap (λ o. subcommand_or_other top.rules o idle 1 word nothing_held) none ∙ other_plain top.rules idle 1 word nothing_held plain refl))
-
-first_fault_wins : (turn rest end : Kinds) (o : Option Command) → turn ≡ kind.UnknownArgument ∷ kind.InvalidSubcommand ∷ []
-    → unless_refused (or_else (or_else turn rest) end) o ≡ None
-first_fault_wins turn rest end o e = ap (λ ks. unless_refused (or_else (or_else ks rest) end) o) e
-
-pub unknown_word : (word : Text) (rest : List Text) → is_plain word ≡ true
-    → bytes_eq (codes "save") word ≡ false → bytes_eq (codes "check") word ≡ false → bytes_eq (codes "new") word ≡ false → bytes_eq (codes "edit") word ≡ false
-    → bytes_eq (codes "merge") word ≡ false → bytes_eq (codes "show") word ≡ false → bytes_eq (codes "play") word ≡ false
-    → bytes_eq (codes "help") word ≡ false → command_of (word ∷ rest) ≡ None
-unfolding command_of walk_fault
-unknown_word word rest plain a b c d e f g h =
-    first_fault_wins (turn_fault top (names_of (built zzted_app)) (walk_from nothing_held) word)
-    (walk_fault top (names_of (built zzted_app)) (walked top.rules (names_of (built zzted_app)) (walk_from nothing_held) word) rest)
-    (top_tail (walk top.rules (names_of (built zzted_app)) nothing_held (word ∷ rest)))
-    (option_and_then subcommand_asks (subcommand_of zzted_app (word ∷ rest)))
-    (unknown_turn word plain (unknown_met word a b c d e f g h))

@@ -8,9 +8,9 @@ use Rattle.clap.specs.Walk.{Row, Text, all_of, first_of, one_of}
 use Rattle.clap.specs.Simple.{subcommand_of}
 use Rattle.clap.specs.Faults.{fault_of}
 use Rattle.clap.specs.Kinds.{Kinds}
-use Rattle.zed_program.specs.declared.words.Command.{Command as Spoken}
-use Rattle.zed_program.specs.declared.words.Command.TheVariants as spoken
-use Rattle.zed_program.specs.Grammar.{zzted_app}
+use Rattle.zed_words.specs.declared.words.Command.{Command as Spoken}
+use Rattle.zed_words.specs.declared.words.Command.TheVariants as spoken
+use Rattle.zed_words.specs.Grammar.{zzted_app}
 
 -- a command with its words
 pub data Command : Type 0 where

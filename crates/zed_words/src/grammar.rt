@@ -2,7 +2,7 @@
 ghost use Rattle.std.specs.Prelude.{◌≡◌, false, IfOk};
 ghost use Rattle.clap.specs.Words.{app_of, rule_of, shape_of};
 ghost use Rattle.clap.specs.declared.builder.command.Command.TheViews.{out-Command};
-ghost use Rattle.zed_program.specs.Grammar.{board_rule, check_shape, create_shape, edit_shape, files_rule, merge_shape, option_rule, play_shape, replica_rule, required_rule, save_shape, several_rule, show_shape, world_rule, zzted_app};
+ghost use Rattle.zed_words.specs.Grammar.{board_rule, check_shape, create_shape, edit_shape, files_rule, merge_shape, option_rule, play_shape, replica_rule, required_rule, save_shape, several_rule, show_shape, world_rule, zzted_app};
 
 use clap::{Arg, Command};
 use std::alloc::{AllocError, Global};

@@ -1,9 +1,9 @@
 //! What the words of the command line ask for.
 ghost use Rattle.std.specs.Prelude.{◌≡◌, ◌⊎◌, IfOk, MatchResult, Some, None, [], map, option_and_then, option_map, string_bytes};
 ghost use Rattle.clap.specs.Words.{FailsBy, fault_of, found_of, rows_of, subcommand_of, subcommand_rows_of};
-ghost use Rattle.zed_program.specs.declared.words.ParseError.TheVariants.{Memory};
-ghost use Rattle.zed_program.specs.Grammar.{zzted_app};
-ghost use Rattle.zed_program.specs.Commands.{subcommand_asks, check_of, edit_of, meaning_of, merge_of, new_of, play_of, save_of, show_of, command_of};
+ghost use Rattle.zed_words.specs.declared.words.ParseError.TheVariants.{Memory};
+ghost use Rattle.zed_words.specs.Grammar.{zzted_app};
+ghost use Rattle.zed_words.specs.Commands.{subcommand_asks, check_of, edit_of, meaning_of, merge_of, new_of, play_of, save_of, show_of, command_of};
 
 use crate::grammar::zzted_command;
 use clap::error::ErrorKind;

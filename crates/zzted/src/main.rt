@@ -16,7 +16,8 @@ use std::io::{self, ErrorKind, Write};
 use std::process::ExitCode;
 use system::{Access, SystemHost};
 use zed_link::Link;
-use zed_program::{Command, ParseError, parse, run};
+use zed_program::run;
+use zed_words::{Command, ParseError, parse};
 
 // The words after the program's name. They are pushed one by one: `collect` goes on after a growth that is refused, with a smaller one.
 fn words_of(rt: &HostRuntime) -> io::Result<Vec<String>> {

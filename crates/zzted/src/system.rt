@@ -1,6 +1,6 @@
 //! Real files and streams as a host.
 ghost use Rattle.std.specs.Prelude.{◌≡◌, None, is_err};
-ghost use Rattle.zed_program.specs.HostContents.{Counts};
+ghost use Rattle.zed_link.specs.Counting.{Counts};
 
 use crate::fresh::write;
 use crate::hold::{held, stands};

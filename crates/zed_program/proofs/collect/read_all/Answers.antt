@@ -1,6 +1,7 @@
 use Rattle.std.proofs.Common.{◌∙◌, ◌+◌, ◌≤◌, ◌∷◌, [], arith, Some, None, sym, refl, rules, drop, map}
 use mathlib.Core.Logic.{inl, inr}
-use Rattle.zed_program.specs.HostContents.{Rose, file_in}
+use Rattle.zed_link.specs.Counting.{Rose}
+use Rattle.zed_program.specs.HostContents.{file_in}
 use Rattle.zed_program.specs.declared.refusal.Refusal.TheVariants.{File}
 use Rattle.zed_program.specs.Outcome.{IsStreamIn, texts_of}
 use Rattle.zed_program.proofs.Endings.{read_so, rose_later}

@@ -2,7 +2,8 @@ use Rattle.std.proofs.Common.{◌≡◌, ℕ, List, Option, Some, drop}
 use Rattle.zed_op.specs.Set.{AllFit}
 use Rattle.zed_program.specs.Files.{IsStream, Stream, stream_after}
 use Rattle.zed_program.specs.Outcome.{IsStreamIn, texts_of}
-use Rattle.zed_program.specs.HostContents.{AreRead, HostContents, Rose}
+use Rattle.zed_link.specs.Counting.{Rose}
+use Rattle.zed_program.specs.HostContents.{AreRead, HostContents}
 use Rattle.zed_program.proofs.collect.read_all.Given as goal
 
 -- the host is as it was, and what was read, before what the other files come to, is the stream

@@ -2,7 +2,7 @@ use Rattle.std.proofs.Common.{[], ◌≡◌, ◌∙◌, inl, Ok, ap, length, ref
 use Rattle.zed_editfile.specs.Spelling.{file_text}
 use Rattle.zed_program.specs.Lines.{edits_line}
 use Rattle.zed_program.specs.Outcome.{ComesTo, Writes, texts_of}
-use Rattle.zed_program.specs.Commands.{Edit}
+use Rattle.zed_words.specs.Commands.{Edit}
 use Rattle.zed_program.proofs.Endings.{counted_up, effect_ends, refused_ends}
 use Rattle.zed_program.proofs.Opened.{not_edited}
 use Rattle.std.proofs.lemmas.Result.{err_from_is_err_and}

@@ -4,7 +4,7 @@ use Rattle.zed_editfile.specs.Spelling.{file_text}
 use Rattle.zed_program.specs.Lines.{held_line, joined_line}
 use Rattle.zed_program.specs.Outcome.{Writes, texts_of}
 use Rattle.zed_session.specs.Links.{seen}
-use Rattle.zed_program.specs.Commands.{Merge}
+use Rattle.zed_words.specs.Commands.{Merge}
 use Rattle.zed_program.proofs.Endings.{counted_up, effect_ends, refused_ends}
 use Rattle.zed_program.proofs.Joined.{as_many, each_of, merge_comes, not_merged}
 use Rattle.zed_program.proofs.merging.merge.Goals as goal

@@ -4,7 +4,7 @@ use Rattle.zed_editfile.specs.Spelling.{file_text}
 use Rattle.zed_program.specs.Fresh.{genesis_of}
 use Rattle.zed_program.specs.Lines.{edits_line}
 use Rattle.zed_program.specs.Outcome.{ComesTo, Writes, text_in}
-use Rattle.zed_program.specs.Commands.{New}
+use Rattle.zed_words.specs.Commands.{New}
 use Rattle.zed_program.proofs.Endings.{counted_up, effect_ends, not_begun, refused_ends}
 use Rattle.zed_program.proofs.new.make_new.Goals as goal
 

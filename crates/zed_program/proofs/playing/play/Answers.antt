@@ -1,7 +1,7 @@
 use Rattle.std.proofs.Common.{[], ◌≡◌, ◌∙◌, Ok, refl}
 use Rattle.std.proofs.lemmas.Result.{err_from_is_err_and}
 use Rattle.zed_program.specs.Outcome.{ComesTo, Prints, texts_of}
-use Rattle.zed_program.specs.Commands.{Play}
+use Rattle.zed_words.specs.Commands.{Play}
 use Rattle.zed_program.proofs.Endings.{counted_up, effect_ends, not_played, refused_ends}
 use Rattle.zed_program.proofs.playing.play.Goals as goal
 

@@ -1,7 +1,7 @@
 use Rattle.std.proofs.Common.{[], ◌≡◌, ◌∙◌, Ok, refl}
 use Rattle.std.proofs.lemmas.Result.{err_from_is_err_and}
 use Rattle.zed_program.specs.Outcome.{ComesTo, Prints, texts_of}
-use Rattle.zed_program.specs.Commands.{Check}
+use Rattle.zed_words.specs.Commands.{Check}
 use Rattle.zed_program.proofs.Endings.{counted_up, effect_ends, not_reported, refused_ends}
 use Rattle.zed_program.proofs.program.check.Goals as goal
 

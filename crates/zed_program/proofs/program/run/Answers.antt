@@ -1,10 +1,8 @@
 use Rattle.std.proofs.Common.{[], ◌≡◌, ◌≤◌, ◌∙◌, ap, arith, length, map, ◌∷◌, Some, string_bytes}
 use Rattle.std.proofs.lemmas.List.{length-map}
-use Rattle.clap.specs.Lexer.{usize_max}
-use Rattle.zed_program.specs.Commands.{Merge, Save, command_of}
+use Rattle.zed_words.specs.Commands.{Merge, Save, command_of}
 use Rattle.zed_program.proofs.Endings.{run_calmly}
 use Rattle.zed_program.proofs.Joined.{run_of_links}
-use Rattle.zed_program.proofs.SaveWords.{save_words}
 use Rattle.zed_program.proofs.FileTexts.{run_of_texts, reads_back, written_is_read}
 use Rattle.zed_program.proofs.program.run.Goals as goal
 
@@ -14,13 +12,13 @@ returns-clause-ends_calmly g c = λ t command asked at calm.
 
 pub returns-clause-saves : goal.returns-clause-saves
 returns-clause-saves g c = λ t out file files spelled plain at calm.
-    let few : length (file ∷ files) ≤ usize_max =
+    let few : length (file ∷ files) ≤ 18446744073709551615 =
     let same = ap length spelled in
     let all = rw length-map at same in
     let counted = c.count_of-count.ensures in
     let small = c.count_of-count.type_inv in
     omega arith in
-    let asked : command_of (map string_bytes c.args.words.now) ≡ Some (Save out (file ∷ files)) = ap command_of spelled ∙ save_words out file files plain few in
+    let asked : command_of (map string_bytes c.args.words.now) ≡ Some (Save out (file ∷ files)) = ap command_of spelled ∙ c.plain_words_save.ensures out file files plain few in
     returns-clause-ends_calmly g c t (Save out (file ∷ files)) asked at calm
 
 pub returns-clause-saves_sets : goal.returns-clause-saves_sets
@@ -35,5 +33,5 @@ returns-clause-reads_back g c = λ t out world lists asks at calm.
 
 pub returns-clause-merges_sets : goal.returns-clause-merges_sets
 returns-clause-merges_sets g c = λ t out world lists asks at calm.
-    run_of_links c.files_are_pulled.ensures c.deliveries_come_to_sets.ensures (map string_bytes c.args.words.now) _ t out world lists c.run_words.result _ asks
+    run_of_links c.files_are_pulled.ensures c.deliveries_go_on.ensures c.deliveries_come_to_sets.ensures (map string_bytes c.args.words.now) _ t out world lists c.run_words.result _ asks
     (returns-clause-ends_calmly g c t (Merge out world asks.files) asks.asks at calm)

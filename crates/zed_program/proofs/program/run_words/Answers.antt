@@ -1,5 +1,5 @@
 use Rattle.std.proofs.Common.{map, string_bytes}
-use Rattle.zed_program.specs.Commands.{meaning_of, command_of}
+use Rattle.zed_words.specs.Commands.{meaning_of, command_of}
 use Rattle.zed_program.proofs.Endings.{complained, counted_up, memory_run, refused_run}
 use Rattle.zed_program.proofs.program.run_words.Goals as goal
 

@@ -1,7 +1,7 @@
 use Rattle.std.proofs.Common.{[], ◌≡◌, ◌∙◌, inl, Ok, ap, sym, length, refl}
 use Rattle.zed_program.specs.Lines.{bytes_line}
 use Rattle.zed_program.specs.Outcome.{ComesTo, Writes, texts_of}
-use Rattle.zed_program.specs.Commands.{Save}
+use Rattle.zed_words.specs.Commands.{Save}
 use Rattle.std.proofs.lemmas.Result.{err_from_is_err_and}
 use Rattle.zed_program.proofs.Endings.{counted_up, effect_ends, not_saved, refused_ends}
 use Rattle.zed_program.proofs.program.save.Goals as goal

@@ -1,6 +1,6 @@
 use Rattle.std.proofs.Common.{[], ◌∙◌, ◌≡◌}
 use Rattle.std.proofs.lemmas.Result.{err_from_is_err_and}
-use Rattle.zed_program.specs.Commands.{Show}
+use Rattle.zed_words.specs.Commands.{Show}
 use Rattle.zed_program.specs.Outcome.{texts_of}
 use Rattle.zed_program.proofs.Endings.{not_shown, refused_ends, show_ends}
 use Rattle.zed_program.proofs.showing.show.Goals as goal

@@ -4,7 +4,7 @@ use Rattle.clap.specs.Words.{App, app_of, new_app, with_rule}
 use Rattle.clap.specs.Simple.{app_of_fields}
 use Rattle.clap.specs.declared.builder.command.Command.{Command}
 use Rattle.clap.specs.declared.builder.command.Command.TheOpen.{Command-F}
-use Rattle.zed_program.proofs.grammar.edit_command.Goals as goal
+use Rattle.zed_words.proofs.grammar.edit_command.Goals as goal
 
 pub returns-clause-shape : goal.returns-clause-shape
 returns-clause-shape c =

@@ -3,8 +3,8 @@ use Rattle.std.proofs.lemmas.Result.{IfOk-weaker}
 use Rattle.clap.specs.Simple.{app_of, app_of_fields, new_app, on_top, with_subcommand}
 use Rattle.clap.specs.declared.builder.command.Command.{Command}
 use Rattle.clap.specs.declared.builder.command.Command.TheOpen.{Command-F}
-use Rattle.zed_program.specs.Grammar.{top_app}
-use Rattle.zed_program.proofs.grammar.zzted_command.Goals as goal
+use Rattle.zed_words.specs.Grammar.{top_app}
+use Rattle.zed_words.proofs.grammar.zzted_command.Goals as goal
 
 pub returns : goal.returns
 returns c =

@@ -1,6 +1,6 @@
 use Rattle.clap.specs.Words.{found_of}
-use Rattle.zed_program.proofs.Readings.{check_read}
-use Rattle.zed_program.proofs.words.check_in.Goals as goal
+use Rattle.zed_words.proofs.Readings.{check_read}
+use Rattle.zed_words.proofs.words.check_in.Goals as goal
 
 pub returns-in_default : goal.returns-in_default
 returns-in_default c =

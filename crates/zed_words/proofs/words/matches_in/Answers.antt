@@ -2,8 +2,8 @@ use Rattle.std.proofs.Common.{◌≡◌, ◌∙◌, ap, map, refl, string_bytes,
 use Rattle.std.proofs.lemmas.Result.{IfOk-weaker}
 use Rattle.clap.specs.Words.{App, FailsBy, fault_of, is_simple, is_simple_and_free, subcommand_of}
 use Rattle.clap.proofs.OnLiterals.{clap_on_literals}
-use Rattle.zed_program.specs.Grammar.{zzted_app}
-use Rattle.zed_program.proofs.words.matches_in.Goals as goal
+use Rattle.zed_words.specs.Grammar.{zzted_app}
+use Rattle.zed_words.proofs.words.matches_in.Goals as goal
 
 free : is_simple_and_free zzted_app ≡ true
 unfolding clap_on_literals

@@ -1,8 +1,8 @@
 use Rattle.std.proofs.Common.{codes}
 use Rattle.clap.specs.Words.{found_of, one_text}
-use Rattle.zed_program.proofs.Readings.{play_read, unsigned_read}
-use Rattle.zed_program.proofs.words.play_in.Goals as goal
-use Rattle.zed_program.proofs.words.play_in.Goals.{in_default-via-in-Some+in-Some+in_default, in_default-via-in-Some+in_default, in_default-via-in_default}
+use Rattle.zed_words.proofs.Readings.{play_read, unsigned_read}
+use Rattle.zed_words.proofs.words.play_in.Goals as goal
+use Rattle.zed_words.proofs.words.play_in.Goals.{in_default-via-in-Some+in-Some+in_default, in_default-via-in-Some+in_default, in_default-via-in_default}
 
 pub returns-in_ok-files : goal.returns-in_ok-files
 returns-in_ok-files c =

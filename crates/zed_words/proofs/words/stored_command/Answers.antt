@@ -1,6 +1,6 @@
 use Rattle.std.proofs.Common.{refl}
-use Rattle.zed_program.specs.Commands.{command_of}
-use Rattle.zed_program.proofs.words.stored_command.Goals as goal
+use Rattle.zed_words.specs.Commands.{command_of}
+use Rattle.zed_words.proofs.words.stored_command.Goals as goal
 
 pub returns : goal.returns
 unfolding command_of

@@ -1,0 +1,5 @@
+pub mod ClapLemmas
+pub mod Readings
+pub mod Parsing
+pub mod PlainWords
+pub mod SaveWords

@@ -1,0 +1,9 @@
+//! The words of the command line: what they may be, which `clap` is told, and what they ask for.
+#![tactic(auto)]
+
+mod grammar;
+mod laws;
+mod words;
+
+pub use laws::plain_words_save;
+pub use words::{Command, ParseError, parse};
