@@ -41,7 +41,13 @@ fn place_of(rt: &HostRuntime, name: &str) -> io::Result<Option<Place>> {
 fn needs_of<'a>(rt: &HostRuntime, words: &'a [String]) -> io::Result<(Access, Vec<&'a str>)> {
     let access = match parse(rt.alloc(), words) {
         Ok(Command::Merge { out, files, .. }) => {
-            return Ok((Access::writing(place_of(rt, out)?), files));
+            let place = place_of(rt, out)?;
+            let access = if files.iter().any(|file| *file == out) {
+                Access::editing(place)
+            } else {
+                Access::writing(place)
+            };
+            return Ok((access, files));
         }
         Ok(Command::Edit { file, .. }) => Access::editing(place_of(rt, file)?),
         Ok(Command::Save { out, .. }) => Access::writing(place_of(rt, out)?),
@@ -67,8 +73,10 @@ fn status_of(rt: &HostRuntime, error: &io::Error) -> u8 {
 fn carry_out(rt: HostRuntime, words: &[String]) -> io::Result<u8> {
     let alloc = rt.alloc();
     let (access, linked) = needs_of(&rt, words)?;
+    let mut host = SystemHost::new(rt, access);
     let mut links: Vec<Box<dyn Link>> = Vec::new(alloc);
     for name in linked {
+        host.hold(name);
         let link = Box::new(alloc, FileLink::new(rt, name)?)?;
         if links.push(link).is_err() {
             return Err(io::Error::from(ErrorKind::OutOfMemory));
@@ -76,7 +84,6 @@ fn carry_out(rt: HostRuntime, words: &[String]) -> io::Result<u8> {
     }
     let screen = Box::new(alloc, Printer::new(rt))?;
     let keys = Box::new(alloc, Typed::new(rt))?;
-    let mut host = SystemHost::new(rt, access);
     Ok(run(alloc, words, &mut host, links, screen, keys))
 }
 

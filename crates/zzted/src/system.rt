@@ -61,13 +61,23 @@ impl Access {
     }
 }
 
+// The file that is edited, as far as it is held.
+#[derive(Drop)]
+enum Hold {
+    // Not yet, or there is no such file.
+    Nothing,
+    // Its lock is held until it is closed.
+    Of(File),
+    // It can't be held, and so it isn't written.
+    Refused,
+}
+
 /// Files by their paths; `stdin` and `stdout` are the streams. It doesn't tell what they hold.
 #[derive(Drop)]
 pub struct SystemHost {
     rt: HostRuntime,
     access: Access,
-    // what is edited, as it was read; its lock is held until it is closed
-    held: Option<File>,
+    hold: Hold,
     failures: u64,
 }
 
@@ -77,9 +87,29 @@ impl SystemHost {
         SystemHost {
             rt,
             access,
-            held: None,
+            hold: Hold::Nothing,
             failures: 0,
         }
+    }
+
+    /// Holds the file of a name, if it is there and is the one that is edited, before it is read over a link. Until this command has
+    /// written it, no other one replaces it.
+    pub fn hold(&mut self, name: &str) {
+        let Some(place) = self.access.edited(name) else {
+            return;
+        };
+        let Hold::Nothing = &self.hold else {
+            return;
+        };
+        let file = match place.spot() {
+            Ok(spot) => held(&self.rt, name, spot),
+            Err(error) => Err(error),
+        };
+        self.hold = match file {
+            Ok(file) => Hold::Of(file),
+            Err(error) if error.kind() == ErrorKind::NotFound => Hold::Nothing,
+            Err(_) => Hold::Refused,
+        };
     }
 
     // Reads the file of a name.
@@ -95,7 +125,7 @@ impl SystemHost {
         };
         let mut file = held(&self.rt, name, place.spot()?)?;
         let bytes = read_whole(alloc, &mut file)?;
-        self.held = Some(file);
+        self.hold = Hold::Of(file);
         Ok(bytes)
     }
 
@@ -108,8 +138,10 @@ impl SystemHost {
             return Err(io::Error::from(ErrorKind::Unsupported));
         };
         let spot = place.spot();
-        if let (Some(file), Ok(spot)) = (&self.held, &spot) {
-            stands(&self.rt, file, spot)?;
+        match (&self.hold, &spot) {
+            (Hold::Of(file), Ok(spot)) => stands(&self.rt, file, spot)?,
+            (Hold::Refused, _) => return Err(io::Error::from(ErrorKind::ResourceBusy)),
+            _ => {}
         }
         write(&self.rt, name, spot, bytes)
     }
