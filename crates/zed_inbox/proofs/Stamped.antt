@@ -1,5 +1,5 @@
 -- Edits in a map, each under its stamp.
-use Rattle.std.proofs.Common.{◌≡◌, ◌∙◌, Bool, true, false, cond, ◌||◌, ◌&&◌, eqb, ltb, List, [], ◌∷◌, Option, Some, None, refl, ap, sym, arith}
+use Rattle.std.proofs.Common.{◌≡◌, ◌∙◌, Bool, true, false, cond, ◌||◌, ◌&&◌, eqb, ltb, List, [], ◌∷◌, Option, Some, None, refl, ap, subst, sym, arith}
 use Rattle.std.specs.declared.cmp.Ordering.TheVariants.{Less, Equal, Greater}
 use Rattle.std.specs.Ordering.{is_eq, match_ordering, ordering_then}
 use Rattle.std.specs.BTreeMap.{insert_entry, is_at}
@@ -10,7 +10,8 @@ use Rattle.zed_types.specs.declared.stamp.Stamp.{Stamp}
 use Rattle.zed_types.specs.Stamp.{before, same_stamp, stamp_cmp}
 use Rattle.zed_op.specs.declared.op.Edit.{Edit}
 use Rattle.zed_op.specs.Set.{IsRising, with_edit}
-use Rattle.zed_inbox.specs.Kept.{stamped, AreKept}
+use Rattle.zed_op.specs.declared.thing.Thing.{Thing}
+use Rattle.zed_inbox.specs.Kept.{stamped, AreListed, AreKept}
 use Rattle.zed_inbox.specs.Waiting.{without}
 
 -- whether an edit has a stamp
@@ -18,10 +19,10 @@ abbrev pub has_stamp : Stamp → Edit → Bool
 has_stamp s e = same_stamp e.stamp s
 
 -- stamps that compare alike are one
-alike : (a b : Stamp) → is_eq (stamp_cmp a b) ≡ same_stamp b a
+pub alike : (a b : Stamp) → is_eq (stamp_cmp a b) ≡ same_stamp b a
 alike a b = grind (arith)
 
-same_both_ways : (a b : Stamp) → same_stamp a b ≡ same_stamp b a
+pub same_both_ways : (a b : Stamp) → same_stamp a b ≡ same_stamp b a
 same_both_ways a b = grind (arith)
 
 -- the order of two stamps, by the tests on them
@@ -80,10 +81,11 @@ edits_stamped (e ∷ es) = ap (λ fs. e ∷ fs) (edits_stamped es)
 pub values_stamped : (m : List (Stamp × Edit)) (es : List Edit) → m ≡ stamped es → values_of m ≡ es
 values_stamped m es is = ap values_of is ∙ edits_stamped es
 
-pub kept_stamped : (m : List (Stamp × Edit)) (es : List Edit) → m ≡ stamped es → IsRising es → AreKept m
-kept_stamped m es is rises = record {
+pub kept_stamped : (m : List (Stamp × Edit)) (es : List Edit) (ws : List (Thing × Stamp)) → m ≡ stamped es → IsRising es → AreListed ws es → AreKept m ws
+kept_stamped m es ws is rises are = record {
   under = is ∙ ap stamped (sym (values_stamped m es is));
   rising = rw (values_stamped m es is) rises;
+  listed = subst (λ fs. AreListed ws fs) (sym (values_stamped m es is)) are;
 }
 
 -- whether an edit with a stamp is there

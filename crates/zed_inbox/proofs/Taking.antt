@@ -33,7 +33,7 @@ abbrev rest_of : List Stamp → List Stamp
 rest_of [] = []
 rest_of (s ∷ ss) = ss
 
-abbrev some_or : Edit → Option Edit → Edit
+abbrev pub some_or : Edit → Option Edit → Edit
 some_or d None = d
 some_or d (Some e) = e
 

@@ -6,17 +6,20 @@ ghost use Rattle.zed_op.specs.Set.{IsRising, with_edit, stamps_of};
 ghost use Rattle.zed_inbox.specs.Waiting.{naming, not_naming, without};
 
 use crate::error::InboxError;
-use crate::naming::is_named;
+use crate::index::{is_one, unlist};
+use crate::keeping::{has, put, repeats};
 use std::alloc::Global;
-use std::collections::BTreeMap;
+use std::collections::{BTreeMap, BTreeSet};
 use std::marker::Model;
-use zed_op::{Edit, Thing, sets_rise};
+use zed_op::{Edit, Thing};
 use zed_types::Stamp;
 
 /// Edits that wait for things that they name. Contracts see them as a list in stamp order.
 #[derive(Drop)]
 pub struct Inbox {
     edits: BTreeMap<Stamp, Edit>,
+    // each thing that an edit waits for, and the stamp of the edit
+    waits: BTreeSet<(Thing, Stamp)>,
     alloc: Global,
 }
 
@@ -30,16 +33,18 @@ impl Model for Inbox {
 
     ghost view = { λ i. values_of i.edits.entries };
 
-    ghost invariant = { λ i. AreKept i.edits.entries };
+    ghost invariant = { λ i. AreKept i.edits.entries i.waits.keys };
 }
 
 impl Inbox {
     /// An inbox in which nothing waits. It takes no memory.
+    #[tactic(auto, using(crate::proofs::Whole::whole_empty))]
     pub fn new(alloc: Global) -> Inbox
         ensures result { result ≡ [] }
     {
         Inbox {
             edits: BTreeMap::new(alloc),
+            waits: BTreeSet::new(alloc),
             alloc,
         }
     }
@@ -52,15 +57,10 @@ impl Inbox {
         ensures memory_only_when { OnErr result
             (list_any (λ e. same_stamp e.stamp edit.stamp) self.old ≡ false) }
     {
-        sets_rise();
-        let stamp = edit.stamp;
-        if self.edits.contains_key(&stamp) {
+        if repeats(&self.edits, &edit) {
             return Ok(());
         }
-        match self.edits.insert(stamp, edit) {
-            Ok(_) => Ok(()),
-            Err(_) => Err(InboxError::Memory),
-        }
+        put(self.alloc, &mut self.edits, &mut self.waits, edit)
     }
 
     /// The edits that wait for a thing, in stamp order. They no longer wait, and the others do. Memory leaves the inbox as it was.
@@ -71,16 +71,7 @@ impl Inbox {
         ensures kept { OnErr result (self.new ≡ self.old) }
     {
         let stamps = self.stamps_for(thing)?;
-        let mut released = Vec::with_capacity(self.alloc, stamps.len()).map_err(
-            InboxError::of_growth,
-        )?;
-        for stamp in &stamps {
-            match self.take(*stamp) {
-                Some(edit) => released.push(edit).unwrap(),
-                None => {}
-            }
-        }
-        Ok(released)
+        self.take_all(thing, stamps.as_slice())
     }
 
     /// How many edits wait. They rise in stamp order.
@@ -95,30 +86,62 @@ impl Inbox {
     pub fn is_held(&self, stamp: Stamp) -> bool
         ensures result { result ≡ list_any (λ e. same_stamp e.stamp stamp) self.now }
     {
-        self.edits.contains_key(&stamp)
+        has(&self.edits, stamp)
     }
 
-    /// The stamps of the edits that wait for a thing.
+    /// The stamps of the edits that wait for a thing, in order.
     fn stamps_for(&self, thing: Thing) -> Result<Vec<Stamp>, InboxError>
         ensures ok { IfOk result (λ stamps. stamps.items ≡ stamps_of (naming thing self.now)) }
         ensures err { IfErr result (λ e. e ≡ InboxError.Memory) }
     {
         let mut stamps = Vec::new(self.alloc);
-        for edit in self.edits.values() {
-            if is_named(self.alloc, edit, thing) {
-                if stamps.push(edit.stamp).is_err() {
-                    return Err(InboxError::Memory);
-                }
+        let first = Stamp {
+            time: 0,
+            replica: 0,
+        };
+        for wait in self.waits.range((thing, first)..) {
+            if !is_one(wait.0, thing) {
+                return Ok(stamps);
+            }
+            if stamps.push(wait.1).is_err() {
+                return Err(InboxError::Memory);
             }
         }
         Ok(stamps)
     }
 
+    /// The edits that wait for a thing, by their stamps. They no longer wait, and the others do. Memory leaves the inbox as it was.
+    fn take_all(&mut self, _thing: Thing, stamps: &[Stamp]) -> Result<Vec<Edit>, InboxError>
+        requires { stamps.now ≡ stamps_of (naming _thing self.old) }
+        ensures ok { IfOk result (λ edits. edits.items ≡ naming _thing self.old) }
+        ensures others { OnOk result (self.new ≡ not_naming _thing self.old) }
+        ensures err { IfErr result (λ e. e ≡ InboxError.Memory) }
+        ensures kept { OnErr result (self.new ≡ self.old) }
+    {
+        let mut taken = Vec::with_capacity(self.alloc, stamps.len()).map_err(
+            InboxError::of_growth,
+        )?;
+        for stamp in stamps {
+            match self.take(*stamp) {
+                Some(edit) => taken.push(edit).unwrap(),
+                None => {}
+            }
+        }
+        Ok(taken)
+    }
+
     /// The edit with a stamp, which no longer waits.
+    #[tactic(auto, using(crate::proofs::Whole::whole_less, crate::proofs::Whole::whole_still))]
     fn take(&mut self, stamp: Stamp) -> Option<Edit>
         ensures result { result ≡ find (λ e. same_stamp e.stamp stamp) self.old }
         ensures others { self.new ≡ without stamp self.old }
     {
-        self.edits.remove(&stamp)
+        match self.edits.remove(&stamp) {
+            Some(edit) => {
+                unlist(self.alloc, &mut self.waits, &edit);
+                Some(edit)
+            }
+            None => None,
+        }
     }
 }

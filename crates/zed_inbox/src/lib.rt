@@ -3,7 +3,8 @@
 
 mod error;
 mod inbox;
-mod naming;
+mod index;
+mod keeping;
 
 pub use error::InboxError;
 pub use inbox::Inbox;

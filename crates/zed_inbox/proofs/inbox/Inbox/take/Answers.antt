@@ -1,30 +1,32 @@
 use Rattle.std.proofs.Common.{◌≡◌, ap, ◌∙◌}
 use Rattle.std.specs.BTreeMap.{is_at}
 use Rattle.std.specs.List.{find}
-use Rattle.std.specs.Map.{lookup, remove_entry, values_of}
+use Rattle.std.specs.Map.{lookup, values_of}
 use Rattle.zed_types.specs.Stamp.{stamp_cmp}
-use Rattle.zed_inbox.specs.Kept.{stamped}
 use Rattle.zed_inbox.specs.Waiting.{without}
-use Rattle.zed_inbox.proofs.Stamped.{has_stamp, lookup_stamped, remove_stamped, values_stamped, kept_stamped}
-use Rattle.zed_inbox.proofs.Taking.{rising_without}
+use Rattle.zed_inbox.proofs.Stamped.{has_stamp, lookup_stamped}
+use Rattle.zed_inbox.proofs.Whole.{edits_less, whole_less}
 use Rattle.zed_inbox.proofs.inbox.Inbox.take.Goals as goal
+
+pub returns-in-Some-clause-result : goal.returns-in-Some-clause-result
+returns-in-Some-clause-result c =
+    let s = c.args.stamp in
+    c.in-Some.ensures.value ∙ ap (lookup (is_at (stamp_cmp s))) c.self.invariant.under ∙ lookup_stamped s (values_of c.self.inside.edits.entries) ∙ ap (find (has_stamp s)) c.self.view_is
+
+pub returns-in-Some-clause-others : goal.returns-in-Some-clause-others
+returns-in-Some-clause-others c =
+    edits_less c.self.inside.edits.entries c.remove.new.self.entries c.self.inside.waits.keys c.self.inside.waits.keys c.self.invariant c.args.stamp c.remove.ensures.entries ∙ ap (without c.args.stamp) c.self.view_is
+
+pub returns-in-None-clause-result : goal.returns-in-None-clause-result
+returns-in-None-clause-result c =
+    let s = c.args.stamp in
+    c.in-None.ensures.value ∙ ap (lookup (is_at (stamp_cmp s))) c.self.invariant.under ∙ lookup_stamped s (values_of c.self.inside.edits.entries) ∙ ap (find (has_stamp s)) c.self.view_is
+
+pub returns-in-None-clause-others : goal.returns-in-None-clause-others
+returns-in-None-clause-others c =
+    edits_less c.self.inside.edits.entries c.remove.new.self.entries c.self.inside.waits.keys c.self.inside.waits.keys c.self.invariant c.args.stamp c.remove.ensures.entries ∙ ap (without c.args.stamp) c.self.view_is
 
 pub invariant_of-self : goal.invariant_of-self
 invariant_of-self c =
-    let s = c.args.stamp in
-    let es = values_of c.self.inside.edits.entries in
-    let gone : c.remove.new.self.entries ≡ stamped (without s es) = c.remove.ensures.entries ∙ ap (remove_entry (is_at (stamp_cmp s))) c.self.invariant.under ∙ remove_stamped s es in
-    kept_stamped c.remove.new.self.entries (without s es) gone (rising_without s es c.self.invariant.rising)
-
-pub returns-clause-result : goal.returns-clause-result
-returns-clause-result c =
-    let s = c.args.stamp in
-    let es = values_of c.self.inside.edits.entries in
-    c.remove.ensures.value ∙ ap (lookup (is_at (stamp_cmp s))) c.self.invariant.under ∙ lookup_stamped s es ∙ ap (find (has_stamp s)) c.self.view_is
-
-pub returns-clause-others : goal.returns-clause-others
-returns-clause-others c =
-    let s = c.args.stamp in
-    let es = values_of c.self.inside.edits.entries in
-    let gone : c.remove.new.self.entries ≡ stamped (without s es) = c.remove.ensures.entries ∙ ap (remove_entry (is_at (stamp_cmp s))) c.self.invariant.under ∙ remove_stamped s es in
-    values_stamped c.remove.new.self.entries (without s es) gone ∙ ap (without s) c.self.view_is
+    whole_less c.self.inside.edits.entries c.remove.new.self.entries c.self.inside.waits.keys c.unlist.new.waits.keys c.self.invariant c.args.stamp c.remove.ensures.entries c.remove.result c.in-Some.edit
+    c.remove.ensures.value c.in-Some.is c.unlist.ensures
