@@ -1,9 +1,15 @@
-//! Edits that wait, and what each thing releases.
-use crate::Inbox;
+//! Edits that wait, what each thing releases, and growths refused.
+use crate::{Inbox, InboxError};
 use std::alloc::{AllocError, Global};
 use std::test::Fail;
 use zed_op::{Edit, Op, Thing};
 use zed_types::{BoardId, ByteRange, Bytes, ElemId, Stamp, TextId};
+
+/// The size that the allocator of the sweep over refused growths listens to.
+const MARK: usize = 3_141_592;
+
+/// Most growths that a sweep goes through.
+const MOST_GROWTHS: usize = 64;
 
 fn stamp(time: u64, replica: u16) -> Stamp {
     Stamp { time, replica }
@@ -82,5 +88,150 @@ fn what_waits_for_one_thing_comes_in_stamp_order(rt: HostRuntime) -> Result<(), 
     let want = [stamp(3, 1), stamp(3, 2), stamp(4, 9), stamp(5, 1)];
     assert_eq!(rt; stamps.as_slice(), want.as_slice());
     assert_eq!(rt; inbox.held(), 0);
+    Ok(())
+}
+
+/// The removal of a board that an edit of replica 2 made.
+fn removal(own: Stamp, made: u64) -> Edit {
+    Edit {
+        stamp: own,
+        op: Op::BoardRemove(BoardId::new(stamp(made, 2), 0)),
+    }
+}
+
+/// An inbox in which 40 deletions wait for one byte. They came in no order of stamps.
+fn crowd(alloc: Global) -> Result<Inbox, Fail> {
+    let mut inbox = Inbox::new(alloc);
+    for k in 0..40u64 {
+        let time = if k % 2 == 0 { 100 + k } else { 200 - k };
+        inbox.hold(deletion(stamp(time, 1), stamp(2, 1)))?;
+    }
+    Ok(inbox)
+}
+
+/// Whether a thing releases so many edits, in stamp order.
+fn releases(inbox: &mut Inbox, thing: Thing, count: usize) -> Result<bool, Fail> {
+    let released = inbox.release(thing)?;
+    let mut last = stamp(0, 0);
+    for edit in &released {
+        if !last.is_before(edit.stamp) {
+            return Ok(false);
+        }
+        last = edit.stamp;
+    }
+    Ok(released.len() == count)
+}
+
+#[test]
+fn a_crowd_that_waits_for_one_byte_comes_in_stamp_order(rt: HostRuntime) -> Result<(), Fail> {
+    let mut inbox = crowd(rt.alloc())?;
+    assert_eq!(rt; inbox.held(), 40);
+    assert!(rt; releases(&mut inbox, byte_of(stamp(3, 1)), 0)?);
+    assert!(rt; releases(&mut inbox, byte_of(stamp(2, 1)), 40)?);
+    assert_eq!(rt; inbox.held(), 0);
+    assert!(rt; releases(&mut inbox, Thing::Text(text()), 0)?);
+    Ok(())
+}
+
+/// Whether of 300 edits that each wait for a board of its own each is released by that board alone.
+fn each_by_its_own(alloc: Global) -> Result<bool, Fail> {
+    let mut inbox = Inbox::new(alloc);
+    for k in 0..300u64 {
+        inbox.hold(removal(stamp(1000 - k, 1), 2 + k))?;
+    }
+    for k in 0..300u64 {
+        let board = Thing::Board(BoardId::new(stamp(2 + k, 2), 0));
+        if !inbox.is_held(stamp(1000 - k, 1)) || !releases(&mut inbox, board, 1)? {
+            return Ok(false);
+        }
+        if inbox.is_held(stamp(1000 - k, 1)) || !releases(&mut inbox, board, 0)? {
+            return Ok(false);
+        }
+    }
+    Ok(inbox.held() == 0)
+}
+
+#[test]
+fn each_board_releases_the_edit_that_waits_for_it(rt: HostRuntime) -> Result<(), Fail> {
+    assert!(rt; each_by_its_own(rt.alloc())?);
+    Ok(())
+}
+
+#[test]
+fn of_two_edits_with_one_stamp_the_first_waits(rt: HostRuntime) -> Result<(), Fail> {
+    let mut inbox = Inbox::new(rt.alloc());
+    inbox.hold(removal(stamp(5, 1), 2))?;
+    inbox.hold(removal(stamp(5, 1), 3))?;
+    assert_eq!(rt; inbox.held(), 1);
+    let later = Thing::Board(BoardId::new(stamp(3, 2), 0));
+    assert!(rt; releases(&mut inbox, later, 0)?);
+    let first = Thing::Board(BoardId::new(stamp(2, 2), 0));
+    assert!(rt; releases(&mut inbox, first, 1)?);
+    Ok(())
+}
+
+/// Asks that the growth `nth` from here on is refused. An allocator that doesn't listen refuses the request alone.
+fn refuse(alloc: Global, nth: usize) {
+    let _ = Vec::<u8>::with_capacity(alloc, MARK.saturating_add(nth));
+}
+
+/// Ends what `refuse` asked for, and says whether a growth was refused.
+fn was_refused(alloc: Global) -> bool {
+    Vec::<u8>::with_capacity(alloc, MARK).is_err()
+}
+
+/// Whether the crowd waits, and one edit that waits for another byte if it is to.
+fn is_whole(inbox: &mut Inbox, is_one_more: bool) -> Result<bool, Fail> {
+    let (whole, late) = if is_one_more { (41, 1) } else { (40, 0) };
+    Ok(
+        inbox.held() == whole
+            && releases(inbox, byte_of(stamp(3, 1)), late)?
+            && releases(inbox, Thing::Text(text()), 40)?
+            && releases(inbox, byte_of(stamp(2, 1)), 0)?
+            && inbox.held() == 0,
+    )
+}
+
+/// Whether each growth of `hold`, refused in turn, leaves the inbox as it was, up to the call that met none and held the edit.
+fn sweep_hold(alloc: Global) -> Result<bool, Fail> {
+    for nth in 1..=MOST_GROWTHS {
+        let mut inbox = crowd(alloc)?;
+        let edit = deletion(stamp(300, 1), stamp(3, 1));
+        refuse(alloc, nth);
+        let answer = inbox.hold(edit);
+        if !was_refused(alloc) {
+            return Ok(answer.is_ok() && is_whole(&mut inbox, true)?);
+        }
+        let is_told = answer == Err(InboxError::Memory) && !inbox.is_held(stamp(300, 1));
+        if !is_told || !is_whole(&mut inbox, false)? {
+            return Ok(false);
+        }
+    }
+    Ok(false)
+}
+
+/// Whether each growth of `release`, refused in turn, leaves the inbox as it was, up to the call that met none and released the crowd.
+fn sweep_release(alloc: Global) -> Result<bool, Fail> {
+    for nth in 1..=MOST_GROWTHS {
+        let mut inbox = crowd(alloc)?;
+        refuse(alloc, nth);
+        let released = match inbox.release(byte_of(stamp(2, 1))) {
+            Ok(released) => Some(released.len()),
+            Err(InboxError::Memory) => None,
+        };
+        if !was_refused(alloc) {
+            return Ok(released == Some(40) && inbox.held() == 0);
+        }
+        if released.is_some() || !is_whole(&mut inbox, false)? {
+            return Ok(false);
+        }
+    }
+    Ok(false)
+}
+
+#[test]
+fn a_refused_growth_leaves_the_inbox(rt: HostRuntime) -> Result<(), Fail> {
+    assert!(rt; sweep_hold(rt.alloc())?);
+    assert!(rt; sweep_release(rt.alloc())?);
     Ok(())
 }
