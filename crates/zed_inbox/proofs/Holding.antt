@@ -1,5 +1,5 @@
 -- What is listed when an edit begins to wait, and when it no longer does.
-use Rattle.std.proofs.Common.{◌≡◌, ◌∙◌, Bool, true, false, cond, not, ◌||◌, ◌&&◌, List, [], ◌∷◌, Option, Some, None, refl, ap, sym, true≢false, arith}
+use Rattle.std.proofs.Common.{◌≡◌, ◌∙◌, Bool, true, false, cond, not, ◌||◌, ◌&&◌, List, [], ◌∷◌, Some, refl, ap, sym, true≢false}
 use Rattle.std.proofs.lemmas.Bool.{and_parts, and_right, or_parts, or_from}
 use Rattle.std.specs.List.{find, list_any, AllByRecursion}
 use Rattle.zed_types.specs.declared.stamp.Stamp.{Stamp}

@@ -1,4 +1,4 @@
-use Rattle.std.proofs.Common.{rules, ◌≡◌, ◌≤◌, ◌+◌, ◌++◌, [], ◌∷◌, Some, None, length, drop, get_or, vec_len, vec_capacity, subst, sym, ap, ◌∙◌, arith}
+use Rattle.std.proofs.Common.{rules, ◌≡◌, ◌≤◌, ◌+◌, ◌++◌, [], ◌∷◌, Some, None, drop, get_or, vec_len, vec_capacity, subst, sym, ap, ◌∙◌, arith}
 use Rattle.std.specs.List.{find, filter}
 use Rattle.std.proofs.lemmas.List.{drop_more, drop_all}
 use Rattle.zed_types.specs.declared.stamp.Stamp.{Stamp}
