@@ -31,7 +31,7 @@ use Rattle.zed_live.specs.Shown.{values_or, shown, ReplayIsShown}
 -- ---- tables
 
 -- tables of one length that have the same at each place
-same-each : {V : Type 0} (d : V) (xs ys : List V) → length xs ≡ length ys → ((i : ℕ) → i < length xs → get_or xs i d ≡ get_or ys i d) → xs ≡ ys
+pub same-each : {V : Type 0} (d : V) (xs ys : List V) → length xs ≡ length ys → ((i : ℕ) → i < length xs → get_or xs i d ≡ get_or ys i d) → xs ≡ ys
 same-each d [] [] e h = refl
 same-each d [] (y ∷ ys) e h = absurd (omega arith)
 same-each d (x ∷ xs) [] e h = absurd (omega arith)
@@ -80,7 +80,7 @@ each-flag P all (suc (suc (suc (suc (suc (suc (suc (suc (suc (suc i)))))))))) h 
 
 -- ---- fields
 
-inside : {V : Type 0} (x y : V) → Some x ≡ Some y → x ≡ y
+pub inside : {V : Type 0} (x y : V) → Some x ≡ Some y → x ≡ y
 inside {V = V} x y e = ap (value x) e
   where
     value : V → Option V → V

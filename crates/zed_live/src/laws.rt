@@ -1,6 +1,6 @@
 //! What a live document shows, in whatever order the edits came.
 ghost use Rattle.zed_live.specs.Shows.{NoneIsUnwritten, HeaderTakes};
-ghost use Rattle.zed_live.specs.Shown.{ReplayIsShown};
+ghost use Rattle.zed_live.specs.Shown.{ReplayIsShown, ReplayedPropertiesAreShown};
 ghost use Rattle.zed_live.specs.Properties.{NoneAreUnwritten, PropertiesTakeSettings, PropertiesTakeMaking, PropertiesPassOthers};
 
 use zed_world::read_is_normal;
@@ -27,3 +27,10 @@ pub fn properties_show_their_edits()
     ensures making { PropertiesTakeMaking }
     ensures others { PropertiesPassOthers }
 {}
+
+/// Properties that have the latest writes of the edits taken show those of the board in their replay.
+pub fn properties_show_the_replay()
+    ensures { ReplayedPropertiesAreShown }
+{
+    read_is_normal();
+}

@@ -10,7 +10,10 @@ mod reading;
 
 pub use error::LiveError;
 pub use header::LiveHeader;
-pub use laws::{header_shows_its_edits, header_shows_the_replay, properties_show_their_edits};
+pub use laws::{
+    header_shows_its_edits, header_shows_the_replay, properties_show_the_replay,
+    properties_show_their_edits,
+};
 pub use properties::LiveProperties;
 
 #[cfg(test)]

@@ -4,8 +4,8 @@ use std::alloc::{AllocError, Global};
 use std::test::Fail;
 use zed_edit::{Edit, Op, check};
 use zed_types::{
-    BoardByte, BoardId, BoardSetting, Bytes, FlagSlot, HeaderNumber, HeaderSetting, KeyColour,
-    Stamp, Written,
+    BoardByte, BoardFlag, BoardId, BoardSetting, BoardText, Bytes, FlagSlot, HeaderNumber,
+    HeaderSetting, KeyColour, Side, Stamp, Written,
 };
 
 /// The size that the allocator of the sweep over refused growths listens to.
@@ -134,6 +134,34 @@ fn a_property_keeps_the_later_write(rt: HostRuntime) -> Result<(), Fail> {
     assert_eq!(rt; kept(&properties.bytes[0]), Some((6, 60)));
     assert_eq!(rt; kept(&properties.bytes[1]), None);
     assert!(rt; properties.time_limit.is_none());
+    Ok(())
+}
+
+#[test]
+fn properties_show_what_was_written(rt: HostRuntime) -> Result<(), Fail> {
+    let second = Stamp {
+        time: 2,
+        replica: 1,
+    };
+    let mut properties = LiveProperties::new();
+    properties.write(second, &BoardSetting::Byte(BoardByte::StartY, 12))?;
+    properties.write(second, &BoardSetting::Flag(BoardFlag::ReEnter, true))?;
+    properties.write(second, &BoardSetting::TimeLimit(300))?;
+    properties.write(
+        second,
+        &BoardSetting::Exit(Side::West, Some(BoardId::TITLE)),
+    )?;
+    let message = Bytes::new(b"HELLO".to_vec(rt.alloc())?);
+    properties.write(second, &BoardSetting::Text(BoardText::Message, message))?;
+    assert_eq!(rt; properties.byte(BoardByte::StartY), 12);
+    assert_eq!(rt; properties.byte(BoardByte::StartX), 0);
+    assert!(rt; properties.flag(BoardFlag::ReEnter));
+    assert!(rt; !properties.flag(BoardFlag::Dark));
+    assert_eq!(rt; properties.time_limit(), 300);
+    assert_eq!(rt; properties.exit(Side::West), Some(BoardId::TITLE));
+    assert_eq!(rt; properties.exit(Side::North), None);
+    assert_eq!(rt; properties.text(BoardText::Message), b"HELLO".as_slice());
+    assert_eq!(rt; properties.text(BoardText::Name), b"".as_slice());
     Ok(())
 }
 
