@@ -1,3 +1,5 @@
+pub mod BoardShown
+pub mod BoardTakes
 pub mod HeaderTakes
 pub mod Opening
 pub mod Places

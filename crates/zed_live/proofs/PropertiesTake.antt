@@ -92,7 +92,7 @@ module _ {V : Type 0} (value : Board → V) (set : BoardSetting → Option V) (b
   beside-writes e is h = ap (λ m. option_or (option_map value m) (cond (changes_board b e.op) (by_board set e.op) None)) is ∙ sets-none e.op h
 
 -- where it is known what is written
-wrote : {V : Type 0} (r : Register V) (e : Edit) (old new : Option (Written V)) (w : Option V) → r.writes e ≡ w → new ≡ kept_after e.stamp old w → Puts r e old new
+pub wrote : {V : Type 0} (r : Register V) (e : Edit) (old new : Option (Written V)) (w : Option V) → r.writes e ≡ w → new ≡ kept_after e.stamp old w → Puts r e old new
 wrote r e old new w is puts = puts ∙ ap (kept_after e.stamp old) (sym is)
 
 -- ---- a setting

@@ -1,3 +1,4 @@
+pub mod Board
 pub mod Header
 pub mod Properties
 pub mod Shown

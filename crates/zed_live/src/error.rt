@@ -3,6 +3,7 @@ ghost use Rattle.std.specs.Prelude.{◌≡◌};
 
 use std::alloc::AllocError;
 use thiserror::Error;
+use zed_cells::CellsError;
 
 /// Why a live document doesn't take an edit. Its text is for whoever debugs; the program prints none of it.
 #[derive(Clone, Copy, Debug, PartialEq, Eq, Error)]
@@ -15,6 +16,13 @@ pub enum LiveError {
 impl LiveError {
     /// The refusal for a growth that was refused.
     pub(crate) fn of_growth(_refused: AllocError) -> LiveError
+        ensures { result ≡ LiveError.Memory }
+    {
+        LiveError::Memory
+    }
+
+    /// The refusal for cells that can't be made.
+    pub(crate) fn of_cells(_refused: CellsError) -> LiveError
         ensures { result ≡ LiveError.Memory }
     {
         LiveError::Memory

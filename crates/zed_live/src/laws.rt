@@ -1,8 +1,10 @@
 //! What a live document shows, in whatever order the edits came.
 ghost use Rattle.zed_live.specs.Shows.{NoneIsUnwritten, HeaderTakes};
 ghost use Rattle.zed_live.specs.Shown.{ReplayIsShown, ReplayedPropertiesAreShown};
+ghost use Rattle.zed_live.specs.Board.{BoardIsMade, BoardTakes, BoardPassesOthers, ReplayedBoardIsShown};
 ghost use Rattle.zed_live.specs.Properties.{NoneAreUnwritten, PropertiesTakeSettings, PropertiesTakeMaking, PropertiesPassOthers};
 
+use zed_cells::cells_hold_the_latest;
 use zed_world::read_is_normal;
 
 /// Each register of the header has the latest write of the edits that were put in, in whatever order they came.
@@ -31,6 +33,22 @@ pub fn properties_show_their_edits()
 /// Properties that have the latest writes of the edits taken show those of the board in their replay.
 pub fn properties_show_the_replay()
     ensures { ReplayedPropertiesAreShown }
+{
+    read_is_normal();
+}
+
+/// Each register of a board has the latest write of the edits that were put in, its making counted as a write of all.
+pub fn board_shows_its_edits()
+    ensures making { BoardIsMade }
+    ensures edits { BoardTakes }
+    ensures others { BoardPassesOthers }
+{
+    cells_hold_the_latest();
+}
+
+/// A board that has the latest writes of the edits taken shows the one of their replay, its stats aside.
+pub fn board_shows_the_replay()
+    ensures { ReplayedBoardIsShown }
 {
     read_is_normal();
 }

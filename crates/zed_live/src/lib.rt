@@ -2,17 +2,19 @@
 //! edit by edit as they come.
 #![tactic(auto)]
 
+mod board;
 mod error;
 mod header;
 mod laws;
 mod properties;
 mod reading;
 
+pub use board::LiveBoard;
 pub use error::LiveError;
 pub use header::LiveHeader;
 pub use laws::{
-    header_shows_its_edits, header_shows_the_replay, properties_show_the_replay,
-    properties_show_their_edits,
+    board_shows_its_edits, board_shows_the_replay, header_shows_its_edits, header_shows_the_replay,
+    properties_show_the_replay, properties_show_their_edits,
 };
 pub use properties::LiveProperties;
 

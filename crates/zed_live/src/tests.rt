@@ -1,11 +1,11 @@
 //! Headers by example, and growths refused.
-use crate::{LiveError, LiveHeader, LiveProperties};
+use crate::{LiveBoard, LiveError, LiveHeader, LiveProperties};
 use std::alloc::{AllocError, Global};
 use std::test::Fail;
-use zed_edit::{Edit, Op, check};
+use zed_edit::{Edit, Op, Plain, check, step};
 use zed_types::{
     BoardByte, BoardFlag, BoardId, BoardSetting, BoardText, Bytes, FlagSlot, HeaderNumber,
-    HeaderSetting, KeyColour, Side, Stamp, Written,
+    HeaderSetting, KeyColour, Name, Place, Rectangle, Side, Stamp, Tile, Written,
 };
 
 /// The size that the allocator of the sweep over refused growths listens to.
@@ -162,6 +162,108 @@ fn properties_show_what_was_written(rt: HostRuntime) -> Result<(), Fail> {
     assert_eq!(rt; properties.exit(Side::North), None);
     assert_eq!(rt; properties.text(BoardText::Message), b"HELLO".as_slice());
     assert_eq!(rt; properties.text(BoardText::Name), b"".as_slice());
+    Ok(())
+}
+
+const GEM: Tile = Tile {
+    element: 7,
+    colour: 0x0b,
+};
+
+const LION: Tile = Tile {
+    element: 41,
+    colour: 0x0c,
+};
+
+/// The board that the edit of time 2 adds.
+const CAVE: BoardId = BoardId {
+    name: Name {
+        stamp: Stamp {
+            time: 2,
+            replica: 1,
+        },
+        index: 0,
+    },
+};
+
+/// Cells of the fifth row.
+fn row(left: u8, right: u8) -> Rectangle {
+    Rectangle {
+        left,
+        top: 5,
+        right,
+        bottom: 5,
+    }
+}
+
+fn add_cave(alloc: Global) -> Result<Edit, AllocError> {
+    Ok(Edit {
+        stamp: CAVE.name.stamp,
+        op: Op::BoardAdd(Bytes::new(b"CAVE".to_vec(alloc)?)),
+    })
+}
+
+/// One of five edits of the cave; two draw over cells that others draw.
+fn of_cave(alloc: Global, which: u8) -> Result<Edit, AllocError> {
+    let (time, op) = match which {
+        0 => (3, Op::SetBoard(CAVE, BoardSetting::TimeLimit(30))),
+        1 => (4, Op::SetBoard(CAVE, BoardSetting::TimeLimit(40))),
+        2 => (5, Op::SetCells(CAVE, row(5, 6), GEM)),
+        3 => (6, Op::SetCells(CAVE, row(5, 5), LION)),
+        4 => {
+            let title = Bytes::new(b"DEEP".to_vec(alloc)?);
+            (
+                7,
+                Op::SetBoard(CAVE, BoardSetting::Text(BoardText::Name, title)),
+            )
+        }
+        _ => (8, Op::BoardRemove(CAVE)),
+    };
+    Ok(Edit {
+        stamp: Stamp { time, replica: 1 },
+        op,
+    })
+}
+
+/// A board as the edit that adds the cave makes it.
+fn cave(alloc: Global) -> Result<LiveBoard, Fail> {
+    let edit = add_cave(alloc)?;
+    check(alloc, &edit)?;
+    let mut made = Plain::empty(alloc);
+    step(alloc, &mut made, &edit)?;
+    match made.boards.as_slice().first() {
+        Some(board) => Ok(LiveBoard::new(alloc, edit.stamp, board)?),
+        None => Err(LiveError::Memory.into()),
+    }
+}
+
+#[test]
+fn a_board_forgets_the_order_of_its_edits(rt: HostRuntime) -> Result<(), Fail> {
+    for order in [[0, 1, 2, 3, 4, 5], [5, 4, 3, 2, 1, 0], [3, 1, 5, 0, 2, 4]] {
+        let mut board = cave(rt.alloc())?;
+        for which in order {
+            let edit = of_cave(rt.alloc(), which)?;
+            check(rt.alloc(), &edit)?;
+            board.take(&edit)?;
+        }
+        assert_eq!(rt; board.properties.time_limit(), 40);
+        assert_eq!(rt; board.properties.text(BoardText::Name), b"DEEP".as_slice());
+        assert_eq!(rt; board.properties.byte(BoardByte::MaxShots), 255);
+        assert_eq!(rt; board.cells.get(Place { x: 5, y: 5 }), LION);
+        assert_eq!(rt; board.cells.get(Place { x: 6, y: 5 }), GEM);
+        assert_eq!(rt; board.cells.get(Place { x: 7, y: 5 }), Tile::EMPTY);
+        assert!(rt; board.is_removed());
+    }
+    Ok(())
+}
+
+#[test]
+fn a_new_board_is_as_its_author_has_it(rt: HostRuntime) -> Result<(), Fail> {
+    let board = cave(rt.alloc())?;
+    assert!(rt; !board.is_removed());
+    assert_eq!(rt; board.properties.text(BoardText::Name), b"CAVE".as_slice());
+    assert_eq!(rt; board.cells.get(Place { x: 1, y: 1 }).element, 22);
+    assert_eq!(rt; board.cells.get(Place { x: 30, y: 12 }).element, 4);
     Ok(())
 }
 

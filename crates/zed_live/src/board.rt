@@ -1,0 +1,97 @@
+//! A board, each of whose registers keeps its latest write.
+
+ghost use Rattle.std.specs.Prelude.{◌≡◌, true, false, IfOk, IfErr, OnOk, OnErr};
+ghost use Rattle.zed_types.specs.Register.{value_or};
+ghost use Rattle.zed_op.specs.Fit.{Fits};
+ghost use Rattle.zed_op.specs.Growth.{may_grow};
+ghost use Rattle.zed_live.specs.Board.{as_made, board_after};
+
+use crate::error::LiveError;
+use crate::header::copy_bytes;
+use crate::properties::LiveProperties;
+use std::alloc::Global;
+use zed_cells::{Cells, keep_in};
+use zed_edit::{Board, Edit, Op, Properties};
+use zed_types::{Stamp, Written};
+
+/// A board: its properties, whether it is removed, and its cells, each with its latest write.
+#[derive(Drop)]
+pub struct LiveBoard {
+    pub properties: LiveProperties,
+    pub removed: Option<Written<bool>>,
+    pub cells: Cells,
+}
+
+fn copy_properties(properties: &Properties) -> Result<Properties, LiveError>
+    ensures ok { IfOk result (λ p. p ≡ properties.now) }
+    ensures err { IfErr result (λ e. e ≡ LiveError.Memory) }
+{
+    let name = copy_bytes(&properties.texts[0])?;
+    let message = copy_bytes(&properties.texts[1])?;
+    Ok(Properties {
+        bytes: properties.bytes,
+        flags: properties.flags,
+        time_limit: properties.time_limit,
+        exits: properties.exits,
+        texts: [name, message],
+    })
+}
+
+impl LiveBoard {
+    /// A board as the edit with this stamp makes it.
+    pub fn new(alloc: Global, stamp: Stamp, made: &Board) -> Result<LiveBoard, LiveError>
+        ensures ok { IfOk result (λ b. b ≡ as_made stamp made.now) }
+        ensures err { IfErr result (λ e. e ≡ LiveError.Memory) }
+    {
+        let mut from = copy_properties(&made.properties)?;
+        let mut properties = LiveProperties::new();
+        properties.write_all(alloc, stamp, &mut from);
+        let cells = Cells::new(alloc, made.tiles, stamp).map_err(LiveError::of_cells)?;
+        Ok(LiveBoard {
+            properties,
+            removed: Some(Written {
+                stamp,
+                value: made.removed,
+            }),
+            cells,
+        })
+    }
+
+    /// Puts an edit of the board in, whenever it comes. Memory leaves the board as it was.
+    pub fn take(&mut self, edit: &Edit) -> Result<(), LiveError>
+        requires { Fits edit.now }
+        ensures ok { OnOk result (self.new ≡ board_after edit.now.stamp edit.now.op self.old) }
+        ensures err { IfErr result (λ e. e ≡ LiveError.Memory) }
+        ensures kept { OnErr result (self.new ≡ self.old) }
+        ensures memory_only_when { OnErr result (may_grow edit.now.op ≡ true) }
+    {
+        match &edit.op {
+            Op::BoardRemove(_) => {
+                keep_in(
+                    &mut self.removed,
+                    Written {
+                        stamp: edit.stamp,
+                        value: true,
+                    },
+                );
+                Ok(())
+            }
+            Op::SetBoard(_, setting) => self.properties.write(edit.stamp, setting),
+            Op::SetCells(_, cells, tile) => {
+                self.cells.set(*cells, edit.stamp, *tile);
+                Ok(())
+            }
+            _ => Ok(()),
+        }
+    }
+
+    /// Whether the board is removed.
+    pub fn is_removed(&self) -> bool
+        ensures { result ≡ value_or false self.now.removed }
+    {
+        match &self.removed {
+            Some(write) => write.value,
+            None => false,
+        }
+    }
+}
