@@ -1,5 +1,12 @@
+pub mod BoardChanged
+pub mod BoardOrder
 pub mod BoardShown
+pub mod BoardSorting
 pub mod BoardTakes
+pub mod BoardsByName
+pub mod BoardsMade
+pub mod BoardsShown
+pub mod BoardsTake
 pub mod HeaderTakes
 pub mod Opening
 pub mod Places

@@ -1,4 +1,5 @@
 pub mod Board
+pub mod Boards
 pub mod Header
 pub mod Properties
 pub mod Shown

@@ -1,6 +1,7 @@
 //! What a live document shows, in whatever order the edits came.
 ghost use Rattle.zed_live.specs.Shows.{NoneIsUnwritten, HeaderTakes};
 ghost use Rattle.zed_live.specs.Shown.{ReplayIsShown, ReplayedPropertiesAreShown};
+ghost use Rattle.zed_live.specs.Boards.{NoBoardIsMade, BoardsTake, ReplayedBoardsAreShown};
 ghost use Rattle.zed_live.specs.Board.{BoardIsMade, BoardTakes, BoardPassesOthers, ReplayedBoardIsShown};
 ghost use Rattle.zed_live.specs.Properties.{NoneAreUnwritten, PropertiesTakeSettings, PropertiesTakeMaking, PropertiesPassOthers};
 
@@ -49,6 +50,22 @@ pub fn board_shows_its_edits()
 /// A board that has the latest writes of the edits taken shows the one of their replay, its stats aside.
 pub fn board_shows_the_replay()
     ensures { ReplayedBoardIsShown }
+{
+    read_is_normal();
+}
+
+/// Boards stand in the order of their names, each with the latest writes of the edits that were put in.
+pub fn boards_show_their_edits()
+    ensures none { NoBoardIsMade }
+    ensures takes { BoardsTake }
+{
+    read_is_normal();
+    cells_hold_the_latest();
+}
+
+/// Boards that show the edits taken are those of their replay, their stats aside.
+pub fn boards_show_the_replay()
+    ensures { ReplayedBoardsAreShown }
 {
     read_is_normal();
 }

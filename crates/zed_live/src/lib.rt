@@ -3,6 +3,7 @@
 #![tactic(auto)]
 
 mod board;
+mod boards;
 mod error;
 mod header;
 mod laws;
@@ -10,11 +11,13 @@ mod properties;
 mod reading;
 
 pub use board::LiveBoard;
+pub use boards::LiveBoards;
 pub use error::LiveError;
 pub use header::LiveHeader;
 pub use laws::{
-    board_shows_its_edits, board_shows_the_replay, header_shows_its_edits, header_shows_the_replay,
-    properties_show_the_replay, properties_show_their_edits,
+    board_shows_its_edits, board_shows_the_replay, boards_show_the_replay, boards_show_their_edits,
+    header_shows_its_edits, header_shows_the_replay, properties_show_the_replay,
+    properties_show_their_edits,
 };
 pub use properties::LiveProperties;
 

@@ -1,5 +1,5 @@
 //! Headers by example, and growths refused.
-use crate::{LiveBoard, LiveError, LiveHeader, LiveProperties};
+use crate::{LiveBoard, LiveBoards, LiveError, LiveHeader, LiveProperties};
 use std::alloc::{AllocError, Global};
 use std::test::Fail;
 use zed_edit::{Edit, Op, Plain, check, step};
@@ -264,6 +264,61 @@ fn a_new_board_is_as_its_author_has_it(rt: HostRuntime) -> Result<(), Fail> {
     assert_eq!(rt; board.properties.text(BoardText::Name), b"CAVE".as_slice());
     assert_eq!(rt; board.cells.get(Place { x: 1, y: 1 }).element, 22);
     assert_eq!(rt; board.cells.get(Place { x: 30, y: 12 }).element, 4);
+    Ok(())
+}
+
+fn at(time: u64) -> Stamp {
+    Stamp { time, replica: 1 }
+}
+
+/// An edit that adds a board at a time.
+fn add_ninth(alloc: Global) -> Edit {
+    Edit {
+        stamp: at(9),
+        op: Op::BoardAdd(Bytes::new(Vec::new(alloc))),
+    }
+}
+
+/// One of nine edits: six of the cave, that which adds it, the world, and a later board.
+fn of_boards(alloc: Global, which: u8) -> Result<Edit, AllocError> {
+    match which {
+        6 => add_cave(alloc),
+        7 => genesis(alloc),
+        8 => Ok(add_ninth(alloc)),
+        _ => of_cave(alloc, which),
+    }
+}
+
+/// The time limit of a board, if it is there.
+fn limit_of(boards: &LiveBoards, id: BoardId) -> Option<i16> {
+    match boards.get(id) {
+        Some(board) => Some(board.properties.time_limit()),
+        None => None,
+    }
+}
+
+#[test]
+fn boards_forget_the_order_of_their_edits(rt: HostRuntime) -> Result<(), Fail> {
+    let ninth = BoardId::new(at(9), 0);
+    for order in [
+        [7, 6, 0, 1, 2, 3, 4, 5, 8],
+        [8, 6, 5, 4, 3, 2, 1, 0, 7],
+        [6, 1, 8, 0, 7, 5, 3, 4, 2],
+    ] {
+        let mut boards = LiveBoards::new(rt.alloc());
+        for which in order {
+            let edit = of_boards(rt.alloc(), which)?;
+            check(rt.alloc(), &edit)?;
+            boards.take(rt.alloc(), &edit)?;
+        }
+        assert_eq!(rt; boards.count(), 3);
+        assert_eq!(rt; limit_of(&boards, CAVE), Some(40));
+        assert_eq!(rt; limit_of(&boards, ninth), Some(0));
+        assert_eq!(rt; limit_of(&boards, BoardId::new(at(10), 0)), None);
+        assert_eq!(rt; boards.name_at(0), BoardId::TITLE);
+        assert_eq!(rt; boards.name_at(1), CAVE);
+        assert_eq!(rt; boards.name_at(2), ninth);
+    }
     Ok(())
 }
 

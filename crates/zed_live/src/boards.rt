@@ -1,0 +1,189 @@
+//! The boards of a live document, found by their names.
+
+ghost use Rattle.std.specs.Prelude.{◌≡◌, ◌<◌, ◌≤◌, ◌+◌, [], true, length, Some, IfOk, IfErr, OnOk, OnErr, IsSorted, option_copied};
+ghost use Rattle.indexmap.specs.IndexMap.{keys, spare};
+ghost use Rattle.zed_op.specs.Fit.{Fits};
+ghost use Rattle.zed_op.specs.Growth.{may_grow};
+ghost use Rattle.zed_live.specs.Header.{made_by};
+ghost use Rattle.zed_live.specs.Board.{board_after};
+ghost use Rattle.zed_live.specs.Boards.{board_cmp, board_in, name_at as name_in, add as added, add_all as all_added, all_as_made as all_made, change as changed, boards_after};
+
+use crate::board::LiveBoard;
+use crate::error::LiveError;
+use indexmap::IndexMap;
+use std::alloc::Global;
+use std::marker::Model;
+use zed_edit::{Board, Edit, Op, Plain, step};
+use zed_types::{BoardId, Stamp};
+
+/// Boards, removed ones too, in the order of their names.
+#[derive(Drop)]
+pub struct LiveBoards {
+    entries: IndexMap<BoardId, LiveBoard>,
+}
+
+impl Model for LiveBoards {
+    ghost use Rattle.std.specs.Prelude.{IsSorted};
+    ghost use Rattle.indexmap.specs.IndexMap.{keys};
+    ghost use Rattle.zed_live.specs.Boards.{Boards, board_cmp};
+
+    ghost Value = { Boards };
+
+    ghost view = { λ b. b.entries.entries };
+
+    ghost invariant = { λ b. IsSorted board_cmp (keys b.entries) };
+}
+
+/// Adds a board at its place. One of its name that is there stays as it is.
+fn add(entries: &mut IndexMap<BoardId, LiveBoard>, id: BoardId, board: LiveBoard)
+    requires room { 0 < spare entries.old }
+    requires sorted { IsSorted board_cmp (keys entries.old) }
+    ensures entries { entries.new.entries ≡ added id board entries.old.entries }
+    ensures room { spare entries.old ≤ spare entries.new + 1 }
+    ensures sorted { IsSorted board_cmp (keys entries.new) }
+{
+    if entries.contains_key(&id) {
+        return;
+    }
+    match entries.insert_sorted(id, board) {
+        Ok(_) => {}
+        Err(_) => {}
+    }
+}
+
+/// Adds boards, each at its place.
+fn add_each(entries: &mut IndexMap<BoardId, LiveBoard>, boards: Vec<(BoardId, LiveBoard)>)
+    requires room { length boards.items ≤ spare entries.old }
+    requires sorted { IsSorted board_cmp (keys entries.old) }
+    ensures entries { entries.new.entries ≡ all_added boards.items entries.old.entries }
+    ensures sorted { IsSorted board_cmp (keys entries.new) }
+{
+    for entry in boards {
+        let (id, board) = entry;
+        add(entries, id, board);
+    }
+}
+
+/// Boards as the edit with this stamp makes them, each under its name.
+fn all_as_made(
+    alloc: Global,
+    stamp: Stamp,
+    boards: &[Board],
+) -> Result<Vec<(BoardId, LiveBoard)>, LiveError>
+    ensures ok { IfOk result (λ made. made.items ≡ all_made stamp boards.now) }
+    ensures err { IfErr result (λ e. e ≡ LiveError.Memory) }
+{
+    let mut made = Vec::new(alloc);
+    for board in boards {
+        let live = LiveBoard::new(alloc, stamp, board)?;
+        if made.push((board.id, live)).is_err() {
+            return Err(LiveError::Memory);
+        }
+    }
+    Ok(made)
+}
+
+impl LiveBoards {
+    /// No board.
+    pub fn new(alloc: Global) -> LiveBoards
+        ensures { result ≡ [] }
+    {
+        LiveBoards {
+            entries: IndexMap::new(alloc),
+        }
+    }
+
+    /// The board of a name, if it was made, removed or not.
+    pub fn get(&self, id: BoardId) -> Option<&LiveBoard>
+        ensures { option_copied result ≡ board_in id self.now }
+    {
+        self.entries.get(&id)
+    }
+
+    /// How many boards were made, removed ones too.
+    pub fn count(&self) -> usize
+        ensures { result ≡ length self.now }
+    {
+        self.entries.len()
+    }
+
+    /// The name of board j in the order of names, removed ones counted.
+    pub fn name_at(&self, j: usize) -> BoardId
+        requires { j < length self.now }
+        ensures { name_in j self.now ≡ Some result }
+    {
+        let (id, _) = self.entries.get_index(j).unwrap();
+        *id
+    }
+
+    /// Puts an edit in, whenever it comes: changes the board that it is of, if that is there, or adds the boards that it makes.
+    /// Memory leaves the boards as they were.
+    pub fn take(&mut self, alloc: Global, edit: &Edit) -> Result<(), LiveError>
+        requires { Fits edit.now }
+        ensures ok { OnOk result (self.new ≡ boards_after edit.now.stamp edit.now.op self.old) }
+        ensures err { IfErr result (λ e. e ≡ LiveError.Memory) }
+        ensures kept { OnErr result (self.new ≡ self.old) }
+        ensures memory_only_when { OnErr result (may_grow edit.now.op ≡ true) }
+    {
+        match &edit.op {
+            Op::BoardRemove(id) => self.change(*id, edit),
+            Op::SetBoard(id, _) => self.change(*id, edit),
+            Op::SetCells(id, _, _) => self.change(*id, edit),
+            Op::Genesis(_) => self.make(alloc, edit),
+            Op::BoardAdd(_) => self.make(alloc, edit),
+            _ => Ok(()),
+        }
+    }
+
+    /// Puts an edit of one board in.
+    fn change(&mut self, id: BoardId, edit: &Edit) -> Result<(), LiveError>
+        requires { Fits edit.now }
+        ensures ok { OnOk result
+            (self.new ≡ changed id (board_after edit.now.stamp edit.now.op) self.old) }
+        ensures err { IfErr result (λ e. e ≡ LiveError.Memory) }
+        ensures kept { OnErr result (self.new ≡ self.old) }
+        ensures memory_only_when { OnErr result (may_grow edit.now.op ≡ true) }
+    {
+        if let Some(i) = self.entries.get_index_of(&id) {
+            if let Some(board) = self.entries.get_index_mut(i) {
+                return board.take(edit);
+            }
+        }
+        Ok(())
+    }
+
+    /// Adds the boards that an edit makes.
+    fn make(&mut self, alloc: Global, edit: &Edit) -> Result<(), LiveError>
+        requires { Fits edit.now }
+        ensures ok { OnOk result
+            (self.new ≡ all_added (all_made edit.now.stamp (made_by edit.now).boards) self.old) }
+        ensures err { IfErr result (λ e. e ≡ LiveError.Memory) }
+        ensures kept { OnErr result (self.new ≡ self.old) }
+    {
+        let mut made = Plain::empty(alloc);
+        match step(alloc, &mut made, edit) {
+            Ok(()) => {}
+            Err(_) => return Err(LiveError::Memory),
+        }
+        self.add_made(alloc, edit.stamp, made.boards.as_slice())
+    }
+
+    /// Adds boards as the edit with this stamp makes them. Memory leaves the boards as they were.
+    pub(crate) fn add_made(
+        &mut self,
+        alloc: Global,
+        stamp: Stamp,
+        boards: &[Board],
+    ) -> Result<(), LiveError>
+        ensures ok { OnOk result (self.new ≡ all_added (all_made stamp boards.now) self.old) }
+        ensures err { IfErr result (λ e. e ≡ LiveError.Memory) }
+        ensures kept { OnErr result (self.new ≡ self.old) }
+    {
+        let made = all_as_made(alloc, stamp, boards)?;
+        if self.entries.reserve(made.len()).is_err() {
+            return Err(LiveError::Memory);
+        }
+        add_each(&mut self.entries, made);
+        Ok(())
+    }
+}
