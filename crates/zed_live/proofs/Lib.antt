@@ -7,6 +7,7 @@ pub mod BoardsByName
 pub mod BoardsMade
 pub mod BoardsShown
 pub mod BoardsTake
+pub mod DocumentTakes
 pub mod HeaderTakes
 pub mod Opening
 pub mod Places
@@ -14,3 +15,4 @@ pub mod PropertiesShown
 pub mod PropertiesTake
 pub mod Shown
 pub mod Tables
+pub mod WorldOpens

@@ -1,5 +1,6 @@
 pub mod Board
 pub mod Boards
+pub mod Document
 pub mod Header
 pub mod Properties
 pub mod Shown

@@ -187,7 +187,7 @@ impl LiveHeader {
 
     /// Gives all registers the values of another header, whose strings it takes out, unless they have one with a stamp as late
     /// or later.
-    fn write_all(&mut self, alloc: Global, stamp: Stamp, header: &mut Header)
+    pub(crate) fn write_all(&mut self, alloc: Global, stamp: Stamp, header: &mut Header)
         ensures { self.new ≡ all_written stamp header.old self.old }
     {
         write_numbers(&mut self.numbers, stamp, &header.numbers);

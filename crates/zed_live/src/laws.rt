@@ -2,6 +2,7 @@
 ghost use Rattle.zed_live.specs.Shows.{NoneIsUnwritten, HeaderTakes};
 ghost use Rattle.zed_live.specs.Shown.{ReplayIsShown, ReplayedPropertiesAreShown};
 ghost use Rattle.zed_live.specs.Boards.{NoBoardIsMade, BoardsTake, ReplayedBoardsAreShown};
+ghost use Rattle.zed_live.specs.Document.{NoneIsEmpty, DocumentTakes, ReplayedDocumentIsShown};
 ghost use Rattle.zed_live.specs.Board.{BoardIsMade, BoardTakes, BoardPassesOthers, ReplayedBoardIsShown};
 ghost use Rattle.zed_live.specs.Properties.{NoneAreUnwritten, PropertiesTakeSettings, PropertiesTakeMaking, PropertiesPassOthers};
 
@@ -66,6 +67,22 @@ pub fn boards_show_their_edits()
 /// Boards that show the edits taken are those of their replay, their stats aside.
 pub fn boards_show_the_replay()
     ensures { ReplayedBoardsAreShown }
+{
+    read_is_normal();
+}
+
+/// A document has the latest writes of the edits that were put in, in whatever order they came.
+pub fn document_shows_its_edits()
+    ensures none { NoneIsEmpty }
+    ensures takes { DocumentTakes }
+{
+    read_is_normal();
+    cells_hold_the_latest();
+}
+
+/// A document that took the edits that the replay takes shows what the replay has, stats and texts aside.
+pub fn document_shows_the_replay()
+    ensures { ReplayedDocumentIsShown }
 {
     read_is_normal();
 }

@@ -4,6 +4,7 @@
 
 mod board;
 mod boards;
+mod document;
 mod error;
 mod header;
 mod laws;
@@ -12,12 +13,13 @@ mod reading;
 
 pub use board::LiveBoard;
 pub use boards::LiveBoards;
+pub use document::LiveDocument;
 pub use error::LiveError;
 pub use header::LiveHeader;
 pub use laws::{
     board_shows_its_edits, board_shows_the_replay, boards_show_the_replay, boards_show_their_edits,
-    header_shows_its_edits, header_shows_the_replay, properties_show_the_replay,
-    properties_show_their_edits,
+    document_shows_its_edits, document_shows_the_replay, header_shows_its_edits,
+    header_shows_the_replay, properties_show_the_replay, properties_show_their_edits,
 };
 pub use properties::LiveProperties;
 

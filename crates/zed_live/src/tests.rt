@@ -1,5 +1,5 @@
 //! Headers by example, and growths refused.
-use crate::{LiveBoard, LiveBoards, LiveError, LiveHeader, LiveProperties};
+use crate::{LiveBoard, LiveBoards, LiveDocument, LiveError, LiveHeader, LiveProperties};
 use std::alloc::{AllocError, Global};
 use std::test::Fail;
 use zed_edit::{Edit, Op, Plain, check, step};
@@ -322,6 +322,29 @@ fn boards_forget_the_order_of_their_edits(rt: HostRuntime) -> Result<(), Fail> {
     Ok(())
 }
 
+#[test]
+fn a_document_forgets_the_order_of_its_edits(rt: HostRuntime) -> Result<(), Fail> {
+    for order in [[0, 1, 2, 3, 4], [3, 4, 2, 1, 0], [2, 3, 0, 4, 1]] {
+        let mut document = LiveDocument::new(rt.alloc());
+        for which in order {
+            let edit = match which {
+                0 => genesis(rt.alloc())?,
+                1 => number(3, HeaderNumber::Ammo, 9),
+                2 => name(rt.alloc(), 2, b"EARLY")?,
+                3 => add_cave(rt.alloc())?,
+                _ => of_cave(rt.alloc(), 1)?,
+            };
+            check(rt.alloc(), &edit)?;
+            document.take(rt.alloc(), &edit)?;
+        }
+        assert_eq!(rt; document.header.number(HeaderNumber::Ammo), 9);
+        assert_eq!(rt; document.header.number(HeaderNumber::Gems), 5);
+        assert_eq!(rt; document.header.world_name(), b"EARLY".as_slice());
+        assert_eq!(rt; document.boards.count(), 2);
+    }
+    Ok(())
+}
+
 /// Asks that the growth `nth` from here on is refused. An allocator that doesn't listen refuses the request alone.
 fn refuse(alloc: Global, nth: usize) {
     let _ = Vec::<u8>::with_capacity(alloc, MARK.saturating_add(nth));
@@ -356,5 +379,40 @@ fn a_refused_growth_leaves_the_header(rt: HostRuntime) -> Result<(), Fail> {
     assert!(rt; sweep(rt.alloc(), &world)?);
     let title = name(rt.alloc(), 2, b"TITLE")?;
     assert!(rt; sweep(rt.alloc(), &title)?);
+    Ok(())
+}
+
+/// Whether each growth of an edit, refused in turn, leaves a document with the cave alone, up to the call that met none and
+/// took the edit.
+fn sweep_document(alloc: Global, edit: &Edit) -> Result<bool, Fail> {
+    for nth in 1..=MOST_GROWTHS {
+        let mut document = LiveDocument::new(alloc);
+        let cave = add_cave(alloc)?;
+        check(alloc, &cave)?;
+        document.take(alloc, &cave)?;
+        check(alloc, edit)?;
+        refuse(alloc, nth);
+        let answer = document.take(alloc, edit);
+        if !was_refused(alloc) {
+            return Ok(answer.is_ok());
+        }
+        let is_as_before = document.boards.count() == 1
+            && limit_of(&document.boards, CAVE) == Some(0)
+            && document.header.number(HeaderNumber::Ammo) == 0;
+        if answer != Err(LiveError::Memory) || !is_as_before {
+            return Ok(false);
+        }
+    }
+    Ok(false)
+}
+
+#[test]
+fn a_refused_growth_leaves_the_document(rt: HostRuntime) -> Result<(), Fail> {
+    let world = genesis(rt.alloc())?;
+    assert!(rt; sweep_document(rt.alloc(), &world)?);
+    let ninth = add_ninth(rt.alloc());
+    assert!(rt; sweep_document(rt.alloc(), &ninth)?);
+    let deep = of_cave(rt.alloc(), 4)?;
+    assert!(rt; sweep_document(rt.alloc(), &deep)?);
     Ok(())
 }

@@ -1,0 +1,72 @@
+-- A document takes each edit as if it had come at its place.
+use Rattle.std.proofs.Common.{◌≡◌, ◌∙◌, Bool, true, false, cond, List, [], ◌∷◌, ◌++◌, refl, ap, sym, true≢false}
+use Rattle.std.specs.List.{AllByRecursion, list_any}
+use Rattle.std.proofs.lemmas.Bool.{and_parts}
+use Rattle.zed_types.specs.declared.names.BoardId.{BoardId}
+use Rattle.zed_types.specs.Stamp.{before}
+use Rattle.zed_types.proofs.StampOrder.{same_board-true}
+use Rattle.zed_op.specs.declared.op.Op.{Op}
+use Rattle.zed_op.specs.declared.op.Op.TheVariants.{BoardRemove, SetBoard, SetCells}
+use Rattle.zed_op.specs.declared.op.Edit.{Edit}
+use Rattle.zed_op.specs.declared.thing.Thing.TheVariants as thing
+use Rattle.zed_op.specs.Names.{names_of, board_names}
+use Rattle.zed_op.specs.Set.{IsRising}
+use Rattle.zed_edit.specs.declared.plain.Plain.{Plain}
+use Rattle.zed_edit.specs.Document.{empty_document, has}
+use Rattle.zed_edit.specs.Replay.{can, step, has_all, replay, taken_on, held_on, held}
+use Rattle.zed_laws.proofs.RegularSteps.{ReadIsNormal}
+use Rattle.zed_settle.specs.Making.{makes}
+use Rattle.zed_settle.specs.Registers.{changes_board}
+use Rattle.zed_settle.proofs.Making.{taken_make}
+use Rattle.zed_cells.specs.Cells.{CellsHoldTheLatest}
+use Rattle.zed_live.specs.Boards.{ChangesMade}
+use Rattle.zed_live.specs.Document.{NoneIsEmpty, DocumentTakes, ReplayedDocumentIsShown}
+use Rattle.zed_live.proofs.BoardsShown.{replayed_boards_are_shown}
+use Rattle.zed_live.proofs.BoardsTake.{boards_take, no_board_is_made}
+use Rattle.zed_live.proofs.HeaderTakes.{header_takes, none_is_unwritten}
+use Rattle.zed_live.proofs.Shown.{replay_is_shown}
+
+-- where none is held all are taken
+all-taken : (p : Plain) (es : List Edit) → held_on p es ≡ [] → taken_on p es ≡ es
+all-taken p [] h = refl
+all-taken p (e ∷ es) h = go (can p e) h (λ k. all-taken (step p e) es k)
+  where
+    go : (b : Bool) → cond b (held_on (step p e) es) (e ∷ held_on (step p e) es) ≡ [] → (held_on (step p e) es ≡ [] → taken_on (step p e) es ≡ es) → cond b (e ∷ taken_on (step p e) es) (taken_on (step p e) es) ≡ e ∷ es
+    go true k more = ap (λ rest. e ∷ rest) (more k)
+    go false k more = absurd (cc)
+
+-- the others rise without one
+rising-without : (e : Edit) (low high : List Edit) → IsRising (low ++ e ∷ high) → IsRising (low ++ high)
+rising-without e [] high r = r.1
+rising-without e (f ∷ low) high r = (without low r.0, rising-without e low high r.1)
+  where
+    without : (es : List Edit) → AllByRecursion (λ g. before f.stamp g.stamp ≡ true) (es ++ e ∷ high) → AllByRecursion (λ g. before f.stamp g.stamp ≡ true) (es ++ high)
+    without [] a = a.1
+    without (g ∷ es) a = (a.0, without es a.1)
+
+-- an edit that can be done changes no board but one that is there
+changed_there : (p : Plain) (op : Op) (b : BoardId) → has_all p (names_of op) ≡ true → changes_board b op ≡ true → has p (thing.Board b) ≡ true
+changed_there p (BoardRemove c) b h k = ap (λ d. has p (thing.Board d)) (sym (same_board-true c b k)) ∙ (and_parts (has p (thing.Board c)) true h).0
+changed_there p (SetBoard c setting) b h k = ap (λ d. has p (thing.Board d)) (sym (same_board-true c b k)) ∙ (and_parts (has p (thing.Board c)) (has_all p (board_names setting)) h).0
+changed_there p (SetCells c cells tile) b h k = ap (λ d. has p (thing.Board d)) (sym (same_board-true c b k)) ∙ (and_parts (has p (thing.Board c)) true h).0
+changed_there p _ b h k = absurd (true≢false (sym k))
+
+-- where no edit is held all made what is there
+changes_made : (es : List Edit) (e : Edit) → IsRising es → held es ≡ [] → can (replay es) e ≡ true → ChangesMade es e
+changes_made es e rises none h b k =
+    ap (list_any (λ f. makes f (thing.Board b))) (sym (all-taken empty_document es none))
+    ∙ sym (taken_make es (thing.Board b) rises)
+    ∙ changed_there (replay es) e.op b h k
+
+pub document_takes : ReadIsNormal → CellsHoldTheLatest → DocumentTakes
+document_takes normal latest e low high d rises none h was = record {
+  header = header_takes normal e low high d.header rises was.header;
+  boards = boards_take normal latest e low high d.boards rises (changes_made (low ++ high) e (rising-without e low high rises) none h) was.boards;
+}
+
+pub none_is_empty : NoneIsEmpty
+none_is_empty = record { header = none_is_unwritten; boards = no_board_is_made }
+
+pub replayed_document_is_shown : ReadIsNormal → ReplayedDocumentIsShown
+replayed_document_is_shown normal es d rises sizes was =
+    (replay_is_shown normal es d.header rises sizes was.header, replayed_boards_are_shown normal es d.boards rises sizes was.boards)
