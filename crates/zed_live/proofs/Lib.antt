@@ -14,5 +14,7 @@ pub mod Places
 pub mod PropertiesShown
 pub mod PropertiesTake
 pub mod Shown
+pub mod StatSettings
+pub mod StatTakes
 pub mod Tables
 pub mod WorldOpens

@@ -5,3 +5,4 @@ pub mod Header
 pub mod Properties
 pub mod Shown
 pub mod Shows
+pub mod Stat

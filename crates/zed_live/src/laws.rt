@@ -4,9 +4,11 @@ ghost use Rattle.zed_live.specs.Shown.{ReplayIsShown, ReplayedPropertiesAreShown
 ghost use Rattle.zed_live.specs.Boards.{NoBoardIsMade, BoardsTake, ReplayedBoardsAreShown};
 ghost use Rattle.zed_live.specs.Document.{NoneIsEmpty, DocumentTakes, ReplayedDocumentIsShown};
 ghost use Rattle.zed_live.specs.Board.{BoardIsMade, BoardTakes, BoardPassesOthers, ReplayedBoardIsShown};
+ghost use Rattle.zed_live.specs.Stat.{StatIsMade, StatTakes, StatPassesOthers};
 ghost use Rattle.zed_live.specs.Properties.{NoneAreUnwritten, PropertiesTakeSettings, PropertiesTakeMaking, PropertiesPassOthers};
 
 use zed_cells::cells_hold_the_latest;
+use zed_stats::fields_hold_the_latest;
 use zed_world::read_is_normal;
 
 /// Each register of the header has the latest write of the edits that were put in, in whatever order they came.
@@ -85,4 +87,14 @@ pub fn document_shows_the_replay()
     ensures { ReplayedDocumentIsShown }
 {
     read_is_normal();
+}
+
+/// Each field of a stat has the latest write of the edits that were put in, its making counted as a write of all, and a stat
+/// that one of them removes is removed, unless it is a player.
+pub fn stat_shows_its_edits()
+    ensures making { StatIsMade }
+    ensures edits { StatTakes }
+    ensures others { StatPassesOthers }
+{
+    fields_hold_the_latest();
 }
