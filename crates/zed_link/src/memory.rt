@@ -111,7 +111,10 @@ fn hand_over(left: &[u8], piece: usize, into: &mut [u8]) -> usize
 
 impl Link for MemoryLink {
     ghost ends = { λ link. Some (record {
-        left = drop link.at link.handed.items; taken = link.taken.items; unfailing = is_none link.passing }) };
+      left = drop link.at link.handed.items;
+      taken = link.taken.items;
+      unfailing = is_none link.passing;
+    }) };
 
     ghost reads = { λ link. link.reads };
 
