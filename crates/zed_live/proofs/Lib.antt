@@ -15,6 +15,7 @@ pub mod PropertiesShown
 pub mod PropertiesTake
 pub mod Shown
 pub mod StatSettings
+pub mod StatShown
 pub mod StatTakes
 pub mod Tables
 pub mod WorldOpens

@@ -252,7 +252,7 @@ none-removed x [] a = refl
 none-removed x (e ∷ es) a = ap (λ v. v || list_any (λ f. removes x f.op) es) (none-removes x e.op (untouched-parts x e a.0).1) ∙ none-removed x es a.1
 
 -- an edit that makes a stat removes none
-made-removes : (x : StatId) (s : Stamp) (op : Op) (made : Stat) → find_stat x (made_stats s op) ≡ Some made → removes x op ≡ false
+pub made-removes : (x : StatId) (s : Stamp) (op : Op) (made : Stat) → find_stat x (made_stats s op) ≡ Some made → removes x op ≡ false
 made-removes x s (StatRemove y) made is = absurd (cc)
 made-removes x s _ made is = refl
 

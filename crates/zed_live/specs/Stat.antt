@@ -11,8 +11,11 @@ use Rattle.zed_types.specs.Stat.{stat_byte_index, stat_number_index}
 use Rattle.zed_op.specs.declared.op.Op.{Op}
 use Rattle.zed_op.specs.declared.op.Op.TheVariants.{StatRemove, SetStat}
 use Rattle.zed_op.specs.declared.op.Edit.{Edit}
-use Rattle.zed_op.specs.Set.{IsRising}
+use Rattle.zed_op.specs.Set.{IsRising, AllFit}
+use Rattle.zed_op.specs.Sizes.{HaveSizes}
 use Rattle.zed_edit.specs.declared.plain.Stat.{Stat}
+use Rattle.zed_edit.specs.Document.{all_stats}
+use Rattle.zed_edit.specs.Replay.{replay, taken}
 use Rattle.zed_settle.specs.Fields.{stat_byte, stat_number, third_parameter, follower, leader, stat_text, is_player}
 use Rattle.zed_settle.specs.Registers.{of_stat, find_stat, made_stats, changes_stat}
 use Rattle.zed_settle.specs.Whole.{IsWholeStat}
@@ -87,3 +90,26 @@ StatPassesOthers =
     → touches_stat x e ≡ false
     → StatShows x (low ++ high) s
     → StatShows x (low ++ e ∷ high) s
+
+-- a stat as one author sees it
+abbrev pub shown_stat : StatId → LiveStat → Stat
+shown_stat x s = record {
+  id = x;
+  is_player = s.is_player;
+  fields = s.values.fields;
+  position = s.values.position;
+  follower = s.values.follower;
+  leader = s.values.leader;
+  removed = s.removed;
+}
+
+-- a stat that has the latest writes of the edits taken shows the one of the replay
+abbrev pub ReplayedStatIsShown : Type 0
+ReplayedStatIsShown =
+    (x : StatId) (es : List Edit) (s : LiveStat) (stat : Stat)
+    → IsRising es
+    → AllFit es
+    → HaveSizes es
+    → find_stat x (all_stats (replay es)) ≡ Some stat
+    → StatShows x (taken es) s
+    → shown_stat x s ≡ stat

@@ -4,7 +4,7 @@ ghost use Rattle.zed_live.specs.Shown.{ReplayIsShown, ReplayedPropertiesAreShown
 ghost use Rattle.zed_live.specs.Boards.{NoBoardIsMade, BoardsTake, ReplayedBoardsAreShown};
 ghost use Rattle.zed_live.specs.Document.{NoneIsEmpty, DocumentTakes, ReplayedDocumentIsShown};
 ghost use Rattle.zed_live.specs.Board.{BoardIsMade, BoardTakes, BoardPassesOthers, ReplayedBoardIsShown};
-ghost use Rattle.zed_live.specs.Stat.{StatIsMade, StatTakes, StatPassesOthers};
+ghost use Rattle.zed_live.specs.Stat.{StatIsMade, StatTakes, StatPassesOthers, ReplayedStatIsShown};
 ghost use Rattle.zed_live.specs.Properties.{NoneAreUnwritten, PropertiesTakeSettings, PropertiesTakeMaking, PropertiesPassOthers};
 
 use zed_cells::cells_hold_the_latest;
@@ -97,4 +97,11 @@ pub fn stat_shows_its_edits()
     ensures others { StatPassesOthers }
 {
     fields_hold_the_latest();
+}
+
+/// A stat that has the latest writes of the edits taken, all of which fit, shows the one of their replay.
+pub fn stat_shows_the_replay()
+    ensures { ReplayedStatIsShown }
+{
+    read_is_normal();
 }

@@ -20,7 +20,7 @@ pub use laws::{
     board_shows_its_edits, board_shows_the_replay, boards_show_the_replay, boards_show_their_edits,
     document_shows_its_edits, document_shows_the_replay, header_shows_its_edits,
     header_shows_the_replay, properties_show_the_replay, properties_show_their_edits,
-    stat_shows_its_edits,
+    stat_shows_its_edits, stat_shows_the_replay,
 };
 pub use properties::LiveProperties;
 
