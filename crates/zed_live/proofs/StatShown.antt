@@ -1,5 +1,5 @@
 -- A stat that has the latest writes shows the one of the replay.
-use Rattle.std.proofs.Common.{◌≡◌, ◌∙◌, ◌<◌, ◌+◌, ◌&&◌, ◌||◌, ℕ, ℤ, pos, zero, suc, Bool, true, false, not, cond, List, [], ◌∷◌, length, get_or, find, Option, Some, None, Result, Ok, Err, refl, ap, sym, subst, true≢false, arith}
+use Rattle.std.proofs.Common.{◌≡◌, ◌∙◌, ◌<◌, ◌+◌, ◌&&◌, ◌||◌, ℕ, ℤ, pos, zero, suc, Bool, true, false, not, cond, List, [], ◌∷◌, length, get_or, Option, Some, None, Result, Ok, Err, refl, ap, sym, subst, true≢false, arith}
 use Rattle.std.specs.List.{AllByRecursion, list_any}
 use Rattle.std.specs.Option.{option_or, option_map, is_some}
 use Rattle.std.proofs.lemmas.Bool.{and_parts}
@@ -15,10 +15,10 @@ use Rattle.zed_types.specs.declared.stat_field.StatByte.{StatByte}
 use Rattle.zed_types.specs.declared.stat_field.StatByte.TheVariants.{X, Y, P1, P2, UnderElement, UnderColour}
 use Rattle.zed_types.specs.declared.stat_field.StatNumber.TheVariants.{StepX, StepY, Cycle, Position}
 use Rattle.zed_types.specs.Stamp.{before, same_stamp}
-use Rattle.zed_types.specs.Names.{name_of, same_name, same_stat}
+use Rattle.zed_types.specs.Names.{same_stat}
 use Rattle.zed_types.specs.Stat.{stat_byte_index}
 use Rattle.zed_types.specs.Table.{map_from}
-use Rattle.zed_types.specs.Register.{latest_of, last_value, value_or}
+use Rattle.zed_types.specs.Register.{last_value}
 use Rattle.zed_types.proofs.StampOrder.{same_name-true, same_stamp-true, same_stamp-itself, before_irrefl, before_trans}
 use Rattle.zed_world.specs.Contents.{Contents}
 use Rattle.zed_world.specs.Reading.{world_at}
