@@ -1,8 +1,8 @@
 //! What the words of the command line may be.
 ghost use Rattle.std.specs.Prelude.{◌≡◌, false, IfOk};
-ghost use Rattle.clap.specs.Words.{app_of, rule_of, shape_of};
+ghost use Rattle.clap.specs.Words.{app_of, new_app, rule_of, shape_of, with_rule, with_subcommand};
 ghost use Rattle.clap.specs.declared.builder.command.Command.TheViews.{out-Command};
-ghost use Rattle.zed_words.specs.Grammar.{board_rule, check_shape, create_shape, edit_shape, files_rule, merge_shape, option_rule, play_shape, replica_rule, required_rule, save_shape, several_rule, show_shape, world_rule, zzted_app};
+ghost use Rattle.zed_words.specs.Grammar.{board_rule, check_shape, create_shape, edit_shape, files_rule, merge_shape, option_rule, play_shape, replica_rule, required_rule, save_shape, several_rule, show_shape, top_app, world_rule, zzted_app};
 
 use clap::{Arg, Command};
 use std::alloc::{AllocError, Global};
@@ -49,19 +49,40 @@ fn files_argument<'a>(alloc: Global) -> Arg<'a>
     )
 }
 
+// A command of this name, without arguments.
+fn bare_command<'a>(alloc: Global, name: &'a str, about: &'a str) -> Command<'a>
+    ensures app { app_of result ≡ new_app name.entry.now }
+    ensures local { (out-Command result).has_globals ≡ false }
+{
+    Command::new(alloc, name).about(about)
+}
+
+// A command with one argument more.
+fn with_argument<'a>(command: Command<'a>, argument: Arg<'a>) -> Result<Command<'a>, AllocError>
+    requires own { argument.global ≡ false }
+    requires local { (out-Command command).has_globals ≡ false }
+    ensures app { IfOk result (λ c.
+        app_of c ≡ with_rule (app_of command.entry) (rule_of argument.entry)) }
+    ensures local { IfOk result (λ c. (out-Command c).has_globals ≡ false) }
+{
+    command.arg(argument)
+}
+
 /// `save OUT FILES...`
 fn save_command<'a>(alloc: Global) -> Result<Command<'a>, AllocError>
     ensures shape { IfOk result (λ c. shape_of c ≡ save_shape) }
     ensures local { IfOk result (λ c. (out-Command c).has_globals ≡ false) }
 {
-    Command::new(alloc, "save")
-        .about("Write the world file of edit files")
-        .arg(required_argument(
+    let command = bare_command(alloc, "save", "Write the world file of edit files");
+    let command = with_argument(
+        command,
+        required_argument(
             alloc,
             "OUT",
             "The world file to write; stdout is standard output",
-        ))?
-        .arg(files_argument(alloc))
+        ),
+    )?;
+    with_argument(command, files_argument(alloc))
 }
 
 /// `check FILES...`
@@ -69,9 +90,12 @@ fn check_command<'a>(alloc: Global) -> Result<Command<'a>, AllocError>
     ensures shape { IfOk result (λ c. shape_of c ≡ check_shape) }
     ensures local { IfOk result (λ c. (out-Command c).has_globals ≡ false) }
 {
-    Command::new(alloc, "check")
-        .about("Print what looks wrong in the world of edit files, and its counts")
-        .arg(files_argument(alloc))
+    let command = bare_command(
+        alloc,
+        "check",
+        "Print what looks wrong in the world of edit files, and its counts",
+    );
+    with_argument(command, files_argument(alloc))
 }
 
 fn world_argument<'a>(alloc: Global) -> Arg<'a>
@@ -91,26 +115,34 @@ fn new_command<'a>(alloc: Global) -> Result<Command<'a>, AllocError>
     ensures shape { IfOk result (λ c. shape_of c ≡ create_shape) }
     ensures local { IfOk result (λ c. (out-Command c).has_globals ≡ false) }
 {
-    Command::new(alloc, "new")
-        .about("Make an edit file that makes a world")
-        .arg(required_argument(
+    let command = bare_command(alloc, "new", "Make an edit file that makes a world");
+    let command = with_argument(
+        command,
+        required_argument(
             alloc,
             "OUT",
             "The edit file to write; stdout is standard output",
-        ))?
-        .arg(world_argument(alloc))?
-        .arg(option_argument(
+        ),
+    )?;
+    let command = with_argument(command, world_argument(alloc))?;
+    let command = with_argument(
+        command,
+        option_argument(
             alloc,
             "from",
             "FILE",
             "A world file to start from; without it there is an empty title board",
-        ))?
-        .arg(option_argument(
+        ),
+    )?;
+    with_argument(
+        command,
+        option_argument(
             alloc,
             "name",
             "TEXT",
             "The name of the new world, at most 20 bytes; not for a world file",
-        ))
+        ),
+    )
 }
 
 fn replica_argument<'a>(alloc: Global) -> Arg<'a>
@@ -128,19 +160,24 @@ fn edit_command<'a>(alloc: Global) -> Result<Command<'a>, AllocError>
     ensures shape { IfOk result (λ c. shape_of c ≡ edit_shape) }
     ensures local { IfOk result (λ c. (out-Command c).has_globals ≡ false) }
 {
-    Command::new(alloc, "edit")
-        .about("Add an action of an author to an edit file")
-        .arg(required_argument(
+    let command = bare_command(alloc, "edit", "Add an action of an author to an edit file");
+    let command = with_argument(
+        command,
+        required_argument(
             alloc,
             "FILE",
             "The edit file, which is read and written again",
-        ))?
-        .arg(replica_argument(alloc))?
-        .arg(several_argument(
+        ),
+    )?;
+    let command = with_argument(command, replica_argument(alloc))?;
+    with_argument(
+        command,
+        several_argument(
             alloc,
             "WORDS",
             "The action: board-add NAME, board-remove B, board-name B NAME, exit B north|south|west|east TO (0 for none), cells B X0 Y0 X1 Y1 ELEMENT COLOUR, stat-add B X Y CYCLE, stat-remove B S, insert B S POS TEXT (| ends a line) or delete B S FROM TO; B is a board's number, 0 for the title, and S a stat's on it, 0 for the player",
-        ))
+        ),
+    )
 }
 
 /// `merge OUT WORLD FILES...`
@@ -148,15 +185,21 @@ fn merge_command<'a>(alloc: Global) -> Result<Command<'a>, AllocError>
     ensures shape { IfOk result (λ c. shape_of c ≡ merge_shape) }
     ensures local { IfOk result (λ c. (out-Command c).has_globals ≡ false) }
 {
-    Command::new(alloc, "merge")
-        .about("Join edit files of a world to one, with the edits in the order of their stamps")
-        .arg(required_argument(
+    let command = bare_command(
+        alloc,
+        "merge",
+        "Join edit files of a world to one, with the edits in the order of their stamps",
+    );
+    let command = with_argument(
+        command,
+        required_argument(
             alloc,
             "OUT",
             "The edit file to write; stdout is standard output",
-        ))?
-        .arg(world_argument(alloc))?
-        .arg(files_argument(alloc))
+        ),
+    )?;
+    let command = with_argument(command, world_argument(alloc))?;
+    with_argument(command, files_argument(alloc))
 }
 
 // The number of a board.
@@ -175,10 +218,13 @@ fn show_command<'a>(alloc: Global) -> Result<Command<'a>, AllocError>
     ensures shape { IfOk result (λ c. shape_of c ≡ show_shape) }
     ensures local { IfOk result (λ c. (out-Command c).has_globals ≡ false) }
 {
-    Command::new(alloc, "show")
-        .about("Print the picture of a board of the world of edit files")
-        .arg(board_argument(alloc))?
-        .arg(files_argument(alloc))
+    let command = bare_command(
+        alloc,
+        "show",
+        "Print the picture of a board of the world of edit files",
+    );
+    let command = with_argument(command, board_argument(alloc))?;
+    with_argument(command, files_argument(alloc))
 }
 
 /// `play BOARD WORDS FILES...`
@@ -186,22 +232,26 @@ fn play_command<'a>(alloc: Global) -> Result<Command<'a>, AllocError>
     ensures shape { IfOk result (λ c. shape_of c ≡ play_shape) }
     ensures local { IfOk result (λ c. (out-Command c).has_globals ≡ false) }
 {
-    Command::new(alloc, "play")
-        .about(
-            "Play a board of the world of edit files by keys of standard input: n s e w move, N S E W shoot, . waits",
-        )
-        .arg(board_argument(alloc))?
-        .arg(required_argument(
+    let command = bare_command(
+        alloc,
+        "play",
+        "Play a board of the world of edit files by keys of standard input: n s e w move, N S E W shoot, . waits",
+    );
+    let command = with_argument(command, board_argument(alloc))?;
+    let command = with_argument(
+        command,
+        required_argument(
             alloc,
             "WORDS",
             "A file of the chances of the playtest: 16-bit numbers, the low byte first",
-        ))?
-        .arg(files_argument(alloc))
+        ),
+    )?;
+    with_argument(command, files_argument(alloc))
 }
 
-/// The words after the program's name.
-pub(crate) fn zzted_command<'a>(alloc: Global) -> Result<Command<'a>, AllocError>
-    ensures { IfOk result (λ c. app_of c ≡ zzted_app) }
+// The program without its commands.
+fn top_command<'a>(alloc: Global) -> Result<Command<'a>, AllocError>
+    ensures { IfOk result (λ c. app_of c ≡ top_app) }
 {
     Command::new(alloc, "zzted")
         .about(
@@ -209,12 +259,28 @@ pub(crate) fn zzted_command<'a>(alloc: Global) -> Result<Command<'a>, AllocError
         )
         .no_binary_name(true)
         .subcommand_required(true)
-        .bin_name("zzted")?
-        .subcommand(save_command(alloc)?)?
-        .subcommand(check_command(alloc)?)?
-        .subcommand(new_command(alloc)?)?
-        .subcommand(edit_command(alloc)?)?
-        .subcommand(merge_command(alloc)?)?
-        .subcommand(show_command(alloc)?)?
-        .subcommand(play_command(alloc)?)
+        .bin_name("zzted")
+}
+
+// A program with one command more.
+fn with_command<'a>(program: Command<'a>, command: Command<'a>) -> Result<Command<'a>, AllocError>
+    requires local { (out-Command command).has_globals ≡ false }
+    ensures { IfOk result (λ c.
+        app_of c ≡ with_subcommand (app_of program.entry) (shape_of command.entry)) }
+{
+    program.subcommand(command)
+}
+
+/// The words after the program's name.
+pub(crate) fn zzted_command<'a>(alloc: Global) -> Result<Command<'a>, AllocError>
+    ensures { IfOk result (λ c. app_of c ≡ zzted_app) }
+{
+    let program = top_command(alloc)?;
+    let program = with_command(program, save_command(alloc)?)?;
+    let program = with_command(program, check_command(alloc)?)?;
+    let program = with_command(program, new_command(alloc)?)?;
+    let program = with_command(program, edit_command(alloc)?)?;
+    let program = with_command(program, merge_command(alloc)?)?;
+    let program = with_command(program, show_command(alloc)?)?;
+    with_command(program, play_command(alloc)?)
 }

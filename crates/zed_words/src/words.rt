@@ -1,9 +1,10 @@
 //! What the words of the command line ask for.
 ghost use Rattle.std.specs.Prelude.{◌≡◌, ◌⊎◌, IfOk, MatchResult, Some, None, [], map, option_and_then, option_map, string_bytes};
+ghost use Rattle.clap.specs.Walk.{all_of, first_of, one_of};
 ghost use Rattle.clap.specs.Words.{FailsBy, fault_of, found_of, rows_of, subcommand_of, subcommand_rows_of};
 ghost use Rattle.zed_words.specs.declared.words.ParseError.TheVariants.{Memory};
 ghost use Rattle.zed_words.specs.Grammar.{zzted_app};
-ghost use Rattle.zed_words.specs.Commands.{subcommand_asks, check_of, edit_of, meaning_of, merge_of, new_of, play_of, save_of, show_of, command_of};
+ghost use Rattle.zed_words.specs.Commands.{subcommand_asks, check_of, edit_of, meaning_of, merge_of, new_of, number_of, play_of, save_of, show_of, command_of};
 
 use crate::grammar::zzted_command;
 use clap::error::ErrorKind;
@@ -70,14 +71,50 @@ impl From<AllocError> for ParseError {
     }
 }
 
+// The word of this name, if it is there.
+fn word_in<'a>(matches: &ArgMatches<'a>, name: &str) -> Option<&'a str>
+    ensures { option_map (λ s. s.now) result ≡ first_of name.now (rows_of (found_of matches.now)) }
+{
+    matches.get_str(name)
+}
+
+// All words of this name, if it is there.
+fn words_in<'a>(
+    alloc: Global,
+    matches: &ArgMatches<'a>,
+    name: &str,
+) -> Result<Option<Vec<&'a str>>, AllocError>
+    ensures { IfOk result (λ words. option_map (λ ws. map (λ s. s.now) ws.items) words
+        ≡ all_of name.now (rows_of (found_of matches.now))) }
+{
+    match matches.get_strs(name) {
+        Some(words) => Ok(Some(Vec::from_slice(alloc, words)?)),
+        None => Ok(None),
+    }
+}
+
+// The number of a world that the word of this name writes.
+fn world_in(matches: &ArgMatches<'_>, name: &str) -> Option<u64>
+    ensures { result
+        ≡ option_and_then (number_of 64) (one_of name.now (rows_of (found_of matches.now))) }
+{
+    matches.get_one::<u64>(name)
+}
+
+// The number of a replica or a board that the word of this name writes.
+fn number_in(matches: &ArgMatches<'_>, name: &str) -> Option<u16>
+    ensures { result
+        ≡ option_and_then (number_of 16) (one_of name.now (rows_of (found_of matches.now))) }
+{
+    matches.get_one::<u16>(name)
+}
+
 fn save_in<'a>(alloc: Global, matches: &ArgMatches<'a>) -> Result<Option<Command<'a>>, AllocError>
     ensures { IfOk result (λ a.
         option_map meaning_of a ≡ save_of (rows_of (found_of matches.now))) }
 {
-    let out = matches.get_str("OUT");
-    let files = matches.get_strs("FILES");
-    if let (Some(out), Some(files)) = (out, files) {
-        let files = Vec::from_slice(alloc, files)?;
+    let files = words_in(alloc, matches, "FILES")?;
+    if let (Some(out), Some(files)) = (word_in(matches, "OUT"), files) {
         Ok(Some(Command::Save { out, files }))
     } else {
         Ok(None)
@@ -88,21 +125,18 @@ fn check_in<'a>(alloc: Global, matches: &ArgMatches<'a>) -> Result<Option<Comman
     ensures { IfOk result (λ a.
         option_map meaning_of a ≡ check_of (rows_of (found_of matches.now))) }
 {
-    let Some(files) = matches.get_strs("FILES") else {
-        return Ok(None);
-    };
-    let files = Vec::from_slice(alloc, files)?;
-    Ok(Some(Command::Check { files }))
+    match words_in(alloc, matches, "FILES")? {
+        Some(files) => Ok(Some(Command::Check { files })),
+        None => Ok(None),
+    }
 }
 
 fn new_in<'a>(matches: &ArgMatches<'a>) -> Option<Command<'a>>
     ensures { option_map meaning_of result ≡ new_of (rows_of (found_of matches.now)) }
 {
-    let out = matches.get_str("OUT");
-    let world = matches.get_one::<u64>("WORLD");
-    let from = matches.get_str("from");
-    let name = matches.get_str("name");
-    if let (Some(out), Some(world)) = (out, world) {
+    let from = word_in(matches, "from");
+    let name = word_in(matches, "name");
+    if let (Some(out), Some(world)) = (word_in(matches, "OUT"), world_in(matches, "WORLD")) {
         Some(Command::New {
             out,
             world,
@@ -118,11 +152,10 @@ fn edit_in<'a>(alloc: Global, matches: &ArgMatches<'a>) -> Result<Option<Command
     ensures { IfOk result (λ a.
         option_map meaning_of a ≡ edit_of (rows_of (found_of matches.now))) }
 {
-    let file = matches.get_str("FILE");
-    let replica = matches.get_one::<u16>("REPLICA");
-    let words = matches.get_strs("WORDS");
+    let file = word_in(matches, "FILE");
+    let replica = number_in(matches, "REPLICA");
+    let words = words_in(alloc, matches, "WORDS")?;
     if let (Some(file), Some(replica), Some(words)) = (file, replica, words) {
-        let words = Vec::from_slice(alloc, words)?;
         Ok(Some(Command::Edit {
             file,
             replica,
@@ -137,11 +170,10 @@ fn merge_in<'a>(alloc: Global, matches: &ArgMatches<'a>) -> Result<Option<Comman
     ensures { IfOk result (λ a.
         option_map meaning_of a ≡ merge_of (rows_of (found_of matches.now))) }
 {
-    let out = matches.get_str("OUT");
-    let world = matches.get_one::<u64>("WORLD");
-    let files = matches.get_strs("FILES");
+    let out = word_in(matches, "OUT");
+    let world = world_in(matches, "WORLD");
+    let files = words_in(alloc, matches, "FILES")?;
     if let (Some(out), Some(world), Some(files)) = (out, world, files) {
-        let files = Vec::from_slice(alloc, files)?;
         Ok(Some(Command::Merge { out, world, files }))
     } else {
         Ok(None)
@@ -152,10 +184,8 @@ fn show_in<'a>(alloc: Global, matches: &ArgMatches<'a>) -> Result<Option<Command
     ensures { IfOk result (λ a.
         option_map meaning_of a ≡ show_of (rows_of (found_of matches.now))) }
 {
-    let board = matches.get_one::<u16>("BOARD");
-    let files = matches.get_strs("FILES");
-    if let (Some(board), Some(files)) = (board, files) {
-        let files = Vec::from_slice(alloc, files)?;
+    let files = words_in(alloc, matches, "FILES")?;
+    if let (Some(board), Some(files)) = (number_in(matches, "BOARD"), files) {
         Ok(Some(Command::Show { board, files }))
     } else {
         Ok(None)
@@ -166,11 +196,10 @@ fn play_in<'a>(alloc: Global, matches: &ArgMatches<'a>) -> Result<Option<Command
     ensures { IfOk result (λ a.
         option_map meaning_of a ≡ play_of (rows_of (found_of matches.now))) }
 {
-    let board = matches.get_one::<u16>("BOARD");
-    let chance = matches.get_str("WORDS");
-    let files = matches.get_strs("FILES");
+    let board = number_in(matches, "BOARD");
+    let chance = word_in(matches, "WORDS");
+    let files = words_in(alloc, matches, "FILES")?;
     if let (Some(board), Some(chance), Some(files)) = (board, chance, files) {
-        let files = Vec::from_slice(alloc, files)?;
         Ok(Some(Command::Play {
             board,
             chance,
