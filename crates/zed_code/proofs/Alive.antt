@@ -1,7 +1,7 @@
 -- The bytes of runs that are alive.
-use Rattle.std.proofs.Common.{◌≡◌, ◌≤◌, ◌<◌, ◌^◌, ℕ, zero, suc, ◌+◌, ◌-◌, Bool, true, false, cond, List, [], ◌∷◌, ◌++◌, map, length, take, drop, get_or, slice_get, Option, Some, None, option_map, length-append, subst, refl, ap, ◌∙◌, sym, arith, ltb}
+use Rattle.std.proofs.Common.{◌≡◌, ◌≤◌, ◌<◌, ℕ, zero, suc, ◌+◌, ◌-◌, Bool, true, false, cond, List, [], ◌∷◌, ◌++◌, map, length, drop, get_or, slice_get, Option, Some, None, length-append, subst, refl, ap, ◌∙◌, sym, arith, ltb}
 use Rattle.std.specs.List.{AllByRecursion, filter}
-use Rattle.std.proofs.lemmas.List.{length-map, map-append, get_or-take, get_or-drop, length-take-le, length-drop}
+use Rattle.std.proofs.lemmas.List.{length-map, map-append, get_or-take, get_or-drop}
 use Rattle.zed_types.specs.Names.{byte_of}
 use Rattle.zed_types.specs.declared.stamp.Stamp.{Stamp}
 use Rattle.zed_types.specs.declared.names.ElemId.{ElemId}
@@ -9,7 +9,7 @@ use Rattle.zed_types.specs.declared.text.TextByte.{TextByte}
 use Rattle.zed_types.specs.Text.{alive_bytes}
 use Rattle.zed_code.specs.declared.run.Run.{Run}
 use Rattle.zed_code.specs.Pieces.{run_of}
-use Rattle.zed_code.specs.Cutting.{bytes_in, elements_in, spelled}
+use Rattle.zed_code.specs.Cutting.{bytes_in, spelled}
 use Rattle.zed_code.specs.Reading.{live, live_at}
 use Rattle.zed_code.specs.Kept.{IsRun, total}
 use Rattle.zed_code.specs.Text.{alive_names}

@@ -1,11 +1,10 @@
 -- Runs and their store stay well kept by an insertion.
-use Rattle.std.proofs.Common.{◌≡◌, ◌≤◌, ◌<◌, ◌^◌, ℕ, zero, suc, ◌+◌, ◌-◌, Bool, true, false, cond, ◌&&◌, List, [], ◌∷◌, ◌++◌, length, take, drop, insert, set, get_or, Option, Some, None, length-append, refl, ap, ◌∙◌, sym, arith, eqb, leb, ltb}
+use Rattle.std.proofs.Common.{◌≡◌, ◌≤◌, ◌<◌, ◌^◌, ℕ, suc, ◌+◌, Bool, true, false, cond, List, [], ◌∷◌, ◌++◌, length, Option, Some, None, length-append, refl, ap, arith, ltb}
 use Rattle.std.specs.List.{AllByRecursion}
-use Rattle.zed_types.specs.declared.stamp.Stamp.{Stamp}
 use Rattle.zed_types.specs.declared.names.ElemId.{ElemId}
 use Rattle.zed_types.specs.Stamp.{before, same_stamp}
 use Rattle.zed_code.specs.declared.run.Run.{Run}
-use Rattle.zed_code.specs.Runs.{has, found, passed, pass_runs, put_behind, put_at, put_run, up_to, front, back}
+use Rattle.zed_code.specs.Runs.{has, found, pass_runs, put_behind, put_at, put_run, up_to, front, back}
 use Rattle.zed_code.specs.There.{IsThere}
 use Rattle.zed_code.specs.Kept.{IsRun, InOrder, AllInOrder, total, NoneOf, AreKept}
 

@@ -1,18 +1,18 @@
 -- What runs spell after a deletion, and how they stay well kept.
-use Rattle.std.proofs.Common.{◌≡◌, ◌≤◌, ◌<◌, ◌^◌, ℕ, zero, suc, ◌+◌, ◌-◌, min, Bool, true, false, cond, not, ◌&&◌, List, [], ◌∷◌, ◌++◌, map, length, take, drop, Option, Some, None, length-append, refl, ap, ◌∙◌, sym, arith, eqb, leb, ltb, append_assoc, append-nil}
-use Rattle.std.specs.List.{AllByRecursion, flat_map}
-use Rattle.std.proofs.lemmas.List.{take-append-drop, drop-drop, length-take-le, length-drop, take_all, drop_all}
+use Rattle.std.proofs.Common.{◌≡◌, ◌≤◌, ◌<◌, ℕ, zero, suc, ◌+◌, ◌-◌, min, Bool, true, false, cond, ◌&&◌, List, [], ◌∷◌, ◌++◌, length, take, drop, length-append, refl, ap, ◌∙◌, sym, arith, leb, ltb, append_assoc, append-nil}
+use Rattle.std.specs.List.{AllByRecursion}
+use Rattle.std.proofs.lemmas.List.{take-append-drop, drop-drop, length-take-le, length-drop, take_all}
 use Rattle.zed_types.specs.Names.{byte_of}
 use Rattle.zed_types.specs.declared.stamp.Stamp.{Stamp}
 use Rattle.zed_types.specs.declared.text.TextByte.{TextByte}
 use Rattle.zed_types.specs.declared.text.ByteRange.{ByteRange}
-use Rattle.zed_types.specs.Stamp.{before, same_stamp}
+use Rattle.zed_types.specs.Stamp.{same_stamp}
 use Rattle.zed_types.specs.Text.{kill, kill_within}
 use Rattle.zed_code.specs.declared.run.Run.{Run}
-use Rattle.zed_code.specs.Runs.{low, high, touches, part, killed, if_any, pieces, kill_runs, front, back}
+use Rattle.zed_code.specs.Runs.{low, high, touches, part, killed, if_any, pieces, kill_runs, back}
 use Rattle.zed_code.specs.Pieces.{run_of}
 use Rattle.zed_code.specs.Cutting.{bytes_in, elements_in, spelled}
-use Rattle.zed_code.specs.Kept.{IsRun, IsSound, InOrder, AllInOrder, total, AreKept}
+use Rattle.zed_code.specs.Kept.{IsRun, InOrder, AllInOrder, total, AreKept}
 use Rattle.zed_code.proofs.Spelling.{bytes-count, bytes-front, bytes-back}
 
 kill-append : (x : ByteRange) (xs ys : List TextByte) → kill x (xs ++ ys) ≡ kill x xs ++ kill x ys

@@ -7,3 +7,4 @@ pub mod PutBytes
 pub mod Rests
 pub mod RisingEdits
 pub mod Spelling
+pub mod Starts

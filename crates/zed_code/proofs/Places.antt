@@ -1,13 +1,12 @@
 -- The places that `find` and `pass` tell are those of the definitions.
-use Rattle.std.proofs.Common.{◌≡◌, ◌≤◌, ◌<◌, ◌^◌, ℕ, zero, suc, ◌+◌, ◌-◌, min, Bool, true, false, cond, ◌&&◌, List, [], ◌∷◌, ◌++◌, length, take, drop, set, get_or, Option, Some, None, refl, ap, ◌∙◌, sym, subst, arith, eqb, leb, ltb}
+use Rattle.std.proofs.Common.{◌≡◌, ◌≤◌, ◌<◌, ℕ, zero, suc, ◌+◌, Bool, true, false, cond, ◌&&◌, List, [], ◌∷◌, length, drop, set, get_or, refl, ap, ◌∙◌, sym, subst, arith, leb, ltb}
 use Rattle.std.specs.List.{AllByRecursion, insert}
 use Rattle.zed_types.specs.declared.stamp.Stamp.{Stamp}
 use Rattle.zed_types.specs.declared.names.ElemId.{ElemId}
 use Rattle.zed_types.specs.Stamp.{before, same_stamp}
 use Rattle.zed_code.specs.declared.run.Run.{Run}
-use Rattle.zed_code.specs.Runs.{has, found, passed, pass_runs, put_behind, put_at, put_run, up_to, front, back}
-use Rattle.zed_code.specs.Kept.{IsSound, InOrder, AllInOrder}
-use Rattle.zed_code.specs.Visits.{raised, LooksAtSome}
+use Rattle.zed_code.specs.Runs.{has, found, passed, pass_runs, put_behind, put_at, up_to, front, back}
+use Rattle.zed_code.specs.Visits.{raised}
 
 pub passed-within : (s : Stamp) (rs : List Run) → passed s rs ≤ length rs
 passed-within s [] = omega arith
@@ -77,7 +76,7 @@ bounds-of true n i l h = (grind (arith), grind (arith))
 pub held-bounds : (a : ElemId) (r : Run) → has a r ≡ true → (r.first ≤ a.name.index) × (a.name.index < r.first + r.len)
 held-bounds a r h = bounds-of (same_stamp r.stamp a.name.stamp) r.first a.name.index r.len h
 
--- a run that has a byte is the first that has it
+-- the first run
 abbrev head_or : Run → List Run → Run
 head_or r [] = r
 head_or r (q ∷ rs) = q
@@ -87,26 +86,3 @@ all-behind P [] zero r ts h e = absurd (cc)
 all-behind P [] (suc i) r ts h e = absurd (cc)
 all-behind P (q ∷ rs) zero r ts h e = let f : q ≡ r = ap (head_or r) e in subst P f h.0
 all-behind P (q ∷ rs) (suc i) r ts h e = all-behind P rs i r ts h.1 e
-
-same-pair : (q r a : Stamp) → same_stamp q a ≡ true → same_stamp r a ≡ true → same_stamp q r ≡ true
-same-pair q r a h k = grind (arith)
-
-stamp-of : (s : Bool) (n i l : ℕ) → (s && (leb n i && ltb i (n + l))) ≡ true → s ≡ true
-stamp-of false n i l h = h
-stamp-of true n i l h = refl
-
-pub found-one : (a : ElemId) (rs : List Run) (i : ℕ) (r : Run) (ts : List Run) → AllInOrder rs → drop i rs ≡ r ∷ ts → has a r ≡ true → found a rs ≡ i
-found-one a [] zero r ts o e h = absurd (cc)
-found-one a [] (suc i) r ts o e h = absurd (cc)
-found-one a (q ∷ rs) zero r ts o e h =
-    let f : q ≡ r = ap (head_or r) e in
-    let k : has a q ≡ true = ap (has a) f ∙ h in
-    rw k refl
-found-one a (q ∷ rs) (suc i) r ts o e h = go (has a q) refl (found-one a rs i r ts o.1 e h)
-  where
-    go : (b : Bool) → has a q ≡ b → found a rs ≡ i → cond b 0 (suc (found a rs)) ≡ suc i
-    go false b more = ap suc more
-    go true b more =
-        let in_order : InOrder q r = all-behind (InOrder q) rs i r ts o.0 e in
-        let s = same-pair q.stamp r.stamp a.name.stamp (stamp-of (same_stamp q.stamp a.name.stamp) q.first a.name.index q.len b) (stamp-of (same_stamp r.stamp a.name.stamp) r.first a.name.index r.len h) in
-        absurd (omega (arith, in_order s, (held-bounds a q b).1, (held-bounds a r h).0))

@@ -1,7 +1,6 @@
 -- What an insertion makes of a text, said of its elements.
-use Rattle.std.proofs.Common.{◌≡◌, ◌≤◌, ◌<◌, ◌^◌, ℕ, zero, suc, ◌+◌, ◌-◌, Bool, true, false, cond, ◌&&◌, ◌||◌, List, [], ◌∷◌, ◌++◌, map, length, take, drop, Option, Some, None, length-append, append-nil, refl, ap, ◌∙◌, sym, arith, eqb, leb, ltb}
+use Rattle.std.proofs.Common.{◌≡◌, ◌≤◌, ◌<◌, ◌^◌, ℕ, suc, ◌+◌, Bool, true, false, cond, ◌&&◌, List, [], ◌∷◌, ◌++◌, map, length, take, drop, Option, Some, None, append-nil, refl, ap, ◌∙◌, sym, arith, eqb, leb, ltb}
 use Rattle.std.specs.List.{AllByRecursion, list_any}
-use Rattle.std.proofs.lemmas.Bool.{and_parts}
 use Rattle.std.proofs.lemmas.List.{drop_at, take_all, drop-append-le, take-append-le, length-drop, length-map}
 use Rattle.zed_types.specs.declared.stamp.Stamp.{Stamp}
 use Rattle.zed_types.specs.declared.names.ElemId.{ElemId}
@@ -11,11 +10,11 @@ use Rattle.zed_types.specs.Names.{same_element}
 use Rattle.zed_types.specs.Text.{run_from, behind, pass_later, put_late}
 use Rattle.zed_code.specs.declared.run.Run.{Run}
 use Rattle.zed_code.specs.Runs.{has, found, put_run, whole, if_any}
-use Rattle.zed_code.specs.Pieces.{Piece, Shown, run_of, written_out}
+use Rattle.zed_code.specs.Pieces.{run_of, written_out}
 use Rattle.zed_code.specs.Cutting.{bytes_in, elements_in, piece_in, spelled}
 use Rattle.zed_code.specs.There.{IsThere}
 use Rattle.zed_code.specs.Kept.{IsRun, IsSound, NoneOf, AreKept}
-use Rattle.zed_code.specs.Text.{elements, StandsAfter, IsNewStamp, HasMore}
+use Rattle.zed_code.specs.Text.{StandsAfter, IsNewStamp}
 use Rattle.zed_code.proofs.Spelling.{run_from-is, bytes-count, spelled-pass_runs, spelled-put_at}
 use Rattle.zed_code.proofs.Keeping.{kept-put_run, length-put_run, is-longer}
 
@@ -44,6 +43,33 @@ none-here a r alive n (b ∷ bs) rest h = rw (first (same_stamp r a.name.stamp) 
     more : (s : Bool) (n i l : ℕ) → (s && (leb n i && ltb i (n + suc l))) ≡ false → (s && (leb (n + 1) i && ltb i (n + 1 + l))) ≡ false
     more false n i l h = refl
     more true n i l h = grind (arith)
+
+-- a byte that a run has is in the text
+some-here : (a : ElemId) (r : Stamp) (alive : Bool) (n : ℕ) (bs : List ℕ) (rest : List TextByte) → (same_stamp r a.name.stamp && (leb n a.name.index && ltb a.name.index (n + length bs))) ≡ true → list_any (λ x. same_element x.id a) (run_of r alive n bs ++ rest) ≡ true
+some-here a r alive n [] rest h = absurd (none (same_stamp r a.name.stamp) n a.name.index h)
+  where
+    none : (s : Bool) (n i : ℕ) → (s && (leb n i && ltb i (n + 0))) ≡ true → ⊥
+    none false n i k = absurd (cc)
+    none true n i k = grind (arith)
+some-here a r alive n (b ∷ bs) rest h = go (λ k. some-here a r alive (n + 1) bs rest k) (same_stamp r a.name.stamp && eqb n a.name.index) refl
+  where
+    more : (s : Bool) (n i l : ℕ) → (s && (leb n i && ltb i (n + suc l))) ≡ true → (s && eqb n i) ≡ false → (s && (leb (n + 1) i && ltb i (n + 1 + l))) ≡ true
+    more false n i l k e = absurd (cc)
+    more true n i l k e = grind (arith)
+
+    go : ((same_stamp r a.name.stamp && (leb (n + 1) a.name.index && ltb a.name.index (n + 1 + length bs))) ≡ true → list_any (λ x. same_element x.id a) (run_of r alive (n + 1) bs ++ rest) ≡ true)
+        → (v : Bool) → (same_stamp r a.name.stamp && eqb n a.name.index) ≡ v → list_any (λ x. same_element x.id a) (run_of r alive n (b ∷ bs) ++ rest) ≡ true
+    go behind true e = rw e refl
+    go behind false e = rw e (behind (more (same_stamp r a.name.stamp) n a.name.index (length bs) h e))
+
+-- what runs spell has a byte just where one of them has it
+pub spelled-has : (store : List ℕ) (a : ElemId) (rs : List Run) → AllByRecursion (IsRun store) rs → list_any (λ x. same_element x.id a) (spelled store rs) ≡ list_any (has a) rs
+spelled-has store a [] each = refl
+spelled-has store a (r ∷ rs) each = go (spelled-has store a rs each.1) (has a r) refl
+  where
+    go : list_any (λ x. same_element x.id a) (spelled store rs) ≡ list_any (has a) rs → (b : Bool) → has a r ≡ b → list_any (λ x. same_element x.id a) (spelled store (r ∷ rs)) ≡ list_any (has a) (r ∷ rs)
+    go more true b = rw b (some-here a r.stamp r.alive r.first (bytes_in store r) (spelled store rs) (rw (bytes-count store r each.0) b))
+    go more false b = rw b (none-here a r.stamp r.alive r.first (bytes_in store r) (spelled store rs) (rw (bytes-count store r each.0) b) ∙ more)
 
 pub held-there : (store : List ℕ) (a : ElemId) (rs : List Run) → AllByRecursion (IsRun store) rs → list_any (λ x. same_element x.id a) (spelled store rs) ≡ true → found a rs < length rs
 held-there store a [] each h = absurd (cc)

@@ -1,15 +1,14 @@
 -- What runs spell after an insertion.
-use Rattle.std.proofs.Common.{◌≡◌, ◌≤◌, ◌<◌, ℕ, zero, suc, ◌+◌, ◌-◌, Bool, true, false, cond, ◌&&◌, List, [], ◌∷◌, ◌++◌, length, take, drop, Option, Some, None, refl, ap, ◌∙◌, sym, append_assoc, append-nil, arith, eqb, leb, ltb}
-use Rattle.std.specs.List.{AllByRecursion, flat_map}
-use Rattle.std.proofs.lemmas.Bool.{and_parts}
+use Rattle.std.proofs.Common.{◌≡◌, ◌≤◌, ◌<◌, ℕ, zero, suc, ◌+◌, ◌-◌, Bool, true, false, ◌&&◌, List, [], ◌∷◌, ◌++◌, length, take, drop, refl, ap, ◌∙◌, sym, append-nil, arith, eqb, leb, ltb}
+use Rattle.std.specs.List.{AllByRecursion}
 use Rattle.zed_types.specs.declared.stamp.Stamp.{Stamp}
 use Rattle.zed_types.specs.declared.names.ElemId.{ElemId}
 use Rattle.zed_types.specs.declared.text.TextByte.{TextByte}
 use Rattle.zed_types.specs.Stamp.{before, same_stamp}
-use Rattle.zed_types.specs.Names.{byte_of, same_element}
-use Rattle.zed_types.specs.Text.{run_from, behind, pass_later, put_late}
+use Rattle.zed_types.specs.Names.{byte_of}
+use Rattle.zed_types.specs.Text.{run_from, behind, pass_later}
 use Rattle.zed_code.specs.declared.run.Run.{Run}
-use Rattle.zed_code.specs.Runs.{has, pass_runs, put_behind, put_at, put_run, up_to, front, back}
+use Rattle.zed_code.specs.Runs.{has, pass_runs, put_behind, put_at, up_to, front, back}
 use Rattle.zed_code.specs.Pieces.{run_of}
 use Rattle.zed_code.specs.Cutting.{bytes_in, elements_in, spelled}
 use Rattle.zed_code.specs.Kept.{IsRun}

@@ -1,9 +1,7 @@
 -- What runs spell: a text.
-use Rattle.std.specs.Prelude.{◌≡◌, ◌≤◌, ◌<◌, ℕ, ◌+◌, ◌^◌, Bool, true, List, [], ◌∷◌, ◌++◌, length, take, drop}
-use Rattle.std.specs.List.{AllByRecursion, flat_map}
-use Rattle.zed_types.specs.declared.stamp.Stamp.{Stamp}
+use Rattle.std.specs.Prelude.{ℕ, List, take, drop}
+use Rattle.std.specs.List.{flat_map}
 use Rattle.zed_types.specs.declared.text.TextByte.{TextByte}
-use Rattle.zed_types.specs.Stamp.{same_stamp}
 use Rattle.zed_code.specs.Pieces.{Piece, run_of}
 use Rattle.zed_code.specs.declared.run.Run.{Run}
 

@@ -1,8 +1,10 @@
 -- What has of the runs of a text and their store.
-use Rattle.std.specs.Prelude.{◌≡◌, ◌≤◌, ◌<◌, ℕ, ◌+◌, ◌^◌, true, false, List, [], ◌∷◌, length}
+use Rattle.std.specs.Prelude.{◌≡◌, ◌≤◌, ◌<◌, ℕ, ◌+◌, ◌^◌, true, false, List, [], ◌∷◌, length, take, Some}
+use Rattle.std.specs.BTreeMap.{is_at}
 use Rattle.std.specs.List.{AllByRecursion}
+use Rattle.std.specs.Map.{lookup}
 use Rattle.zed_types.specs.declared.stamp.Stamp.{Stamp}
-use Rattle.zed_types.specs.Stamp.{same_stamp}
+use Rattle.zed_types.specs.Stamp.{same_stamp, stamp_cmp}
 use Rattle.zed_code.specs.declared.run.Run.{Run}
 
 -- a run has a byte, and its bytes are in the store
@@ -41,3 +43,12 @@ pub record AreKept (store : List ℕ) (rs : List Run) : Type 0 where
   pub each : AllByRecursion (IsRun store) rs
   pub ordered : AllInOrder rs
   pub all : total rs ≡ length store
+
+-- before the place that the hints have for an edit no run of it stands
+abbrev pub AreHints : List (Stamp × ℕ) → List Run → Type 0
+AreHints hints rs = (s : Stamp) (h : ℕ) → lookup (is_at (stamp_cmp s)) hints ≡ Some h → NoneOf s (take h rs)
+
+-- what is kept of a text: its runs and their store, and hints that hold
+pub record IsWhole (store : List ℕ) (rs : List Run) (places : List (Stamp × ℕ)) : Type 0 where
+  pub kept : AreKept store rs
+  pub hints : AreHints places rs

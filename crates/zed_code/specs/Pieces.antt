@@ -1,5 +1,5 @@
 -- A cutting of a text: its runs, in order.
-use Rattle.std.specs.Prelude.{ℕ, ◌+◌, Bool, List, [], ◌∷◌, ◌++◌}
+use Rattle.std.specs.Prelude.{ℕ, ◌+◌, Bool, List, [], ◌∷◌}
 use Rattle.std.specs.List.{flat_map}
 use Rattle.zed_types.specs.Names.{byte_of}
 use Rattle.zed_types.specs.declared.stamp.Stamp.{Stamp}

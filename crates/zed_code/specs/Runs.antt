@@ -1,9 +1,8 @@
 -- Runs of a text, and what an insertion and a deletion do to a list of them.
-use Rattle.std.specs.Prelude.{ℕ, suc, ◌+◌, ◌-◌, Bool, true, false, ◌&&◌, if◌then◌else◌, nat_le, nat_lt, List, [], ◌∷◌, ◌++◌, length, take, drop, max, min, Option, Some, None}
+use Rattle.std.specs.Prelude.{ℕ, suc, ◌+◌, ◌-◌, Bool, true, false, ◌&&◌, if◌then◌else◌, nat_le, nat_lt, List, [], ◌∷◌, ◌++◌, min, Option, Some, None}
 use Rattle.std.specs.List.{flat_map}
 use Rattle.zed_types.specs.declared.stamp.Stamp.{Stamp}
 use Rattle.zed_types.specs.declared.names.ElemId.{ElemId}
-use Rattle.zed_types.specs.declared.text.TextByte.{TextByte}
 use Rattle.zed_types.specs.declared.text.ByteRange.{ByteRange}
 use Rattle.zed_types.specs.Stamp.{before, same_stamp}
 use Rattle.zed_code.specs.declared.run.Run.{Run}
@@ -69,6 +68,10 @@ high x r = min r.len (suc x.last - r.first)
 -- whether alive bytes of a run are in a range
 abbrev pub touches : ByteRange → Run → Bool
 touches x r = r.alive && (same_stamp r.stamp x.stamp && nat_lt (low x r) (high x r))
+
+-- whether the end of a range stands before the end of a run of its insertion
+abbrev pub reaches : ByteRange → Run → Bool
+reaches x r = same_stamp r.stamp x.stamp && nat_lt x.last (r.first + r.len)
 
 -- the bytes of a run from one place to another
 abbrev pub part : ℕ → ℕ → Run → Run

@@ -12,7 +12,3 @@ raised v n = min (v + n) greatest
 -- so many more runs were looked at: at most one more than n, and at least one, if there is one
 abbrev pub LooksAtSome : ℕ → ℕ → ℕ → Type 0
 LooksAtSome n old new = (k : ℕ) × (new ≡ raised old k) × (k ≤ n + 1) × (0 < n → 0 < k)
-
--- so many more runs were looked at, one of which was sought at place `i` of n: at most two behind it
-abbrev pub LooksNear : ℕ → ℕ → ℕ → ℕ → Type 0
-LooksNear i n old new = (k : ℕ) × (new ≡ raised old k) × (k ≤ i + 2) × (k ≤ n + 1) × (0 < n → 0 < k)

@@ -3,7 +3,7 @@
 ghost use Rattle.std.specs.Prelude.{◌≡◌, ◌∷◌, ◌++◌, ◌<◌, ◌≤◌, ◌+◌, ◌-◌, length, take, drop, vec_len, vec_capacity};
 ghost use Rattle.std.specs.List.{AllByRecursion};
 ghost use Rattle.zed_code.specs.Runs.{pieces, kill_runs, touches as is_touched};
-ghost use Rattle.zed_code.specs.Kept.{IsSound};
+ghost use Rattle.zed_code.specs.Kept.{IsSound, AllInOrder, NoneOf};
 ghost use Rattle.zed_code.specs.Visits.{LooksAtSome};
 
 use crate::place::look;
@@ -39,17 +39,24 @@ fn cut_at(runs: &mut Vec<Run>, i: usize, run: Run, range: ByteRange) -> usize
     count
 }
 
-/// Marks the bytes of a range dead.
-pub(crate) fn cut(runs: &mut Vec<Run>, range: ByteRange, visits: &mut u64)
+/// Marks the bytes of a range dead, from a place on before which no run of their insertion stands.
+pub(crate) fn cut(runs: &mut Vec<Run>, range: ByteRange, start: usize, visits: &mut u64)
     requires each { AllByRecursion IsSound runs.old.items }
+    requires ordered { AllInOrder runs.old.items }
+    requires within { start ≤ length runs.old.items }
+    requires some { 0 < length runs.old.items → start < length runs.old.items }
+    requires none { NoneOf range.stamp (take start runs.old.items) }
     requires room { length (kill_runs range runs.old.items) ≤ vec_capacity runs.old }
     ensures runs { runs.new.items ≡ kill_runs range runs.old.items }
     ensures visits { LooksAtSome (length runs.old.items) visits.old visits.new }
 {
     let _visits = *visits;
-    let mut i = 0;
+    let mut i = start;
     while i < runs.len() {
         let run = look(runs, i, visits);
         i += cut_at(runs, i, run, range);
+        if run.reaches(range) {
+            return;
+        }
     }
 }

@@ -4,6 +4,7 @@
 
 mod cut;
 mod error;
+mod hints;
 mod insertion;
 mod laws;
 mod place;

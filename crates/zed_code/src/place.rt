@@ -1,9 +1,9 @@
 //! Where an insertion goes.
 
-ghost use Rattle.std.specs.Prelude.{◌≡◌, ◌∷◌, ◌<◌, ◌≤◌, ◌+◌, ◌-◌, ℕ, min, length, drop};
+ghost use Rattle.std.specs.Prelude.{◌≡◌, ◌∷◌, ◌<◌, ◌≤◌, ◌+◌, ◌-◌, ℕ, min, length, take, drop};
 ghost use Rattle.zed_code.specs.Runs.{found, passed};
-ghost use Rattle.zed_code.specs.Kept.{AllInOrder};
-ghost use Rattle.zed_code.specs.Visits.{raised, LooksAtSome, LooksNear};
+ghost use Rattle.zed_code.specs.Kept.{NoneOf};
+ghost use Rattle.zed_code.specs.Visits.{raised, LooksAtSome};
 
 use crate::run::Run;
 use zed_types::{ElemId, Stamp};
@@ -30,25 +30,16 @@ pub(crate) fn look_once(runs: &[Run], visits: &mut u64)
     }
 }
 
-/// The run that has a byte, or how many runs there are. One place is tried first.
-pub(crate) fn find(runs: &[Run], a: ElemId, near: usize, visits: &mut u64) -> usize
-    requires { AllInOrder runs.now }
+/// The run that has a byte, or how many runs there are, sought from a place before which no run of its insertion stands.
+pub(crate) fn find(runs: &[Run], a: ElemId, start: usize, visits: &mut u64) -> usize
+    requires within { start ≤ length runs.now }
+    requires none { NoneOf a.name.stamp (take start runs.now) }
     ensures place { result ≡ found a runs.now }
-    ensures visits { LooksNear result (length runs.now) visits.old visits.new }
-{
-    if near < runs.len() && look(runs, near, visits).has(a) {
-        return near;
-    }
-    scan(runs, a, visits)
-}
-
-/// The first run that has a byte, or how many runs there are.
-fn scan(runs: &[Run], a: ElemId, visits: &mut u64) -> usize
-    ensures place { result ≡ found a runs.now }
-    ensures visits { visits.new ≡ raised visits.old (min (result + 1) (length runs.now)) }
+    ensures from { start ≤ result }
+    ensures visits { visits.new ≡ raised visits.old (min (result + 1) (length runs.now) - start) }
 {
     let _visits = *visits;
-    for i in 0..runs.len() {
+    for i in start..runs.len() {
         if look(runs, i, visits).has(a) {
             return i;
         }

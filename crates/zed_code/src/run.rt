@@ -1,7 +1,7 @@
 ghost use Rattle.std.specs.Prelude.{◌≡◌, ◌+◌, ◌<◌, ◌≤◌, ◌^◌, ◌-◌, length};
 ghost use Rattle.zed_types.specs.Names.{byte_of};
 ghost use Rattle.zed_code.specs.Cutting.{bytes_in};
-ghost use Rattle.zed_code.specs.Runs.{has as is_in, front as front_of, back as back_of, low as low_of, high as high_of, touches as is_touched, part as part_of, killed as killed_of, up_to as count_to, whole as whole_of};
+ghost use Rattle.zed_code.specs.Runs.{has as is_in, front as front_of, back as back_of, low as low_of, high as high_of, touches as is_touched, reaches as is_reached, part as part_of, killed as killed_of, up_to as count_to, whole as whole_of};
 
 use zed_types::{ByteRange, ElemId, Stamp};
 
@@ -104,6 +104,14 @@ impl Run {
         ensures { result ≡ is_touched range self }
     {
         self.alive && self.stamp == range.stamp && self.low(range) < self.high(range)
+    }
+
+    /// Whether the run has the end of a range, or stands behind it, so that no later run has bytes of it.
+    pub(crate) fn reaches(self, range: ByteRange) -> bool
+        ensures { result ≡ is_reached range self }
+    {
+        self.stamp == range.stamp
+            && u64::from(range.last) < u64::from(self.first) + u64::from(self.len)
     }
 
     /// The bytes of the run from one place to another.

@@ -9,6 +9,12 @@ use std::alloc::Global;
 use std::test::Fail;
 use zed_types::{ElemId, Stamp};
 
+/// The size that the allocator of the sweep over refused growths listens to.
+const MARK: usize = 3_141_592;
+
+/// Most growths that a sweep goes through.
+const MOST_GROWTHS: usize = 64;
+
 /// The stamps of the edits that put in x, y, w and z.
 const X: Stamp = Stamp {
     time: 2,
@@ -102,6 +108,26 @@ fn dead_bytes_keep_their_places(rt: HostRuntime) -> Result<(), Fail> {
 }
 
 #[test]
+fn a_byte_is_found_dead_or_alive(rt: HostRuntime) -> Result<(), Fail> {
+    let mut text = letters(rt.alloc())?;
+    text.insert(first_of(Stamp::GENESIS), X, b"xyz")?;
+    text.delete(X, 1, 1)?;
+    for (stamp, index, there) in [
+        (Stamp::GENESIS, 1, true),
+        (Stamp::GENESIS, 2, false),
+        (X, 0, true),
+        (X, 1, true),
+        (X, 2, true),
+        (X, 3, false),
+        (Y, 0, false),
+    ] {
+        let name = ElemId::new(stamp, index);
+        assert_eq!(rt; text.has(name), there);
+    }
+    Ok(())
+}
+
+#[test]
 fn cuttings_do_not_matter(rt: HostRuntime) -> Result<(), Fail> {
     let mut at_once = Text::genesis(rt.alloc(), b"ABC")?;
     at_once.delete(Stamp::GENESIS, 0, 2)?;
@@ -124,5 +150,77 @@ fn an_insertion_of_nothing_changes_nothing(rt: HostRuntime) -> Result<(), Fail> 
     text.insert(None, Y, b"")?;
     assert_eq!(rt; text.visits(), before + 1);
     assert_eq!(rt; text.text()?.as_slice(), b"x".as_slice());
+    Ok(())
+}
+
+#[test]
+fn typing_at_two_places_in_turn_looks_at_few_runs(rt: HostRuntime) -> Result<(), Fail> {
+    let mut text = letters(rt.alloc())?;
+    text.insert(first_of(Stamp::GENESIS), X, b"x")?;
+    text.insert(Some(ElemId::new(Stamp::GENESIS, 1)), Y, b"y")?;
+    let before = text.visits();
+    text.insert(first_of(X), Z, b"z")?;
+    text.insert(first_of(Y), W, b"w")?;
+    assert_eq!(rt; text.text()?.as_slice(), b"AxzByw".as_slice());
+    assert!(rt; text.visits() - before <= 4);
+    let typed = text.visits();
+    text.delete(W, 0, 0)?;
+    assert!(rt; text.visits() - typed <= 2);
+    assert_eq!(rt; text.text()?.as_slice(), b"AxzBy".as_slice());
+    Ok(())
+}
+
+/// Asks that the growth `nth` from here on is refused. An allocator that doesn't listen refuses the request alone.
+fn refuse(alloc: Global, nth: usize) {
+    let _ = Vec::<u8>::with_capacity(alloc, MARK.saturating_add(nth));
+}
+
+/// Ends what `refuse` asked for, and says whether a growth was refused.
+fn was_refused(alloc: Global) -> bool {
+    Vec::<u8>::with_capacity(alloc, MARK).is_err()
+}
+
+/// Whether each growth of `insert`, refused in turn, leaves the text as it was, up to the call that met none.
+fn sweep_insert(alloc: Global) -> Result<bool, Fail> {
+    for nth in 1..=MOST_GROWTHS {
+        let mut text = Text::genesis(alloc, b"ABC")?;
+        text.delete(Stamp::GENESIS, 1, 1)?;
+        refuse(alloc, nth);
+        let answer = text.insert(first_of(Stamp::GENESIS), X, b"x");
+        if !was_refused(alloc) {
+            return Ok(answer.is_ok() && text.text()?.as_slice() == b"AxC".as_slice());
+        }
+        if answer.is_ok() || text.text()?.as_slice() != b"AC".as_slice() {
+            return Ok(false);
+        }
+        text.insert(first_of(Stamp::GENESIS), X, b"x")?;
+        if text.text()?.as_slice() != b"AxC".as_slice() {
+            return Ok(false);
+        }
+    }
+    Ok(false)
+}
+
+/// Whether each growth of `delete`, refused in turn, leaves the text as it was, up to the call that met none.
+fn sweep_delete(alloc: Global) -> Result<bool, Fail> {
+    for nth in 1..=MOST_GROWTHS {
+        let mut text = letters(alloc)?;
+        text.insert(first_of(Stamp::GENESIS), X, b"x")?;
+        refuse(alloc, nth);
+        let answer = text.delete(Stamp::GENESIS, 0, 0);
+        if !was_refused(alloc) {
+            return Ok(answer.is_ok() && text.text()?.as_slice() == b"xB".as_slice());
+        }
+        if answer.is_ok() || text.text()?.as_slice() != b"AxB".as_slice() {
+            return Ok(false);
+        }
+    }
+    Ok(false)
+}
+
+#[test]
+fn a_refused_growth_leaves_the_text(rt: HostRuntime) -> Result<(), Fail> {
+    assert!(rt; sweep_insert(rt.alloc())?);
+    assert!(rt; sweep_delete(rt.alloc())?);
     Ok(())
 }

@@ -1,8 +1,9 @@
 //! A text as contracts see it.
 
 ghost use Rattle.std.specs.Prelude.{◌≡◌, ◌↔◌, IsTrue, ◌<◌, ◌≤◌, ◌+◌, ◌^◌, length, [], false, true, map, OnOk, OnErr, IfOk, IfErr, Some, None, MatchOption, slice_get};
-ghost use Rattle.std.specs.List.{AllByRecursion, filter};
+ghost use Rattle.std.specs.List.{AllByRecursion, filter, list_any};
 ghost use Rattle.zed_types.specs.Stamp.{before, same_stamp};
+ghost use Rattle.zed_types.specs.Names.{same_element};
 ghost use Rattle.zed_types.specs.Text.{run_from, put_late, kill, alive_bytes};
 ghost use Rattle.zed_code.specs.Text.{elements, StandsAfter, IsNewStamp, HasMore, alive_names, bytes_from, genesis};
 ghost use Rattle.zed_code.specs.Runs.{if_any, whole};
@@ -10,12 +11,14 @@ ghost use Rattle.zed_code.specs.Visits.{raised, LooksAtSome};
 
 use crate::cut::cut;
 use crate::error::CodeError;
+use crate::hints::{hint_of, keep_hint};
 use crate::insertion::put;
 use crate::place::look_once;
-use crate::readers::{count_live, live_at};
+use crate::readers::{any_has, count_live, live_at};
 use crate::run::Run;
 use crate::same::spell_same;
 use std::alloc::Global;
+use std::collections::BTreeMap;
 use std::marker::Model;
 use zed_types::{ByteRange, ElemId, Stamp};
 
@@ -25,13 +28,13 @@ pub struct Text {
     store: Vec<u8>,
     runs: Vec<Run>,
     visits: u64,
-    // where the last insertion went: the next mostly follows it
-    near: usize,
+    // where the runs of an insertion are sought: before its place stands none of them
+    hints: BTreeMap<Stamp, usize>,
 }
 
 impl Model for Text {
     ghost use Rattle.zed_code.specs.Cutting.{piece_in};
-    ghost use Rattle.zed_code.specs.Kept.{AreKept};
+    ghost use Rattle.zed_code.specs.Kept.{IsWhole};
     ghost use Rattle.zed_code.specs.Pieces.{Shown};
     ghost use Rattle.std.specs.Prelude.{map};
 
@@ -42,7 +45,7 @@ impl Model for Text {
       visits = t.visits;
     } };
 
-    ghost invariant = { λ t. AreKept t.store.items t.runs.items };
+    ghost invariant = { λ t. IsWhole t.store.items t.runs.items t.hints.entries };
 }
 
 /// The runs of a text that is made with so many bytes.
@@ -68,7 +71,7 @@ impl Text {
             store: Vec::new(alloc),
             runs: Vec::new(alloc),
             visits: 0,
-            near: 0,
+            hints: BTreeMap::new(alloc),
         }
     }
 
@@ -85,7 +88,7 @@ impl Text {
             store,
             runs,
             visits: 0,
-            near: 0,
+            hints: BTreeMap::new(alloc),
         })
     }
 
@@ -136,10 +139,11 @@ impl Text {
             .reserve(bytes.len())
             .map_err(CodeError::of_growth)?;
         self.runs.reserve(2).map_err(CodeError::of_growth)?;
+        keep_hint(&mut self.hints, &self.runs, stamp, 0)?;
         let run = Run::whole(stamp, self.store.len(), bytes.len() as u32);
-        let near = put(&mut self.runs, after, run, self.near, &mut self.visits);
+        let place = put(&mut self.runs, &self.hints, after, run, &mut self.visits);
         self.store.extend_from_slice(bytes).unwrap();
-        self.near = near;
+        keep_hint(&mut self.hints, &self.runs, stamp, place).unwrap();
         Ok(())
     }
 
@@ -158,7 +162,8 @@ impl Text {
             first: from,
             last: to,
         };
-        cut(&mut self.runs, range, &mut self.visits);
+        let start = hint_of(&self.hints, &self.runs, stamp);
+        cut(&mut self.runs, range, start, &mut self.visits);
         Ok(())
     }
 
@@ -182,6 +187,14 @@ impl Text {
         ensures { IsTrue result ↔ elements self.now ≡ elements other.now }
     {
         spell_same(&self.store, &self.runs, &other.store, &other.runs)
+    }
+
+    /// Whether a byte was put into the text, dead or not.
+    pub fn has(&self, id: ElemId) -> bool
+        ensures { result ≡ list_any (λ x. same_element x.id id) (elements self.now) }
+    {
+        let start = hint_of(&self.hints, &self.runs, id.name.stamp);
+        any_has(&self.runs, id, start)
     }
 
     /// How many runs were looked at since the text was made.

@@ -1,9 +1,11 @@
-use Rattle.std.proofs.Common.{rules, ◌≡◌, ◌<◌, ◌≤◌, ◌+◌, ◌-◌, suc, min, Bool, true, false, length, vec_len, get_or, set, drop, length-drop, refl, arith, ap, ◌∙◌, ltb}
+use Rattle.std.proofs.Common.{rules, ◌≡◌, ◌<◌, ◌≤◌, ◌+◌, ◌-◌, suc, min, true, false, length, get_or, set, drop, length-drop, refl, arith, ap, ◌∙◌, ltb}
 use Rattle.std.specs.List.{insert}
 use Rattle.zed_code.specs.Runs.{found, passed, up_to, front, back}
+use Rattle.zed_types.specs.Stamp.{same_stamp}
 use Rattle.zed_code.specs.Kept.{IsSound}
 use Rattle.zed_code.specs.Visits.{raised}
 use Rattle.zed_code.proofs.Places.{passed-within, found-has, all-at, held-bounds, put_at-cut, put_at-whole, raised-twice}
+use Rattle.zed_code.proofs.Starts.{none_before, none_cut}
 use Rattle.zed_code.proofs.insertion.put_behind.Goals as goal
 
 pub up_to-count-requires-clause-from : goal.up_to-count-requires-clause-from
@@ -97,7 +99,31 @@ returns-else-count-there-clause-visits c =
     let l = length-drop (c.find-i.result + 1) c.deref-else-count-there.result.now in
     let l2 : length c.deref-else-count-there.result.now ≡ length c.args.runs.now.items = ap length d2 in
     let l1 : length c.deref.result.now ≡ length c.args.runs.now.items = ap length d in
-    let m = c.find-i.ensures.visits.0 in
+    let m = min (c.find-i.result + 1) (length c.deref.result.now) - c.args.start in
     let n = min (c.pass-place.result + 1) (length c.deref-else-count-there.result.now) - (c.find-i.result + 1) in
-    let looked : c.pass-place.new.visits ≡ raised c.args.visits.now (m + n) = c.pass-place.ensures.visits ∙ ap (λ v. raised v n) c.find-i.ensures.visits.1 ∙ raised-twice c.args.visits.now m n in
-    (m + n, looked, omega (arith, l1, l2, i, c.find-i.ensures.visits.2, c.find-i.ensures.visits.3, c.requires.there), λ some. let more = c.find-i.ensures.visits.4 (omega (arith, l1, some)) in omega (arith, more))
+    let looked : c.pass-place.new.visits ≡ raised c.args.visits.now (m + n) = c.pass-place.ensures.visits ∙ ap (λ v. raised v n) c.find-i.ensures.visits ∙ raised-twice c.args.visits.now m n in
+    (m + n, looked, omega (arith, l1, l2, i, c.find-i.ensures.from, c.requires.there), λ some. omega (arith, l1, i, c.find-i.ensures.from, c.requires.there))
+
+pub returns-then-count-there-clause-place : goal.returns-then-count-there-clause-place
+returns-then-count-there-clause-place c =
+    let d : c.deref.result.now ≡ c.args.runs.now.items = c.deref.ensures.value in
+    let i : c.find-i.result ≡ found c.args.a c.args.runs.now.items = c.find-i.ensures.place ∙ ap (found c.args.a) d in
+    let e : c.index-there.result.now ≡ get_or c.args.runs.now.items (found c.args.a c.args.runs.now.items) c.index-there.result.now = rw (← i) c.index-there.ensures in
+    let there : c.find-i.result < length c.args.runs.now.items = omega (arith, i, c.requires.there) in
+    let other = all-at (λ r. same_stamp r.stamp c.args.run.stamp ≡ false) c.args.runs.now.items (found c.args.a c.args.runs.now.items) c.index-there.result.now c.requires.new c.requires.there e in
+    let made : c.insert-then-count-there.new.self.items ≡ insert (insert (set c.args.runs.now.items c.find-i.result c.front.result) (c.find-i.result + 1) c.back.result) (c.find-i.result + 1) c.args.run = search rules in
+    let first : same_stamp c.front.result.stamp c.args.run.stamp ≡ false = rw c.front.ensures other in
+    rw made (none_cut c.args.run.stamp c.args.runs.now.items c.find-i.result (c.find-i.result + 1) c.front.result c.back.result c.args.run c.requires.new there (omega arith) first)
+
+pub returns-else-count-there-clause-place : goal.returns-else-count-there-clause-place
+returns-else-count-there-clause-place c =
+    let d : c.deref.result.now ≡ c.args.runs.now.items = c.deref.ensures.value in
+    let i : c.find-i.result ≡ found c.args.a c.args.runs.now.items = c.find-i.ensures.place ∙ ap (found c.args.a) d in
+    let e : c.index-there.result.now ≡ get_or c.args.runs.now.items (found c.args.a c.args.runs.now.items) c.index-there.result.now = rw (← i) c.index-there.ensures in
+    let d2 : c.deref-else-count-there.result.now ≡ c.args.runs.now.items = c.deref-else-count-there.ensures.value in
+    let w = passed-within c.args.run.stamp (drop (c.find-i.result + 1) c.deref-else-count-there.result.now) in
+    let l = length-drop (c.find-i.result + 1) c.deref-else-count-there.result.now in
+    let l2 : length c.deref-else-count-there.result.now ≡ length c.args.runs.now.items = ap length d2 in
+    let within : c.pass-place.result ≤ length c.args.runs.now.items = omega (arith, w, l, l2, c.pass-place.ensures.place, i, c.requires.there) in
+    let made : c.insert-else-count-there.new.self.items ≡ insert c.args.runs.now.items c.pass-place.result c.args.run = search rules in
+    rw made (none_before c.args.run.stamp c.args.runs.now.items c.pass-place.result c.args.run c.requires.new within)

@@ -1,13 +1,11 @@
-use Rattle.std.proofs.Common.{rules, ◌≡◌, ◌<◌, ◌≤◌, ◌+◌, ℕ, Option, Some, None, length, vec_len, take, drop, get_or, slice_get, refl, sym, ap, ◌∙◌, arith}
+use Rattle.std.proofs.Common.{rules, ◌≡◌, Some, None, length, vec_len, slice_get, sym, ap, ◌∙◌, arith}
 use Rattle.zed_types.specs.Text.{alive_bytes}
-use Rattle.zed_types.specs.declared.names.ElemId.{ElemId}
-use Rattle.zed_code.specs.declared.run.Run.{Run}
-use Rattle.zed_code.specs.Cutting.{spelled, bytes_in}
+use Rattle.zed_code.specs.Cutting.{spelled}
 use Rattle.zed_code.specs.Kept.{IsRun}
-use Rattle.zed_code.specs.Reading.{live, live_at}
-use Rattle.zed_code.specs.Text.{elements, alive_names}
+use Rattle.zed_code.specs.Reading.{live_at}
+use Rattle.zed_code.specs.Text.{elements}
 use Rattle.zed_code.proofs.PutBytes.{spelled-cutting}
-use Rattle.zed_code.proofs.Alive.{live-bytes, name-is, name_at, byte-is, value_at, byte-there, live_at-is}
+use Rattle.zed_code.proofs.Alive.{byte-is, value_at, byte-there, live_at-is}
 use Rattle.zed_code.proofs.text.Text.byte_at.Goals as goal
 
 pub overflow_add-run : goal.overflow_add-run
@@ -17,7 +15,7 @@ overflow_add-run c =
     let v : elements c.args.self.now ≡ spelled store runs = ap elements (sym c.self.view_is) ∙ spelled-cutting store runs in
     let d : c.deref.result.now ≡ runs = c.deref.ensures.value in
     let o : live_at runs c.args.k ≡ Some (c.in-Some.run', c.in-Some.i) = ap (λ xs. live_at xs c.args.k) (sym d) ∙ sym c.live_at.ensures ∙ c.in-Some.is ∙ search rules in
-    let p = live_at-is (IsRun store) runs c.args.k c.in-Some.run' c.in-Some.i c.self.invariant.each o in
+    let p = live_at-is (IsRun store) runs c.args.k c.in-Some.run' c.in-Some.i c.self.invariant.kept.each o in
     let n : length store ≡ vec_len c.self.inside.store = search rules in
     omega (arith, p.0.within, p.1, c.self.inside.store.ok.0, c.self.inside.store.ok.1, c.self.inside.store.small)
 
@@ -28,7 +26,7 @@ index-requires c =
     let v : elements c.args.self.now ≡ spelled store runs = ap elements (sym c.self.view_is) ∙ spelled-cutting store runs in
     let d : c.deref.result.now ≡ runs = c.deref.ensures.value in
     let o : live_at runs c.args.k ≡ Some (c.in-Some.run', c.in-Some.i) = ap (λ xs. live_at xs c.args.k) (sym d) ∙ sym c.live_at.ensures ∙ c.in-Some.is ∙ search rules in
-    let p = live_at-is (IsRun store) runs c.args.k c.in-Some.run' c.in-Some.i c.self.invariant.each o in
+    let p = live_at-is (IsRun store) runs c.args.k c.in-Some.run' c.in-Some.i c.self.invariant.kept.each o in
     let n : length store ≡ vec_len c.self.inside.store = search rules in
     omega (arith, p.0.within, p.1, n)
 
@@ -39,8 +37,8 @@ returns-in-Some c =
     let v : elements c.args.self.now ≡ spelled store runs = ap elements (sym c.self.view_is) ∙ spelled-cutting store runs in
     let d : c.deref.result.now ≡ runs = c.deref.ensures.value in
     let o : live_at runs c.args.k ≡ Some (c.in-Some.run', c.in-Some.i) = ap (λ xs. live_at xs c.args.k) (sym d) ∙ sym c.live_at.ensures ∙ c.in-Some.is ∙ search rules in
-    let p = live_at-is (IsRun store) runs c.args.k c.in-Some.run' c.in-Some.i c.self.invariant.each o in
-    sym (ap (λ xs. slice_get (alive_bytes xs) c.args.k) v ∙ byte-is store runs c.self.invariant.each c.args.k ∙ ap (value_at store) o ∙ byte-there store c.in-Some.run' c.in-Some.i c.index.result.now p.0 p.1 c.index.ensures)
+    let p = live_at-is (IsRun store) runs c.args.k c.in-Some.run' c.in-Some.i c.self.invariant.kept.each o in
+    sym (ap (λ xs. slice_get (alive_bytes xs) c.args.k) v ∙ byte-is store runs c.self.invariant.kept.each c.args.k ∙ ap (value_at store) o ∙ byte-there store c.in-Some.run' c.in-Some.i c.index.result.now p.0 p.1 c.index.ensures)
 
 pub returns-in-None : goal.returns-in-None
 returns-in-None c =
@@ -49,4 +47,4 @@ returns-in-None c =
     let v : elements c.args.self.now ≡ spelled store runs = ap elements (sym c.self.view_is) ∙ spelled-cutting store runs in
     let d : c.deref.result.now ≡ runs = c.deref.ensures.value in
     let o : live_at runs c.args.k ≡ None = ap (λ xs. live_at xs c.args.k) (sym d) ∙ sym c.live_at.ensures ∙ c.in-None.is in
-    sym (ap (λ xs. slice_get (alive_bytes xs) c.args.k) v ∙ byte-is store runs c.self.invariant.each c.args.k ∙ ap (value_at store) o)
+    sym (ap (λ xs. slice_get (alive_bytes xs) c.args.k) v ∙ byte-is store runs c.self.invariant.kept.each c.args.k ∙ ap (value_at store) o)

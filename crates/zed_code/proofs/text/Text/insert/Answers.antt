@@ -1,6 +1,5 @@
 use Rattle.std.proofs.Common.{rules, ◌≡◌, [], sym, ap, ◌∙◌}
 use Rattle.std.proofs.lemmas.List.{nil_from_length}
-use Rattle.zed_types.specs.Text.{run_from, put_late}
 use Rattle.zed_code.specs.Text.{elements}
 use Rattle.zed_code.proofs.PutBytes.{put_late-nothing}
 use Rattle.zed_code.proofs.text.Text.insert.Goals as goal
