@@ -1,5 +1,5 @@
 -- What a write does to the fields of a stat: it sets its own, and leaves the others.
-use Rattle.std.proofs.Common.{◌≡◌, ◌≢◌, ℕ, ℤ, pos, zero, suc, ◌+◌, ◌<◌, ◌==◌, Bool, true, false, cond, if◌then◌else◌, eqb, eq-eqb, nat_lt, List, [], ◌∷◌, length, filter, slice_set, slice_index_or, Option, None, Some, refl, sym, ap, subst, ◌∙◌, true≢false, arith}
+use Rattle.std.proofs.Common.{◌≡◌, ℕ, ℤ, pos, ◌+◌, ◌<◌, Bool, true, false, cond, if◌then◌else◌, eqb, eq-eqb, nat_lt, List, [], ◌∷◌, length, slice_index_or, Option, None, Some, refl, sym, ap, subst, ◌∙◌, true≢false, arith}
 use Rattle.std.proofs.Math.ListN.{length-set}
 use Rattle.std.proofs.lemmas.Bool.{eqb-true}
 use Rattle.std.proofs.lemmas.List.{get_or-set_same, get_or-set_other}
@@ -19,7 +19,7 @@ use Rattle.zed_stats.specs.declared.field.StatField.TheVariants.{Byte, Number, P
 use Rattle.zed_stats.specs.declared.stat.StatValues.{StatValues}
 use Rattle.zed_stats.specs.declared.stat.LiveStat.{LiveStat}
 use Rattle.zed_stats.specs.Fields.{field_of, field_number, number_at, value_of, with_number, with_setting, no_stamp, stamp_of, overwrite, write}
-use Rattle.zed_stats.specs.Arrivals.{write_all, held, writes_of, IsWhole, FieldsHoldTheLatest}
+use Rattle.zed_stats.specs.Arrivals.{held, writes_of, IsWhole, FieldsHoldTheLatest}
 
 -- a field by its number
 abbrev field_numbered : ℕ → StatField

@@ -1,4 +1,2 @@
-mod Changed
 mod FieldWrites
 mod Numbers
-mod Sorting

@@ -1,5 +1,5 @@
 -- What the fields of a stat hold after writes, whatever their order.
-use Rattle.std.specs.Prelude.{◌≡◌, ◌==◌, List, [], ◌∷◌, length, Option, Some}
+use Rattle.std.specs.Prelude.{◌≡◌, ◌==◌, List, [], ◌∷◌, length, Some}
 use Rattle.std.specs.List.{filter}
 use Rattle.zed_types.specs.declared.written.Written.{Written}
 use Rattle.zed_types.specs.declared.stat_field.StatSetting.{StatSetting}

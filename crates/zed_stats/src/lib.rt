@@ -12,6 +12,3 @@ pub use field::StatField;
 pub use laws::fields_hold_the_latest;
 pub use stat::{LiveStat, StatValues};
 pub use stats::{MadeStat, Stats};
-
-#[cfg(test)]
-mod tests;

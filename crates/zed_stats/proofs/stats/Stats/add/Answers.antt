@@ -1,16 +1,16 @@
 use Rattle.std.proofs.Common.{◌≡◌, ◌∙◌, false, ap, sym, subst, OnOk, OnErr, IsSorted}
 use Rattle.std.specs.Map.{keys_of}
 use Rattle.zed_stats.specs.Fields.{new_stat}
-use Rattle.zed_stats.specs.Stats.{has, add, stat_cmp}
-use Rattle.zed_stats.proofs.Changed.{add-there, has-lookup}
-use Rattle.zed_stats.proofs.Sorting.{sorted_insertion}
+use Rattle.zed_stats.specs.Stats.{has, add, stat_name, stat_cmp}
+use Rattle.zed_names.proofs.Changed.{add-there}
+use Rattle.zed_names.proofs.Sorting.{sorted_insertion}
 use Rattle.zed_stats.proofs.stats.Stats.add.Goals as goal
 use Rattle.zed_stats.proofs.stats.Stats.add.Goals.{in-Ok, in-Err}
 
 pub returns-then-contains_key-clause-ok : goal.returns-then-contains_key-clause-ok
 returns-then-contains_key-clause-ok c =
     let stat = new_stat c.args.is_player c.args.id.name.stamp c.args.values in
-    subst (λ es. es ≡ add c.args.id stat es) c.self.view_is (add-there c.args.id stat c.self.inside.entries.entries (sym c.contains_key.ensures ∙ c.if-contains_key.true))
+    subst (λ es. es ≡ add c.args.id stat es) c.self.view_is (add-there stat_name c.args.id stat c.self.inside.entries.entries (sym c.contains_key.ensures ∙ c.if-contains_key.true))
 
 pub returns-clause-ok : goal.returns-clause-ok
 returns-clause-ok c =
@@ -22,7 +22,7 @@ returns-clause-ok c =
           let e = w.in-Ok.ensures.entries in
           let place = w.in-Ok.ensures.index in
           let rises = w.in-Ok.ensures.sorted c.self.invariant in
-          let put = sorted_insertion es c.args.id c.new.result place.0 w.in-Ok.field-0.0 none place.1.0 place.2 (subst (λ xs. IsSorted stat_cmp (keys_of xs)) e rises) in
+          let put = sorted_insertion stat_name es c.args.id c.new.result place.0 w.in-Ok.field-0.0 none place.1.0 place.2 (subst (λ xs. IsSorted stat_cmp (keys_of xs)) e rises) in
           let all = e ∙ put ∙ ap (λ s. add c.args.id s es) c.new.ensures ∙ ap (add c.args.id stat) c.self.view_is in
           subst (λ r. OnOk r (c.insert_sorted.new.self.entries ≡ add c.args.id stat c.args.self.now)) (sym w.result-is) all
       | in-Err w ↦ subst (λ r. OnOk r (c.insert_sorted.new.self.entries ≡ add c.args.id stat c.args.self.now)) (sym w.result-is) tt
@@ -31,7 +31,7 @@ returns-clause-ok c =
 pub returns-clause-memory_only_when : goal.returns-clause-memory_only_when
 returns-clause-memory_only_when c =
     let new : has c.args.id c.args.self.now ≡ false =
-    ap (has c.args.id) (sym c.self.view_is) ∙ sym (has-lookup c.args.id c.self.inside.entries.entries) ∙ sym c.contains_key.ensures ∙ c.if-contains_key.false in
+    ap (has c.args.id) (sym c.self.view_is) ∙ sym c.contains_key.ensures ∙ c.if-contains_key.false in
     elim c.match-insert_sorted.branch [
       | in-Ok w ↦ subst (λ r. OnErr r (has c.args.id c.args.self.now ≡ false)) (sym w.result-is) tt
       | in-Err w ↦ subst (λ r. OnErr r (has c.args.id c.args.self.now ≡ false)) (sym w.result-is) new

@@ -1,0 +1,4 @@
+pub mod Changed
+pub mod Found
+pub mod Order
+pub mod Sorting

@@ -1,0 +1,6 @@
+//! Values under names, in the order of the names: what holds of them for whatever has a name, as boards, stats and texts.
+#![tactic(auto)]
+
+mod laws;
+
+pub use laws::values_stand_by_name;
