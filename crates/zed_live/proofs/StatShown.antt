@@ -54,7 +54,7 @@ use Rattle.zed_cells.specs.Writes.{written_at}
 use Rattle.zed_stats.specs.declared.stat.LiveStat.{LiveStat}
 use Rattle.zed_live.specs.Shows.{latest_in}
 use Rattle.zed_live.specs.Stat.{removes, StatShows, shown_stat, ReplayedStatIsShown}
-use Rattle.zed_live.proofs.BoardShown.{found-passes}
+use Rattle.zed_live.proofs.Lists.{found-passes}
 use Rattle.zed_live.proofs.PropertiesShown.{latest-value}
 use Rattle.zed_live.proofs.Shown.{same-each, inside}
 use Rattle.zed_live.proofs.StatTakes.{made-removes}
@@ -207,7 +207,7 @@ module _ (x : StatId) where
   kinds (e ∷ es) r f = (kind e es f.0 r.0, kinds es r.1 f.1)
 
 -- the edits taken fit where all do
-taken-fit : (p : Plain) (es : List Edit) → AllFit es → AllFit (taken_on p es)
+pub taken-fit : (p : Plain) (es : List Edit) → AllFit es → AllFit (taken_on p es)
 taken-fit p [] a = tt
 taken-fit p (e ∷ es) a = go (can p e) (taken-fit (step p e) es a.1)
   where

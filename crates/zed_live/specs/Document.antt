@@ -1,16 +1,15 @@
 -- A live document: its header and its boards, put in edit by edit.
-use Rattle.std.specs.Prelude.{◌≡◌, true, List, [], ◌∷◌, ◌++◌, map}
+use Rattle.std.specs.Prelude.{◌≡◌, true, List, [], ◌∷◌, ◌++◌}
 use Rattle.zed_types.specs.declared.stamp.Stamp.{Stamp}
 use Rattle.zed_op.specs.declared.op.Edit.{Edit}
-use Rattle.zed_op.specs.Set.{IsRising}
-use Rattle.zed_op.specs.Sizes.{HaveSizes}
+use Rattle.zed_op.specs.Set.{IsRising, AllFit}
+use Rattle.zed_op.specs.Sizes.{HasSizes, HaveSizes}
 use Rattle.zed_edit.specs.declared.plain.Plain.{Plain}
 use Rattle.zed_edit.specs.Replay.{can, replay, taken, held}
 use Rattle.zed_live.specs.declared.document.LiveDocument.{LiveDocument}
 use Rattle.zed_live.specs.Header.{unwritten, write_all, header_after}
 use Rattle.zed_live.specs.Shows.{HeaderShows}
 use Rattle.zed_live.specs.Shown.{shown}
-use Rattle.zed_live.specs.Board.{without_stats}
 use Rattle.zed_live.specs.Boards.{add_all, all_as_made, boards_after, BoardsShow, shown_boards}
 
 -- a document that took no edit
@@ -45,16 +44,18 @@ abbrev pub DocumentTakes : Type 0
 DocumentTakes =
     (e : Edit) (low high : List Edit) (d : LiveDocument)
     → IsRising (low ++ e ∷ high)
+    → HasSizes e
     → held (low ++ high) ≡ []
     → can (replay (low ++ high)) e ≡ true
     → DocumentShows (low ++ high) d
     → DocumentShows (low ++ e ∷ high) (document_after e d)
 
--- a document that took the edits that the replay takes shows its header, and its boards, their stats aside
+-- a document that took the edits that the replay takes shows its header and its boards
 abbrev pub ReplayedDocumentIsShown : Type 0
 ReplayedDocumentIsShown =
     (es : List Edit) (d : LiveDocument)
     → IsRising es
+    → AllFit es
     → HaveSizes es
     → DocumentShows (taken es) d
-    → (shown d.header ≡ (replay es).header) × (shown_boards d.boards ≡ map without_stats (replay es).boards)
+    → (shown d.header ≡ (replay es).header) × (shown_boards d.boards ≡ (replay es).boards)

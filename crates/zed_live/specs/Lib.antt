@@ -1,4 +1,5 @@
 pub mod Board
+pub mod BoardStats
 pub mod Boards
 pub mod Document
 pub mod Header

@@ -4,22 +4,25 @@ ghost use Rattle.std.specs.Prelude.{◌≡◌, true, false, IfOk, IfErr, OnOk, O
 ghost use Rattle.zed_types.specs.Register.{value_or};
 ghost use Rattle.zed_op.specs.Fit.{Fits};
 ghost use Rattle.zed_op.specs.Growth.{may_grow};
-ghost use Rattle.zed_live.specs.Board.{as_made, board_after};
+ghost use Rattle.zed_live.specs.Board.{as_made, board_after, stat_changed};
 
 use crate::error::LiveError;
 use crate::header::copy_bytes;
 use crate::properties::LiveProperties;
+use crate::stats::{add_new, stats_made};
 use std::alloc::Global;
 use zed_cells::{Cells, keep_in};
 use zed_edit::{Board, Edit, Op, Properties};
+use zed_stats::Stats;
 use zed_types::{Stamp, Written};
 
-/// A board: its properties, whether it is removed, and its cells, each with its latest write.
+/// A board: its properties, whether it is removed, its cells and its stats, each with its latest write.
 #[derive(Drop)]
 pub struct LiveBoard {
     pub properties: LiveProperties,
     pub removed: Option<Written<bool>>,
     pub cells: Cells,
+    pub stats: Stats,
 }
 
 fn copy_properties(properties: &Properties) -> Result<Properties, LiveError>
@@ -47,6 +50,7 @@ impl LiveBoard {
         let mut properties = LiveProperties::new();
         properties.write_all(alloc, stamp, &mut from);
         let cells = Cells::new(alloc, made.tiles, stamp).map_err(LiveError::of_cells)?;
+        let stats = stats_made(alloc, made.stats.as_slice())?;
         Ok(LiveBoard {
             properties,
             removed: Some(Written {
@@ -54,6 +58,7 @@ impl LiveBoard {
                 value: made.removed,
             }),
             cells,
+            stats,
         })
     }
 
@@ -81,7 +86,27 @@ impl LiveBoard {
                 self.cells.set(*cells, edit.stamp, *tile);
                 Ok(())
             }
+            Op::StatAdd(_, fields) => add_new(&mut self.stats, edit.stamp, *fields),
+            Op::StatRemove(_) => {
+                self.change_stat(edit);
+                Ok(())
+            }
+            Op::SetStat(_, _) => {
+                self.change_stat(edit);
+                Ok(())
+            }
             _ => Ok(()),
+        }
+    }
+
+    /// Puts an edit of one stat in, whenever it comes, if that stat is on the board.
+    pub fn change_stat(&mut self, edit: &Edit)
+        ensures { self.new ≡ stat_changed edit.now.stamp edit.now.op self.old }
+    {
+        match &edit.op {
+            Op::StatRemove(id) => self.stats.remove(*id),
+            Op::SetStat(id, setting) => self.stats.set_field(*id, edit.stamp, *setting),
+            _ => {}
         }
     }
 

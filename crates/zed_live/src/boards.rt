@@ -1,20 +1,21 @@
 //! The boards of a live document, found by their names.
 
-ghost use Rattle.std.specs.Prelude.{◌≡◌, ◌<◌, ◌≤◌, ◌+◌, [], true, length, Some, IfOk, IfErr, OnOk, OnErr, IsSorted, option_copied};
+ghost use Rattle.std.specs.Prelude.{◌≡◌, ◌<◌, ◌≤◌, ◌+◌, [], true, false, length, Some, IfOk, IfErr, OnOk, OnErr, IsSorted, option_copied};
 ghost use Rattle.indexmap.specs.IndexMap.{keys, spare};
 ghost use Rattle.zed_op.specs.Fit.{Fits};
 ghost use Rattle.zed_op.specs.Growth.{may_grow};
 ghost use Rattle.zed_live.specs.Header.{made_by};
-ghost use Rattle.zed_live.specs.Board.{board_after};
-ghost use Rattle.zed_live.specs.Boards.{board_cmp, board_in, name_at as name_in, add as added, add_all as all_added, all_as_made as all_made, change as changed, boards_after};
+ghost use Rattle.zed_live.specs.Board.{board_after, stat_changed};
+ghost use Rattle.zed_live.specs.Boards.{board_cmp, board_in, home_in, name_at as name_in, add as added, add_all as all_added, all_as_made as all_made, change as changed, change_all, boards_after};
 
 use crate::board::LiveBoard;
 use crate::error::LiveError;
+use crate::making::made_by;
 use indexmap::IndexMap;
 use std::alloc::Global;
 use std::marker::Model;
-use zed_edit::{Board, Edit, Op, Plain, step};
-use zed_types::{BoardId, Stamp};
+use zed_edit::{Board, Edit, Op};
+use zed_types::{BoardId, Stamp, StatId};
 
 /// Boards, removed ones too, in the order of their names.
 #[derive(Drop)]
@@ -64,6 +65,20 @@ fn add_each(entries: &mut IndexMap<BoardId, LiveBoard>, boards: Vec<(BoardId, Li
     }
 }
 
+/// Puts an edit of one stat in, on whichever board that stat is.
+fn change_each(entries: &mut IndexMap<BoardId, LiveBoard>, edit: &Edit)
+    requires sorted { IsSorted board_cmp (keys entries.old) }
+    ensures entries { entries.new.entries ≡
+        change_all (stat_changed edit.now.stamp edit.now.op) entries.old.entries }
+    ensures sorted { IsSorted board_cmp (keys entries.new) }
+{
+    for i in 0..entries.len() {
+        if let Some(board) = entries.get_index_mut(i) {
+            board.change_stat(edit);
+        }
+    }
+}
+
 /// Boards as the edit with this stamp makes them, each under its name.
 fn all_as_made(
     alloc: Global,
@@ -100,6 +115,18 @@ impl LiveBoards {
         self.entries.get(&id)
     }
 
+    /// The board that a stat is on, removed or not, if it was made.
+    pub fn home(&self, stat: StatId) -> Option<BoardId>
+        ensures { result ≡ home_in stat self.now }
+    {
+        for (id, board) in self.entries.iter() {
+            if board.stats.has(stat) {
+                return Some(*id);
+            }
+        }
+        None
+    }
+
     /// How many boards were made, removed ones too.
     pub fn count(&self) -> usize
         ensures { result ≡ length self.now }
@@ -129,6 +156,9 @@ impl LiveBoards {
             Op::BoardRemove(id) => self.change(*id, edit),
             Op::SetBoard(id, _) => self.change(*id, edit),
             Op::SetCells(id, _, _) => self.change(*id, edit),
+            Op::StatAdd(id, _) => self.change(*id, edit),
+            Op::StatRemove(_) => self.pass_stat(edit),
+            Op::SetStat(_, _) => self.pass_stat(edit),
             Op::Genesis(_) => self.make(alloc, edit),
             Op::BoardAdd(_) => self.make(alloc, edit),
             _ => Ok(()),
@@ -152,6 +182,16 @@ impl LiveBoards {
         Ok(())
     }
 
+    /// Puts an edit of one stat in. It takes no memory.
+    fn pass_stat(&mut self, edit: &Edit) -> Result<(), LiveError>
+        ensures ok { OnOk result
+            (self.new ≡ change_all (stat_changed edit.now.stamp edit.now.op) self.old) }
+        ensures never { OnErr result (false ≡ true) }
+    {
+        change_each(&mut self.entries, edit);
+        Ok(())
+    }
+
     /// Adds the boards that an edit makes.
     fn make(&mut self, alloc: Global, edit: &Edit) -> Result<(), LiveError>
         requires { Fits edit.now }
@@ -160,11 +200,7 @@ impl LiveBoards {
         ensures err { IfErr result (λ e. e ≡ LiveError.Memory) }
         ensures kept { OnErr result (self.new ≡ self.old) }
     {
-        let mut made = Plain::empty(alloc);
-        match step(alloc, &mut made, edit) {
-            Ok(()) => {}
-            Err(_) => return Err(LiveError::Memory),
-        }
+        let made = made_by(alloc, edit)?;
         self.add_made(alloc, edit.stamp, made.boards.as_slice())
     }
 

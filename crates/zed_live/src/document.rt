@@ -9,10 +9,11 @@ ghost use Rattle.zed_live.specs.Document.{empty_live, document_after, with_world
 use crate::boards::LiveBoards;
 use crate::error::LiveError;
 use crate::header::LiveHeader;
+use crate::making::made_by;
 use std::alloc::Global;
-use zed_edit::{Edit, Op, Plain, step};
+use zed_edit::{Edit, Op};
 
-/// A header and boards, each register with its latest write. Stats and texts aren't here yet.
+/// A header and boards, each register with its latest write. Texts aren't here yet.
 #[derive(Drop)]
 pub struct LiveDocument {
     pub header: LiveHeader,
@@ -52,11 +53,7 @@ impl LiveDocument {
         ensures err { IfErr result (λ e. e ≡ LiveError.Memory) }
         ensures kept { OnErr result (self.new ≡ self.old) }
     {
-        let mut made = Plain::empty(alloc);
-        match step(alloc, &mut made, edit) {
-            Ok(()) => {}
-            Err(_) => return Err(LiveError::Memory),
-        }
+        let mut made = made_by(alloc, edit)?;
         self.boards
             .add_made(alloc, edit.stamp, made.boards.as_slice())?;
         self.header.write_all(alloc, edit.stamp, &mut made.header);

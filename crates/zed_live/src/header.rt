@@ -6,10 +6,11 @@ ghost use Rattle.zed_op.specs.Growth.{header_has_string, may_grow};
 ghost use Rattle.zed_live.specs.Header.{unwritten, write_header, write_each as each_written, write_all as all_written, made_by, header_after};
 
 use crate::error::LiveError;
+use crate::making::made_by;
 use std::alloc::Global;
 use std::mem::replace;
 use zed_cells::keep_in;
-use zed_edit::{Edit, Header, Op, Plain, step};
+use zed_edit::{Edit, Header, Op};
 use zed_types::{BoardId, Bytes, HeaderSetting, Stamp, Written};
 
 /// The header registers, each with its latest write, if it was ever written.
@@ -176,11 +177,7 @@ impl LiveHeader {
         ensures err { IfErr result (λ e. e ≡ LiveError.Memory) }
         ensures kept { OnErr result (self.new ≡ self.old) }
     {
-        let mut made = Plain::empty(alloc);
-        match step(alloc, &mut made, edit) {
-            Ok(()) => {}
-            Err(_) => return Err(LiveError::Memory),
-        }
+        let mut made = made_by(alloc, edit)?;
         self.write_all(alloc, edit.stamp, &mut made.header);
         Ok(())
     }

@@ -1,7 +1,7 @@
 //! What a live document shows, in whatever order the edits came.
 ghost use Rattle.zed_live.specs.Shows.{NoneIsUnwritten, HeaderTakes};
 ghost use Rattle.zed_live.specs.Shown.{ReplayIsShown, ReplayedPropertiesAreShown};
-ghost use Rattle.zed_live.specs.Boards.{NoBoardIsMade, BoardsTake, ReplayedBoardsAreShown};
+ghost use Rattle.zed_live.specs.Boards.{NoBoardIsMade, BoardsTake, MadeThingsAreThere, ReplayedBoardsAreShown};
 ghost use Rattle.zed_live.specs.Document.{NoneIsEmpty, DocumentTakes, ReplayedDocumentIsShown};
 ghost use Rattle.zed_live.specs.Board.{BoardIsMade, BoardTakes, BoardPassesOthers, ReplayedBoardIsShown};
 ghost use Rattle.zed_live.specs.Stat.{StatIsMade, StatTakes, StatPassesOthers, ReplayedStatIsShown};
@@ -41,16 +41,18 @@ pub fn properties_show_the_replay()
     read_is_normal();
 }
 
-/// Each register of a board has the latest write of the edits that were put in, its making counted as a write of all.
+/// Each register of a board, and of its stats, has the latest write of the edits that were put in, its making counted as a write
+/// of all.
 pub fn board_shows_its_edits()
     ensures making { BoardIsMade }
     ensures edits { BoardTakes }
     ensures others { BoardPassesOthers }
 {
     cells_hold_the_latest();
+    fields_hold_the_latest();
 }
 
-/// A board that has the latest writes of the edits taken shows the one of their replay, its stats aside.
+/// A board that has the latest writes of the edits taken, all of which fit, shows the one of their replay.
 pub fn board_shows_the_replay()
     ensures { ReplayedBoardIsShown }
 {
@@ -64,9 +66,15 @@ pub fn boards_show_their_edits()
 {
     read_is_normal();
     cells_hold_the_latest();
+    fields_hold_the_latest();
 }
 
-/// Boards that show the edits taken are those of their replay, their stats aside.
+/// Boards have just the boards and the stats that the edits that were put in make, each stat on the board that its making names.
+pub fn boards_have_what_is_made()
+    ensures { MadeThingsAreThere }
+{}
+
+/// Boards that show the edits taken, all of which fit, are those of their replay.
 pub fn boards_show_the_replay()
     ensures { ReplayedBoardsAreShown }
 {
@@ -80,9 +88,10 @@ pub fn document_shows_its_edits()
 {
     read_is_normal();
     cells_hold_the_latest();
+    fields_hold_the_latest();
 }
 
-/// A document that took the edits that the replay takes shows what the replay has, stats and texts aside.
+/// A document that took the edits that the replay takes, all of which fit, shows what the replay has, texts aside.
 pub fn document_shows_the_replay()
     ensures { ReplayedDocumentIsShown }
 {

@@ -8,8 +8,10 @@ mod document;
 mod error;
 mod header;
 mod laws;
+mod making;
 mod properties;
 mod reading;
+mod stats;
 
 pub use board::LiveBoard;
 pub use boards::LiveBoards;
@@ -17,10 +19,11 @@ pub use document::LiveDocument;
 pub use error::LiveError;
 pub use header::LiveHeader;
 pub use laws::{
-    board_shows_its_edits, board_shows_the_replay, boards_show_the_replay, boards_show_their_edits,
-    document_shows_its_edits, document_shows_the_replay, header_shows_its_edits,
-    header_shows_the_replay, properties_show_the_replay, properties_show_their_edits,
-    stat_shows_its_edits, stat_shows_the_replay,
+    board_shows_its_edits, board_shows_the_replay, boards_have_what_is_made,
+    boards_show_the_replay, boards_show_their_edits, document_shows_its_edits,
+    document_shows_the_replay, header_shows_its_edits, header_shows_the_replay,
+    properties_show_the_replay, properties_show_their_edits, stat_shows_its_edits,
+    stat_shows_the_replay,
 };
 pub use properties::LiveProperties;
 

@@ -3,9 +3,11 @@ use crate::{LiveBoard, LiveBoards, LiveDocument, LiveError, LiveHeader, LiveProp
 use std::alloc::{AllocError, Global};
 use std::test::Fail;
 use zed_edit::{Edit, Op, Plain, check, step};
+use zed_stats::StatField;
 use zed_types::{
     BoardByte, BoardFlag, BoardId, BoardSetting, BoardText, Bytes, FlagSlot, HeaderNumber,
-    HeaderSetting, KeyColour, Name, Place, Rectangle, Side, Stamp, Tile, Written,
+    HeaderSetting, KeyColour, Name, Place, Rectangle, Side, Stamp, StatByte, StatFields, StatId,
+    StatSetting, ThirdParameter, Tile, Written,
 };
 
 /// The size that the allocator of the sweep over refused growths listens to.
@@ -289,6 +291,70 @@ fn of_boards(alloc: Global, which: u8) -> Result<Edit, AllocError> {
     }
 }
 
+fn stat(time: u64) -> StatId {
+    StatId::new(at(time), 0)
+}
+
+fn add_stat(x: u8, y: u8) -> Op {
+    Op::StatAdd(
+        CAVE,
+        StatFields {
+            bytes: [x, y, 0, 0, 0, 0],
+            numbers: [0, 0, 1],
+            p3: ThirdParameter::Byte(0),
+            text: None,
+        },
+    )
+}
+
+fn set_x(time: u64, x: u8) -> Op {
+    Op::SetStat(stat(time), StatSetting::Byte(StatByte::X, x))
+}
+
+/// One of seven edits of the cave's stats: it adds one, at (5,1), (3,1) or (4,1), removes one, or sets a field.
+fn of_stats(which: u8) -> Edit {
+    let (time, op) = match which {
+        0 => (5, add_stat(1, 5)),
+        1 => (3, add_stat(1, 3)),
+        2 => (4, add_stat(1, 4)),
+        3 => (8, Op::StatRemove(stat(3))),
+        4 => (9, set_x(3, 60)),
+        5 => (6, set_x(4, 6)),
+        _ => (7, set_x(4, 7)),
+    };
+    Edit {
+        stamp: at(time),
+        op,
+    }
+}
+
+/// How many stats were made on a board, if it is there.
+fn stats_on(boards: &LiveBoards, id: BoardId) -> Option<usize> {
+    match boards.get(id) {
+        Some(board) => Some(board.stats.count()),
+        None => None,
+    }
+}
+
+/// Stat j of a board in the order of names, and whether it is removed.
+fn stat_at(board: &LiveBoard, j: usize) -> Option<(StatId, bool)> {
+    if j < board.stats.count() {
+        let made = board.stats.at(j);
+        Some((made.id, made.removed))
+    } else {
+        None
+    }
+}
+
+/// Where stat j of a board stands in its row.
+fn x_at(board: &LiveBoard, j: usize) -> Option<StatSetting> {
+    if j < board.stats.count() {
+        Some(board.stats.field(j, StatField::Byte(StatByte::X)))
+    } else {
+        None
+    }
+}
+
 /// The time limit of a board, if it is there.
 fn limit_of(boards: &LiveBoards, id: BoardId) -> Option<i16> {
     match boards.get(id) {
@@ -341,6 +407,38 @@ fn a_document_forgets_the_order_of_its_edits(rt: HostRuntime) -> Result<(), Fail
         assert_eq!(rt; document.header.number(HeaderNumber::Gems), 5);
         assert_eq!(rt; document.header.world_name(), b"EARLY".as_slice());
         assert_eq!(rt; document.boards.count(), 2);
+    }
+    Ok(())
+}
+
+#[test]
+fn stats_forget_the_order_of_their_edits(rt: HostRuntime) -> Result<(), Fail> {
+    for order in [
+        [0, 1, 2, 3, 4, 5, 6],
+        [1, 4, 3, 0, 2, 6, 5],
+        [2, 6, 1, 3, 5, 4, 0],
+    ] {
+        let mut document = LiveDocument::new(rt.alloc());
+        let cave = add_cave(rt.alloc())?;
+        check(rt.alloc(), &cave)?;
+        document.take(rt.alloc(), &cave)?;
+        for which in order {
+            let edit = of_stats(which);
+            check(rt.alloc(), &edit)?;
+            document.take(rt.alloc(), &edit)?;
+        }
+        assert_eq!(rt; stats_on(&document.boards, CAVE), Some(4));
+        assert_eq!(rt; document.boards.home(stat(2)), Some(CAVE));
+        assert_eq!(rt; document.boards.home(stat(3)), Some(CAVE));
+        assert_eq!(rt; document.boards.home(stat(8)), None);
+        if let Some(board) = document.boards.get(CAVE) {
+            assert_eq!(rt; stat_at(board, 1), Some((stat(3), true)));
+            assert_eq!(rt; stat_at(board, 2), Some((stat(4), false)));
+            assert_eq!(rt; stat_at(board, 3), Some((stat(5), false)));
+            assert_eq!(rt; board.stats.number_of(stat(5)), Some(2));
+            assert_eq!(rt; x_at(board, 1), Some(StatSetting::Byte(StatByte::X, 60)));
+            assert_eq!(rt; x_at(board, 2), Some(StatSetting::Byte(StatByte::X, 7)));
+        }
     }
     Ok(())
 }
@@ -398,6 +496,7 @@ fn sweep_document(alloc: Global, edit: &Edit) -> Result<bool, Fail> {
         }
         let is_as_before = document.boards.count() == 1
             && limit_of(&document.boards, CAVE) == Some(0)
+            && stats_on(&document.boards, CAVE) == Some(1)
             && document.header.number(HeaderNumber::Ammo) == 0;
         if answer != Err(LiveError::Memory) || !is_as_before {
             return Ok(false);
@@ -414,5 +513,7 @@ fn a_refused_growth_leaves_the_document(rt: HostRuntime) -> Result<(), Fail> {
     assert!(rt; sweep_document(rt.alloc(), &ninth)?);
     let deep = of_cave(rt.alloc(), 4)?;
     assert!(rt; sweep_document(rt.alloc(), &deep)?);
+    let late = of_stats(0);
+    assert!(rt; sweep_document(rt.alloc(), &late)?);
     Ok(())
 }

@@ -8,4 +8,4 @@ pub returns-clause-edits : goal.returns-clause-edits
 returns-clause-edits c = board.board_takes c.cells_hold_the_latest.ensures
 
 pub returns-clause-others : goal.returns-clause-others
-returns-clause-others c = board.board_passes_others
+returns-clause-others c = board.board_passes_others c.fields_hold_the_latest.ensures
