@@ -1,0 +1,6 @@
+pub mod Answered
+pub mod TextElements
+pub mod TextNames
+pub mod TextsShown
+pub mod TextsTake
+pub mod WorldTexts

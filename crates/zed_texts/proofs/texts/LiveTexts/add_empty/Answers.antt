@@ -1,0 +1,21 @@
+-- A text without a run has no element.
+use Rattle.std.proofs.Common.{◌∙◌, refl, ap, sym, subst, [], false, arith}
+use Rattle.zed_code.specs.Pieces.{Shown}
+use Rattle.zed_texts.specs.Texts.{AllGrow, elements_of}
+use Rattle.zed_texts.specs.ByName.{add}
+use Rattle.zed_texts.proofs.TextElements.{add-elements, add-grow}
+use Rattle.zed_texts.proofs.texts.LiveTexts.add_empty.Goals as goal
+
+abbrev empty : Shown
+empty = record { cutting = []; visits = 0 }
+
+pub returns-clause-ok : goal.returns-clause-ok
+returns-clause-ok c =
+    ap elements_of (c.add.ensures.entries ∙ ap (λ x. add c.args.id x c.reserve.new.self.entries) c.new.ensures ∙ ap (add c.args.id empty) (c.reserve.ensures.entries ∙ c.self.view_is))
+    ∙ add-elements c.args.id empty c.args.self.now
+
+pub returns-clause-runs : goal.returns-clause-runs
+returns-clause-runs c =
+    subst (AllGrow (λ t. false) c.args.self.now)
+    (sym (c.add.ensures.entries ∙ ap (λ x. add c.args.id x c.reserve.new.self.entries) c.new.ensures ∙ ap (add c.args.id empty) (c.reserve.ensures.entries ∙ c.self.view_is)))
+    (add-grow c.args.id empty c.args.self.now (omega arith, refl))

@@ -1,0 +1,215 @@
+//! The texts of a live document, found by their names.
+
+ghost use Rattle.std.specs.Prelude.{◌≡◌, ◌<◌, ◌≤◌, [], true, false, length, is_some, Some, IfErr, OnOk, OnErr, option_copied};
+ghost use Rattle.std.specs.List.{AllByRecursion, list_any};
+ghost use Rattle.zed_types.specs.Names.{same_text, same_element};
+ghost use Rattle.zed_types.specs.Text.{run_from, put_late, kill};
+ghost use Rattle.zed_op.specs.Fit.{Fits};
+ghost use Rattle.zed_settle.specs.Making.{made_texts};
+ghost use Rattle.zed_code.specs.Text.{StandsAfter, IsNewStamp};
+ghost use Rattle.zed_texts.specs.ByName.{text_in, name_at as name_in, add as added, add_all as all_added, change};
+ghost use Rattle.zed_texts.specs.Texts.{elements_of, named, elements_or_none, texts_after, IsReady, is_of_texts, changes_text, AllGrow, IsOpened};
+
+use crate::error::TextsError;
+use crate::made::{add, add_each, all_as_made};
+use indexmap::IndexMap;
+use std::alloc::Global;
+use std::marker::Model;
+use zed_code::Text;
+use zed_edit::{Edit, Op, Plain, Text as PlainText, step};
+use zed_types::{ByteRange, ElemId, Stamp, TextId};
+use zed_world::read_is_normal;
+
+/// Texts in the order of their names.
+#[derive(Drop)]
+pub struct LiveTexts {
+    entries: IndexMap<TextId, Text>,
+}
+
+impl Model for LiveTexts {
+    ghost use Rattle.std.specs.Prelude.{IsSorted};
+    ghost use Rattle.indexmap.specs.IndexMap.{keys};
+    ghost use Rattle.zed_texts.specs.ByName.{text_cmp};
+    ghost use Rattle.zed_texts.specs.Texts.{Texts};
+
+    ghost Value = { Texts };
+
+    ghost view = { λ t. t.entries.entries };
+
+    ghost invariant = { λ t. IsSorted text_cmp (keys t.entries) };
+}
+
+impl LiveTexts {
+    /// No text.
+    pub fn new(alloc: Global) -> LiveTexts
+        ensures { result ≡ [] }
+    {
+        LiveTexts {
+            entries: IndexMap::new(alloc),
+        }
+    }
+
+    /// The text of a name, if it was made.
+    pub fn get(&self, id: TextId) -> Option<&Text>
+        ensures { option_copied result ≡ text_in id self.now }
+    {
+        self.entries.get(&id)
+    }
+
+    /// Whether a text was made.
+    pub fn has(&self, id: TextId) -> bool
+        ensures { result ≡ is_some (text_in id self.now) }
+    {
+        self.entries.contains_key(&id)
+    }
+
+    /// Whether a byte was put into the text of a name, dead or not.
+    #[tactic(auto, using(crate::proofs::TextElements::of_no_text))]
+    pub fn has_byte(&self, id: TextId, byte: ElemId) -> bool
+        ensures { result ≡ list_any (λ x. same_element x.id byte)
+            (elements_or_none (text_in id (elements_of self.now))) }
+    {
+        match self.get(id) {
+            Some(text) => text.has(byte),
+            None => false,
+        }
+    }
+
+    /// How many texts were made.
+    pub fn count(&self) -> usize
+        ensures { result ≡ length self.now }
+    {
+        self.entries.len()
+    }
+
+    /// The name of text j in the order of names.
+    pub fn name_at(&self, j: usize) -> TextId
+        requires { j < length self.now }
+        ensures { name_in j self.now ≡ Some result }
+    {
+        let (id, _) = self.entries.get_index(j).unwrap();
+        *id
+    }
+
+    /// Puts an edit in, whenever it comes: changes the text that it is of, if that is there, or adds the texts that
+    /// it makes. Memory leaves the texts as they were.
+    pub fn take(&mut self, alloc: Global, edit: &Edit) -> Result<(), TextsError>
+        requires fits { Fits edit.now }
+        requires ready { IsReady edit.now.stamp edit.now.op (elements_of self.old) }
+        ensures ok { OnOk result (elements_of self.new
+            ≡ texts_after edit.now.stamp edit.now.op (elements_of self.old)) }
+        ensures err { IfErr result (λ e. e ≡ TextsError.Memory) }
+        ensures kept { OnErr result (self.new ≡ self.old) }
+        ensures memory_only_when { OnErr result (is_of_texts edit.now.op ≡ true) }
+        ensures runs { OnOk result
+            (AllGrow (λ t. changes_text t edit.now.op) self.old self.new) }
+    {
+        match &edit.op {
+            Op::Genesis(_) => self.open(alloc, edit),
+            Op::TextAdd => self.add_empty(alloc, TextId::new(edit.stamp, 0)),
+            Op::TextInsert(id, after, bytes) => {
+                self.insert(*id, *after, edit.stamp, bytes.as_slice())
+            }
+            Op::TextDelete(id, range) => self.delete(*id, *range),
+            _ => Ok(()),
+        }
+    }
+
+    /// Puts bytes into the text of a name, if it is there.
+    fn insert(
+        &mut self,
+        id: TextId,
+        after: Option<ElemId>,
+        stamp: Stamp,
+        bytes: &[u8],
+    ) -> Result<(), TextsError>
+        requires there { StandsAfter after stamp
+            (elements_or_none (text_in id (elements_of self.old))) }
+        requires new { IsNewStamp stamp (elements_or_none (text_in id (elements_of self.old))) }
+        requires most { length bytes.now ≤ 32767 }
+        ensures ok { OnOk result (elements_of self.new
+            ≡ change id (put_late after stamp (run_from stamp 0 bytes.now))
+            (elements_of self.old)) }
+        ensures err { IfErr result (λ e. e ≡ TextsError.Memory) }
+        ensures kept { OnErr result (self.new ≡ self.old) }
+        ensures runs { OnOk result (AllGrow (λ t. same_text id t) self.old self.new) }
+    {
+        if let Some(i) = self.entries.get_index_of(&id) {
+            if let Some(text) = self.entries.get_index_mut(i) {
+                return match text.insert(after, stamp, bytes) {
+                    Ok(()) => Ok(()),
+                    Err(_) => Err(TextsError::Memory),
+                };
+            }
+        }
+        Ok(())
+    }
+
+    /// Marks bytes of the text of a name dead, if it is there.
+    fn delete(&mut self, id: TextId, range: ByteRange) -> Result<(), TextsError>
+        ensures ok { OnOk result (elements_of self.new
+            ≡ change id (kill range) (elements_of self.old)) }
+        ensures err { IfErr result (λ e. e ≡ TextsError.Memory) }
+        ensures kept { OnErr result (self.new ≡ self.old) }
+        ensures runs { OnOk result (AllGrow (λ t. same_text id t) self.old self.new) }
+    {
+        if let Some(i) = self.entries.get_index_of(&id) {
+            if let Some(text) = self.entries.get_index_mut(i) {
+                return match text.delete(range.stamp, range.first, range.last) {
+                    Ok(()) => Ok(()),
+                    Err(_) => Err(TextsError::Memory),
+                };
+            }
+        }
+        Ok(())
+    }
+
+    /// Adds a text without a byte.
+    fn add_empty(&mut self, alloc: Global, id: TextId) -> Result<(), TextsError>
+        ensures ok { OnOk result (elements_of self.new ≡ added id [] (elements_of self.old)) }
+        ensures err { IfErr result (λ e. e ≡ TextsError.Memory) }
+        ensures kept { OnErr result (self.new ≡ self.old) }
+        ensures runs { OnOk result (AllGrow (λ t. false) self.old self.new) }
+    {
+        if self.entries.reserve(1).is_err() {
+            return Err(TextsError::Memory);
+        }
+        add(&mut self.entries, id, Text::new(alloc));
+        Ok(())
+    }
+
+    /// Adds the texts of the world that an edit makes.
+    fn open(&mut self, alloc: Global, edit: &Edit) -> Result<(), TextsError>
+        requires { Fits edit.now }
+        ensures ok { OnOk result (elements_of self.new
+            ≡ all_added (named (made_texts edit.now.stamp edit.now.op)) (elements_of self.old)) }
+        ensures err { IfErr result (λ e. e ≡ TextsError.Memory) }
+        ensures kept { OnErr result (self.new ≡ self.old) }
+        ensures runs { OnOk result (AllGrow (λ t. false) self.old self.new) }
+    {
+        read_is_normal();
+        let mut made = Plain::empty(alloc);
+        match step(alloc, &mut made, edit) {
+            Ok(()) => {}
+            Err(_) => return Err(TextsError::Memory),
+        }
+        self.add_made(alloc, made.texts.as_slice())
+    }
+
+    /// Adds texts of the world. Memory leaves the texts as they were.
+    pub(crate) fn add_made(&mut self, alloc: Global, texts: &[PlainText]) -> Result<(), TextsError>
+        requires opened { AllByRecursion IsOpened texts.now }
+        ensures ok { OnOk result (elements_of self.new
+            ≡ all_added (named texts.now) (elements_of self.old)) }
+        ensures err { IfErr result (λ e. e ≡ TextsError.Memory) }
+        ensures kept { OnErr result (self.new ≡ self.old) }
+        ensures runs { OnOk result (AllGrow (λ t. false) self.old self.new) }
+    {
+        let made = all_as_made(alloc, texts)?;
+        if self.entries.reserve(made.len()).is_err() {
+            return Err(TextsError::Memory);
+        }
+        add_each(&mut self.entries, made);
+        Ok(())
+    }
+}
