@@ -1,0 +1,7 @@
+pub mod BodySteps
+pub mod Cascades
+pub mod Fewer
+pub mod HasThings
+pub mod MadeThings
+pub mod Members
+pub mod Waking

@@ -1,0 +1,40 @@
+use Rattle.std.proofs.Common.{◌≡◌, List, [], ◌∷◌, length, suc, refl, ap, subst, rules, arith}
+use Rattle.zed_op.specs.declared.op.Edit.{Edit}
+use Rattle.zed_body.specs.Steps.{AreTried}
+use Rattle.zed_body.proofs.BodySteps.{first_in_hand, tried_one_more}
+use Rattle.zed_body.proofs.body.Body.retry_all.Goals as goal
+
+pub retry-requires : goal.retry-requires
+retry-requires c =
+    let steps : c.loop-edit.edit-iterator.rest.items ≡ c.in-Some.edit ∷ c.next.new.self.rest.items = search rules in
+    let P : List Edit → Type 0 = λ es. AreTried c.args.edits.items c.args.self.now c.args.done.now.items es c.loop-edit.self c.loop-edit.done.items in
+    let many : P (c.in-Some.edit ∷ c.next.new.self.rest.items) = subst P steps c.loop-edit.invariant.tried in
+    let h = c.requires in
+    first_in_hand c.in-Some.edit c.next.new.self.rest.items c.loop-edit.done.items c.loop-edit.self (h.0, h.1, many h.0 h.1 h.2)
+
+pub loop-edit-preserved : goal.loop-edit-preserved
+loop-edit-preserved c = record {
+  tried =
+      let steps : c.loop-edit.edit-iterator.rest.items ≡ c.in-Some.edit ∷ c.next.new.self.rest.items = search rules in
+      let P : List Edit → Type 0 = λ es. AreTried c.args.edits.items c.args.self.now c.args.done.now.items es c.loop-edit.self c.loop-edit.done.items in
+      let many : P (c.in-Some.edit ∷ c.next.new.self.rest.items) = subst P steps c.loop-edit.invariant.tried in
+      tried_one_more c.args.edits.items c.args.self.now c.args.done.now.items c.in-Some.edit c.next.new.self.rest.items c.loop-edit.self c.loop-edit.done.items c.retry.new.self c.retry.new.done.items many c.in_ok-retry.ensures.ok;
+  fit = λ a. c.in_ok-retry.ensures.fits (c.loop-edit.invariant.fit a);
+  few =
+      let steps : c.loop-edit.edit-iterator.rest.items ≡ c.in-Some.edit ∷ c.next.new.self.rest.items = search rules in
+      let count : length c.loop-edit.edit-iterator.rest.items ≡ suc (length c.next.new.self.rest.items) = ap length steps in
+      let step = c.in_ok-retry.ensures.few in
+      omega (arith, c.loop-edit.invariant.few);
+}
+
+no_edits : (es : List Edit) → length es ≡ 0 → es ≡ []
+no_edits [] h = refl
+no_edits (e ∷ es) h = absurd (omega (arith, h))
+
+pub returns-clause-ok : goal.returns-clause-ok
+returns-clause-ok c =
+    let none = c.in-None.ensures.steps.0 in
+    let count : length c.loop-edit.edit-iterator.rest.items ≡ 0 = search rules in
+    let ends : c.loop-edit.edit-iterator.rest.items ≡ [] = no_edits c.loop-edit.edit-iterator.rest.items count in
+    let P : List Edit → Type 0 = λ es. AreTried c.args.edits.items c.args.self.now c.args.done.now.items es c.loop-edit.self c.loop-edit.done.items in
+    subst P ends c.loop-edit.invariant.tried

@@ -1,0 +1,10 @@
+use Rattle.zed_body.proofs.Waking.{released_in_hand, is_woken}
+use Rattle.zed_body.proofs.body.Body.wake_one.Goals as goal
+
+pub retry_all-requires : goal.retry_all-requires
+retry_all-requires c =
+    released_in_hand c.args.thing c.in_ok-edits.edits.items c.args.done.now.items c.args.self.now c.release.new.self c.requires c.in_ok-edits.ensures.ok
+
+pub returns-clause-ok : goal.returns-clause-ok
+returns-clause-ok c =
+    is_woken c.args.thing c.in_ok-edits.edits.items c.args.done.now.items c.retry_all.new.done.items c.args.self.now c.release.new.self c.retry_all.new.self c.in_ok-edits.ensures.ok c.in_ok-retry_all.ensures.ok

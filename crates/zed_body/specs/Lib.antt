@@ -1,0 +1,6 @@
+pub mod Cascade
+pub mod Made
+pub mod Shows
+pub mod Steps
+pub mod Things
+pub mod Waking

@@ -1,0 +1,16 @@
+//! The live parts of a document, and the edits that wait for what isn't made yet.
+#![tactic(auto)]
+
+mod body;
+mod error;
+mod laws;
+mod made;
+mod things;
+mod wake;
+
+pub use body::Body;
+pub use error::BodyError;
+pub use laws::{bodies_begin_and_end, bodies_have_what_is_made, cascades_settle};
+
+#[cfg(test)]
+mod tests;
