@@ -1,0 +1,42 @@
+-- The elements of the text of a name, in live texts and in those that they show.
+use Rattle.std.proofs.Common.{◌≡◌, ◌∙◌, Bool, true, false, cond, List, [], ◌∷◌, Option, Some, None, refl, ap, sym}
+use Rattle.zed_types.specs.declared.names.TextId.{TextId}
+use Rattle.zed_types.specs.declared.text.TextByte.{TextByte}
+use Rattle.zed_types.specs.Names.{same_text}
+use Rattle.zed_types.proofs.StampOrder.{same_text-true, same_text-itself}
+use Rattle.zed_edit.specs.declared.plain.Text.{Text}
+use Rattle.zed_edit.specs.Document.{find_text, elements_in}
+use Rattle.zed_code.specs.Pieces.{Shown}
+use Rattle.zed_code.specs.Text.{elements}
+use Rattle.zed_names.proofs.Found.{apart}
+use Rattle.zed_texts.specs.ByName.{text_name, text_in}
+use Rattle.zed_texts.specs.Texts.{Texts, elements_of}
+use Rattle.zed_texts.specs.Shows.{shown_texts}
+
+abbrev spelled : Option Shown → List TextByte
+spelled None = []
+spelled (Some v) = elements v
+
+abbrev as_text : TextId → List TextByte → Text
+as_text t xs = record { id = t; elements = xs }
+
+elements-shown : (t : TextId) (ys : Texts) → elements_in (find_text t (shown_texts (elements_of ys))) ≡ spelled (text_in t ys)
+elements-shown t [] = refl
+elements-shown t (y ∷ ys) = go (same_text t y.0) refl (elements-shown t ys)
+  where
+    go : (v : Bool) → same_text t y.0 ≡ v → elements_in (find_text t (shown_texts (elements_of ys))) ≡ spelled (text_in t ys)
+        → elements_in (cond (same_text y.0 t) (Some (as_text y.0 (elements y.1))) (find_text t (shown_texts (elements_of ys)))) ≡ spelled (cond v (Some y.1) (text_in t ys))
+    go true v more =
+        let i : t ≡ y.0 = same_text-true t y.0 v in
+        let w : same_text y.0 t ≡ true = ap (λ d. same_text d t) (sym i) ∙ same_text-itself t in
+        rw w refl
+    go false v more =
+        let w : same_text y.0 t ≡ false = apart text_name t y.0 v in
+        rw w more
+
+-- those of a text that is there, and of none
+pub of_some_text : (t : TextId) (ys : Texts) (v : Shown) → text_in t ys ≡ Some v → elements_in (find_text t (shown_texts (elements_of ys))) ≡ elements v
+of_some_text t ys v h = elements-shown t ys ∙ ap spelled h
+
+pub of_no_text : (t : TextId) (ys : Texts) → text_in t ys ≡ None → elements_in (find_text t (shown_texts (elements_of ys))) ≡ []
+of_no_text t ys h = elements-shown t ys ∙ ap spelled h

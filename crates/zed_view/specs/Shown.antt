@@ -1,0 +1,34 @@
+-- What live parts show to one author: the plain document.
+use Rattle.std.specs.Prelude.{◌≡◌, List}
+use Rattle.zed_op.specs.declared.op.Edit.{Edit}
+use Rattle.zed_op.specs.Set.{IsRising, AllFit, stamps_of}
+use Rattle.zed_op.specs.Sizes.{HaveSizes}
+use Rattle.zed_edit.specs.declared.plain.Plain.{Plain}
+use Rattle.zed_edit.specs.Replay.{replay, taken, held}
+use Rattle.zed_live.specs.declared.document.LiveDocument.{LiveDocument}
+use Rattle.zed_live.specs.Document.{DocumentShows}
+use Rattle.zed_live.specs.Shown.{shown as shown_header}
+use Rattle.zed_live.specs.Boards.{shown_boards}
+use Rattle.zed_texts.specs.Texts.{Texts, elements_of}
+use Rattle.zed_texts.specs.Shows.{TextsShow, shown_texts}
+
+-- the document as one author sees it: what the live parts show, and the stamps of the edits that wait
+abbrev pub shown : LiveDocument → Texts → List Edit → Plain
+shown live texts waiting = record {
+  header = shown_header live.header;
+  boards = shown_boards live.boards;
+  texts = shown_texts (elements_of texts);
+  held = stamps_of waiting;
+}
+
+-- live parts that show the edits taken, beside those held, show the replay
+abbrev pub ReplayedPartsAreShown : Type 0
+ReplayedPartsAreShown =
+    (es : List Edit) (live : LiveDocument) (texts : Texts) (waiting : List Edit)
+    → IsRising es
+    → AllFit es
+    → HaveSizes es
+    → DocumentShows (taken es) live
+    → TextsShow (taken es) (elements_of texts)
+    → waiting ≡ held es
+    → shown live texts waiting ≡ replay es
