@@ -15,7 +15,7 @@ pub(crate) fn refuse(alloc: Global, nth: usize) {
 }
 
 /// Ends what `refuse` asked for, and says whether a growth was refused.
-fn was_refused(alloc: Global) -> bool {
+pub(crate) fn was_refused(alloc: Global) -> bool {
     Vec::<u8>::with_capacity(alloc, MARK).is_err()
 }
 

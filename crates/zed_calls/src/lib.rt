@@ -3,11 +3,21 @@
 #![tactic(auto)]
 
 #[cfg(test)]
+mod cells;
+#[cfg(test)]
 mod edits;
 #[cfg(test)]
 mod growths;
 #[cfg(test)]
+mod inbox;
+#[cfg(test)]
+mod links;
+#[cfg(test)]
 mod programs;
+#[cfg(test)]
+mod runs;
+#[cfg(test)]
+mod stats;
 #[cfg(test)]
 mod types;
 #[cfg(test)]

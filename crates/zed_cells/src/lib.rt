@@ -12,6 +12,3 @@ pub use error::CellsError;
 pub use keep::{keep_in, keep_later};
 pub use laws::{cells_hold_the_latest, order_is_forgotten};
 pub use registers::Registers;
-
-#[cfg(test)]
-mod tests;

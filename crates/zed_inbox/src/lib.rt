@@ -8,6 +8,3 @@ mod keeping;
 
 pub use error::InboxError;
 pub use inbox::Inbox;
-
-#[cfg(test)]
-mod tests;

@@ -16,6 +16,3 @@ pub use memory::MemoryLink;
 pub use pulled::Pulled;
 pub use receiving::receive;
 pub use sending::send;
-
-#[cfg(test)]
-mod tests;

@@ -1,18 +1,12 @@
 //! Links over memory, as tables.
-ghost use Rattle.std.specs.Prelude.{None};
+ghost use Rattle.std.specs.Prelude.{None, true};
 
-use crate::{Failed, Link, LinkError, MemoryLink, Pulled, receive, send};
-use std::alloc::Global;
+use crate::growths::{TURNS, Turn, is_last, refuse, turn_of};
 use std::test::Fail;
 use zed_document::Document;
+use zed_link::{Failed, Link, LinkError, MemoryLink, Pulled, receive, send};
 use zed_op::Cause;
 use zed_types::Stamp;
-
-/// The size that the allocator of the sweep over refused growths listens to.
-const MARK: usize = 3_141_592;
-
-/// Most growths that a sweep goes through.
-const MOST_GROWTHS: usize = 64;
 
 /// A file of world 7: its head, and an edit of cells at (2,1) of a board that isn't made.
 const CELLS: [u8; 43] = [
@@ -35,16 +29,6 @@ const FIRST: Stamp = Stamp {
     replica: 1,
 };
 
-/// Asks that the growth `nth` from here on is refused. An allocator that doesn't listen refuses the request alone.
-fn refuse(alloc: Global, nth: usize) {
-    let _ = Vec::<u8>::with_capacity(alloc, MARK.saturating_add(nth));
-}
-
-/// Ends what `refuse` asked for, and says whether a growth was refused.
-fn was_refused(alloc: Global) -> bool {
-    Vec::<u8>::with_capacity(alloc, MARK).is_err()
-}
-
 /// The file of cells, and these records behind it.
 fn file(rt: &HostRuntime, records: &[[u8; 13]]) -> Result<Vec<u8>, Fail> {
     let mut bytes = Vec::from_slice(rt.alloc(), &CELLS)?;
@@ -54,57 +38,83 @@ fn file(rt: &HostRuntime, records: &[[u8; 13]]) -> Result<Vec<u8>, Fail> {
     Ok(bytes)
 }
 
+/// What a pull came to: its answer, how many edits the document has, and what the link counted.
+#[derive(Clone, Copy, Debug, PartialEq, Eq)]
+struct Outcome {
+    pulled: Result<Pulled, LinkError>,
+    edits: usize,
+    reads: u64,
+    failures: u64,
+}
+
+/// Pulls bytes into a document of a world that has no edits yet, over a link that hands over so many by a read.
+fn pull(
+    rt: &HostRuntime,
+    bytes: Vec<u8>,
+    piece: usize,
+    passing: Option<u64>,
+    world: u64,
+) -> Outcome {
+    let mut link = MemoryLink::new(rt.alloc(), bytes, piece, passing);
+    let mut document = Document::new(rt.alloc(), world);
+    let pulled = receive(rt.alloc(), &mut link, &mut document);
+    Outcome {
+        pulled,
+        edits: document.edits().len(),
+        reads: link.reads(),
+        failures: link.failures(),
+    }
+}
+
+/// The file of cells and two repeated records, pulled in pieces.
+fn pull_in_pieces(rt: &HostRuntime, piece: usize) -> Result<Outcome, Fail> {
+    Ok(pull(rt, file(rt, &[TEXT, TEXT])?, piece, None, 7))
+}
+
 #[test]
 fn a_file_is_received_in_pieces_of_every_length(rt: HostRuntime) -> Result<(), Fail> {
     for piece in 1..=50 {
-        let bytes = file(&rt, &[TEXT, TEXT])?;
-        let mut link = MemoryLink::new(rt.alloc(), bytes, piece, None);
-        let mut document = Document::new(rt.alloc(), 7);
-        let pulled = receive(rt.alloc(), &mut link, &mut document);
-        assert_eq!(rt;
-            pulled,
-            Ok(Pulled {
-                taken: 1,
-                held: 1,
-                known: 1
-            })
-        );
-        assert_eq!(rt; document.edits().len(), 2);
-        assert_eq!(rt; link.failures(), 0);
+        let came = pull_in_pieces(&rt, piece)?;
+        let told = Pulled {
+            taken: 1,
+            held: 1,
+            known: 1,
+        };
+        assert_eq!(rt; came.pulled, Ok(told));
+        assert_eq!(rt; came.edits, 2);
+        assert_eq!(rt; came.failures, 0);
     }
     Ok(())
 }
 
+/// Pulls the file with a growth refused. Then the first of its edits are there, and after a repair another pull brings all.
+fn pull_once(rt: &HostRuntime, nth: usize) -> Result<Turn, Fail> {
+    let mut link = MemoryLink::new(rt.alloc(), file(rt, &[TEXT, TEXT])?, 20, None);
+    let mut document = Document::new(rt.alloc(), 7);
+    refuse(rt.alloc(), nth);
+    let pulled = receive(rt.alloc(), &mut link, &mut document);
+    let is_front = document
+        .edits()
+        .first()
+        .is_none_or(|edit| edit.stamp == FIRST);
+    let is_memory = pulled == Err(LinkError::Memory) && is_front;
+    let turn = turn_of(rt.alloc(), pulled.is_ok(), is_memory);
+    document.repair()?;
+    let mut again = MemoryLink::new(rt.alloc(), file(rt, &[TEXT, TEXT])?, 20, None);
+    let pulled = receive(rt.alloc(), &mut again, &mut document);
+    if pulled.is_ok() && document.edits().len() == 2 {
+        Ok(turn)
+    } else {
+        Ok(Turn::Wrong)
+    }
+}
+
 #[test]
 fn each_growth_of_receive_refused(rt: HostRuntime) -> Result<(), Fail> {
-    for nth in 1..=MOST_GROWTHS {
-        let bytes = file(&rt, &[TEXT, TEXT])?;
-        let mut link = MemoryLink::new(rt.alloc(), bytes, 20, None);
-        let mut document = Document::new(rt.alloc(), 7);
-        refuse(rt.alloc(), nth);
-        let pulled = receive(rt.alloc(), &mut link, &mut document);
-        if !was_refused(rt.alloc()) {
-            assert_eq!(rt; pulled.is_ok(), true);
-            assert_eq!(rt; document.edits().len(), 2);
+    for nth in 1..=TURNS {
+        if is_last(pull_once(&rt, nth)?)? {
             return Ok(());
         }
-        assert_eq!(rt; pulled, Err(LinkError::Memory), "growth {nth}");
-        // the first of the file's edits are there, and after a repair another pull brings all
-        let edits = document.edits();
-        assert_eq!(rt; edits.len() <= 2, true, "growth {nth}");
-        assert_eq!(rt;
-            edits.first().is_none_or(|edit| edit.stamp == FIRST),
-            true,
-            "growth {nth}"
-        );
-        document.repair()?;
-        let bytes = file(&rt, &[TEXT, TEXT])?;
-        let mut again = MemoryLink::new(rt.alloc(), bytes, 20, None);
-        assert_eq!(rt;
-            receive(rt.alloc(), &mut again, &mut document).is_ok(),
-            true
-        );
-        assert_eq!(rt; document.edits().len(), 2, "growth {nth}");
     }
     Err(Fail::new("more growths than expected"))
 }
@@ -112,19 +122,18 @@ fn each_growth_of_receive_refused(rt: HostRuntime) -> Result<(), Fail> {
 #[test]
 fn a_read_that_fails_leaves_the_edits_before_it(rt: HostRuntime) -> Result<(), Fail> {
     for passing in 0..9 {
-        let bytes = file(&rt, &[TEXT])?;
-        let mut link = MemoryLink::new(rt.alloc(), bytes, 7, Some(passing));
-        let mut document = Document::new(rt.alloc(), 7);
-        let pulled = receive(rt.alloc(), &mut link, &mut document);
-        assert_eq!(rt; pulled, Err(LinkError::LinkFault));
         let whole = match passing {
             0..=6 => 0,
             7 => 1,
             _ => 2,
         };
-        assert_eq!(rt; document.edits().len(), whole);
-        assert_eq!(rt; link.failures(), 1);
-        assert_eq!(rt; link.reads(), passing + 1);
+        let failed = Outcome {
+            pulled: Err(LinkError::LinkFault),
+            edits: whole,
+            reads: passing + 1,
+            failures: 1,
+        };
+        assert_eq!(rt; pull(&rt, file(&rt, &[TEXT])?, 7, Some(passing), 7), failed);
     }
     Ok(())
 }
@@ -140,12 +149,9 @@ fn each_read_is_counted_the_one_of_the_end_too(rt: HostRuntime) -> Result<(), Fa
         (69, 2),
         (100, 2),
     ] {
-        let bytes = file(&rt, &[TEXT, TEXT])?;
-        let mut link = MemoryLink::new(rt.alloc(), bytes, piece, None);
-        let mut document = Document::new(rt.alloc(), 7);
-        let pulled = receive(rt.alloc(), &mut link, &mut document);
-        assert_eq!(rt; pulled.is_ok(), true);
-        assert_eq!(rt; link.reads(), reads);
+        let came = pull_in_pieces(&rt, piece)?;
+        assert_eq!(rt; came.pulled.is_ok(), true);
+        assert_eq!(rt; came.reads, reads);
     }
     Ok(())
 }
@@ -162,7 +168,8 @@ fn bytes_are_sent_in_pieces_of_every_length(rt: HostRuntime) -> Result<(), Fail>
 
 #[test]
 fn a_write_that_fails_leaves_a_front(rt: HostRuntime) -> Result<(), Fail> {
-    for passing in 0..8 {
+    // the last of nine writes too
+    for passing in 0..9 {
         let mut link = MemoryLink::new(rt.alloc(), Vec::new(rt.alloc()), 5, Some(passing));
         assert_eq!(rt; send(&mut link, &CELLS), Err(LinkError::LinkFault));
         assert_eq!(rt; link.taken().len(), 5 * (passing as usize));
@@ -181,9 +188,33 @@ fn a_link_that_takes_nothing_is_a_fault(rt: HostRuntime) -> Result<(), Fail> {
     Ok(())
 }
 
+/// Pulls bytes that are refused, a byte by a read and all by one, where the next call of the link would fail.
+fn expect_refused(
+    rt: &HostRuntime,
+    bytes: &[u8],
+    world: u64,
+    refusal: LinkError,
+    shown: u64,
+    edits: usize,
+) -> Result<(), Fail> {
+    for (piece, passing) in [(1, shown), (100, 1)] {
+        let refused = Outcome {
+            pulled: Err(refusal),
+            edits,
+            reads: passing,
+            failures: 0,
+        };
+        let bytes = Vec::from_slice(rt.alloc(), bytes)?;
+        if pull(rt, bytes, piece, Some(passing), world) != refused {
+            return Err(Fail::new("another refusal, or not at its place"));
+        }
+    }
+    Ok(())
+}
+
 #[test]
 fn what_is_wrong_comes_first(rt: HostRuntime) -> Result<(), Fail> {
-    // the bytes up to the one that shows what is wrong, and the edits before it; the next call of the link would fail
+    // the bytes up to the one that shows what is wrong, and the edits before it
     for (world, place, byte, refusal, shown, edits) in [
         (7, 2, 0x45, LinkError::Magic, 3, 0),
         (7, 3, 2, LinkError::NewVersion, 4, 0),
@@ -194,26 +225,18 @@ fn what_is_wrong_comes_first(rt: HostRuntime) -> Result<(), Fail> {
         (7, 43, 8, LinkError::RecordLength, 47, 1),
         (7, 0, 0x5a, LinkError::Clash(FIRST), 56, 1),
     ] {
-        for (piece, passing) in [(1, shown), (100, 1)] {
-            let mut bytes = file(&rt, &[OTHER])?;
-            if let Some(there) = bytes.get_mut(place) {
-                *there = byte;
-            }
-            let mut link = MemoryLink::new(rt.alloc(), bytes, piece, Some(passing));
-            let mut document = Document::new(rt.alloc(), world);
-            let pulled = receive(rt.alloc(), &mut link, &mut document);
-            assert_eq!(rt; pulled, Err(refusal));
-            assert_eq!(rt; document.edits().len(), edits);
-            assert_eq!(rt; link.reads(), passing);
-            assert_eq!(rt; link.failures(), 0);
+        let mut bytes = file(&rt, &[OTHER])?;
+        if let Some(there) = bytes.get_mut(place) {
+            *there = byte;
         }
+        expect_refused(&rt, &bytes, world, refusal, shown, edits)?;
     }
     Ok(())
 }
 
 #[test]
 fn of_two_wrong_records_the_first_is_told(rt: HostRuntime) -> Result<(), Fail> {
-    // the bytes up to the end of the first wrong record, and the edits before it; the next call of the link would fail
+    // the bytes up to the end of the first wrong record, and the edits before it
     for (records, refusal, shown, edits) in [
         ([TEXT, BAD], LinkError::BadEdit(Cause::Op), 69, 2),
         ([TEXT, OTHER], LinkError::Clash(FIRST), 69, 2),
@@ -222,16 +245,7 @@ fn of_two_wrong_records_the_first_is_told(rt: HostRuntime) -> Result<(), Fail> {
         ([OTHER, TEXT], LinkError::Clash(FIRST), 56, 1),
         ([OTHER, BAD], LinkError::Clash(FIRST), 56, 1),
     ] {
-        for (piece, passing) in [(1, shown), (100, 1)] {
-            let bytes = file(&rt, &records)?;
-            let mut link = MemoryLink::new(rt.alloc(), bytes, piece, Some(passing));
-            let mut document = Document::new(rt.alloc(), 7);
-            let pulled = receive(rt.alloc(), &mut link, &mut document);
-            assert_eq!(rt; pulled, Err(refusal));
-            assert_eq!(rt; document.edits().len(), edits);
-            assert_eq!(rt; link.reads(), passing);
-            assert_eq!(rt; link.failures(), 0);
-        }
+        expect_refused(&rt, &file(&rt, &records)?, 7, refusal, shown, edits)?;
     }
     Ok(())
 }
@@ -240,10 +254,7 @@ fn of_two_wrong_records_the_first_is_told(rt: HostRuntime) -> Result<(), Fail> {
 fn a_cut_file_is_cut_short(rt: HostRuntime) -> Result<(), Fail> {
     for length in 0..43 {
         let (front, _) = CELLS.split_at(length);
-        let bytes = Vec::from_slice(rt.alloc(), front)?;
-        let mut link = MemoryLink::new(rt.alloc(), bytes, 100, None);
-        let mut document = Document::new(rt.alloc(), 7);
-        let pulled = receive(rt.alloc(), &mut link, &mut document);
+        let came = pull(&rt, Vec::from_slice(rt.alloc(), front)?, 100, None, 7);
         let none = Pulled {
             taken: 0,
             held: 0,
@@ -254,8 +265,8 @@ fn a_cut_file_is_cut_short(rt: HostRuntime) -> Result<(), Fail> {
         } else {
             Err(LinkError::CutShort)
         };
-        assert_eq!(rt; pulled, end);
-        assert_eq!(rt; document.edits().len(), 0);
+        assert_eq!(rt; came.pulled, end);
+        assert_eq!(rt; came.edits, 0);
     }
     Ok(())
 }
@@ -275,6 +286,8 @@ impl Link for Endless {
     ghost failed = { λ _. 0 };
 
     ghost stalls = { λ _. 0 };
+
+    ghost accepts = { λ _. true };
 
     fn read(&mut self, into: &mut [u8]) -> Result<usize, Failed> {
         self.reads = self.reads.saturating_add(1);

@@ -1,15 +1,10 @@
 //! Edits that wait, what each thing releases, and growths refused.
-use crate::{Inbox, InboxError};
+use crate::growths::{TURNS, refuse, was_refused};
 use std::alloc::{AllocError, Global};
 use std::test::Fail;
+use zed_inbox::{Inbox, InboxError};
 use zed_op::{Edit, Op, Thing};
 use zed_types::{BoardId, ByteRange, Bytes, ElemId, Stamp, TextId};
-
-/// The size that the allocator of the sweep over refused growths listens to.
-const MARK: usize = 3_141_592;
-
-/// Most growths that a sweep goes through.
-const MOST_GROWTHS: usize = 64;
 
 fn stamp(time: u64, replica: u16) -> Stamp {
     Stamp { time, replica }
@@ -170,16 +165,6 @@ fn of_two_edits_with_one_stamp_the_first_waits(rt: HostRuntime) -> Result<(), Fa
     Ok(())
 }
 
-/// Asks that the growth `nth` from here on is refused. An allocator that doesn't listen refuses the request alone.
-fn refuse(alloc: Global, nth: usize) {
-    let _ = Vec::<u8>::with_capacity(alloc, MARK.saturating_add(nth));
-}
-
-/// Ends what `refuse` asked for, and says whether a growth was refused.
-fn was_refused(alloc: Global) -> bool {
-    Vec::<u8>::with_capacity(alloc, MARK).is_err()
-}
-
 /// Whether the crowd waits, and one edit that waits for another byte if it is to.
 fn is_whole(inbox: &mut Inbox, is_one_more: bool) -> Result<bool, Fail> {
     let (whole, late) = if is_one_more { (41, 1) } else { (40, 0) };
@@ -194,7 +179,7 @@ fn is_whole(inbox: &mut Inbox, is_one_more: bool) -> Result<bool, Fail> {
 
 /// Whether each growth of `hold`, refused in turn, leaves the inbox as it was, up to the call that met none and held the edit.
 fn sweep_hold(alloc: Global) -> Result<bool, Fail> {
-    for nth in 1..=MOST_GROWTHS {
+    for nth in 1..=TURNS {
         let mut inbox = crowd(alloc)?;
         let edit = deletion(stamp(300, 1), stamp(3, 1));
         refuse(alloc, nth);
@@ -212,7 +197,7 @@ fn sweep_hold(alloc: Global) -> Result<bool, Fail> {
 
 /// Whether each growth of `release`, refused in turn, leaves the inbox as it was, up to the call that met none and released the crowd.
 fn sweep_release(alloc: Global) -> Result<bool, Fail> {
-    for nth in 1..=MOST_GROWTHS {
+    for nth in 1..=TURNS {
         let mut inbox = crowd(alloc)?;
         refuse(alloc, nth);
         let released = match inbox.release(byte_of(stamp(2, 1))) {

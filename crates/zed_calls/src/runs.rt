@@ -1,7 +1,8 @@
 //! Runs at their bounds, and each growth refused.
-use crate::{RunsError, read_runs, write_runs};
+use crate::growths::{TURNS, Turn, is_last, refuse, turn_of, was_refused};
 use std::alloc::Global;
 use std::test::Fail;
+use zed_runs::{RunsError, read_runs, write_runs};
 use zed_types::{TILES, Tile};
 
 /// The tile where nothing stands.
@@ -9,19 +10,6 @@ const EMPTY: Tile = Tile {
     element: 0,
     colour: 0,
 };
-
-/// The size that the allocator listens to under which each growth is refused in turn.
-const MARK: usize = 3_141_592;
-
-/// Asks that the growth `nth` from here on is refused. Under an allocator that doesn't listen it asks for nothing.
-fn refuse(alloc: Global, nth: usize) {
-    let _ = Vec::<u8>::with_capacity(alloc, MARK.saturating_add(nth));
-}
-
-/// Ends what `refuse` asked for, and says whether a growth was refused.
-fn was_refused(alloc: Global) -> bool {
-    Vec::<u8>::with_capacity(alloc, MARK).is_err()
-}
 
 #[test]
 fn writes_equal_tiles(rt: HostRuntime) -> Result<(), Fail> {
@@ -85,6 +73,16 @@ fn reads_counts_of_zero(rt: HostRuntime) -> Result<(), Fail> {
     Ok(())
 }
 
+/// Writes runs behind other bytes, which stay where a growth is refused.
+fn write_once(alloc: Global, tiles: &[Tile; TILES], nth: usize) -> Result<Turn, Fail> {
+    let mut out = b"kept".to_vec(alloc)?;
+    refuse(alloc, nth);
+    let answer = write_runs(tiles, &mut out);
+    let is_whole = answer == Ok(()) && out.len() == 4504;
+    let is_memory = answer == Err(RunsError::Memory) && out.as_slice() == b"kept".as_slice();
+    Ok(turn_of(alloc, is_whole, is_memory))
+}
+
 #[test]
 fn writing_refused(rt: HostRuntime) -> Result<(), Fail> {
     // Each tile is another than the one before, so there are 1,500 runs.
@@ -92,19 +90,12 @@ fn writing_refused(rt: HostRuntime) -> Result<(), Fail> {
     for place in 0..TILES {
         tiles[place].colour = (place % 2) as u8;
     }
-    for nth in 1..=64usize {
-        let mut out = b"kept".to_vec(rt.alloc())?;
-        refuse(rt.alloc(), nth);
-        let answer = write_runs(&tiles, &mut out);
-        if !was_refused(rt.alloc()) {
-            assert_eq!(rt; answer, Ok(()));
-            assert_eq!(rt; out.len(), 4504);
+    for nth in 1..=TURNS {
+        if is_last(write_once(rt.alloc(), &tiles, nth)?)? {
             return Ok(());
         }
-        assert_eq!(rt; answer, Err(RunsError::Memory), "growth {nth}");
-        assert_eq!(rt; out.as_slice(), b"kept".as_slice(), "growth {nth}");
     }
-    Err(Fail::new("more growths than 64"))
+    Err(Fail::new("more growths than expected"))
 }
 
 #[test]

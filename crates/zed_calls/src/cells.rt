@@ -1,6 +1,6 @@
 //! Registers and cells by example.
-use crate::{Cells, Registers};
 use std::test::Fail;
+use zed_cells::{Cells, Registers};
 use zed_types::{Place, Rectangle, Stamp, TILES, Tile};
 
 fn at(time: u64, replica: u16) -> Stamp {

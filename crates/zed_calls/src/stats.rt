@@ -1,0 +1,109 @@
+//! Stats by example.
+use std::test::Fail;
+use zed_stats::{MadeStat, StatField, StatValues, Stats};
+use zed_types::{Stamp, StatByte, StatFields, StatId, StatNumber, StatSetting, ThirdParameter};
+
+fn at(time: u64) -> Stamp {
+    Stamp { time, replica: 1 }
+}
+
+fn stat(time: u64) -> StatId {
+    StatId::new(at(time), 0)
+}
+
+fn values(x: u8, y: u8) -> StatValues {
+    StatValues {
+        fields: StatFields {
+            bytes: [x, y, 0, 0, 0, 0],
+            numbers: [0, 0, 1],
+            p3: ThirdParameter::Byte(0),
+            text: None,
+        },
+        position: 0,
+        follower: None,
+        leader: None,
+    }
+}
+
+/// A board with its player, and stats that were added at (5,1), (3,1) and (4,1) in this order.
+fn board(rt: HostRuntime) -> Result<Stats, Fail> {
+    let mut stats = Stats::new(rt.alloc());
+    stats.add(stat(2), true, values(30, 12))?;
+    stats.add(stat(5), false, values(1, 5))?;
+    stats.add(stat(3), false, values(1, 3))?;
+    stats.add(stat(4), false, values(1, 4))?;
+    Ok(stats)
+}
+
+#[test]
+fn stats_are_numbered_by_their_names(rt: HostRuntime) -> Result<(), Fail> {
+    let mut stats = board(rt)?;
+    assert_eq!(rt; stats.number_of(stat(2)), Some(0));
+    assert_eq!(rt; stats.number_of(stat(5)), Some(3));
+    assert_eq!(rt; stats.number_of(stat(3)), Some(1));
+    assert_eq!(rt; stats.number_of(stat(4)), Some(2));
+
+    stats.remove(stat(3));
+    stats.set_field(stat(3), at(9), StatSetting::Byte(StatByte::X, 60));
+    assert_eq!(rt; stats.number_of(stat(5)), Some(2));
+    assert_eq!(rt; stats.number_of(stat(3)), None);
+    assert_eq!(rt; stats.number_of(stat(4)), Some(1));
+    assert_eq!(rt; stats.number_of(stat(7)), None);
+    assert!(rt; stats.has(stat(3)));
+    assert!(rt; !stats.has(stat(7)));
+    Ok(())
+}
+
+#[test]
+fn a_removed_stat_keeps_its_fields_and_stays_removed(rt: HostRuntime) -> Result<(), Fail> {
+    let mut stats = board(rt)?;
+    stats.remove(stat(3));
+    stats.set_field(stat(3), at(9), StatSetting::Byte(StatByte::X, 60));
+    stats.add(stat(3), false, values(7, 7))?;
+    assert_eq!(rt; stats.count(), 4);
+    assert_eq!(rt;
+        stats.at(1),
+        MadeStat {
+            id: stat(3),
+            removed: true
+        }
+    );
+    assert_eq!(rt;
+        stats.field(1, StatField::Byte(StatByte::X)),
+        StatSetting::Byte(StatByte::X, 60)
+    );
+    assert_eq!(rt;
+        stats.field(1, StatField::Byte(StatByte::Y)),
+        StatSetting::Byte(StatByte::Y, 3)
+    );
+    Ok(())
+}
+
+#[test]
+fn a_field_keeps_the_later_write(rt: HostRuntime) -> Result<(), Fail> {
+    let mut stats = board(rt)?;
+    stats.set_field(stat(4), at(9), StatSetting::Number(StatNumber::Cycle, 3));
+    stats.set_field(stat(4), at(8), StatSetting::Number(StatNumber::Cycle, 2));
+    stats.set_field(stat(4), at(7), StatSetting::Number(StatNumber::Position, 5));
+    stats.set_field(stat(4), at(6), StatSetting::Leader(Some(stat(3))));
+    stats.remove(stat(2));
+    assert_eq!(rt; stats.count(), 4);
+    assert_eq!(rt;
+        stats.field(2, StatField::Number(StatNumber::Cycle)),
+        StatSetting::Number(StatNumber::Cycle, 3)
+    );
+    assert_eq!(rt;
+        stats.field(2, StatField::Number(StatNumber::Position)),
+        StatSetting::Number(StatNumber::Position, 5)
+    );
+    assert_eq!(rt;
+        stats.field(2, StatField::Leader),
+        StatSetting::Leader(Some(stat(3)))
+    );
+    assert_eq!(rt;
+        stats.field(2, StatField::Follower),
+        StatSetting::Follower(None)
+    );
+    assert_eq!(rt; stats.number_of(stat(2)), Some(0));
+    Ok(())
+}
