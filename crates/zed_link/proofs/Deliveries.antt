@@ -1,15 +1,17 @@
 -- Deliveries one list after the other.
-use Rattle.std.proofs.Common.{◌≡◌, ◌∙◌, ◌++◌, ℕ, Bool, List, [], ◌∷◌, Result, Ok, Err, refl, ap, sym, subst, append-nil, append_assoc}
+use Rattle.std.proofs.Common.{◌≡◌, ◌∙◌, ◌⊎◌, ◌++◌, ℕ, Bool, List, [], ◌∷◌, None, Result, Ok, Err, refl, ap, sym, subst, append-nil, append_assoc}
 use mathlib.Core.Logic.{inl, inr}
 use Rattle.zed_op.specs.declared.op.Edit.{Edit}
+use Rattle.zed_op.specs.Fit.{Fits}
+use Rattle.zed_op.specs.Verdict.{HangsOnItsWorld}
 use Rattle.zed_document.specs.declared.error.DocumentError.{DocumentError}
 use Rattle.zed_document.specs.declared.error.DocumentError.TheVariants as document
-use Rattle.zed_document.specs.Delivery.{DeliversEach, after_edit}
+use Rattle.zed_document.specs.Delivery.{DeliversEach, MayTakeMemoryFor, after_edit, edit_with}
 use Rattle.zed_document.specs.Replica.{Replica}
 use Rattle.zed_link.specs.declared.error.LinkError.{LinkError}
 use Rattle.zed_link.specs.declared.pulled.Pulled.{Pulled}
 use Rattle.zed_link.specs.Pieces.{DeliversOne, IsStopped}
-use Rattle.zed_link.specs.Pull.{AllDelivered, FrontDelivered}
+use Rattle.zed_link.specs.Pull.{AllDelivered, FrontDelivered, StopsForMemory}
 use Rattle.zed_link.specs.Tally.{plus, state_in, states, tally}
 use Rattle.zed_link.proofs.Tallies.{tally_more}
 
@@ -29,11 +31,20 @@ delivered_more d m [] ys r left w s all more = subst (λ q. DeliversEach q ys r 
 delivered_more d m (x ∷ xs) ys r left w s (inl one) more = inl (one.0, one.1, delivered_more (after_edit x d) m xs ys r left w s one.2 more)
 delivered_more d m (x ∷ xs) ys r left w s (inr one) more = absurd (let allowed : Deliveries = Ok tt in let refused : Deliveries = Err one.0 in let bad : allowed ≡ refused = one.2 in cc)
 
--- all of a list were delivered, and then a front of others
-pub front_more : (d m : Replica) (xs ys : List Edit) (left : List Edit) → m.world ≡ d.world → m.is_stale ≡ d.is_stale
-    → AllDelivered d xs m.edits → FrontDelivered m ys left → FrontDelivered d (xs ++ ys) left
-front_more d m xs ys left w s all (front, rest, is, more) =
-    (xs ++ front, rest, ap (λ z. xs ++ z) is ∙ sym (append_assoc xs front rest), delivered_more d m xs front (Ok tt) left w s all more)
+-- all of a list were delivered, and then others up to one that may take memory
+pub stops_more : (d m : Replica) (xs ys : List Edit) (left : List Edit) → m.world ≡ d.world → m.is_stale ≡ d.is_stale
+    → AllDelivered d xs m.edits → StopsForMemory m ys left → StopsForMemory d (xs ++ ys) left
+stops_more d m xs ys left w s all (front, e, rest, is, more, may) =
+    (xs ++ front, e, rest, ap (λ z. xs ++ z) is ∙ sym (append_assoc xs front (e ∷ rest)), delivered_more d m xs front (Ok tt) left w s all more, (sym s ∙ may.0, may.1))
+
+-- what was delivered up to one edit is a front
+pub stop_is_front : (d : Replica) (es left : List Edit) → StopsForMemory d es left → FrontDelivered d es left
+stop_is_front d es left (front, e, rest, is, all, may) = (front, e ∷ rest, is, all)
+
+-- an edit that may take memory in a document may in one with the same edits
+may_take : (d m : Replica) (e : Edit) (left : List Edit) → m.is_stale ≡ d.is_stale → left ≡ m.edits → MayTakeMemoryFor m e → MayTakeMemoryFor (record d { edits = left }) e
+may_take d m e left s is may =
+    (sym s ∙ may.0, subst (λ l. HangsOnItsWorld e ⊎ (Fits e × (edit_with e.stamp l ≡ None))) (sym is) may.1)
 
 -- all is a front
 pub all_is_front : (d : Replica) (es left : List Edit) → AllDelivered d es left → FrontDelivered d es left
@@ -60,7 +71,8 @@ counted_more d xs ys mid old got new all o g is =
 -- after edits that were all delivered one more is refused
 pub one_stops : (d m : Replica) (done rest all : List Edit) (one : Edit) (e : LinkError) (left : List Edit) → m.world ≡ d.world → m.is_stale ≡ d.is_stale
     → all ≡ done ++ one ∷ rest → AllDelivered d done m.edits → DeliversOne m one (Err e) left → IsStopped d all e left
-one_stops d m done rest all one e left w s whole came (inl memory) = inl (memory.0, (done, one ∷ rest, whole, subst (AllDelivered d done) (sym memory.1) came))
+one_stops d m done rest all one e left w s whole came (inl memory) =
+    inl (memory.0, (done, one, rest, whole, subst (AllDelivered d done) (sym memory.2) came, may_take d m one left s memory.2 memory.1))
 one_stops d m done rest all one e left w s whole came (inr clash) =
     inr (
       clash.0,

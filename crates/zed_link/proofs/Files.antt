@@ -1,5 +1,5 @@
 -- A pull of a whole file.
-use Rattle.std.proofs.Common.{◌≡◌, ◌∙◌, ◌++◌, ◌≤◌, ◌<◌, ◌^◌, ◌≢◌, ◌⊎◌, eqb, not, false, true, ℕ, Bool, List, [], ◌∷◌, Option, Some, None, Ok, Err, refl, ap, sym, subst, arith, length, append_assoc, rules, OnOk}
+use Rattle.std.proofs.Common.{◌≡◌, ◌∙◌, ◌++◌, ◌≤◌, ◌<◌, ◌^◌, ◌≢◌, ◌⊎◌, eqb, not, false, true, ℕ, List, [], ◌∷◌, Option, Some, None, Ok, Err, refl, ap, sym, subst, arith, length, append_assoc, rules, OnOk}
 use mathlib.Core.Logic.{inl, inr}
 use Rattle.std.proofs.lemmas.List.{append-nil, length-append}
 use Rattle.zed_op.specs.declared.op.Edit.{Edit}
@@ -15,9 +15,9 @@ use Rattle.zed_link.specs.declared.error.LinkError.TheVariants.{Memory, Magic, N
 use Rattle.zed_link.specs.declared.pulled.Pulled.{Pulled}
 use Rattle.zed_link.specs.Ends.{Changed, HandedAll, HandedOver, LinkEnds}
 use Rattle.zed_link.specs.Laws.{FilesArePulled, PullsFile}
-use Rattle.zed_link.specs.Pull.{AllDelivered, FrontDelivered, LeavesDocument, LeavesLink, Pull, reads_made}
+use Rattle.zed_link.specs.Pull.{AllDelivered, FrontDelivered, LeavesDocument, LeavesLink, reads_made}
 use Rattle.zed_link.specs.Tally.{states, tally}
-use Rattle.zed_link.proofs.Deliveries.{all_is_front, refused_before}
+use Rattle.zed_link.proofs.Deliveries.{all_is_front, refused_before, stop_is_front}
 use Rattle.zed_link.proofs.EndsLaws.{failed_over, handed_over, may_fail}
 use Rattle.zed_link.proofs.Outcomes.{Answer, refused}
 
@@ -115,7 +115,10 @@ comes_to t d es found bytes n reads p (Ok pulled) left old new told k made link 
     subst (λ (fs : List Edit). AllDelivered d fs left × (pulled ≡ tally (states d.edits fs))) same (all, counted)
 comes_to t d es found bytes n reads p (Err (Clash s)) left old new told k made link of =
     subst (λ (fs : List Edit). DeliversEach d fs (Err (document.Clash s)) left) (sym k.first.1) (refused_before d found k.first.0 (document.Clash s) left of)
-comes_to t d es found bytes n reads p (Err Memory) left old new told k made link of = front_of_front d found es left k.first of
+comes_to t d es found bytes n reads p (Err Memory) left old new told k made link of = front_of_front d found es left k.first (elim of [
+  | inl stop ↦ stop_is_front d found left stop
+  | inr refusal ↦ all_is_front d found left refusal.1
+])
 comes_to t d es found bytes n reads p (Err LinkFault) left old new told k made link of =
     (front_of_front d found es left k.first (all_is_front d found left of.1), may_fail bytes t old new told link.0)
 comes_to t d es found bytes n reads p (Err TooManyTurns) left old new told k made link of =

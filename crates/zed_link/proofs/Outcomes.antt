@@ -19,7 +19,7 @@ use Rattle.zed_link.specs.Pieces.{TakesPiece}
 use Rattle.zed_link.specs.Pull.{AllDelivered, FromReads, LeavesDocument, LeavesLink, Pull, most_reads, reads_made}
 use Rattle.zed_link.specs.Refusals.{file_refusal}
 use Rattle.zed_link.specs.Tally.{plus, states, tally}
-use Rattle.zed_link.proofs.Deliveries.{all_is_front, counted_more, delivered_more, front_more}
+use Rattle.zed_link.proofs.Deliveries.{counted_more, delivered_more, stops_more}
 use Rattle.zed_link.proofs.EndsLaws.{handed_all, handed_more, none_counted, none_handed, fails_behind, one_more}
 use Rattle.zed_link.proofs.Readings.{asked_world, cut_short, fault_ends, few_edits}
 use Rattle.zed_link.proofs.Tallies.{tally_below}
@@ -200,7 +200,7 @@ piece_refused late d old mid now a b c n p q m counts piece read es e left withi
     elim takes [
       | inl stopped ↦ elim stopped [
         | inl memory ↦ subst (λ e. Pull d old now a c (Err e) left) (sym memory.0)
-            (pull Memory refl (leaves, up) (front_more d m going.found es left going.world going.sound going.all memory.1))
+            (pull Memory refl (leaves, up) (inl (stops_more d m going.found es left going.world going.sound going.all memory.1)))
         | inr clash ↦ subst (λ e. Pull d old now a c (Err e) left) (sym clash.1)
             (pull (Clash clash.0) refl (leaves, up) (delivered_more d m going.found es (Err (document.Clash clash.0)) left going.world going.sound going.all clash.2))
       ]
@@ -236,7 +236,7 @@ piece_refused late d old mid now a b c n p q m counts piece read es e left withi
     }
 
     by_fault : (f : EditFileError) → q.fault ≡ Some f → AllDelivered d (going.found ++ es) left → Pull d old now a c (Err (file_refusal f)) left
-    by_fault file.Memory is all = pull Memory refl (leaves, up) (all_is_front d (going.found ++ es) left all)
+    by_fault file.Memory is all = pull Memory refl (leaves, up) (inr (fault_ends q file.Memory is, all))
     by_fault file.Magic is all = pull Magic refl (leaves, up) (fault_ends q file.Magic is, all)
     by_fault file.NewVersion is all = pull NewVersion refl (leaves, up) (fault_ends q file.NewVersion is, all)
     by_fault file.OtherWorld is all = pull OtherWorld refl (leaves, up) (fault_ends q file.OtherWorld is, all)

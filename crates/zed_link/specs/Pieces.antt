@@ -6,26 +6,26 @@ use Rattle.zed_editfile.specs.declared.error.EditFileError.{EditFileError}
 use Rattle.zed_editfile.specs.Stream.{Progress}
 use Rattle.zed_document.specs.declared.error.DocumentError.TheVariants as document
 use Rattle.zed_document.specs.declared.delivered.State.{State}
-use Rattle.zed_document.specs.Delivery.{DeliversEach}
+use Rattle.zed_document.specs.Delivery.{DeliversEach, MayTakeMemoryFor}
 use Rattle.zed_document.specs.Replica.{Replica}
 use Rattle.zed_link.specs.declared.error.LinkError.{LinkError}
 use Rattle.zed_link.specs.declared.error.LinkError.TheVariants.{Memory, Clash}
 use Rattle.zed_link.specs.declared.pulled.Pulled.{Pulled}
-use Rattle.zed_link.specs.Pull.{AllDelivered, FrontDelivered}
+use Rattle.zed_link.specs.Pull.{AllDelivered, StopsForMemory}
 use Rattle.zed_link.specs.Refusals.{file_refusal}
 use Rattle.zed_link.specs.Tally.{state_in, states, tally}
 
 -- edits were delivered up to the first that was refused, for a clash or for want of memory
 abbrev pub IsStopped : Replica → List Edit → LinkError → List Edit → Type 0
 IsStopped d es e left =
-    ((e ≡ Memory) × FrontDelivered d es left)
+    ((e ≡ Memory) × StopsForMemory d es left)
     ⊎ ((s : Stamp) × (e ≡ Clash s) × DeliversEach d es (Err (document.Clash s)) left)
 
--- an edit was delivered, and its state told, or refused
+-- an edit was delivered, and its state told, or refused, for memory that it may take or for a clash
 abbrev pub DeliversOne : Replica → Edit → Result State LinkError → List Edit → Type 0
 DeliversOne d e (Ok state) left = AllDelivered d (e ∷ []) left × (state ≡ state_in d.edits e)
 DeliversOne d e (Err refusal) left =
-    ((refusal ≡ Memory) × (left ≡ d.edits))
+    ((refusal ≡ Memory) × MayTakeMemoryFor d e × (left ≡ d.edits))
     ⊎ ((s : Stamp) × (refusal ≡ Clash s) × DeliversEach d (e ∷ []) (Err (document.Clash s)) left)
 
 -- edits were delivered and counted, or stopped

@@ -1,12 +1,12 @@
 -- What a pull reads from a link, and what it makes of a document.
-use Rattle.std.specs.Prelude.{◌≡◌, ◌<◌, ◌≤◌, ◌+◌, ◌*◌, ℕ, List, ◌++◌, length, Option, Some, None, Result, Ok, Err}
+use Rattle.std.specs.Prelude.{◌≡◌, ◌<◌, ◌≤◌, ◌+◌, ◌*◌, ◌⊎◌, ℕ, List, ◌∷◌, ◌++◌, length, Option, Some, None, Result, Ok, Err}
 use Rattle.zed_op.specs.declared.op.Edit.{Edit}
 use Rattle.zed_editfile.specs.declared.error.EditFileError.{EditFileError}
 use Rattle.zed_editfile.specs.declared.error.EditFileError.TheVariants as file
 use Rattle.zed_editfile.specs.Spelling.{file_text}
 use Rattle.zed_editfile.specs.Stream.{AreRecords, Progress, Reads, ending}
 use Rattle.zed_document.specs.declared.error.DocumentError.TheVariants as document
-use Rattle.zed_document.specs.Delivery.{DeliversEach}
+use Rattle.zed_document.specs.Delivery.{DeliversEach, MayTakeMemoryFor}
 use Rattle.zed_document.specs.Replica.{Replica}
 use Rattle.zed_link.specs.declared.error.LinkError.{LinkError}
 use Rattle.zed_link.specs.declared.error.LinkError.TheVariants.{Memory, Magic, NewVersion, OtherWorld, RecordLength, BadEdit, CutShort, Clash, Stale, LinkFault, TooManyTurns}
@@ -47,6 +47,12 @@ AllDelivered d es left = DeliversEach d es (Ok tt) left
 abbrev pub FrontDelivered : Replica → List Edit → List Edit → Type 0
 FrontDelivered d es left = (front : List Edit) × (rest : List Edit) × (es ≡ front ++ rest) × AllDelivered d front left
 
+-- edits were delivered up to one whose delivery may take memory
+abbrev pub StopsForMemory : Replica → List Edit → List Edit → Type 0
+StopsForMemory d es left =
+    (front : List Edit) × (e : Edit) × (rest : List Edit) × (es ≡ front ++ e ∷ rest)
+    × AllDelivered d front left × MayTakeMemoryFor (record d { edits = left }) e
+
 -- the file is refused where its reader is, after all edits before that
 abbrev pub Refuses : EditFileError → Replica → List Edit → Progress → List Edit → Type 0
 Refuses e d es p left = (ending p ≡ Some e) × AllDelivered d es left
@@ -64,7 +70,8 @@ LeavesDocument d bytes es p (Err RecordLength) left = Refuses file.RecordLength 
 LeavesDocument d bytes es p (Err (BadEdit c)) left = Refuses (file.BadEdit c) d es p left
 LeavesDocument d bytes es p (Err CutShort) left = Refuses file.CutShort d es p left
 LeavesDocument d bytes es p (Err (Clash s)) left = DeliversEach d es (Err (document.Clash s)) left
-LeavesDocument d bytes es p (Err Memory) left = FrontDelivered d es left
+LeavesDocument d bytes es p (Err Memory) left =
+    StopsForMemory d es left ⊎ Refuses file.Memory d es p left
 LeavesDocument d bytes es p (Err Stale) left = ⊥
 
 -- a pull into a document: the bytes that the link handed over, the reads that handed over some, all reads that were made, which the link

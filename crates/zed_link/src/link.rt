@@ -1,5 +1,5 @@
 //! A link, as whoever hands one in has to make it.
-ghost use Rattle.std.specs.Prelude.{◌≡◌, ◌≢◌, ◌≤◌, ℕ, [], length, take, Option, Ok, IfOk, OnErr, is_err};
+ghost use Rattle.std.specs.Prelude.{◌≡◌, ◌≢◌, ◌≤◌, ◌||◌, ℕ, Bool, true, false, [], length, take, Option, Ok, IfOk, OnErr, is_err};
 ghost use Rattle.zed_link.specs.Counting.{Counted, Counts, takes_none};
 ghost use Rattle.zed_link.specs.Ends.{LinkEnds, Changed, FailedBehind, HandedOver, Took, TookFront, AtItsEnd};
 
@@ -21,6 +21,9 @@ pub trait Link: Drop {
     /// How many writes of some bytes took none of them.
     ghost stalls: { Self → ℕ };
 
+    /// Whether it never refuses bytes: no write fails, nor takes none of some.
+    ghost accepts: { Self → Bool };
+
     /// Puts the next bytes at the front of `into`, and answers how many. Where there is room, none is the end. A read that fails hands
     /// over nothing and loses nothing: a link that can't promise that doesn't tell its ends.
     fn read(&mut self, into: &mut [u8]) -> Result<usize, Failed>
@@ -31,7 +34,8 @@ pub trait Link: Drop {
         ensures half { OnErr result (Changed (FailedBehind []) (ends self.old) (ends self.new)) }
         ensures reads { Counted 1 (reads self.old) (reads self.new) }
         ensures failures { Counts (is_err result) (failed self.old) (failed self.new) }
-        ensures stalls { stalls self.new ≡ stalls self.old };
+        ensures stalls { stalls self.new ≡ stalls self.old }
+        ensures accepts { accepts self.new ≡ accepts self.old };
 
     /// Takes bytes from the front of these, and answers how many. A write that fails may have taken a front of them.
     fn write(&mut self, bytes: &[u8]) -> Result<usize, Failed>
@@ -42,7 +46,10 @@ pub trait Link: Drop {
         ensures reads { reads self.new ≡ reads self.old }
         ensures failures { Counts (is_err result) (failed self.old) (failed self.new) }
         ensures stalls { Counts (takes_none bytes.now result)
-            (stalls self.old) (stalls self.new) };
+            (stalls self.old) (stalls self.new) }
+        ensures accepts { accepts self.new ≡ accepts self.old }
+        ensures refused { (is_err result || takes_none bytes.now result) ≡ true
+            → accepts self.old ≡ false };
 
     /// How many calls failed, up to the greatest `u64`.
     fn failures(&self) -> u64

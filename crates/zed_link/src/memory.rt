@@ -122,6 +122,9 @@ impl Link for MemoryLink {
 
     ghost stalls = { λ link. link.stalls };
 
+    // What it takes wants memory.
+    ghost accepts = { λ _. false };
+
     fn read(&mut self, into: &mut [u8]) -> Result<usize, Failed> {
         count(&mut self.reads);
         if !passes(&mut self.passing) {

@@ -1,5 +1,5 @@
 //! Bytes sent over a link.
-ghost use Rattle.std.specs.Prelude.{◌≡◌, ◌≢◌, ◌<◌, ◌≤◌, [], length, take, IfOk, IfErr, OnOk, OnErr};
+ghost use Rattle.std.specs.Prelude.{◌≡◌, ◌≢◌, ◌<◌, ◌≤◌, [], length, take, false, IfOk, IfErr, OnOk, OnErr};
 ghost use Rattle.zed_link.specs.Counting.{Faulted};
 ghost use Rattle.zed_link.specs.Ends.{Changed, Took, TookFront};
 
@@ -18,6 +18,9 @@ fn write_some(link: &mut dyn Link, bytes: &[u8]) -> Result<usize, LinkError>
         ((failed link.new ≡ failed link.old) × (stalls link.new ≡ stalls link.old)) }
     ensures faults { OnErr result
         (Faulted (failed link.old) (failed link.new) (stalls link.old) (stalls link.new)) }
+    ensures reads { reads link.new ≡ reads link.old }
+    ensures accepts { accepts link.new ≡ accepts link.old }
+    ensures refused { OnErr result (accepts link.old ≡ false) }
 {
     match link.write(bytes) {
         Ok(0) | Err(Failed) => Err(LinkError::LinkFault),
@@ -35,6 +38,9 @@ pub fn send(link: &mut dyn Link, bytes: &[u8]) -> Result<(), LinkError>
         ((failed link.new ≡ failed link.old) × (stalls link.new ≡ stalls link.old)) }
     ensures faults { OnErr result
         (Faulted (failed link.old) (failed link.new) (stalls link.old) (stalls link.new)) }
+    ensures reads { reads link.new ≡ reads link.old }
+    ensures accepts { accepts link.new ≡ accepts link.old }
+    ensures refused { OnErr result (accepts link.old ≡ false) }
 {
     let mut rest = bytes;
     while !rest.is_empty() {

@@ -21,4 +21,6 @@ loop-rest-preserved g c =
       took = took_more old.done front _ _ _ old.took c.in_ok-taken.ensures.ok;
       calm = c.in_ok-taken.ensures.calm.0 ∙ old.calm;
       flowing = c.in_ok-taken.ensures.calm.1 ∙ old.flowing;
+      unread = c.in_ok-taken.ensures.reads ∙ old.unread;
+      accepts = c.in_ok-taken.ensures.accepts ∙ old.accepts;
     }

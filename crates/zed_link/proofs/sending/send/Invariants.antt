@@ -10,6 +10,8 @@ invariant-loop-rest g l = record {
   took : Changed (Took done) ((goal.Link-dyn g l.fn.link.now).ends l.fn.link.now.1) ((goal.Link-dyn g l.link.now).ends l.link.now.1);
   calm : (goal.Link-dyn g l.link.now).failed l.link.now.1 ≡ (goal.Link-dyn g l.fn.link.now).failed l.fn.link.now.1;
   flowing : (goal.Link-dyn g l.link.now).stalls l.link.now.1 ≡ (goal.Link-dyn g l.fn.link.now).stalls l.fn.link.now.1;
+  unread : (goal.Link-dyn g l.link.now).reads l.link.now.1 ≡ (goal.Link-dyn g l.fn.link.now).reads l.fn.link.now.1;
+  accepts : (goal.Link-dyn g l.link.now).accepts l.link.now.1 ≡ (goal.Link-dyn g l.fn.link.now).accepts l.fn.link.now.1;
 }
 
 abbrev pub decreases-loop-rest : goal.decreases-loop-rest
