@@ -48,6 +48,8 @@ mod rows;
 #[cfg(test)]
 mod saving;
 #[cfg(test)]
+mod session;
+#[cfg(test)]
 mod shapes;
 #[cfg(test)]
 mod speeds;

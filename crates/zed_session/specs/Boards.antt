@@ -26,10 +26,20 @@ pub record BoardOf : Type 0 where
 abbrev pub world_shown : Replica → Result Contents ExportError
 world_shown document = unless_stale document (exported 20000)
 
--- what a call answers that needs a board: what it does with it; NoBoard where there is none, unless memory is lacking before
+-- what is told where memory is lacking: that, where there is such a board; else that there is none
+abbrev pub lack_of : Option BoardData → SessionError
+lack_of (Some board) = Memory
+lack_of None = NoBoard
+
+-- the world is given, or memory is lacking for its board of this number; where there is no world the refusal
+abbrev pub GivesWorld : Result Contents ExportError → ℕ → Result Contents SessionError → Type 0
+GivesWorld (Ok world) n result = MatchResult result (λ w. w ≡ world) (λ e. e ≡ lack_of (slice_get world.boards n))
+GivesWorld (Err e) n result = result ≡ Err (export_refusal e)
+
+-- what a call answers that needs a board: what it does with it; NoBoard where there is none, whether memory is lacking or not
 abbrev pub OfBoard : {X : Type 0} → Header → Option BoardData → (BoardOf → Result X SessionError → Type 0) → Result X SessionError → Type 0
 OfBoard header (Some board) Does result = Does (record { header = header; board = board }) result
-OfBoard header None Does result = (result ≡ Err NoBoard) ⊎ (result ≡ Err Memory)
+OfBoard header None Does result = result ≡ Err NoBoard
 
 -- the same of a board by its number in a world; where there is no world the refusal
 abbrev pub Answers : {X : Type 0} → Result Contents ExportError → ℕ → (BoardOf → Result X SessionError → Type 0) → Result X SessionError → Type 0

@@ -1,5 +1,5 @@
 //! Sources of keys, as boxed objects that are handed in.
-ghost use Rattle.std.specs.Prelude.{◌≡◌, ℕ, List, Option, IfErr, IfOk, IfSome, OnErr, OnOk, is_err};
+ghost use Rattle.std.specs.Prelude.{◌≡◌, ℕ, Bool, false, List, Option, IfErr, IfOk, IfSome, OnErr, OnOk, is_err};
 ghost use Rattle.zed_link.specs.Counting.{Counts};
 ghost use Rattle.zed_session.specs.Devices.{first_of, without_first};
 
@@ -17,12 +17,17 @@ pub trait Keys: Drop {
     /// How many calls of `next` failed.
     ghost key_failures: { Self → ℕ };
 
+    /// Whether no call of `next` ever fails.
+    ghost keys_unfailing: { Self → Bool };
+
     /// The next key, or None where no more come. Where that fails, no key is taken.
     fn next(&mut self) -> Result<Option<Key>, Failed>
         ensures key { IfOk result (λ key. IfSome (left self.old) (λ keys. key ≡ first_of keys)) }
         ensures ok { OnOk result (left self.new ≡ without_first (left self.old)) }
         ensures err { OnErr result (left self.new ≡ left self.old) }
-        ensures failures { Counts (is_err result) (key_failures self.old) (key_failures self.new) };
+        ensures failures { Counts (is_err result) (key_failures self.old) (key_failures self.new) }
+        ensures unfailing { keys_unfailing self.new ≡ keys_unfailing self.old }
+        ensures may_fail { OnErr result (keys_unfailing self.old ≡ false) };
 
     /// How many calls of `next` failed, up to the greatest `u64`.
     fn failures(&self) -> u64
@@ -36,6 +41,8 @@ pub(crate) fn next_of(keys: &mut Box<dyn Keys>) -> Result<Option<Key>, SessionEr
     ensures kept { OnErr result (left keys.new ≡ left keys.old) }
     ensures err { IfErr result (λ e. e ≡ SessionError.KeyFault) }
     ensures failures { Counts (is_err result) (key_failures keys.old) (key_failures keys.new) }
+    ensures unfailing { keys_unfailing keys.new ≡ keys_unfailing keys.old }
+    ensures may_fail { OnErr result (keys_unfailing keys.old ≡ false) }
 {
     match keys.next() {
         Ok(key) => Ok(key),

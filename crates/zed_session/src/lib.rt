@@ -18,6 +18,3 @@ pub use playing::Playing;
 pub use screen::{Failed, Screen};
 pub use session::Session;
 pub use stage::Stage;
-
-#[cfg(test)]
-mod tests;

@@ -17,6 +17,9 @@ pub(crate) fn send_over(link: &mut Box<dyn Link>, bytes: &[u8]) -> Result<(), Li
         ((failed link.new ≡ failed link.old) × (stalls link.new ≡ stalls link.old)) }
     ensures faults { OnErr result
         (Faulted (failed link.old) (failed link.new) (stalls link.old) (stalls link.new)) }
+    ensures reads { reads link.new ≡ reads link.old }
+    ensures accepts { accepts link.new ≡ accepts link.old }
+    ensures refused { OnErr result (accepts link.old ≡ false) }
 {
     send(link.as_mut(), bytes)
 }

@@ -1,5 +1,5 @@
 //! Screens, as boxed objects that are handed in.
-ghost use Rattle.std.specs.Prelude.{◌≡◌, ℕ, Option, IfErr, OnErr, OnOk, is_err, is_some};
+ghost use Rattle.std.specs.Prelude.{◌≡◌, ℕ, Bool, false, Option, IfErr, OnErr, OnOk, is_err, is_some};
 ghost use Rattle.zed_link.specs.Counting.{Counts};
 ghost use Rattle.zed_session.specs.Devices.{showing};
 
@@ -20,12 +20,17 @@ pub trait Screen: Drop {
     /// How many calls of `show` failed.
     ghost screen_failures: { Self → ℕ };
 
+    /// Whether no call of `show` ever fails.
+    ghost screen_unfailing: { Self → Bool };
+
     /// Shows a frame in place of the one before. Where that fails, what it shows may be anything.
     fn show(&mut self, frame: &Frame) -> Result<(), Failed>
         ensures ok { OnOk result (shown self.new ≡ showing frame.now (shown self.old)) }
         ensures err { OnErr result (is_some (shown self.new) ≡ is_some (shown self.old)) }
         ensures failures { Counts (is_err result)
-            (screen_failures self.old) (screen_failures self.new) };
+            (screen_failures self.old) (screen_failures self.new) }
+        ensures unfailing { screen_unfailing self.new ≡ screen_unfailing self.old }
+        ensures may_fail { OnErr result (screen_unfailing self.old ≡ false) };
 
     /// How many calls of `show` failed, up to the greatest `u64`.
     fn failures(&self) -> u64
@@ -39,6 +44,8 @@ pub(crate) fn show_on(screen: &mut Box<dyn Screen>, frame: &Frame) -> Result<(),
     ensures err { IfErr result (λ e. e ≡ SessionError.ScreenFault) }
     ensures failures { Counts (is_err result)
         (screen_failures screen.old) (screen_failures screen.new) }
+    ensures unfailing { screen_unfailing screen.new ≡ screen_unfailing screen.old }
+    ensures may_fail { OnErr result (screen_unfailing screen.old ≡ false) }
 {
     match screen.show(frame) {
         Ok(()) => Ok(()),

@@ -1,5 +1,5 @@
 //! The session: a document, its links and its stage.
-ghost use Rattle.std.specs.Prelude.{◌≡◌, ◌≢◌, ◌≤◌, ◌<◌, ◌⊎◌, ◌↔◌, ℕ, [], ◌∷◌, ◌++◌, None, Ok, Err, true, false, IfErr, IfOk, OnErr, OnOk, length, map, option_map, remove, slice_get, vec_capacity, vec_len};
+ghost use Rattle.std.specs.Prelude.{◌≡◌, ◌≢◌, ◌≤◌, ◌<◌, ◌⊎◌, ◌↔◌, ℕ, [], ◌∷◌, ◌++◌, None, Some, Ok, Err, true, false, IfErr, IfOk, OnErr, OnOk, length, map, option_map, remove, slice_get, vec_capacity, vec_len};
 ghost use Rattle.zed_editfile.specs.Spelling.{file_text};
 ghost use Rattle.zed_link.specs.Ends.{Changed, Took};
 ghost use Rattle.zed_session.specs.Boards.{Answers, ShowsBoard, Starts, world_shown};
@@ -119,6 +119,10 @@ impl Session {
             ShownAfter e (shown self.old.stage.screen) (shown self.new.stage.screen)) }
         ensures screen_faults { Counts (is_screen_fault result)
             (screen_failures self.old.stage.screen) (screen_failures self.new.stage.screen) }
+        ensures may_fail { result ≡ Err SessionError.ScreenFault
+            → screen_unfailing self.old.stage.screen ≡ false }
+        ensures unfailing { screen_unfailing self.new.stage.screen
+            ≡ screen_unfailing self.old.stage.screen }
         ensures keys { self.new.stage.keys ≡ self.old.stage.keys }
         ensures playing { self.new.stage.playing ≡ self.old.stage.playing }
         ensures document { self.new.document ≡ self.old.document }
@@ -156,6 +160,14 @@ impl Session {
             (key_failures self.old.stage.keys) (key_failures self.new.stage.keys) }
         ensures screen_faults { Counts (is_screen_fault result)
             (screen_failures self.old.stage.screen) (screen_failures self.new.stage.screen) }
+        ensures keys_may_fail { result ≡ Err SessionError.KeyFault
+            → keys_unfailing self.old.stage.keys ≡ false }
+        ensures keys_unfailing { keys_unfailing self.new.stage.keys
+            ≡ keys_unfailing self.old.stage.keys }
+        ensures screen_may_fail { result ≡ Err SessionError.ScreenFault
+            → screen_unfailing self.old.stage.screen ≡ false }
+        ensures screen_unfailing { screen_unfailing self.new.stage.screen
+            ≡ screen_unfailing self.old.stage.screen }
         ensures document { self.new.document ≡ self.old.document }
         ensures links { self.new.links ≡ self.old.links }
     {
@@ -163,8 +175,8 @@ impl Session {
     }
 
     /// Writes the edit file of the document, all of its edits, to the link of this place, and answers their number. The refusals, the
-    /// first that applies: NoLink where no link has this place; Memory, with nothing written; LinkFault where the link failed, or took
-    /// nothing of what it was given: then a front of the file went out, and the link is let go.
+    /// first that applies: NoLink where no link has this place; Memory, with all links as they were; LinkFault where the link failed, or
+    /// took nothing of what it was given: then the link is let go, whatever front of the file it took.
     #[tactic(auto, using(crate::proofs::Places::others_at, crate::proofs::Places::shown_same))]
     pub fn push(&mut self, i: usize) -> Result<usize, SessionError>
         ensures no_link { (result ≡ Err SessionError.NoLink) ↔ (length self.old.links.items ≤ i) }
@@ -183,6 +195,8 @@ impl Session {
             → self.new.links.items ≡ self.old.links.items) }
         ensures dropped { result ≡ Err SessionError.LinkFault
             → self.new.links.items ≡ remove self.old.links.items i }
+        ensures fault { result ≡ Err SessionError.LinkFault
+            → slice_get (map (λ link. accepts link) self.old.links.items) i ≡ Some false }
         ensures document { self.new.document ≡ self.old.document }
         ensures stage { self.new.stage ≡ self.old.stage }
     {

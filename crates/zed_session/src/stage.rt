@@ -1,5 +1,5 @@
 //! The stage: a screen, a source of keys, and a playtest.
-ghost use Rattle.std.specs.Prelude.{◌≡◌, ◌⊎◌, None, IfErr, IfOk, IfSome, MatchResult, OnErr, OnOk, is_some, option_map, true};
+ghost use Rattle.std.specs.Prelude.{◌≡◌, ◌⊎◌, None, IfErr, IfOk, IfSome, MatchResult, OnErr, OnOk, Err, false, is_some, option_map, true};
 ghost use Rattle.zed_link.specs.Counting.{Counts};
 ghost use Rattle.zed_session.specs.Refusals.{ShownAfter, is_key_fault, is_screen_fault};
 ghost use Rattle.zed_session.specs.Boards.{Answers, ShowsBoard, Starts, world_shown};
@@ -55,6 +55,9 @@ impl Stage {
             ShownAfter e (shown self.old.screen) (shown self.new.screen)) }
         ensures screen_faults { Counts (is_screen_fault result)
             (screen_failures self.old.screen) (screen_failures self.new.screen) }
+        ensures may_fail { result ≡ Err SessionError.ScreenFault
+            → screen_unfailing self.old.screen ≡ false }
+        ensures unfailing { screen_unfailing self.new.screen ≡ screen_unfailing self.old.screen }
         ensures keys { self.new.keys ≡ self.old.keys }
         ensures playing { self.new.playing ≡ self.old.playing }
     {
@@ -89,6 +92,8 @@ impl Stage {
         ensures left { OnErr result (left self.new.keys ≡ left self.old.keys) }
         ensures failures { Counts (is_key_fault result)
             (key_failures self.old.keys) (key_failures self.new.keys) }
+        ensures may_fail { OnErr result (keys_unfailing self.old.keys ≡ false) }
+        ensures unfailing { keys_unfailing self.new.keys ≡ keys_unfailing self.old.keys }
         ensures screen { self.new.screen ≡ self.old.screen }
     {
         match self.playing.kept.take() {
@@ -106,6 +111,8 @@ impl Stage {
         ensures err { IfErr result (λ e. e ≡ SessionError.ScreenFault) }
         ensures failures { Counts (is_screen_fault result)
             (screen_failures self.old.screen) (screen_failures self.new.screen) }
+        ensures may_fail { OnErr result (screen_unfailing self.old.screen ≡ false) }
+        ensures unfailing { screen_unfailing self.new.screen ≡ screen_unfailing self.old.screen }
         ensures keys { self.new.keys ≡ self.old.keys }
         ensures playing { self.new.playing ≡ self.old.playing }
     {
@@ -128,6 +135,13 @@ impl Stage {
             (key_failures self.old.keys) (key_failures self.new.keys) }
         ensures screen_faults { Counts (is_screen_fault result)
             (screen_failures self.old.screen) (screen_failures self.new.screen) }
+        ensures keys_may_fail { result ≡ Err SessionError.KeyFault
+            → keys_unfailing self.old.keys ≡ false }
+        ensures keys_unfailing { keys_unfailing self.new.keys ≡ keys_unfailing self.old.keys }
+        ensures screen_may_fail { result ≡ Err SessionError.ScreenFault
+            → screen_unfailing self.old.screen ≡ false }
+        ensures screen_unfailing { screen_unfailing self.new.screen
+            ≡ screen_unfailing self.old.screen }
     {
         if !self.playing.goes_on() {
             return Err(SessionError::Over);

@@ -3,10 +3,10 @@
 use super::desk::{Act, Desk, Sees, Told, desk_of, is_seen, told_by};
 use super::devices::Fails;
 use super::worlds::{Does, GEM_WORLD, TWO_BOARDS};
-use crate::SessionError;
 use std::alloc::Global;
 use std::test::Fail;
 use zed_play::Key;
+use zed_session::SessionError;
 
 /// The size that the allocator listens to.
 const MARK: usize = 3_141_592;

@@ -2,12 +2,12 @@
 use super::devices::{Fails, MemoryKeys, MemoryScreen, Traces};
 use super::wires::{Wired, sink_of, wire_of};
 use super::worlds::{Does, document_of};
-use crate::{Session, SessionError};
 use std::alloc::{AllocError, Global};
 use std::collections::VecDeque;
 use std::test::Fail;
 use zed_link::{Link, Pulled};
 use zed_play::{Ending, Key};
+use zed_session::{Session, SessionError};
 
 /// What is done with a session.
 #[derive(Clone, Copy)]

@@ -1,5 +1,5 @@
 //! Links over memory, which leave what they came to where a test sees it.
-ghost use Rattle.std.specs.Prelude.{None};
+ghost use Rattle.std.specs.Prelude.{None, true};
 
 use super::devices::{End, Traces};
 use std::alloc::{AllocError, Global};
@@ -51,6 +51,8 @@ impl Link for Wire {
 
     ghost stalls = { λ wire. ⟦<MemoryLink as Link>⟧.stalls wire.link };
 
+    ghost accepts = { λ wire. ⟦<MemoryLink as Link>⟧.accepts wire.link };
+
     fn read(&mut self, into: &mut [u8]) -> Result<usize, Failed> {
         self.link.read(into)
     }
@@ -81,6 +83,8 @@ impl Link for Sink {
     ghost failed = { λ _. 0 };
 
     ghost stalls = { λ _. 0 };
+
+    ghost accepts = { λ _. true };
 
     fn read(&mut self, into: &mut [u8]) -> Result<usize, Failed> {
         self.reads = self.reads.saturating_add(1);

@@ -1,13 +1,13 @@
 //! A screen and a source of keys over memory, which fail when a test wants it, and leave what they came to where it sees that.
-ghost use Rattle.std.specs.Prelude.{Some};
+ghost use Rattle.std.specs.Prelude.{Some, false};
 
-use crate::{Failed, Keys, Screen};
 use std::alloc::{AllocError, Global};
 use std::cell::Cell;
 use std::collections::VecDeque;
 use std::rc::Rc;
 use zed_play::Key;
 use zed_screen::Frame;
+use zed_session::{Failed, Keys, Screen};
 
 /// When a device fails.
 #[derive(Clone, Copy)]
@@ -95,6 +95,8 @@ impl Screen for MemoryScreen {
 
     ghost screen_failures = { λ s. s.failed };
 
+    ghost screen_unfailing = { λ _. false };
+
     fn show(&mut self, frame: &Frame) -> Result<(), Failed> {
         self.calls = self.calls.saturating_add(1);
         if self.fails.now(self.calls) {
@@ -143,6 +145,8 @@ impl Keys for MemoryKeys {
     ghost left = { λ k. Some k.left.items };
 
     ghost key_failures = { λ k. k.failed };
+
+    ghost keys_unfailing = { λ _. false };
 
     fn next(&mut self) -> Result<Option<Key>, Failed> {
         self.calls = self.calls.saturating_add(1);

@@ -2,8 +2,8 @@
 use super::desk::{Act, Case, Sees, Told};
 use super::devices::Fails;
 use super::worlds::{Does, GEM_WORLD, LION_WORLD};
-use crate::SessionError;
 use zed_play::Key;
+use zed_session::SessionError;
 
 /// What the title is told by that is a byte too large.
 const LARGE: SessionError = SessionError::BoardOver {

@@ -2,6 +2,7 @@
 use std::alloc::Global;
 use std::test::Fail;
 use zed_document::Document;
+use zed_session::SessionError;
 
 mod desk;
 mod devices;
@@ -13,7 +14,7 @@ mod worlds;
 
 use desk::{Case, Desk, Told, attach, desk_of, outcome_of, wanted_of};
 use devices::Fails;
-use links::LINKS;
+use links::{LINKS, NOTHING_PUSHED};
 use stages::STAGES;
 use wires::{Wired, wire_over};
 use worlds::GEM_WORLD;
@@ -24,6 +25,9 @@ const WIRED: Wired = Wired {
     piece: 100,
     passing: None,
 };
+
+/// How many shows of a screen are tried.
+const SHOWS: u32 = 4;
 
 /// What a link took to which a document with three edits was pushed, if it comes out as it should.
 fn sent(alloc: Global, desk: &mut Desk) -> Result<Option<Vec<u8>>, Fail> {
@@ -69,6 +73,37 @@ fn boards_are_shown_and_played(rt: HostRuntime) -> Result<(), Fail> {
         let outcome = outcome_of(rt.alloc(), case)?;
         assert_eq!(rt; outcome, wanted_of(case), "{}", case.name);
     }
+    Ok(())
+}
+
+/// Whether a screen that fails at its show of this number is told of there, and at no other.
+fn fails_but_once(alloc: Global, nth: u32) -> Result<bool, Fail> {
+    let mut desk = desk_of(alloc, GEM_WORLD, &[], (Fails::At(nth), Fails::Never))?;
+    for call in 1..=SHOWS {
+        let wanted = if call == nth {
+            Err(SessionError::ScreenFault)
+        } else {
+            Ok(())
+        };
+        if desk.session.show(0) != wanted {
+            return Ok(false);
+        }
+    }
+    Ok(true)
+}
+
+#[test]
+fn each_show_failing(rt: HostRuntime) -> Result<(), Fail> {
+    for nth in 1..=SHOWS {
+        assert_eq!(rt; fails_but_once(rt.alloc(), nth)?, true, "show {}", nth);
+    }
+    Ok(())
+}
+
+#[test]
+fn nothing_is_pushed(rt: HostRuntime) -> Result<(), Fail> {
+    let outcome = outcome_of(rt.alloc(), &NOTHING_PUSHED)?;
+    assert_eq!(rt; outcome, wanted_of(&NOTHING_PUSHED));
     Ok(())
 }
 
