@@ -1,7 +1,7 @@
 -- What pulls over links that hold edit files come to.
-use Rattle.std.proofs.Common.{◌≡◌, ◌∙◌, ◌≤◌, ◌<◌, ◌^◌, ◌++◌, arith, ℕ, Bool, true, false, List, [], ◌∷◌, length, take, drop, suc, nat_lt, Option, Some, None, Result, Ok, Err, refl, ap, sym, subst, map, append_assoc, append-nil, inl, inr}
+use Rattle.std.proofs.Common.{◌≡◌, ◌∙◌, ◌≤◌, ◌<◌, ◌^◌, ◌++◌, arith, ℕ, Bool, false, List, [], ◌∷◌, length, take, suc, nat_lt, Option, Some, None, Result, Ok, Err, refl, ap, sym, subst, map, append_assoc, append-nil, inl, inr}
 use Rattle.std.specs.Prelude.{◌⊎◌, Contains, MatchBool, option_map}
-use Rattle.std.proofs.lemmas.List.{length-map, take-append-drop, take-map}
+use Rattle.std.proofs.lemmas.List.{length-map, length-take-le, take-map}
 use Rattle.std.proofs.lemmas.List.Elements.{Contains-append_left}
 use Rattle.zed_types.specs.declared.stamp.Stamp.{Stamp}
 use Rattle.zed_op.specs.declared.op.Edit.{Edit}
@@ -187,21 +187,18 @@ merged_are files more sets world count links lists r small enough held good agre
     subst (λ b. MatchBool b (r ≡ Err NoLink) (PullsEach (empty_document world) (take count links) r)) (not_fewer count (length links) enough) merged in
     pulls_are files more sets (empty_document world) (take count links) lists [] [] r small refl refl (refl, refl) held good agrees there
 
--- what is of the first links is of all
-of_all : (world count : ℕ) (links : List LinkSeen) (lists : List (List Edit)) (e : Refusal) → IsOfLinks world (take count links) lists e → IsOfLinks world links lists e
-of_all world count links lists e (inl memory) = inl memory
-of_all world count links lists e (inr (inl (is, may))) = inr (inl (is, (may.0, may.1, in_all may.0 may.2, may.3, may.4)))
-  where
-    in_all : (l : LinkSeen) → Contains (take count links) l → Contains links l
-    in_all l first = subst (λ (ls : List LinkSeen). Contains ls l) (take-append-drop count links) (Contains-append_left (take count links) (drop count links) l first)
-of_all world count links lists e (inr (inr long)) = inr (inr long)
+-- there is a list for each link that is pulled over
+as_many_lists : (count world : ℕ) (links : List LinkSeen) (lists : List (List Edit)) → count ≤ length links → map left_on (take count links) ≡ texts_of_lists world lists
+    → length lists ≡ count
+as_many_lists count world links lists enough held =
+    sym (length-map lists (λ es. Some (file_text world es))) ∙ sym (ap length held) ∙ length-map (take count links) left_on ∙ length-take-le count links enough
 
 has_status : (out : List ℕ) (world count : ℕ) (links : List LinkSeen) (lists : List (List Edit)) (m : Result (List Edit) Refusal) (r : Result Effect Refusal) (t : HostContents) (status : ℕ) (new : Option HostContents)
-    → JoinedOr world (take count links) [] lists m → r ≡ writes_joined out world m → HasStatus r t status new → MergesSet out t world links lists status new
-has_status out world count links lists m r t status new is made has =
+    → length lists ≡ count → JoinedOr world (take count links) [] lists m → r ≡ writes_joined out world m → HasStatus r t status new → MergesSet out t world links lists status new
+has_status out world count links lists m r t status new many is made has =
     elim is [
       | inl all ↦ inl (subst (λ x. HasStatus x t status new) (made ∙ ap (writes_joined out world) all) has)
-      | inr e ↦ inr (e.0, of_all world count links lists e.0 e.1, subst (λ x. HasStatus x t status new) (made ∙ ap (writes_joined out world) e.2) has)
+      | inr e ↦ inr (e.0, subst (λ n. IsOfLinks world (take n links) lists e.0) (sym many) e.1, subst (λ x. HasStatus x t status new) (made ∙ ap (writes_joined out world) e.2) has)
     ]
 
 -- `run` ends so
@@ -211,7 +208,7 @@ run_of_links files more sets words links t out world lists status new asks ended
     elim ended [
       | inl done ↦ (
           let comes = done.1 in
-          has_status out world (length asks.files) links lists comes.0 done.0 t status new
+          has_status out world (length asks.files) links lists comes.0 done.0 t status new (as_many_lists (length asks.files) world links lists asks.enough asks.held)
           (merged_are files more sets world (length asks.files) links lists comes.0 asks.is_number asks.enough asks.held asks.records asks.agree comes.1) comes.2 done.2)
       | inr memory ↦ inr (Memory, inl refl, memory)
     ]
@@ -231,6 +228,5 @@ merge_comes failed links out world count names t es bytes line many merged text 
 
 -- or none
 pub not_merged : (failed : Type 0) (links : List LinkSeen) (out : List ℕ) (world count : ℕ) (names : List (List ℕ)) (t : HostContents) (e : Refusal)
-    → count ≡ length names → (e ≡ Memory) ⊎ IsMerged world count links (Err e) → (e ≡ Memory) ⊎ ComesTo failed links (Merge out world names) t (Err e)
-not_merged failed links out world count names t e many why =
-    elim why [ inl memory ↦ inl memory | inr is ↦ inr (Err e, subst (λ n. IsMerged world n links (Err e)) many is, refl) ]
+    → count ≡ length names → IsMerged world count links (Err e) → (e ≡ Memory) ⊎ ComesTo failed links (Merge out world names) t (Err e)
+not_merged failed links out world count names t e many is = inr (Err e, subst (λ n. IsMerged world n links (Err e)) many is, refl)

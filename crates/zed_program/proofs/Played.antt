@@ -1,5 +1,5 @@
 -- What a session answers, as a command tells it.
-use Rattle.std.proofs.Common.{◌≡◌, ◌∙◌, ◌≤◌, ◌≢◌, ℕ, List, Bool, true, false, Option, Some, None, Result, Ok, Err, MatchResult, ap, refl, slice_get, subst, sym, inl, inr}
+use Rattle.std.proofs.Common.{◌≡◌, ◌∙◌, ◌≢◌, ℕ, List, true, false, Option, Some, None, Result, Ok, Err, MatchResult, ap, refl, slice_get, subst, sym, inl, inr}
 use Rattle.std.specs.Prelude.{◌⊎◌, is_some, option_map}
 use Rattle.zed_world.specs.declared.board.BoardData.{BoardData}
 use Rattle.zed_world.specs.declared.header.Header.{Header}
@@ -22,7 +22,7 @@ use Rattle.zed_session.specs.Boards.{Answers, OfBoard as InSession, ShowsBoard, 
 use Rattle.zed_session.specs.Play.{PlaysKey, goes_on}
 use Rattle.zed_session.specs.Refusals as told
 use Rattle.zed_program.specs.declared.refusal.Refusal.{Refusal}
-use Rattle.zed_program.specs.declared.refusal.Refusal.TheVariants.{Memory, NoWords, KeyFault, ScreenFault, NoBoard}
+use Rattle.zed_program.specs.declared.refusal.Refusal.TheVariants.{Memory}
 use Rattle.zed_program.specs.Refusals.{export_refusal, session_refusal}
 use Rattle.zed_program.specs.Shown.{EndsPlay, IsPlayed, IsShown, OfBoard, OfSet, OfWorld, Plays}
 
@@ -51,11 +51,8 @@ on_board : (header : Header) (board : Option BoardData) (words : List ℕ) (new 
     → InSession header board (Starts new) answer → BeginsOr words new (OfBoard header board (IsPlayed words)) answer
 on_board header (Some board) words new (Ok u) is = (play_of header board 1, ap (λ (p : Playing). p.playtest) is, refl, λ r plays. plays)
 on_board header (Some board) words new (Err e) is = inl (ap session_refusal is)
-on_board header None words new (Ok u) is = elim is [ inl bad ↦ absurd (cc) | inr bad ↦ absurd (cc) ]
-on_board header None words new (Err e) is = elim is [
-  | inl gone ↦ inr (let same : e ≡ session.NoBoard = cc in ap (λ x. Err (session_refusal x)) same)
-  | inr lack ↦ inl (let same : e ≡ session.Memory = cc in ap session_refusal same)
-]
+on_board header None words new (Ok u) is = absurd (cc)
+on_board header None words new (Err e) is = inr (let same : e ≡ session.NoBoard = cc in ap (λ x. Err (session_refusal x)) same)
 
 in_world : (world : Result Contents ExportError) (n : ℕ) (words : List ℕ) (new : Playing) (answer : Result (Unit {0}) SessionError)
     → Answers world n (Starts new) answer → BeginsOr words new (OfWorld world n (IsPlayed words)) answer
@@ -81,10 +78,7 @@ hidden_board header (Some board) old new e is = elim is [
   | inl lack ↦ inl (ap session_refusal lack)
   | inr fault ↦ inr (inr (ap (λ x. Err (session_refusal x)) fault))
 ]
-hidden_board header None old new e is = elim is [
-  | inl gone ↦ inr (let same : e ≡ session.NoBoard = cc in ap (λ x. Err (session_refusal x)) same)
-  | inr lack ↦ inl (let same : e ≡ session.Memory = cc in ap session_refusal same)
-]
+hidden_board header None old new e is = inr (let same : e ≡ session.NoBoard = cc in ap (λ x. Err (session_refusal x)) same)
 
 hidden_world : (world : Result Contents ExportError) (n : ℕ) (old new : Option (Option Frame)) (e : SessionError)
     → Answers {X = Unit {0}} world n (ShowsBoard old new) (Err e) → RefusedOr (OfWorld world n IsShown) e

@@ -40,8 +40,9 @@ IsLong world lists = (es : List Edit) × Contains lists es × (most_reads ≤ le
 abbrev pub IsOfLinks : ℕ → List LinkSeen → List (List Edit) → Refusal → Type 0
 IsOfLinks world links lists e = (e ≡ Memory) ⊎ ((e ≡ LinkFault) × MayFail links) ⊎ ((e ≡ TooManyTurns) × IsLong world lists)
 
--- the edit file of the set of all edits of these lists is written; or memory ran out, a link failed that may, or a long file took too many reads
+-- the edit file of the set of all edits of these lists is written; or memory ran out, a link of these files failed that may, or a long file
+-- took too many reads
 abbrev pub MergesSet : List ℕ → HostContents → ℕ → List LinkSeen → List (List Edit) → ℕ → Option HostContents → Type 0
 MergesSet out t world links lists status new =
     HasStatus (writes_joined out world (Ok (set_of (joined lists)))) t status new
-    ⊎ ((e : Refusal) × IsOfLinks world links lists e × HasStatus (Err e) t status new)
+    ⊎ ((e : Refusal) × IsOfLinks world (take (length lists) links) lists e × HasStatus (Err e) t status new)

@@ -1,5 +1,5 @@
 //! Edit files joined to one.
-ghost use Rattle.std.specs.Prelude.{◌≡◌, ◌≤◌, ◌⊎◌, Err, IfOk, MatchResult, Ok, OnOk, Some, false, length, map};
+ghost use Rattle.std.specs.Prelude.{◌≡◌, ◌≤◌, ◌<◌, Err, IfOk, MatchResult, Ok, OnOk, Some, false, length, map};
 ghost use Rattle.zed_session.specs.Links.{PullsOver, seen};
 ghost use Rattle.zed_words.specs.Commands.{Merge};
 ghost use Rattle.zed_link.specs.Counting.{Rose};
@@ -41,8 +41,9 @@ fn pulled_from(
     ensures pulled { MatchResult result
         (λ d. IsMerged world count (map (λ link. seen (ends link) (reads link)) links.items)
         (Ok d.edits))
-        (λ e. (e ≡ Refusal.Memory) ⊎ IsMerged world count
-        (map (λ link. seen (ends link) (reads link)) links.items) (Err e)) }
+        (λ e. IsMerged world count (map (λ link. seen (ends link) (reads link)) links.items)
+        (Err e)) }
+    ensures no_link { length links.items < count → result ≡ Err Refusal.NoLink }
     ensures world { IfOk result (λ d. d.world ≡ world) }
 {
     if links.len() < count {
@@ -58,7 +59,8 @@ fn pulled_from(
     Ok(document)
 }
 
-/// Joins the edits of links, one for each name of a file, to one edit file of a world.
+/// Joins the edits of links, one for each name of a file, to one edit file of a world. Where there are fewer links, that is told whether
+/// memory is lacking or not.
 pub(crate) fn merge<H: Host>(
     alloc: Global,
     host: &mut H,
@@ -71,6 +73,7 @@ pub(crate) fn merge<H: Host>(
         → let failed = Rose (H.faults host.old) (H.faults host.new) in
         Ends failed (map (λ link. seen (ends link) (reads link)) links.items)
         (Merge out.now world (texts_of files.now)) t result (H.contents host.new) }
+    ensures no_link { length links.items < length files.now → result ≡ Err Refusal.NoLink }
     ensures rises { H.faults host.old ≤ H.faults host.new }
 {
     let document = pulled_from(alloc, world, files.len(), links)?;

@@ -195,6 +195,13 @@ fn tells_what_comes_first(rt: HostRuntime) -> Result<(), Fail> {
 }
 
 #[test]
+fn tells_a_missing_link(rt: HostRuntime) -> Result<(), Fail> {
+    // no link was handed in
+    let words = &["merge", "o", "7", "a"];
+    is_refused(rt.alloc(), CLASHING, words, "zzted: NoLink\n")
+}
+
+#[test]
 fn tells_a_missing_file(rt: HostRuntime) -> Result<(), Fail> {
     is_refused(rt.alloc(), &[], &["save", "o", "none"], "zzted: File\n")?;
     is_refused(rt.alloc(), &[], &["check", "none"], "zzted: File\n")

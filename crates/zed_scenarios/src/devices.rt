@@ -1,5 +1,5 @@
 //! Devices for commands that use none.
-ghost use Rattle.std.specs.Prelude.{None};
+ghost use Rattle.std.specs.Prelude.{None, false, true};
 
 use zed_play::Key;
 use zed_screen::Frame;
@@ -15,6 +15,8 @@ impl Screen for DarkScreen {
     ghost shown = { λ _. None };
 
     ghost screen_failures = { λ s. s.failures };
+
+    ghost screen_unfailing = { λ _. false };
 
     fn show(&mut self, _frame: &Frame) -> Result<(), Failed> {
         self.failures = self.failures.saturating_add(1);
@@ -34,6 +36,8 @@ impl Keys for NoKeys {
     ghost left = { λ _. None };
 
     ghost key_failures = { λ _. 0 };
+
+    ghost keys_unfailing = { λ _. true };
 
     fn next(&mut self) -> Result<Option<Key>, Failed> {
         Ok(None)

@@ -1,4 +1,4 @@
-use Rattle.std.proofs.Common.{◌≡◌, ◌∙◌, ap, arith, Err, length, Ok, inr, sym}
+use Rattle.std.proofs.Common.{◌≡◌, ◌∙◌, ap, arith, Err, length, Ok, sym}
 use Rattle.std.proofs.lemmas.Result.{err_from_is_err_and}
 use Rattle.zed_document.specs.Replica.{Replica}
 use Rattle.zed_program.specs.Refusals.{link_refusal}
@@ -21,8 +21,8 @@ returns-in_err-pull_over-clause-pulled g c =
     let all : c.len.result ≡ length c.args.links.items = omega (arith, is, ok) in
     let p = err_from_is_err_and c.from_residual.result c.from_residual.ensures.1 in
     let same : p.0 ≡ link_refusal c.in_err-pull_over.field-0.0 = p.2 in
-    rw (p.1, same) (inr (is_merged _ c.args.world c.args.count c.len.result c.args.links.items (Err (link_refusal c.in_err-pull_over.field-0.0)) all c.if-len-count.false
-    (old.comes (Err (link_refusal c.in_err-pull_over.field-0.0)) (pulls_refused _ c.loop-link.document _ _ c.in-Some.link c.in_err-pull_over.field-0.0 _ _ c.in-Some.ensures.steps.0 c.in_err-pull_over.ensures.pull))))
+    rw (p.1, same) (is_merged _ c.args.world c.args.count c.len.result c.args.links.items (Err (link_refusal c.in_err-pull_over.field-0.0)) all c.if-len-count.false
+    (old.comes (Err (link_refusal c.in_err-pull_over.field-0.0)) (pulls_refused _ c.loop-link.document _ _ c.in-Some.link c.in_err-pull_over.field-0.0 _ _ c.in-Some.ensures.steps.0 c.in_err-pull_over.ensures.pull)))
 
 pub loop-link-preserved : goal.loop-link-preserved
 loop-link-preserved g c =
