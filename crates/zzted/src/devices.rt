@@ -1,5 +1,5 @@
 //! Real links, screen and keys.
-ghost use Rattle.std.specs.Prelude.{◌≡◌, None, IfOk, ◌≤◌, length};
+ghost use Rattle.std.specs.Prelude.{◌≡◌, ◌≤◌, None, IfOk, false, length};
 
 use std::fs::{self, File};
 use std::io::{self, ErrorKind, Read, Write};
@@ -81,6 +81,8 @@ impl Link for FileLink {
 
     ghost stalls = { λ _. 0 };
 
+    ghost accepts = { λ _. false };
+
     fn read(&mut self, into: &mut [u8]) -> Result<usize, LinkFailed> {
         self.reads = self.reads.saturating_add(1);
         match self.read_file(into) {
@@ -135,6 +137,8 @@ impl Screen for Printer {
     ghost shown = { λ _. None };
 
     ghost screen_failures = { λ s. s.failures };
+
+    ghost screen_unfailing = { λ _. false };
 
     fn show(&mut self, frame: &Frame) -> Result<(), Failed> {
         if self.print(frame).is_ok() {
@@ -208,6 +212,8 @@ impl Keys for Typed {
     ghost left = { λ _. None };
 
     ghost key_failures = { λ k. k.failures };
+
+    ghost keys_unfailing = { λ _. false };
 
     fn next(&mut self) -> Result<Option<Key>, Failed> {
         match self.next_key() {

@@ -36,16 +36,25 @@ fn place_of(rt: &HostRuntime, name: &str) -> io::Result<Option<Place>> {
     Ok(Some(Place::of(rt, name)?))
 }
 
+// How a merge gets to the file that it writes, which may be one of those that it reads, under whatever name. Where that can't be told
+// the place is lost, and nothing is written there.
+fn merging(rt: &HostRuntime, place: Place, files: &[&str]) -> io::Result<Access> {
+    match place.is_led_to(rt, files) {
+        Ok(true) => Ok(Access::Edit(place)),
+        Ok(false) => Ok(Access::Write(place)),
+        Err(error) if error.kind() == ErrorKind::OutOfMemory => Err(error),
+        Err(_) => Ok(Access::Write(place.lost())),
+    }
+}
+
 // How the command of these words gets to the file that it writes, and the files that it pulls over links. Words that are refused have
 // neither; the program tells of them.
 fn needs_of<'a>(rt: &HostRuntime, words: &'a [String]) -> io::Result<(Access, Vec<&'a str>)> {
     let access = match parse(rt.alloc(), words) {
         Ok(Command::Merge { out, files, .. }) => {
-            let place = place_of(rt, out)?;
-            let access = if files.iter().any(|file| *file == out) {
-                Access::editing(place)
-            } else {
-                Access::writing(place)
+            let access = match place_of(rt, out)? {
+                Some(place) => merging(rt, place, &files)?,
+                None => Access::Read,
             };
             return Ok((access, files));
         }
@@ -75,8 +84,10 @@ fn carry_out(rt: HostRuntime, words: &[String]) -> io::Result<u8> {
     let (access, linked) = needs_of(&rt, words)?;
     let mut host = SystemHost::new(rt, access);
     let mut links: Vec<Box<dyn Link>> = Vec::new(alloc);
+    if !linked.is_empty() {
+        host.hold();
+    }
     for name in linked {
-        host.hold(name);
         let link = Box::new(alloc, FileLink::new(rt, name)?)?;
         if links.push(link).is_err() {
             return Err(io::Error::from(ErrorKind::OutOfMemory));

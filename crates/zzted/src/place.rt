@@ -70,10 +70,9 @@ fn target_of(rt: &HostRuntime, link: &str) -> io::Result<String> {
 
 // Whether a path is a symbolic link. One that leads nowhere is one too, and what isn't there is none.
 fn is_link(rt: &HostRuntime, path: &str) -> io::Result<bool> {
-    match fs::symlink_metadata(rt, path) {
-        Ok(metadata) => Ok(metadata.is_symlink()),
-        Err(error) if error.kind() == ErrorKind::NotFound => Ok(false),
-        Err(error) => Err(error),
+    match unless_missing(fs::symlink_metadata(rt, path))? {
+        Some(metadata) => Ok(metadata.is_symlink()),
+        None => Ok(false),
     }
 }
 
@@ -141,6 +140,36 @@ impl Place {
         self.name.as_str() == name
     }
 
+    /// Whether one of these names leads to the file that stands here.
+    ///
+    /// # Errors
+    /// A device failed, or memory is lacking.
+    pub fn is_led_to(&self, rt: &HostRuntime, names: &[&str]) -> io::Result<bool> {
+        let Some(spot) = &self.spot else {
+            return Ok(false);
+        };
+        let Some(here) = unless_missing(fs::symlink_metadata(rt, spot.path()))? else {
+            return Ok(false);
+        };
+        for name in names {
+            if *name == "stdin" {
+                continue;
+            }
+            if let Some(there) = unless_missing(fs::metadata(rt, *name))? {
+                if is_same(&here, &there) {
+                    return Ok(true);
+                }
+            }
+        }
+        Ok(false)
+    }
+
+    /// A place of the same name that is unknown.
+    pub fn lost(self) -> Place {
+        let Place { name, spot: _ } = self;
+        Place { name, spot: None }
+    }
+
     /// Where the file stands.
     ///
     /// # Errors
@@ -153,6 +182,15 @@ impl Place {
     }
 }
 
+// What a look at a file told, if the file is there.
+fn unless_missing(looked: io::Result<Metadata>) -> io::Result<Option<Metadata>> {
+    match looked {
+        Ok(metadata) => Ok(Some(metadata)),
+        Err(error) if error.kind() == ErrorKind::NotFound => Ok(None),
+        Err(error) => Err(error),
+    }
+}
+
 fn is_same(one: &Metadata, other: &Metadata) -> bool {
     one.dev() == other.dev() && one.ino() == other.ino()
 }
@@ -162,9 +200,8 @@ fn is_same(one: &Metadata, other: &Metadata) -> bool {
 /// # Errors
 /// A device failed.
 pub fn is_at(rt: &HostRuntime, file: &File, path: &str) -> io::Result<bool> {
-    match fs::symlink_metadata(rt, path) {
-        Ok(there) => Ok(is_same(&there, &file.metadata()?)),
-        Err(error) if error.kind() == ErrorKind::NotFound => Ok(false),
-        Err(error) => Err(error),
+    match unless_missing(fs::symlink_metadata(rt, path))? {
+        Some(there) => Ok(is_same(&there, &file.metadata()?)),
+        None => Ok(false),
     }
 }

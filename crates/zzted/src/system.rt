@@ -92,17 +92,14 @@ impl SystemHost {
         }
     }
 
-    /// Holds the file of a name, if it is there and is the one that is edited, before it is read over a link. Until this command has
-    /// written it, no other one replaces it.
-    pub fn hold(&mut self, name: &str) {
-        let Some(place) = self.access.edited(name) else {
-            return;
-        };
-        let Hold::Nothing = &self.hold else {
+    /// Holds the file that is edited, if it is there, before it is read over a link. Until this command has written it, no other
+    /// one replaces it.
+    pub fn hold(&mut self) {
+        let Access::Edit(place) = &self.access else {
             return;
         };
         let file = match place.spot() {
-            Ok(spot) => held(&self.rt, name, spot),
+            Ok(spot) => held(&self.rt, spot.path(), spot),
             Err(error) => Err(error),
         };
         self.hold = match file {
