@@ -2,19 +2,14 @@
 #![tactic(auto)]
 
 mod devices;
-mod fresh;
-mod hold;
-mod leftover;
-mod place;
-mod replace;
 mod system;
 
 use devices::{FileLink, Printer, Typed};
-use place::Place;
 use std::env;
 use std::io::{self, ErrorKind, Write};
 use std::process::ExitCode;
 use system::{Access, SystemHost};
+use zed_disk::Place;
 use zed_link::Link;
 use zed_program::run;
 use zed_words::{Command, ParseError, parse};

@@ -2,12 +2,10 @@
 ghost use Rattle.std.specs.Prelude.{◌≡◌, None, is_err};
 ghost use Rattle.zed_link.specs.Counting.{Counts};
 
-use crate::fresh::write;
-use crate::hold::{held, stands};
-use crate::place::Place;
 use std::alloc::{AllocError, Global};
 use std::fs::{self, File};
 use std::io::{self, ErrorKind, Read, Write};
+use zed_disk::{Place, held, stands, write};
 use zed_program::{Host, ReadError, WriteError};
 
 /// A file that has not ended after so many reads is a failure.

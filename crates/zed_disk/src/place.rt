@@ -199,7 +199,7 @@ fn is_same(one: &Metadata, other: &Metadata) -> bool {
 ///
 /// # Errors
 /// A device failed.
-pub fn is_at(rt: &HostRuntime, file: &File, path: &str) -> io::Result<bool> {
+pub(crate) fn is_at(rt: &HostRuntime, file: &File, path: &str) -> io::Result<bool> {
     match unless_missing(fs::symlink_metadata(rt, path))? {
         Some(there) => Ok(is_same(&there, &file.metadata()?)),
         None => Ok(false),

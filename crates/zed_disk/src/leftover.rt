@@ -1,14 +1,14 @@
 //! What a process left that ended while it wrote.
 ghost use Rattle.std.specs.Prelude.{◌≡◌};
 ghost use Rattle.std.specs.List.{list_all};
-ghost use Rattle.zzted.specs.Names.{is_new_name, is_numeral};
+ghost use Rattle.zed_disk.specs.Names.{is_new_name, is_numeral};
 
 use crate::place::is_at;
 use std::fs::{self, OpenOptions};
 use std::io::{self, ErrorKind};
 
 /// How the name of a new file begins.
-pub const BEGINNING: &str = ".zzted-new-";
+pub(crate) const BEGINNING: &str = ".zzted-new-";
 
 fn is_numeral(byte: u8) -> bool
     ensures { result ≡ is_numeral byte }
@@ -23,7 +23,7 @@ fn are_numerals(bytes: &[u8]) -> bool
 }
 
 /// Whether a file's name is one that this program gives to new files.
-pub fn is_new_name(name: &[u8]) -> bool
+pub(crate) fn is_new_name(name: &[u8]) -> bool
     ensures { result ≡ is_new_name name.now }
 {
     let beginning = BEGINNING.as_bytes();
@@ -46,7 +46,7 @@ fn clear_one(rt: &HostRuntime, path: &str) -> io::Result<()> {
 ///
 /// # Errors
 /// The folder can't be listed, or memory is refused.
-pub fn clear(rt: &HostRuntime, folder: &str) -> io::Result<()> {
+pub(crate) fn clear(rt: &HostRuntime, folder: &str) -> io::Result<()> {
     for entry in fs::read_dir(rt, folder)? {
         match entry {
             Ok(entry) if is_new_name(entry.file_name().as_bytes()) => {

@@ -1,8 +1,8 @@
 //! Writing a file of a real folder.
 ghost use Rattle.std.specs.Prelude.{None};
 
+use crate::folder::{Folder, replace};
 use crate::place::{Spot, is_at};
-use crate::replace::{Folder, replace};
 use std::fs::{self, File, Metadata, OpenOptions, Permissions};
 use std::io::{self, ErrorKind, Write};
 use std::os::unix::fs::{MetadataExt, OpenOptionsExt, PermissionsExt, fchown};

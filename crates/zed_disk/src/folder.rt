@@ -1,6 +1,6 @@
 //! How a file takes its place: whole, or not at all.
 ghost use Rattle.std.specs.Prelude.{◌≡◌, ◌⊎◌, IfSome, OnErr, OnOk, None, Option, option_map};
-ghost use Rattle.zzted.specs.Held.{Held, IsWhole, beside_of, none_beside, place_of, renamed_by, replaced_by, with_beside, with_empty, with_more, with_place, with_settled, with_synced};
+ghost use Rattle.zed_disk.specs.Held.{Held, IsWhole, beside_of, none_beside, place_of, renamed_by, replaced_by, with_beside, with_empty, with_more, with_place, with_settled, with_synced};
 
 use std::io;
 

@@ -1,0 +1,13 @@
+//! Files on a disk that several commands write: each is found behind its links, held, and replaced whole.
+#![tactic(auto)]
+
+mod folder;
+mod fresh;
+mod hold;
+mod leftover;
+mod place;
+
+pub use folder::{Folder, replace};
+pub use fresh::write;
+pub use hold::{held, stands};
+pub use place::{Place, Spot};
