@@ -4,4 +4,5 @@ pub mod Fewer
 pub mod HasThings
 pub mod MadeThings
 pub mod Members
+pub mod Settling
 pub mod Waking

@@ -1,5 +1,6 @@
 pub mod Cascade
 pub mod Made
+pub mod Settling
 pub mod Shows
 pub mod Steps
 pub mod Things

@@ -5,6 +5,7 @@ mod body;
 mod error;
 mod laws;
 mod made;
+mod settle;
 mod things;
 mod wake;
 
