@@ -266,10 +266,10 @@ things_are_released x all done waits to_come after h goes = record {
 
 -- ---- the end
 
-abbrev is_one_of : List Edit → Edit → Bool
+abbrev pub is_one_of : List Edit → Edit → Bool
 is_one_of es e = list_any (λ d. same_stamp d.stamp e.stamp) es
 
-one-of : (e : Edit) (es : List Edit) → is_one_of es e ≡ true → (d : Edit) × Member d es × (same_stamp d.stamp e.stamp ≡ true)
+pub one-of : (e : Edit) (es : List Edit) → is_one_of es e ≡ true → (d : Edit) × Member d es × (same_stamp d.stamp e.stamp ≡ true)
 one-of e [] h = absurd (cc)
 one-of e (d ∷ es) h = go (same_stamp d.stamp e.stamp) refl h (λ k. one-of e es k)
   where
@@ -277,7 +277,7 @@ one-of e (d ∷ es) h = go (same_stamp d.stamp e.stamp) refl h (λ k. one-of e e
     go true b k more = (d, inl refl, b)
     go false b k more = let r = more k in (r.0, inr r.1, r.2)
 
-of-member : (e : Edit) (es : List Edit) → Member e es → is_one_of es e ≡ true
+pub of-member : (e : Edit) (es : List Edit) → Member e es → is_one_of es e ≡ true
 of-member e [] m = absurd m
 of-member e (d ∷ es) m = elim m [
   | inl q ↦ ap (λ v. v || is_one_of es e) (subst (λ (x : Edit). same_stamp d.stamp x.stamp ≡ true) q (same_stamp-itself d.stamp))

@@ -1,3 +1,4 @@
+pub mod Arriving
 pub mod BodySteps
 pub mod Cascades
 pub mod Fewer
@@ -6,3 +7,4 @@ pub mod MadeThings
 pub mod Members
 pub mod Settling
 pub mod Waking
+pub mod Woken

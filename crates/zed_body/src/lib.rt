@@ -6,12 +6,14 @@ mod error;
 mod laws;
 mod made;
 mod settle;
+mod take;
 mod things;
 mod wake;
 
 pub use body::Body;
 pub use error::BodyError;
 pub use laws::{bodies_begin_and_end, bodies_have_what_is_made, cascades_settle};
+pub use take::Taken;
 
 #[cfg(test)]
 mod tests;

@@ -1,0 +1,93 @@
+//! A body takes edits, in whatever order they come.
+ghost use Rattle.std.specs.Prelude.{◌≡◌, ◌≤◌, true, false, length, IfOk, IfErr, OnOk, OnErr};
+ghost use Rattle.zed_op.specs.Fit.{Fits};
+ghost use Rattle.zed_body.specs.Things.{can_do};
+ghost use Rattle.zed_body.specs.Taking.{IsEmpty, IsNewTo, ShowsOneMore, Tells};
+
+use crate::body::Body;
+use crate::error::BodyError;
+use std::alloc::Global;
+use zed_op::Edit;
+
+/// What became of an edit that a body took.
+#[derive(Clone, Copy, Debug, PartialEq, Eq)]
+pub struct Taken {
+    /// Whether it waits for a thing that it names.
+    pub held: bool,
+    /// How many edits that waited are done by now.
+    pub woken: usize,
+}
+
+impl Body {
+    /// Does a new edit that can be done, and what waits for it.
+    fn do_with_all(&mut self, alloc: Global, edit: &Edit) -> Result<(), BodyError>
+        requires fits { Fits edit.now }
+        requires new { IsNewTo edit.now self.old }
+        requires can { can_do self.old.live.boards self.old.texts edit.now ≡ true }
+        ensures ok { OnOk result (ShowsOneMore edit.now self.old self.new) }
+        ensures err { IfErr result (λ e. e ≡ BodyError.Memory) }
+        ensures few { OnOk result (length self.new.inbox ≤ length self.old.inbox) }
+    {
+        let mut done = Vec::new(alloc);
+        self.do_one(alloc, edit)?;
+        self.wake(alloc, &mut done, edit)?;
+        self.settle(alloc, done)?;
+        Ok(())
+    }
+
+    /// Holds a copy of a new edit that can't be done.
+    fn hold_copy(&mut self, edit: &Edit) -> Result<(), BodyError>
+        requires fits { Fits edit.now }
+        requires cant { can_do self.old.live.boards self.old.texts edit.now ≡ false }
+        ensures ok { OnOk result (ShowsOneMore edit.now self.old self.new) }
+        ensures err { IfErr result (λ e. e ≡ BodyError.Memory) }
+    {
+        let Ok(copy) = edit.copy() else {
+            return Err(BodyError::Memory);
+        };
+        self.hold_one(copy)?;
+        Ok(())
+    }
+
+    /// Takes a new edit. Memory may leave a part of it done.
+    fn bring(&mut self, alloc: Global, edit: &Edit) -> Result<Taken, BodyError>
+        requires fits { Fits edit.now }
+        requires new { IsNewTo edit.now self.old }
+        ensures ok { OnOk result (ShowsOneMore edit.now self.old self.new) }
+        ensures tells { IfOk result (λ t. Tells edit.now self.old t) }
+        ensures err { IfErr result (λ e. e ≡ BodyError.Memory) }
+    {
+        if !self.can(alloc, edit) {
+            self.hold_copy(edit)?;
+            return Ok(Taken {
+                held: true,
+                woken: 0,
+            });
+        }
+        let before = self.inbox.held();
+        self.do_with_all(alloc, edit)?;
+        Ok(Taken {
+            held: false,
+            woken: before - self.inbox.held(),
+        })
+    }
+
+    /// Takes an edit whose stamp is new, whenever it comes: does it, and all that waits for it, or holds it where a
+    /// thing that it names isn't made. Memory leaves the body empty.
+    pub fn take(&mut self, alloc: Global, edit: &Edit) -> Result<Taken, BodyError>
+        requires fits { Fits edit.now }
+        requires new { IsNewTo edit.now self.old }
+        ensures ok { OnOk result (ShowsOneMore edit.now self.old self.new) }
+        ensures tells { IfOk result (λ t. Tells edit.now self.old t) }
+        ensures err { IfErr result (λ e. e ≡ BodyError.Memory) }
+        ensures emptied { OnErr result (IsEmpty self.new) }
+    {
+        match self.bring(alloc, edit) {
+            Ok(taken) => Ok(taken),
+            Err(error) => {
+                *self = Body::new(alloc);
+                Err(error)
+            }
+        }
+    }
+}
