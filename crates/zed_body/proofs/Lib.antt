@@ -4,6 +4,7 @@ pub mod Cascades
 pub mod Fewer
 pub mod HasThings
 pub mod MadeThings
+pub mod ManyArrive
 pub mod Members
 pub mod Settling
 pub mod Waking

@@ -4,5 +4,6 @@ pub mod Settling
 pub mod Shows
 pub mod Steps
 pub mod Taking
+pub mod TakingAll
 pub mod Things
 pub mod Waking

@@ -1,9 +1,11 @@
 //! What holds of a cascade, in whatever order its edits are tried.
 ghost use Rattle.zed_body.specs.Shows.{ContentHasAll, ContentTellsCan, BodyHasAll, BodyTellsCan};
 ghost use Rattle.zed_body.specs.Steps.{HandIsReady, BodyBegins, BodyEnds};
+ghost use Rattle.zed_body.specs.TakingAll.{EmptyShowsNone, RisingAreApart};
 ghost use Rattle.zed_body.specs.Cascade.{CascadesBegin, EditsArrive, EditsAreDone, EditsAreHeld, ThingsAreReleased, CascadesEnd};
 
-use zed_texts::texts_are_ready;
+use zed_live::document_shows_its_edits;
+use zed_texts::{texts_are_ready, texts_show_their_edits};
 
 /// Which edits are done and which wait, from before an edit comes to when no release is to come: then they are those
 /// that the replay takes and those that it holds.
@@ -31,4 +33,17 @@ pub fn bodies_have_what_is_made()
     ensures parts_can { ContentTellsCan }
     ensures body { BodyHasAll }
     ensures body_can { BodyTellsCan }
+{}
+
+/// A body that took no edit shows none.
+pub fn empty_bodies_show_none()
+    ensures { EmptyShowsNone }
+{
+    document_shows_its_edits();
+    texts_show_their_edits();
+}
+
+/// No two edits of a rising list have one stamp.
+pub fn rising_edits_are_apart()
+    ensures { RisingAreApart }
 {}

@@ -7,12 +7,16 @@ mod laws;
 mod made;
 mod settle;
 mod take;
+mod take_all;
 mod things;
 mod wake;
 
 pub use body::Body;
 pub use error::BodyError;
-pub use laws::{bodies_begin_and_end, bodies_have_what_is_made, cascades_settle};
+pub use laws::{
+    bodies_begin_and_end, bodies_have_what_is_made, cascades_settle, empty_bodies_show_none,
+    rising_edits_are_apart,
+};
 pub use take::Taken;
 
 #[cfg(test)]
