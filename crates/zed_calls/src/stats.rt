@@ -1,6 +1,6 @@
 //! Stats by example.
 use std::test::Fail;
-use zed_stats::{MadeStat, StatField, StatValues, Stats};
+use zed_stats::{StatField, StatValues, Stats};
 use zed_types::{Stamp, StatByte, StatFields, StatId, StatNumber, StatSetting, ThirdParameter};
 
 fn at(time: u64) -> Stamp {
@@ -61,19 +61,15 @@ fn a_removed_stat_keeps_its_fields_and_stays_removed(rt: HostRuntime) -> Result<
     stats.set_field(stat(3), at(9), StatSetting::Byte(StatByte::X, 60));
     stats.add(stat(3), false, values(7, 7))?;
     assert_eq!(rt; stats.count(), 4);
+    let (id, removed) = stats.at(1);
+    assert_eq!(rt; id, stat(3));
+    assert!(rt; removed.removed);
     assert_eq!(rt;
-        stats.at(1),
-        MadeStat {
-            id: stat(3),
-            removed: true
-        }
-    );
-    assert_eq!(rt;
-        stats.field(1, StatField::Byte(StatByte::X)),
+        stats.at(1).1.values.value(StatField::Byte(StatByte::X)),
         StatSetting::Byte(StatByte::X, 60)
     );
     assert_eq!(rt;
-        stats.field(1, StatField::Byte(StatByte::Y)),
+        stats.at(1).1.values.value(StatField::Byte(StatByte::Y)),
         StatSetting::Byte(StatByte::Y, 3)
     );
     Ok(())
@@ -89,19 +85,19 @@ fn a_field_keeps_the_later_write(rt: HostRuntime) -> Result<(), Fail> {
     stats.remove(stat(2));
     assert_eq!(rt; stats.count(), 4);
     assert_eq!(rt;
-        stats.field(2, StatField::Number(StatNumber::Cycle)),
+        stats.at(2).1.values.value(StatField::Number(StatNumber::Cycle)),
         StatSetting::Number(StatNumber::Cycle, 3)
     );
     assert_eq!(rt;
-        stats.field(2, StatField::Number(StatNumber::Position)),
+        stats.at(2).1.values.value(StatField::Number(StatNumber::Position)),
         StatSetting::Number(StatNumber::Position, 5)
     );
     assert_eq!(rt;
-        stats.field(2, StatField::Leader),
+        stats.at(2).1.values.value(StatField::Leader),
         StatSetting::Leader(Some(stat(3)))
     );
     assert_eq!(rt;
-        stats.field(2, StatField::Follower),
+        stats.at(2).1.values.value(StatField::Follower),
         StatSetting::Follower(None)
     );
     assert_eq!(rt; stats.number_of(stat(2)), Some(0));

@@ -1,5 +1,5 @@
 -- The boards of a live document, each under its name, in the order of their names.
-use Rattle.std.specs.Prelude.{◌≡◌, ℕ, true, List, [], ◌∷◌, ◌++◌, map, slice_get, find, is_some, Option, Some, None, option_map}
+use Rattle.std.specs.Prelude.{◌≡◌, true, List, [], ◌∷◌, ◌++◌, map, find, is_some, Option, Some, None, option_map}
 use Rattle.std.specs.declared.cmp.Ordering.{Ordering}
 use Rattle.std.specs.List.{list_any}
 use Rattle.zed_types.specs.declared.stamp.Stamp.{Stamp}
@@ -39,10 +39,6 @@ board_cmp a b = names.key_cmp board_name a b
 -- the board of a name, if it is there
 abbrev pub board_in : BoardId → Boards → Option LiveBoard
 board_in b ys = names.under board_name b ys
-
--- the name of board j
-abbrev pub name_at : ℕ → Boards → Option BoardId
-name_at j ys = option_map (λ y. y.0) (slice_get ys j)
 
 -- the board that a stat is on, removed or not
 abbrev pub home_in : StatId → Boards → Option BoardId

@@ -1,12 +1,12 @@
 //! The boards of a live document, found by their names.
 
-ghost use Rattle.std.specs.Prelude.{◌≡◌, ◌<◌, ◌≤◌, ◌+◌, [], true, false, length, Some, IfOk, IfErr, OnOk, OnErr, IsSorted, option_copied};
+ghost use Rattle.std.specs.Prelude.{◌≡◌, ◌<◌, ◌≤◌, ◌+◌, [], true, false, length, slice_get, Some, IfOk, IfErr, OnOk, OnErr, IsSorted, option_copied};
 ghost use Rattle.indexmap.specs.IndexMap.{keys, spare};
 ghost use Rattle.zed_op.specs.Fit.{Fits};
 ghost use Rattle.zed_op.specs.Growth.{may_grow};
 ghost use Rattle.zed_live.specs.Header.{made_by};
 ghost use Rattle.zed_live.specs.Board.{board_after, stat_changed};
-ghost use Rattle.zed_live.specs.Boards.{board_cmp, board_in, home_in, name_at as name_in, add as added, add_all as all_added, all_as_made as all_made, change as changed, change_all, boards_after};
+ghost use Rattle.zed_live.specs.Boards.{board_cmp, board_in, home_in, add as added, add_all as all_added, all_as_made as all_made, change as changed, change_all, boards_after};
 
 use crate::board::LiveBoard;
 use crate::error::LiveError;
@@ -134,13 +134,13 @@ impl LiveBoards {
         self.entries.len()
     }
 
-    /// The name of board j in the order of names, removed ones counted.
-    pub fn name_at(&self, j: usize) -> BoardId
+    /// Board j in the order of names, removed ones counted, under its name.
+    pub fn at(&self, j: usize) -> (BoardId, &LiveBoard)
         requires { j < length self.now }
-        ensures { name_in j self.now ≡ Some result }
+        ensures { slice_get self.now j ≡ Some (result.0, result.1.now) }
     {
-        let (id, _) = self.entries.get_index(j).unwrap();
-        *id
+        let (id, board) = self.entries.get_index(j).unwrap();
+        (*id, board)
     }
 
     /// Puts an edit in, whenever it comes: changes the board that it is of, if that is there, or adds the boards that it makes.

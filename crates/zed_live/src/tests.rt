@@ -339,8 +339,8 @@ fn stats_on(boards: &LiveBoards, id: BoardId) -> Option<usize> {
 /// Stat j of a board in the order of names, and whether it is removed.
 fn stat_at(board: &LiveBoard, j: usize) -> Option<(StatId, bool)> {
     if j < board.stats.count() {
-        let made = board.stats.at(j);
-        Some((made.id, made.removed))
+        let (id, stat) = board.stats.at(j);
+        Some((id, stat.removed))
     } else {
         None
     }
@@ -349,7 +349,7 @@ fn stat_at(board: &LiveBoard, j: usize) -> Option<(StatId, bool)> {
 /// Where stat j of a board stands in its row.
 fn x_at(board: &LiveBoard, j: usize) -> Option<StatSetting> {
     if j < board.stats.count() {
-        Some(board.stats.field(j, StatField::Byte(StatByte::X)))
+        Some(board.stats.at(j).1.values.value(StatField::Byte(StatByte::X)))
     } else {
         None
     }
@@ -381,9 +381,9 @@ fn boards_forget_the_order_of_their_edits(rt: HostRuntime) -> Result<(), Fail> {
         assert_eq!(rt; limit_of(&boards, CAVE), Some(40));
         assert_eq!(rt; limit_of(&boards, ninth), Some(0));
         assert_eq!(rt; limit_of(&boards, BoardId::new(at(10), 0)), None);
-        assert_eq!(rt; boards.name_at(0), BoardId::TITLE);
-        assert_eq!(rt; boards.name_at(1), CAVE);
-        assert_eq!(rt; boards.name_at(2), ninth);
+        assert_eq!(rt; boards.at(0).0, BoardId::TITLE);
+        assert_eq!(rt; boards.at(1).0, CAVE);
+        assert_eq!(rt; boards.at(2).0, ninth);
     }
     Ok(())
 }

@@ -1,16 +1,12 @@
 -- The stats of a board in the order of their names, removed ones too.
-use Rattle.std.specs.Prelude.{ℕ, Bool, not, List, option_map, slice_get, is_some, Option}
+use Rattle.std.specs.Prelude.{ℕ, Bool, not, List, is_some, Option}
 use Rattle.std.specs.declared.cmp.Ordering.{Ordering}
 use Rattle.std.specs.List.{filter, position}
 use Rattle.zed_types.specs.declared.names.Name.{Name}
 use Rattle.zed_types.specs.declared.names.StatId.{StatId}
-use Rattle.zed_types.specs.declared.stat_field.StatSetting.{StatSetting}
 use Rattle.zed_types.specs.Names.{same_stat}
 use Rattle.zed_names.specs.ByName as names
-use Rattle.zed_stats.specs.declared.field.StatField.{StatField}
 use Rattle.zed_stats.specs.declared.stat.LiveStat.{LiveStat}
-use Rattle.zed_stats.specs.declared.stats.MadeStat.{MadeStat}
-use Rattle.zed_stats.specs.Fields.{value_of}
 
 -- what names a stat
 abbrev pub stat_name : StatId → Name
@@ -35,11 +31,3 @@ change id f es = names.change stat_name id f es
 -- the number of a stat: its place among those not removed, none for a removed one. The player is made with its board, so it is first
 abbrev pub number_of : StatId → List (StatId × LiveStat) → Option ℕ
 number_of id es = position (λ e. same_stat e.0 id) (filter (λ e. not (e.1).removed) es)
-
--- stat j in the order of names, and whether it is removed
-abbrev pub made_at : ℕ → List (StatId × LiveStat) → Option MadeStat
-made_at j es = option_map (λ e. record { id = e.0; removed = (e.1).removed }) (slice_get es j)
-
--- a field of stat j in the order of names
-abbrev pub field_at : ℕ → StatField → List (StatId × LiveStat) → Option StatSetting
-field_at j f es = option_map (λ e. value_of f (e.1).values) (slice_get es j)

@@ -11,4 +11,4 @@ pub use error::StatsError;
 pub use field::StatField;
 pub use laws::fields_hold_the_latest;
 pub use stat::{LiveStat, StatValues};
-pub use stats::{MadeStat, Stats};
+pub use stats::Stats;

@@ -1,23 +1,15 @@
 //! The stats of a board.
 
-ghost use Rattle.std.specs.Prelude.{◌≡◌, ◌<◌, [], length, false, OnOk, OnErr, IfErr, Some};
+ghost use Rattle.std.specs.Prelude.{◌≡◌, ◌<◌, [], length, false, slice_get, OnOk, OnErr, IfErr, Some};
 ghost use Rattle.zed_stats.specs.Fields.{new_stat, write, remove as removed};
-ghost use Rattle.zed_stats.specs.Stats.{has as is_there, add as added, change, number_of as number_in, made_at, field_at};
+ghost use Rattle.zed_stats.specs.Stats.{has as is_there, add as added, change, number_of as number_in};
 
 use crate::error::StatsError;
-use crate::field::StatField;
 use crate::stat::{LiveStat, StatValues};
 use indexmap::IndexMap;
 use std::alloc::Global;
 use std::marker::Model;
 use zed_types::{Stamp, StatId, StatSetting};
-
-/// A stat that was made, and whether it is removed.
-#[derive(Clone, Copy, Debug, PartialEq, Eq)]
-pub struct MadeStat {
-    pub id: StatId,
-    pub removed: bool,
-}
 
 /// The stats of a board, removed ones too, in the order of their names: by stamp, and then by index.
 #[derive(Drop)]
@@ -121,24 +113,12 @@ impl Stats {
         self.entries.len()
     }
 
-    /// Stat j in the order of names.
-    pub fn at(&self, j: usize) -> MadeStat
+    /// Stat j in the order of names, under its name.
+    pub fn at(&self, j: usize) -> (StatId, &LiveStat)
         requires { j < length self.now }
-        ensures { made_at j self.now ≡ Some result }
+        ensures { slice_get self.now j ≡ Some (result.0, result.1.now) }
     {
         let (id, stat) = self.entries.get_index(j).unwrap();
-        MadeStat {
-            id: *id,
-            removed: stat.removed,
-        }
-    }
-
-    /// A field of stat j in the order of names.
-    pub fn field(&self, j: usize, field: StatField) -> StatSetting
-        requires { j < length self.now }
-        ensures { field_at j field self.now ≡ Some result }
-    {
-        let (_, stat) = self.entries.get_index(j).unwrap();
-        stat.values.value(field)
+        (*id, stat)
     }
 }

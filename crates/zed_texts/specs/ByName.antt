@@ -1,8 +1,10 @@
 -- What belongs to texts, each under the name of its text, in the order of the names.
-use Rattle.std.specs.Prelude.{ℕ, slice_get, Option, option_map}
+use Rattle.std.specs.Prelude.{ℕ, map, Option}
+use Rattle.std.specs.List.{position}
 use Rattle.std.specs.declared.cmp.Ordering.{Ordering}
 use Rattle.zed_types.specs.declared.names.Name.{Name}
 use Rattle.zed_types.specs.declared.names.TextId.{TextId}
+use Rattle.zed_types.specs.Names.{same_text}
 use Rattle.zed_names.specs.ByName as names
 
 -- values of texts, each under the name of its text
@@ -21,9 +23,9 @@ text_cmp a b = names.key_cmp text_name a b
 abbrev pub text_in : {X : Type 0} → TextId → ByName X → Option X
 text_in t ys = names.under text_name t ys
 
--- name j
-abbrev pub name_at : {X : Type 0} → ℕ → ByName X → Option TextId
-name_at j ys = option_map (λ y. y.0) (slice_get ys j)
+-- the number of a name in the order of names
+abbrev pub number_of : {X : Type 0} → TextId → ByName X → Option ℕ
+number_of t ys = position (λ x. same_text t x) (map (λ y. y.0) ys)
 
 -- a value is added at its place, unless one of its name is there
 abbrev pub add : {X : Type 0} → TextId → X → ByName X → ByName X

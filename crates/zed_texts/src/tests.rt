@@ -229,8 +229,8 @@ fn a_world_comes_late(rt: HostRuntime) -> Result<(), Fail> {
     check(rt.alloc(), &edit)?;
     texts.take(rt.alloc(), &edit)?;
     assert_eq!(rt; texts.count(), 2);
-    assert_eq!(rt; texts.name_at(0), PROGRAM);
-    assert_eq!(rt; texts.name_at(1), CODE);
+    assert_eq!(rt; texts.at(0).0, PROGRAM);
+    assert_eq!(rt; texts.at(1).0, CODE);
     match texts.get(PROGRAM) {
         Some(text) => assert_eq!(rt; text.text()?.as_slice(), b"#end".as_slice()),
         None => return Err(TextsError::Memory.into()),

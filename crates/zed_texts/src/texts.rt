@@ -1,13 +1,13 @@
 //! The texts of a live document, found by their names.
 
-ghost use Rattle.std.specs.Prelude.{◌≡◌, ◌<◌, ◌≤◌, [], true, false, length, is_some, Some, IfErr, OnOk, OnErr, option_copied};
+ghost use Rattle.std.specs.Prelude.{◌≡◌, ◌<◌, ◌≤◌, [], true, false, length, is_some, slice_get, Some, IfErr, OnOk, OnErr, option_copied};
 ghost use Rattle.std.specs.List.{AllByRecursion, list_any};
 ghost use Rattle.zed_types.specs.Names.{same_text, same_element};
 ghost use Rattle.zed_types.specs.Text.{run_from, put_late, kill};
 ghost use Rattle.zed_op.specs.Fit.{Fits};
 ghost use Rattle.zed_settle.specs.Making.{made_texts};
 ghost use Rattle.zed_code.specs.Text.{StandsAfter, IsNewStamp};
-ghost use Rattle.zed_texts.specs.ByName.{text_in, name_at as name_in, add as added, add_all as all_added, change};
+ghost use Rattle.zed_texts.specs.ByName.{text_in, number_of as number_in, add as added, add_all as all_added, change};
 ghost use Rattle.zed_texts.specs.Texts.{elements_of, named, elements_or_none, texts_after, IsReady, is_of_texts, changes_text, AllGrow, IsOpened};
 
 use crate::error::TextsError;
@@ -82,13 +82,20 @@ impl LiveTexts {
         self.entries.len()
     }
 
-    /// The name of text j in the order of names.
-    pub fn name_at(&self, j: usize) -> TextId
-        requires { j < length self.now }
-        ensures { name_in j self.now ≡ Some result }
+    /// The number of a text in the order of names, if it was made.
+    pub fn number_of(&self, id: TextId) -> Option<usize>
+        ensures { result ≡ number_in id self.now }
     {
-        let (id, _) = self.entries.get_index(j).unwrap();
-        *id
+        self.entries.get_index_of(&id)
+    }
+
+    /// Text j in the order of names, under its name.
+    pub fn at(&self, j: usize) -> (TextId, &Text)
+        requires { j < length self.now }
+        ensures { slice_get self.now j ≡ Some (result.0, result.1.now) }
+    {
+        let (id, text) = self.entries.get_index(j).unwrap();
+        (*id, text)
     }
 
     /// Puts an edit in, whenever it comes: changes the text that it is of, if that is there, or adds the texts that

@@ -1,3 +1,4 @@
-pub mod NamedTexts
-pub mod NumberedBoards
-pub mod Shown
+mod NamedTexts
+mod Numbered
+mod NumberedTexts
+mod Shown

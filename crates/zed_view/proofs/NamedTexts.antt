@@ -1,5 +1,5 @@
 -- The elements of the text of a name, in live texts and in those that they show.
-use Rattle.std.proofs.Common.{◌≡◌, ◌∙◌, Bool, true, false, cond, List, [], ◌∷◌, Option, Some, None, refl, ap, sym}
+use Rattle.std.proofs.Common.{◌≡◌, ◌∙◌, Bool, true, false, cond, List, [], ◌∷◌, Some, None, refl, ap, sym}
 use Rattle.zed_types.specs.declared.names.TextId.{TextId}
 use Rattle.zed_types.specs.declared.text.TextByte.{TextByte}
 use Rattle.zed_types.specs.Names.{same_text}
@@ -12,10 +12,7 @@ use Rattle.zed_names.proofs.Found.{apart}
 use Rattle.zed_texts.specs.ByName.{text_name, text_in}
 use Rattle.zed_texts.specs.Texts.{Texts, elements_of}
 use Rattle.zed_texts.specs.Shows.{shown_texts}
-
-abbrev spelled : Option Shown → List TextByte
-spelled None = []
-spelled (Some v) = elements v
+use Rattle.zed_view.specs.Shown.{spelled}
 
 abbrev as_text : TextId → List TextByte → Text
 as_text t xs = record { id = t; elements = xs }

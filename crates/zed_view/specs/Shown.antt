@@ -1,5 +1,8 @@
 -- What live parts show to one author: the plain document.
-use Rattle.std.specs.Prelude.{◌≡◌, List}
+use Rattle.std.specs.Prelude.{◌≡◌, List, [], Option, Some, None}
+use Rattle.zed_types.specs.declared.text.TextByte.{TextByte}
+use Rattle.zed_code.specs.Pieces.{Shown as LiveText}
+use Rattle.zed_code.specs.Text.{elements}
 use Rattle.zed_op.specs.declared.op.Edit.{Edit}
 use Rattle.zed_op.specs.Set.{IsRising, AllFit, stamps_of}
 use Rattle.zed_op.specs.Sizes.{HaveSizes}
@@ -20,6 +23,11 @@ shown live texts waiting = record {
   texts = shown_texts (elements_of texts);
   held = stamps_of waiting;
 }
+
+-- the elements of a live text; none where there is no such text
+abbrev pub spelled : Option LiveText → List TextByte
+spelled None = []
+spelled (Some v) = elements v
 
 -- live parts that show the edits taken, beside those held, show the replay
 abbrev pub ReplayedPartsAreShown : Type 0

@@ -1,6 +1,8 @@
 //! What a document shows, lent from its live parts.
 #![tactic(auto)]
 
+mod appending;
+mod field;
 mod header;
 mod laws;
 mod made;
@@ -8,11 +10,13 @@ mod property;
 mod register;
 mod view;
 
+pub use appending::{append_text, append_text_at};
+pub use field::{Follower, Leader, P3, StatText};
 pub use header::{CurrentBoard, Saved, WorldName};
 pub use laws::parts_show_the_replay;
 pub use made::{MadeBoard, MadeStat};
 pub use property::TimeLimit;
-pub use register::{HeaderRegister, PropertyRegister};
+pub use register::{HeaderRegister, PropertyRegister, StatRegister};
 pub use view::View;
 
 #[cfg(test)]

@@ -1,0 +1,45 @@
+//! The bytes of a text that a view shows, appended. This takes memory, so it stands beside the view.
+ghost use Rattle.std.specs.Prelude.{◌≡◌, ◌<◌, ◌++◌, length, OnOk, OnErr};
+ghost use Rattle.zed_types.specs.Text.{alive_bytes};
+ghost use Rattle.zed_code.specs.Text.{elements};
+ghost use Rattle.zed_edit.specs.Document.{text as text_shown};
+ghost use Rattle.zed_view.specs.View.{text_at};
+
+use crate::view::View;
+use std::alloc::AllocError;
+use zed_code::Text;
+use zed_types::TextId;
+
+/// Appends the live bytes of a live text, or nothing.
+fn append_live(text: &Text, out: &mut Vec<u8>) -> Result<(), AllocError>
+    ensures ok { OnOk result
+        (out.new.items ≡ out.old.items ++ alive_bytes (elements text.now)) }
+    ensures err { OnErr result (out.new.items ≡ out.old.items) }
+{
+    match text.text() {
+        Ok(bytes) => out.extend_from_slice(bytes.as_slice()),
+        Err(_) => Err(AllocError),
+    }
+}
+
+/// Appends the live bytes of a text, or nothing.
+#[tactic(auto, using(crate::proofs::NamedTexts::of_some_text, crate::proofs::NamedTexts::of_no_text))]
+pub fn append_text(view: &View, id: TextId, out: &mut Vec<u8>) -> Result<(), AllocError>
+    ensures ok { OnOk result (out.new.items ≡ out.old.items ++ text_shown view.now id) }
+    ensures err { OnErr result (out.new.items ≡ out.old.items) }
+{
+    match view.text(id) {
+        Some(text) => append_live(text, out),
+        None => Ok(()),
+    }
+}
+
+/// Appends the live bytes of the text of a number, or nothing.
+pub fn append_text_at(view: &View, k: usize, out: &mut Vec<u8>) -> Result<(), AllocError>
+    requires { k < length view.now.texts }
+    ensures ok { OnOk result
+        (out.new.items ≡ out.old.items ++ alive_bytes (text_at view.now k).elements) }
+    ensures err { OnErr result (out.new.items ≡ out.old.items) }
+{
+    append_live(view.text_at(k), out)
+}
