@@ -16,6 +16,3 @@ mod text;
 pub use error::CodeError;
 pub use laws::rising_insertions_go_directly;
 pub use text::Text;
-
-#[cfg(test)]
-mod tests;

@@ -26,6 +26,3 @@ pub use laws::{
     stat_shows_the_replay,
 };
 pub use properties::LiveProperties;
-
-#[cfg(test)]
-mod tests;

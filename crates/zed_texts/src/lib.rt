@@ -9,6 +9,3 @@ mod texts;
 pub use error::TextsError;
 pub use laws::{texts_are_ready, texts_show_the_replay, texts_show_their_edits};
 pub use texts::LiveTexts;
-
-#[cfg(test)]
-mod tests;

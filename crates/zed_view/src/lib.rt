@@ -18,6 +18,3 @@ pub use made::{MadeBoard, MadeStat};
 pub use property::TimeLimit;
 pub use register::{HeaderRegister, PropertyRegister, StatRegister};
 pub use view::View;
-
-#[cfg(test)]
-mod tests;

@@ -1,7 +1,6 @@
 //! What a view of a document without edits tells, and of one with a board.
 ghost use Rattle.std.specs.Prelude.{◌≡◌, ◌<◌, length, IfOk};
 
-use crate::View;
 use std::alloc::Global;
 use std::test::Fail;
 use zed_edit::{Edit, Op, check};
@@ -11,6 +10,7 @@ use zed_texts::LiveTexts;
 use zed_types::{
     BoardByte, BoardFlag, BoardText, Bytes, HeaderNumber, HeaderSetting, Side, Stamp, TextId,
 };
+use zed_view::View;
 
 /// A document with one board, CAVE, and 7 torches.
 fn cave(alloc: Global) -> Result<LiveDocument, Fail>

@@ -4,16 +4,11 @@ ghost use Rattle.zed_types.specs.Names.{byte_of as byte_at};
 ghost use Rattle.zed_types.specs.Text.{run_from};
 ghost use Rattle.zed_code.specs.Text.{elements, genesis};
 
-use crate::{CodeError, Text};
+use crate::growths::{MOST_GROWTHS, refuse, was_refused};
 use std::alloc::Global;
 use std::test::Fail;
+use zed_code::{CodeError, Text};
 use zed_types::{ElemId, Stamp};
-
-/// The size that the allocator of the sweep over refused growths listens to.
-const MARK: usize = 3_141_592;
-
-/// Most growths that a sweep goes through.
-const MOST_GROWTHS: usize = 64;
 
 /// The stamps of the edits that put in x, y, w and z.
 const X: Stamp = Stamp {
@@ -168,16 +163,6 @@ fn typing_at_two_places_in_turn_looks_at_few_runs(rt: HostRuntime) -> Result<(),
     assert!(rt; text.visits() - typed <= 2);
     assert_eq!(rt; text.text()?.as_slice(), b"AxzBy".as_slice());
     Ok(())
-}
-
-/// Asks that the growth `nth` from here on is refused. An allocator that doesn't listen refuses the request alone.
-fn refuse(alloc: Global, nth: usize) {
-    let _ = Vec::<u8>::with_capacity(alloc, MARK.saturating_add(nth));
-}
-
-/// Ends what `refuse` asked for, and says whether a growth was refused.
-fn was_refused(alloc: Global) -> bool {
-    Vec::<u8>::with_capacity(alloc, MARK).is_err()
 }
 
 /// Whether each growth of `insert`, refused in turn, leaves the text as it was, up to the call that met none.

@@ -1,46 +1,16 @@
 //! Headers by example, and growths refused.
-use crate::{LiveBoard, LiveBoards, LiveDocument, LiveError, LiveHeader, LiveProperties};
+use crate::growths::{MOST_GROWTHS, refuse, was_refused};
+use crate::world::world;
 use std::alloc::{AllocError, Global};
 use std::test::Fail;
 use zed_edit::{Edit, Op, Plain, check, step};
+use zed_live::{LiveBoard, LiveBoards, LiveDocument, LiveError, LiveHeader, LiveProperties};
 use zed_stats::StatField;
 use zed_types::{
     BoardByte, BoardFlag, BoardId, BoardSetting, BoardText, Bytes, FlagSlot, HeaderNumber,
     HeaderSetting, KeyColour, Name, Place, Rectangle, Side, Stamp, StatByte, StatFields, StatId,
     StatSetting, ThirdParameter, Tile, Written,
 };
-
-/// The size that the allocator of the sweep over refused growths listens to.
-const MARK: usize = 3_141_592;
-
-/// Most growths that a sweep goes through.
-const MOST_GROWTHS: usize = 64;
-
-/// Bytes, and how many zeros follow them.
-type Piece = (&'static [u8], u16);
-
-/// A world file of an empty title and its player, with 42 shots and 5 gems.
-const WORLD: &[Piece] = &[
-    (b"\xff\xff\0\0\x2a\0\x05", 505),
-    (b"\xc4", 52),
-    (
-        b"\xff\0\0\xff\0\0\xb3\0\0\x01\x04\x1f\xff\0\0\xff\0\0\xff\0\0\x2d\0\0\xff",
-        65,
-    ),
-    (b"\x1e\x0c", 20),
-    (b"\x1e\x0c\0\0\0\0\x01\0\0\0\0\xff\xff\xff\xff", 18),
-];
-
-fn world(alloc: Global) -> Result<Op, AllocError> {
-    let mut out = Vec::new(alloc);
-    for (bytes, zeros) in WORLD {
-        out.extend_from_slice(*bytes)?;
-        for _ in 0..*zeros {
-            out.push(0)?;
-        }
-    }
-    Ok(Op::Genesis(Bytes::new(out)))
-}
 
 fn number(time: u64, field: HeaderNumber, value: i16) -> Edit {
     Edit {
@@ -59,7 +29,7 @@ fn name(alloc: Global, time: u64, bytes: &[u8]) -> Result<Edit, AllocError> {
 fn genesis(alloc: Global) -> Result<Edit, AllocError> {
     Ok(Edit {
         stamp: Stamp::GENESIS,
-        op: world(alloc)?,
+        op: Op::Genesis(world(alloc)?),
     })
 }
 
@@ -349,7 +319,14 @@ fn stat_at(board: &LiveBoard, j: usize) -> Option<(StatId, bool)> {
 /// Where stat j of a board stands in its row.
 fn x_at(board: &LiveBoard, j: usize) -> Option<StatSetting> {
     if j < board.stats.count() {
-        Some(board.stats.at(j).1.values.value(StatField::Byte(StatByte::X)))
+        Some(
+            board
+                .stats
+                .at(j)
+                .1
+                .values
+                .value(StatField::Byte(StatByte::X)),
+        )
     } else {
         None
     }
@@ -441,16 +418,6 @@ fn stats_forget_the_order_of_their_edits(rt: HostRuntime) -> Result<(), Fail> {
         }
     }
     Ok(())
-}
-
-/// Asks that the growth `nth` from here on is refused. An allocator that doesn't listen refuses the request alone.
-fn refuse(alloc: Global, nth: usize) {
-    let _ = Vec::<u8>::with_capacity(alloc, MARK.saturating_add(nth));
-}
-
-/// Ends what `refuse` asked for, and says whether a growth was refused.
-fn was_refused(alloc: Global) -> bool {
-    Vec::<u8>::with_capacity(alloc, MARK).is_err()
 }
 
 /// Whether each growth of an edit, refused in turn, leaves a header empty, up to the call that met none and took the edit.

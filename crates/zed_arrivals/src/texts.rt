@@ -5,10 +5,12 @@ ghost use Rattle.zed_types.specs.Text.{run_from};
 ghost use Rattle.zed_op.specs.declared.op.Op.TheVariants.{TextInsert, TextDelete};
 ghost use Rattle.zed_texts.specs.Texts.{elements_of, texts_after, IsReady};
 
-use crate::{LiveTexts, TextsError};
+use crate::growths::{MOST_GROWTHS, refuse, was_refused};
+use crate::world::world;
 use std::alloc::{AllocError, Global};
 use std::test::Fail;
 use zed_edit::{Edit, Op, check};
+use zed_texts::{LiveTexts, TextsError};
 use zed_types::{ByteRange, Bytes, ElemId, Name, Stamp, TextId};
 
 /// The stamps of the edits that add the text and put its first bytes, and of those of the two other authors.
@@ -177,29 +179,6 @@ fn insertions_come_before_and_after_a_deletion(rt: HostRuntime) -> Result<(), Fa
     Ok(())
 }
 
-/// The size that the allocator of the sweep over refused growths listens to.
-const MARK: usize = 3_141_592;
-
-/// Most growths that a sweep goes through.
-const MOST_GROWTHS: usize = 64;
-
-/// Bytes, and how many zeros follow them.
-type Piece = (&'static [u8], u16);
-
-/// A world file of an empty title and its player, whose program is `#end`.
-const WORLD: &[Piece] = &[
-    (b"\xff\xff\0\0\x2a\0\x05", 505),
-    (b"\xc8", 52),
-    (
-        b"\xff\0\0\xff\0\0\xb3\0\0\x01\x04\x1f\xff\0\0\xff\0\0\xff\0\0\x2d\0\0\xff",
-        65,
-    ),
-    (b"\x1e\x0c", 20),
-    (b"\x1e\x0c\0\0\0\0\x01\0\0\0\0\xff\xff\xff\xff", 8),
-    (b"\x04", 9),
-    (b"#end", 0),
-];
-
 /// The text of that program.
 const PROGRAM: TextId = TextId {
     name: Name {
@@ -207,17 +186,6 @@ const PROGRAM: TextId = TextId {
         index: 0,
     },
 };
-
-fn world(alloc: Global) -> Result<Bytes, AllocError> {
-    let mut out = Vec::new(alloc);
-    for (bytes, zeros) in WORLD {
-        out.extend_from_slice(*bytes)?;
-        for _ in 0..*zeros {
-            out.push(0)?;
-        }
-    }
-    Ok(Bytes::new(out))
-}
 
 #[test]
 fn a_world_comes_late(rt: HostRuntime) -> Result<(), Fail> {
@@ -236,16 +204,6 @@ fn a_world_comes_late(rt: HostRuntime) -> Result<(), Fail> {
         None => return Err(TextsError::Memory.into()),
     }
     Ok(())
-}
-
-/// Asks that the growth `nth` from here on is refused. An allocator that doesn't listen refuses the request alone.
-fn refuse(alloc: Global, nth: usize) {
-    let _ = Vec::<u8>::with_capacity(alloc, MARK.saturating_add(nth));
-}
-
-/// Ends what `refuse` asked for, and says whether a growth was refused.
-fn was_refused(alloc: Global) -> bool {
-    Vec::<u8>::with_capacity(alloc, MARK).is_err()
 }
 
 /// Whether each growth of a world, refused in turn, leaves the texts, up to the call that met none and took it.
