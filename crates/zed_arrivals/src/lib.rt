@@ -3,8 +3,6 @@
 #![tactic(auto)]
 
 #[cfg(test)]
-mod body;
-#[cfg(test)]
 mod code;
 #[cfg(test)]
 mod growths;

@@ -3,6 +3,7 @@ pub mod BodySteps
 pub mod Cascades
 pub mod Fewer
 pub mod HasThings
+pub mod LastFirstComes
 pub mod MadeThings
 pub mod ManyArrive
 pub mod Members

@@ -1,4 +1,5 @@
 pub mod Cascade
+pub mod LastFirst
 pub mod Made
 pub mod Settling
 pub mod Shows

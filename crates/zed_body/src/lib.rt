@@ -18,3 +18,6 @@ pub use laws::{
     rising_edits_are_apart,
 };
 pub use take::Taken;
+
+#[cfg(test)]
+mod tests;
