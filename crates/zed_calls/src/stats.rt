@@ -85,11 +85,19 @@ fn a_field_keeps_the_later_write(rt: HostRuntime) -> Result<(), Fail> {
     stats.remove(stat(2));
     assert_eq!(rt; stats.count(), 4);
     assert_eq!(rt;
-        stats.at(2).1.values.value(StatField::Number(StatNumber::Cycle)),
+        stats
+            .at(2)
+            .1
+            .values
+            .value(StatField::Number(StatNumber::Cycle)),
         StatSetting::Number(StatNumber::Cycle, 3)
     );
     assert_eq!(rt;
-        stats.at(2).1.values.value(StatField::Number(StatNumber::Position)),
+        stats
+            .at(2)
+            .1
+            .values
+            .value(StatField::Number(StatNumber::Position)),
         StatSetting::Number(StatNumber::Position, 5)
     );
     assert_eq!(rt;
