@@ -4,12 +4,12 @@ use Rattle.std.specs.declared.cmp.Ordering.TheVariants.{Less, Equal, Greater}
 use Rattle.std.specs.Ordering.{is_eq, match_ordering, ordering_then}
 use Rattle.std.specs.BTreeMap.{insert_entry, is_at}
 use Rattle.std.specs.List.{find, list_any, AllByRecursion}
-use Rattle.std.specs.Map.{lookup, remove_entry, values_of}
+use Rattle.std.specs.Map.{lookup, remove_entry, keys_of, values_of}
 use Rattle.std.specs.Option.{is_some}
 use Rattle.zed_types.specs.declared.stamp.Stamp.{Stamp}
 use Rattle.zed_types.specs.Stamp.{before, same_stamp, stamp_cmp}
 use Rattle.zed_op.specs.declared.op.Edit.{Edit}
-use Rattle.zed_op.specs.Set.{IsRising, with_edit}
+use Rattle.zed_op.specs.Set.{IsRising, with_edit, stamps_of}
 use Rattle.zed_op.specs.declared.thing.Thing.{Thing}
 use Rattle.zed_inbox.specs.Kept.{stamped, AreListed, AreKept}
 use Rattle.zed_inbox.specs.Waiting.{without}
@@ -80,6 +80,14 @@ edits_stamped (e ∷ es) = ap (λ fs. e ∷ fs) (edits_stamped es)
 
 pub values_stamped : (m : List (Stamp × Edit)) (es : List Edit) → m ≡ stamped es → values_of m ≡ es
 values_stamped m es is = ap values_of is ∙ edits_stamped es
+
+-- its keys are their stamps
+pub stamps_stamped : (es : List Edit) → keys_of (stamped es) ≡ stamps_of es
+stamps_stamped [] = refl
+stamps_stamped (e ∷ es) = ap (λ ss. e.stamp ∷ ss) (stamps_stamped es)
+
+pub keys_stamped : (m : List (Stamp × Edit)) (es : List Edit) → m ≡ stamped (values_of m) → values_of m ≡ es → keys_of m ≡ stamps_of es
+keys_stamped m es under is = ap keys_of under ∙ stamps_stamped (values_of m) ∙ ap stamps_of is
 
 pub kept_stamped : (m : List (Stamp × Edit)) (es : List Edit) (ws : List (Thing × Stamp)) → m ≡ stamped es → IsRising es → AreListed ws es → AreKept m ws
 kept_stamped m es ws is rises are = record {

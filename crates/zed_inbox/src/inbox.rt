@@ -1,5 +1,5 @@
 //! An inbox: edits that wait.
-ghost use Rattle.std.specs.Prelude.{◌≡◌, length, [], map, false, IfOk, IfErr, OnOk, OnErr};
+ghost use Rattle.std.specs.Prelude.{◌≡◌, ◌≢◌, ◌↔◌, length, [], map, false, IsTrue, IfOk, IfErr, OnOk, OnErr};
 ghost use Rattle.std.specs.List.{find, list_any};
 ghost use Rattle.zed_types.specs.Stamp.{same_stamp};
 ghost use Rattle.zed_op.specs.Set.{IsRising, with_edit, stamps_of};
@@ -7,7 +7,7 @@ ghost use Rattle.zed_inbox.specs.Waiting.{naming, not_naming, without};
 
 use crate::error::InboxError;
 use crate::index::{is_one, unlist};
-use crate::keeping::{has, put, repeats};
+use crate::keeping::{has, keep_the_same, put, repeats};
 use std::alloc::Global;
 use std::collections::{BTreeMap, BTreeSet};
 use std::marker::Model;
@@ -87,6 +87,28 @@ impl Inbox {
         ensures result { result ≡ list_any (λ e. same_stamp e.stamp stamp) self.now }
     {
         has(&self.edits, stamp)
+    }
+
+    /// The stamps of the edits that wait, in order. It takes no memory where nothing waits.
+    pub fn stamps(&self) -> Result<Vec<Stamp>, InboxError>
+        ensures ok { IfOk result (λ stamps. stamps.items ≡ stamps_of self.now) }
+        ensures err { IfErr result (λ e. e ≡ InboxError.Memory) }
+        ensures memory_only_when { OnErr result (self.now ≢ []) }
+    {
+        let mut stamps = Vec::with_capacity(self.alloc, self.held()).map_err(
+            InboxError::of_growth,
+        )?;
+        for stamp in self.edits.keys() {
+            stamps.push(*stamp).unwrap();
+        }
+        Ok(stamps)
+    }
+
+    /// Whether the same edits wait in another inbox.
+    pub fn same(&self, other: &Inbox) -> bool
+        ensures { IsTrue result ↔ self.now ≡ other.now }
+    {
+        keep_the_same(&self.edits, &other.edits)
     }
 
     /// The stamps of the edits that wait for a thing, in order.

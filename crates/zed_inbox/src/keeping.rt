@@ -1,5 +1,5 @@
 //! Waiting edits, each under its stamp and listed under the things that it names.
-ghost use Rattle.std.specs.Prelude.{◌≡◌, true, false, IfErr, OnOk, OnErr};
+ghost use Rattle.std.specs.Prelude.{◌≡◌, ◌↔◌, true, false, IsTrue, IfErr, OnOk, OnErr};
 ghost use Rattle.std.specs.List.{list_any};
 ghost use Rattle.std.specs.Map.{values_of};
 ghost use Rattle.zed_types.specs.Stamp.{same_stamp};
@@ -31,6 +31,13 @@ pub(crate) fn repeats(edits: &BTreeMap<Stamp, Edit>, edit: &Edit) -> bool
         → values_of edits.now.entries ≡ with_edit edit.now (values_of edits.now.entries) }
 {
     has(edits, edit.stamp)
+}
+
+/// Whether the same edits are in two maps.
+pub(crate) fn keep_the_same(a: &BTreeMap<Stamp, Edit>, b: &BTreeMap<Stamp, Edit>) -> bool
+    ensures { IsTrue result ↔ values_of a.now.entries ≡ values_of b.now.entries }
+{
+    a.len() == b.len() && a.values().zip(b.values()).all(|(e, f)| e.is_same(f))
 }
 
 /// An edit whose stamp isn't there waits from now on. Memory leaves all as it was.
