@@ -1,5 +1,6 @@
 pub mod Arriving
 pub mod BodySteps
+pub mod Calm
 pub mod Cascades
 pub mod Fewer
 pub mod HasThings

@@ -61,7 +61,7 @@ count-stamps q (e ∷ es) =
     ∙ sym (sum_by-cons (λ (f : Edit). cond (q f.stamp) 1 0) e es)
 
 -- how many were held and are no longer
-woken-edits : (old new : List Edit) → woken old new ≡ length (filter (λ (f : Edit). not (is_held new f.stamp)) (held old))
+pub woken-edits : (old new : List Edit) → woken old new ≡ length (filter (λ (f : Edit). not (is_held new f.stamp)) (held old))
 woken-edits old new =
     ap (count_by (λ s. not (is_held new s))) (sym (held_are_remembered old))
     ∙ count-stamps (λ s. not (is_held new s)) (held old)
@@ -154,10 +154,29 @@ still-held-were e es c able g m =
       | inr h ↦ subst (λ xs. Member g (held xs)) (sym k.whole) (Member-from g (held (k.low ++ k.high)) h)
     ]
 
+-- and they are those held before that are held still
+pub still-held : (e : Edit) (es : List Edit) → IsRising es → AllFit es → Fits e → IsApart e es → can (replay es) e ≡ true → filter (λ (g : Edit). is_held (with_edit e es) g.stamp) (held es) ≡ held (with_edit e es)
+still-held e es r f fits n able =
+    rising-same (filter still (held es)) (held new) (filter-rising still (held es) (held-rising empty_document es r)) (held-rising empty_document new rises)
+    (λ g m. let h = in-filter still g (held es) m in held-same g (held new) new rises (λ x k. held-in empty_document x new k) (with_edit-keeps g e es (held-in empty_document g es h.0)) (sym (held-one new g) ∙ h.1))
+    (λ g m. to-filter still g (held es) (still-held-were e es c able g m) (held-one new g ∙ of-member g (held new) m))
+  where
+    new : List Edit
+    new = with_edit e es
+
+    still : Edit → Bool
+    still g = is_held new g.stamp
+
+    c : Comes e es
+    c = comes e es r f fits n
+
+    rises : IsRising new
+    rises = with_edit-rising e es r
+
 pub woken-done : (e : Edit) (es : List Edit) → IsRising es → AllFit es → Fits e → IsApart e es → can (replay es) e ≡ true → woken es (with_edit e es) + length (held (with_edit e es)) ≡ length (held es)
 woken-done e es r f fits n able =
     let both = length-filter_both still gone (λ x. refl) (held es) in
-    let left : length (filter still (held es)) ≡ length (held new) = ap length these in
+    let left : length (filter still (held es)) ≡ length (held new) = ap length (still-held e es r f fits n able) in
     let count = woken-edits es new in
     omega (arith, both, left, count)
   where
@@ -169,17 +188,6 @@ woken-done e es r f fits n able =
 
     gone : Edit → Bool
     gone g = not (is_held new g.stamp)
-
-    c : Comes e es
-    c = comes e es r f fits n
-
-    rises : IsRising new
-    rises = with_edit-rising e es r
-
-    these : filter still (held es) ≡ held new
-    these = rising-same (filter still (held es)) (held new) (filter-rising still (held es) (held-rising empty_document es r)) (held-rising empty_document new rises)
-        (λ g m. let h = in-filter still g (held es) m in held-same g (held new) new rises (λ x k. held-in empty_document x new k) (with_edit-keeps g e es (held-in empty_document g es h.0)) (sym (held-one new g) ∙ h.1))
-        (λ g m. to-filter still g (held es) (still-held-were e es c able g m) (held-one new g ∙ of-member g (held new) m))
 
 none-pass : (q : Edit → Bool) (es : List Edit) → ((g : Edit) → Member g es → q g ≡ false) → filter q es ≡ []
 none-pass q [] h = refl

@@ -4,6 +4,7 @@ use Rattle.std.specs.List.{AllByRecursion, list_any}
 use Rattle.zed_types.specs.declared.stamp.Stamp.{Stamp}
 use Rattle.zed_types.specs.Stamp.{same_stamp}
 use Rattle.zed_op.specs.declared.op.Edit.{Edit}
+use Rattle.zed_op.specs.Fit.{Fits}
 use Rattle.zed_op.specs.Set.{IsRising, AllFit, with_edit}
 use Rattle.zed_edit.specs.Replay.{replay}
 use Rattle.zed_live.specs.Document.{empty_live}
@@ -52,3 +53,15 @@ Tells e b t =
     (es : List Edit)
     → ComesTo e es b
     → (t.held ≡ is_held (with_edit e es) e.stamp) × (t.woken ≡ woken es (with_edit e es))
+
+-- where one edit more isn't held itself and wakes no other, the same edits are held as before
+abbrev pub CalmEditsHoldTheSame : Type 0
+CalmEditsHoldTheSame =
+    (e : Edit) (es : List Edit)
+    → IsRising es
+    → AllFit es
+    → Fits e
+    → IsApart e es
+    → is_held (with_edit e es) e.stamp ≡ false
+    → woken es (with_edit e es) ≡ 0
+    → held_stamps (with_edit e es) ≡ held_stamps es

@@ -1,6 +1,7 @@
 //! What holds of a cascade, in whatever order its edits are tried.
 ghost use Rattle.zed_body.specs.Shows.{ContentHasAll, ContentTellsCan, BodyHasAll, BodyTellsCan};
 ghost use Rattle.zed_body.specs.Steps.{HandIsReady, BodyBegins, BodyEnds};
+ghost use Rattle.zed_body.specs.Taking.{CalmEditsHoldTheSame};
 ghost use Rattle.zed_body.specs.TakingAll.{EmptyShowsNone, RisingAreApart};
 ghost use Rattle.zed_body.specs.Cascade.{CascadesBegin, EditsArrive, EditsAreDone, EditsAreHeld, ThingsAreReleased, CascadesEnd};
 
@@ -46,4 +47,9 @@ pub fn empty_bodies_show_none()
 /// No two edits of a rising list have one stamp.
 pub fn rising_edits_are_apart()
     ensures { RisingAreApart }
+{}
+
+/// Where a new edit isn't held itself and wakes no other, the same edits are held as before.
+pub fn calm_edits_hold_the_same()
+    ensures { CalmEditsHoldTheSame }
 {}

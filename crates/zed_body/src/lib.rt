@@ -14,8 +14,8 @@ mod wake;
 pub use body::Body;
 pub use error::BodyError;
 pub use laws::{
-    bodies_begin_and_end, bodies_have_what_is_made, cascades_settle, empty_bodies_show_none,
-    rising_edits_are_apart,
+    bodies_begin_and_end, bodies_have_what_is_made, calm_edits_hold_the_same, cascades_settle,
+    empty_bodies_show_none, rising_edits_are_apart,
 };
 pub use take::Taken;
 
