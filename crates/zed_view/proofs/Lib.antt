@@ -1,4 +1,7 @@
+mod Alike
 mod NamedTexts
 mod Numbered
 mod NumberedTexts
 mod Shown
+mod TextsAlike
+pub mod Sought

@@ -1,11 +1,13 @@
 -- What live parts show to one author: the plain document.
 use Rattle.std.specs.Prelude.{◌≡◌, List, [], Option, Some, None}
+use Rattle.zed_types.specs.declared.names.TextId.{TextId}
 use Rattle.zed_types.specs.declared.text.TextByte.{TextByte}
 use Rattle.zed_code.specs.Pieces.{Shown as LiveText}
 use Rattle.zed_code.specs.Text.{elements}
 use Rattle.zed_op.specs.declared.op.Edit.{Edit}
 use Rattle.zed_op.specs.Set.{IsRising, AllFit, stamps_of}
 use Rattle.zed_op.specs.Sizes.{HaveSizes}
+use Rattle.zed_edit.specs.declared.plain.Text.{Text}
 use Rattle.zed_edit.specs.declared.plain.Plain.{Plain}
 use Rattle.zed_edit.specs.Replay.{replay, taken, held}
 use Rattle.zed_live.specs.declared.document.LiveDocument.{LiveDocument}
@@ -23,6 +25,10 @@ shown live texts waiting = record {
   texts = shown_texts (elements_of texts);
   held = stamps_of waiting;
 }
+
+-- a text as one author sees it
+abbrev pub shown_text : TextId → LiveText → Text
+shown_text t v = record { id = t; elements = elements v }
 
 -- the elements of a live text; none where there is no such text
 abbrev pub spelled : Option LiveText → List TextByte

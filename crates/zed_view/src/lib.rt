@@ -6,8 +6,11 @@ mod field;
 mod header;
 mod laws;
 mod made;
+mod numbers;
 mod property;
+mod reading;
 mod register;
+mod same;
 mod view;
 
 pub use appending::{append_text, append_text_at};

@@ -24,8 +24,8 @@ use zed_types::{BoardId, Place, StatId, TILES, TextId, Tile};
 /// Contracts see the plain document. None of its calls takes memory.
 #[derive(Drop)]
 pub struct View<'a> {
-    live: &'a LiveDocument,
-    texts: &'a LiveTexts,
+    pub(crate) live: &'a LiveDocument,
+    pub(crate) texts: &'a LiveTexts,
     inbox: &'a Inbox,
 }
 

@@ -1,0 +1,58 @@
+//! The numbers of boards and stats: their places among those that are not removed.
+ghost use Rattle.std.specs.Prelude.{◌≡◌, ◌<◌, length, slice_get, option_map};
+ghost use Rattle.zed_edit.specs.Numbers.{alive_stats, board_numbered as board_of_number, stat_numbered as stat_of_number};
+ghost use Rattle.zed_view.specs.View.{board_at};
+
+use crate::view::View;
+use zed_types::{BoardId, StatId};
+
+/// Stat `n` of those of a board that are not removed.
+fn alive_stat(view: &View, i: usize, n: usize) -> Option<StatId>
+    requires { i < length view.now.boards }
+    ensures { result ≡
+        option_map (λ s. s.id) (slice_get (alive_stats (board_at view.now i)) n) }
+{
+    let mut left = n;
+    for j in 0..view.stats(i) {
+        let stat = view.stat(i, j);
+        if !stat.removed {
+            if left == 0 {
+                return Some(stat.id);
+            }
+            left -= 1;
+        }
+    }
+    None
+}
+
+impl<'a> View<'a> {
+    /// The name of the board with this number: its place among the boards that are not removed, from 0 on.
+    pub fn board_numbered(&self, n: usize) -> Option<BoardId>
+        ensures { result ≡ board_of_number self.now n }
+    {
+        let mut left = n;
+        for i in 0..self.boards() {
+            let board = self.board(i);
+            if !board.removed {
+                if left == 0 {
+                    return Some(board.id);
+                }
+                left -= 1;
+            }
+        }
+        None
+    }
+
+    /// The name of the stat with this number on a board: its place among the stats of the board that are not removed,
+    /// from 0 on. None where the board was not made.
+    pub fn stat_numbered(&self, board: BoardId, n: usize) -> Option<StatId>
+        ensures { result ≡ stat_of_number self.now board n }
+    {
+        for i in 0..self.boards() {
+            if self.board(i).id == board {
+                return alive_stat(self, i, n);
+            }
+        }
+        None
+    }
+}
