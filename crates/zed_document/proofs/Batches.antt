@@ -9,12 +9,17 @@ use Rattle.zed_types.specs.Stamp.{stamp_cmp}
 use Rattle.zed_op.specs.declared.op.Edit.{Edit}
 use Rattle.zed_op.specs.Fit.{Fits}
 use Rattle.zed_op.specs.Set.{AllFit, IsRising, union, with_edit}
+use Rattle.zed_op.proofs.SetLaws.{each-with_edit}
+use Rattle.zed_op.proofs.Sets.{Member-all, Member-from, Member-to, with_edit-members}
+use Rattle.zed_types.specs.Stamp.{before}
+use Rattle.zed_types.proofs.StampOrder.{before_irrefl}
+use Rattle.zed_document.specs.Merge.{Agree}
 use Rattle.zed_op.specs.SetLaws.{EditKeepsFit, EditKeepsRising, EditThereIsNothing, RisingIsItsEdits, UnionKeepsRising}
 use Rattle.zed_document.specs.declared.delivered.Delivered.{Delivered}
 use Rattle.zed_document.specs.declared.delivered.State.TheVariants.{Known}
 use Rattle.zed_document.specs.declared.error.DocumentError.{DocumentError}
 use Rattle.zed_document.specs.declared.error.DocumentError.TheVariants.{Clash, Memory, Stale}
-use Rattle.zed_document.specs.Batch.{HasAnother, HasNew, IsBatch, IsFree, IsGathered, JoinOn, first_of, stamped, unless_clash}
+use Rattle.zed_document.specs.Batch.{AreNew, HasAnother, HasNew, IsBatch, IsFree, IsGathered, JoinOn, first_of, stamped, unless_clash}
 use Rattle.zed_document.specs.Delivery.{Answers, AnswersAt, DeliversEach, MayTakeMemoryForEach, after_edit, edit_with, state_of}
 use Rattle.zed_document.specs.Held.{held_stamps, is_among, woken}
 use Rattle.zed_document.specs.Replica.{Replica}
@@ -46,6 +51,7 @@ pub record IsMore (log ms : List Edit) (n : Entries) (e : Edit) : Type 0 where
   pub is : n ≡ stamped more
   pub rising : IsRising more
   pub fit : AllFit more
+  pub apart : AreNew log more
   pub union_is : union log more ≡ with_edit e (union log ms)
   pub free : IsFree (union log ms) e
   pub new : (more ≡ ms) ⊎ (edit_with e.stamp (union log ms) ≡ None)
@@ -57,10 +63,14 @@ none-second : (a b : Option Edit) → first_of a b ≡ None → b ≡ None
 none-second None b h = h
 none-second (Some x) b h = absurd (let no : Some x ≡ None = h in cc)
 
-pub one-more : SetsHold → (log ms : List Edit) (m n : Entries) (e : Edit) → m ≡ stamped ms → IsRising log → IsRising ms → AllFit ms → Fits e
+none-first : (a b : Option Edit) → first_of a b ≡ None → a ≡ None
+none-first None b h = refl
+none-first (Some x) b h = absurd (let no : Some x ≡ None = h in cc)
+
+pub one-more : SetsHold → (log ms : List Edit) (m n : Entries) (e : Edit) → m ≡ stamped ms → IsRising log → IsRising ms → AllFit ms → AreNew log ms → Fits e
     → MatchOption (there log m e.stamp) (n ≡ insert_entry stamp_cmp m e.stamp e) (λ f. (f ≡ e) × (n ≡ m))
     → IsMore log ms n e
-one-more laws log ms m n e is r q fit fits put = go (there log m e.stamp) (there-is laws log ms m e.stamp is r) refl put
+one-more laws log ms m n e is r q fit apart fits put = go (there log m e.stamp) (there-is laws log ms m e.stamp is r) refl put
   where
     go : (o : Option Edit) → edit_with e.stamp (union log ms) ≡ o → there log m e.stamp ≡ o
         → MatchOption o (n ≡ insert_entry stamp_cmp m e.stamp e) (λ f. (f ≡ e) × (n ≡ m)) → IsMore log ms n e
@@ -71,6 +81,7 @@ one-more laws log ms m n e is r q fit fits put = go (there log m e.stamp) (there
           is = new ∙ ap (λ l. insert_entry stamp_cmp l e.stamp e) is ∙ insert_stamped e ms none;
           rising = laws.rises e ms q;
           fit = laws.fits e ms fits fit;
+          apart = each-with_edit (λ (f : Edit). edit_with f.stamp log ≡ None) e ms (none-first (edit_with e.stamp log) _ was) apart;
           union_is = union-with_edit laws.rises laws.joins laws.known log ms e r q;
           free = rw at tt;
           new = inr at;
@@ -82,6 +93,7 @@ one-more laws log ms m n e is r q fit fits put = go (there log m e.stamp) (there
           is = known.1 ∙ is;
           rising = q;
           fit = fit;
+          apart = apart;
           union_is = sym (laws.nothing e (union log ms) (laws.joins log ms r) stands);
           free = rw at known.0;
           new = inl refl;
@@ -137,6 +149,7 @@ pub record IsGoing (log all rest : List Edit) (m : Entries) : Type 0 where
   pub is : m ≡ stamped edits
   pub rising : IsRising edits
   pub fit : AllFit edits
+  pub apart : AreNew log edits
   pub rest_fit : AllFit rest
   pub joins : (clash : Option Stamp) (left : List Edit) → JoinOn (union log edits) rest clash left → JoinOn log all clash left
   pub brings : HasNew (union log edits) rest → HasNew log all
@@ -148,6 +161,7 @@ going-begins log all m fit none = record {
   is = none;
   rising = tt;
   fit = tt;
+  apart = tt;
   rest_fit = fit;
   joins = λ clash left h. h;
   brings = λ h. h;
@@ -161,12 +175,13 @@ going-on laws log all rest others m n e r split was put = go (subst (λ es. IsGo
   where
     go : IsGoing log all (e ∷ rest) m → IsGoing log all rest n
     go g =
-        let more = one-more laws log g.edits m n e g.is r g.rising g.fit g.rest_fit.0 put in
+        let more = one-more laws log g.edits m n e g.is r g.rising g.fit g.apart g.rest_fit.0 put in
         record {
           edits = more.more;
           is = more.is;
           rising = more.rising;
           fit = more.fit;
+          apart = more.apart;
           rest_fit = g.rest_fit.1;
           joins = λ clash left h. g.joins clash left (inl (more.free, subst (λ es. JoinOn es rest clash left) more.union_is h));
           brings = λ h. g.brings (inr (more.free, subst (λ es. HasNew es rest) more.union_is h));
@@ -187,6 +202,7 @@ going-clashes laws log all rest others m n e r split was kept other = go (subst 
       record {
         rising = g.rising;
         fit = g.fit;
+        apart = g.apart;
         joins = g.joins (Some e.stamp) (union log g.edits) (inr (another laws log g.edits m e g.is r other, refl, refl));
         new = g.new;
       },
@@ -202,6 +218,7 @@ going-ends log all rest m none was = go (subst (λ es. IsGoing log all es m) non
       record {
         rising = g.rising;
         fit = g.fit;
+        apart = g.apart;
         joins = g.joins None (union log g.edits) (refl, refl);
         new = g.new;
       },
@@ -235,20 +252,31 @@ pub stale-each : (d : Replica) (es : List Edit) → d.is_stale ≡ true → 0 < 
 stale-each d [] stale some = absurd (omega arith)
 stale-each d (e ∷ es) stale some = inr (Stale, rw stale refl, refl, refl)
 
--- a batch that was taken in is delivered, up to its clash
-pub batch-each : (d : Replica) (log all ms : List Edit) (clash : Option Stamp) (left : List Edit) → log ≡ d.edits → d.is_stale ≡ false → AllFit all
-    → IsBatch log all ms clash → left ≡ union d.edits ms → DeliversEach d all (unless_clash clash) left
-batch-each d log all ms clash left is sound fit b made =
-    let joins : JoinOn d.edits all clash (union d.edits ms) = subst (λ es. JoinOn es all clash (union es ms)) is b.joins in
-    subst (λ es. DeliversEach d all (unless_clash clash) es) (sym made) (joined-each d all clash (union d.edits ms) sound fit joins)
+-- edits that agree with a log join it, all of them
+pub join_agrees : EditKeepsRising → (es fs : List Edit) (clash : Option Stamp) (left : List Edit) → IsRising fs → Agree es fs → JoinOn es fs clash left → left ≡ union es fs
+join_agrees rises es [] clash left r a h = h.1
+join_agrees rises es (f ∷ fs) clash left r a h =
+    elim h [
+      | inl taken ↦ join_agrees rises (with_edit f es) fs clash left r.1 still taken.1
+      | inr other ↦ absurd (go (edit_with f.stamp es) refl other.0)
+    ]
+  where
+    still : Agree (with_edit f es) fs
+    still e g at in_fs same =
+        elim (with_edit-members e f es (Member-from e (with_edit f es) at)) [
+          | inl is ↦ absurd (let late = Member-all (λ k. before f.stamp k.stamp ≡ true) fs r.0 g (Member-from g fs in_fs) in
+              let stamp : f.stamp ≡ g.stamp = ap (λ (k : Edit). k.stamp) is ∙ same in
+              let not = before_irrefl g.stamp in
+              let yes : before g.stamp g.stamp ≡ true = subst (λ s. before s g.stamp ≡ true) stamp late in
+              let no : true ≡ false = sym yes ∙ not in cc)
+          | inr there ↦ a e g (Member-to e es there) (Member-to g (f ∷ fs) (inr (Member-from g fs in_fs))) same
+        ]
 
-pub batch-new : (d : Replica) (log all ms : List Edit) (clash : Option Stamp) → log ≡ d.edits → d.is_stale ≡ false → AllFit all
-    → IsBatch log all ms clash → ms ≢ [] → MayTakeMemoryForEach d all
-batch-new d log all ms clash is sound fit b some =
-    elim b.new [ inl none ↦ absurd (some none) | inr new ↦ new-each d all sound fit (subst (λ es. HasNew es all) is new) ]
-
-pub gather-new : (d : Replica) (log all : List Edit) → log ≡ d.edits → d.is_stale ≡ false → AllFit all → HasNew log all → MayTakeMemoryForEach d all
-gather-new d log all is sound fit new = new-each d all sound fit (subst (λ es. HasNew es all) is new)
+    go : (o : Option Edit) → edit_with f.stamp es ≡ o → IsSomeAnd o (λ g. g ≢ f) → ⊥
+    go None q bad = absurd bad
+    go (Some g) q other =
+        let stands = edit_with-stands f.stamp es g q in
+        other (a g f stands.0 (Member-to f (f ∷ fs) (inl refl)) stands.1)
 
 pub not_none : (n : ℕ) → (n == 0) ≡ false → 0 < n
 not_none zero h = absurd (let bad : true ≡ false = h in cc)

@@ -1,5 +1,5 @@
 -- How many stretches bytes make is counted without the stretches.
-use Rattle.std.proofs.Common.{◌≡◌, ℕ, zero, suc, ◌+◌, ◌<◌, ◌≤◌, Bool, true, false, cond, List, [], ◌∷◌, ◌++◌, length, Option, Some, None, refl, sym, arith}
+use Rattle.std.proofs.Common.{◌≡◌, ℕ, zero, suc, ◌+◌, ◌≤◌, Bool, true, false, cond, List, [], ◌∷◌, ◌++◌, length, Option, Some, None, refl, sym, arith}
 use Rattle.zed_types.specs.declared.names.ElemId.{ElemId}
 use Rattle.zed_types.specs.declared.text.ByteRange.{ByteRange}
 use Rattle.zed_types.specs.declared.text.TextByte.{TextByte}
@@ -70,10 +70,10 @@ part-most (suc f) zero xs = omega arith
 part-most (suc f) (suc t) [] = omega arith
 part-most (suc f) (suc t) (x ∷ xs) = let more = part-most f t xs in omega arith
 
-pub count-fits : (n : ℕ) (b : Option ElemId) (a : ElemId) (f t : ℕ) (xs all : List TextByte) → Counts n b xs → length xs < length (part f t all) → n + begun b a ≤ t
-count-fits n b a f t xs all h l =
+pub count-few : (n : ℕ) (b : Option ElemId) (a : ElemId) (f t : ℕ) (all : List TextByte) → Counts n b (part f t all) → n + begun b a ≤ t + 1
+count-few n b a f t all h =
     let one = begun-most b a in
-    let few = stretches-most xs in
+    let few = stretches-most (part f t all) in
     let many = part-most f t all in
     let k = h.0 in
     omega arith

@@ -1,5 +1,6 @@
 pub mod Authored
 pub mod Batches
+pub mod Bodies
 pub mod Checked
 pub mod Clashing
 pub mod Counted
@@ -7,12 +8,10 @@ pub mod Deleted
 pub mod DeletedParts
 pub mod FirstClash
 pub mod Following
-pub mod HeldEdits
 pub mod Joining
-pub mod Keeping
 pub mod Lookups
 pub mod Merging
-pub mod NameSearch
+pub mod Parts
 pub mod Passed
 pub mod Spots
 pub mod Stamped
@@ -20,4 +19,3 @@ pub mod Stretched
 pub mod Times
 pub mod TypedTexts
 pub mod Walks
-pub mod Yielded

@@ -1,5 +1,6 @@
 -- Many edits at once: those that join a log, one after the other.
 use Rattle.std.specs.Prelude.{◌≡◌, ◌≢◌, ◌⊎◌, List, [], ◌∷◌, map, Option, Some, None, Result, Ok, Err, IfSome, IsSomeAnd}
+use Rattle.std.specs.List.{AllByRecursion}
 use Rattle.zed_types.specs.declared.stamp.Stamp.{Stamp}
 use Rattle.zed_op.specs.declared.op.Edit.{Edit}
 use Rattle.zed_op.specs.Set.{AllFit, IsRising, union, with_edit}
@@ -19,6 +20,10 @@ stamped es = map (λ e. (e.stamp, e)) es
 -- a log has no other edit of the stamp of this one
 abbrev pub IsFree : List Edit → Edit → Type 0
 IsFree es e = IfSome (edit_with e.stamp es) (λ f. f ≡ e)
+
+-- a log has no edit of the stamp of any of these
+abbrev pub AreNew : List Edit → List Edit → Type 0
+AreNew log es = AllByRecursion (λ e. edit_with e.stamp log ≡ None) es
 
 -- a log has another edit of the stamp of this one
 abbrev pub HasAnother : List Edit → Edit → Type 0
@@ -45,6 +50,7 @@ unless_clash (Some s) = Err (Clash s)
 pub record IsBatch (log all edits : List Edit) (clash : Option Stamp) : Type 0 where
   pub rising : IsRising edits
   pub fit : AllFit edits
+  pub apart : AreNew log edits
   pub joins : JoinOn log all clash (union log edits)
   pub new : (edits ≡ []) ⊎ HasNew log all
 

@@ -1,10 +1,12 @@
 -- Which edits of a set are held: those that the replay passes over.
-use Rattle.std.specs.Prelude.{ℕ, Bool, not, List, count_by}
+use Rattle.std.specs.Prelude.{◌≡◌, ◌⊎◌, ℕ, Bool, false, not, List, count_by}
 use Rattle.std.specs.List.{list_any}
 use Rattle.zed_types.specs.declared.stamp.Stamp.{Stamp}
 use Rattle.zed_types.specs.Stamp.{same_stamp}
 use Rattle.zed_op.specs.declared.op.Edit.{Edit}
+use Rattle.zed_op.specs.Set.{stamps_of}
 use Rattle.zed_edit.specs.Replay.{replay}
+use Rattle.zed_body.specs.declared.take.Taken.{Taken}
 
 -- the stamps of the edits that are held, rising
 abbrev pub held_stamps : List Edit → List Stamp
@@ -17,3 +19,7 @@ is_among ts s = list_any (λ t. same_stamp t s) ts
 -- how many edits are held before and not after
 abbrev pub woken : List Edit → List Edit → ℕ
 woken old new = count_by (λ s. not (is_among (held_stamps new) s)) (held_stamps old)
+
+-- the stamps kept are renewed after a body took an edit: they are those that wait by now, or where it doesn't wait and wakes none, those kept before
+abbrev pub IsRenewed : Taken → List Edit → List Stamp → List Stamp → Type 0
+IsRenewed t waiting old new = (new ≡ stamps_of waiting) ⊎ ((t.held ≡ false) × (t.woken ≡ 0) × (new ≡ old))

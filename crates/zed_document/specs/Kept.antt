@@ -4,19 +4,19 @@ use Rattle.std.specs.List.{AllByRecursion}
 use Rattle.zed_types.specs.declared.stamp.Stamp.{Stamp}
 use Rattle.zed_types.specs.Stamp.{before}
 use Rattle.zed_op.specs.declared.op.Edit.{Edit}
-use Rattle.zed_edit.specs.declared.plain.Plain.{Plain}
 use Rattle.zed_op.specs.Set.{AllFit, IsRising}
 use Rattle.zed_op.specs.Sizes.{HaveSizes}
-use Rattle.zed_edit.specs.Replay.{replay}
+use Rattle.zed_body.specs.declared.body.Body.{Body}
+use Rattle.zed_body.specs.Shows.{BodyShows}
 use Rattle.zed_document.specs.Held.{held_stamps}
 
--- the log is a set of edits that fit and have the sizes of their fields, in rising stamp order; the plain document is its replay, and what is held is told by it even where the rest is stale
-pub record IsKept (edits : List Edit) (is_stale : Bool) (plain : Plain) : Type 0 where
+-- the log is a set of edits that fit and have the sizes of their fields, in rising stamp order; the stamps kept are those held, in a stale document too; and the body shows the edits, but for a stale one
+pub record IsKept (edits : List Edit) (stamps : List Stamp) (is_stale : Bool) (body : Body) : Type 0 where
   pub fit : AllFit edits
   pub sizes : HaveSizes edits
   pub rising : IsRising edits
-  pub held : plain.held ≡ held_stamps edits
-  pub shown : is_stale ≡ false → plain ≡ replay edits
+  pub held : stamps ≡ held_stamps edits
+  pub shown : is_stale ≡ false → BodyShows edits body
 
 -- all edits of a log come before a stamp
 abbrev pub AllBelow : Stamp → List Edit → Type 0

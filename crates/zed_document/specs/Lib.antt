@@ -10,4 +10,3 @@ pub mod Reading
 pub mod Replica
 pub mod Same
 pub mod Stretches
-pub mod View

@@ -13,7 +13,8 @@ ghost use Rattle.zed_document.specs.Held.{held_stamps, is_among as is_one_of};
 use crate::clock::stamp_for;
 use crate::document::Document;
 use crate::error::{DocumentError, of_edit};
-use zed_edit::{Edit, Op, can, check};
+use zed_body::bodies_have_what_is_made;
+use zed_edit::{Edit, Op, check};
 use zed_laws::replay_goes_edit_by_edit;
 use zed_op::{fit_is_of_parts, sets_stay_fit};
 
@@ -65,10 +66,8 @@ impl Document {
         requires { self.now.is_stale ≡ false }
         ensures { result ≡ can (replay self.now.edits) edit.now }
     {
-        match self.shown() {
-            Ok(plain) => can(self.alloc(), plain, edit),
-            Err(_) => false,
-        }
+        bodies_have_what_is_made();
+        self.body().can(self.alloc(), edit)
     }
 
     /// Makes an edit: the world, or an edit later than all others.

@@ -9,6 +9,7 @@ ghost use Rattle.zed_document.specs.Batch.{HasNew, IsBatch, IsGathered, first_of
 ghost use Rattle.zed_document.specs.Delivery.{edit_with};
 
 use crate::error::DocumentError;
+use crate::merge::push_copies;
 use crate::place::spot_of;
 use std::alloc::Global;
 use std::collections::BTreeMap;
@@ -106,6 +107,16 @@ pub(crate) fn gather(alloc: Global, log: &[Edit], edits: Vec<Edit>) -> Result<Ba
     let clash = put_all(log, &mut map, edits)?;
     let edits = edits_of(alloc, map)?;
     Ok(Batch { edits, clash })
+}
+
+/// Copies of edits.
+pub(crate) fn copies(alloc: Global, edits: &[Edit]) -> Result<Vec<Edit>, DocumentError>
+    ensures ok { IfOk result (λ copies. copies.items ≡ edits.now) }
+    ensures err { IfErr result (λ e. e ≡ DocumentError.Memory) }
+{
+    let mut copies = Vec::new(alloc);
+    push_copies(&mut copies, edits)?;
+    Ok(copies)
 }
 
 /// Ok, or the clash.

@@ -2,7 +2,7 @@
 
 // Bytes that an author deletes from a text.
 
-ghost use Rattle.std.specs.Prelude.{◌≡◌, ◌≢◌, ◌≤◌, ◌⊎◌, ◌++◌, ◌∷◌, ◌-◌, ◌+◌, ◌==◌, ◌&&◌, [], ℕ, false, true, is_ok, length, take, Err, IfOk, IfErr, OnOk, OnErr, IsOkAnd, MatchBool, if◌then◌else◌};
+ghost use Rattle.std.specs.Prelude.{◌≡◌, ◌≢◌, ◌≤◌, ◌<◌, ◌⊎◌, ◌++◌, ◌∷◌, ◌-◌, ◌+◌, ◌==◌, ◌&&◌, [], ℕ, false, true, is_ok, length, option_map, slice_get, take, Some, Err, IfOk, IfErr, OnOk, OnErr, IsOkAnd, MatchBool, if◌then◌else◌};
 ghost use Rattle.zed_edit.specs.Document.{has, text as text_shown, elements as elements_of};
 ghost use Rattle.zed_op.specs.declared.thing.Thing.TheVariants.{Text as the_text};
 ghost use Rattle.zed_op.specs.Set.{AllFit, IsRising};
@@ -14,12 +14,12 @@ ghost use Rattle.zed_document.specs.Reading.{has_text};
 use crate::clock::{is_spent as are_spent, next_time};
 use crate::document::Document;
 use crate::error::{DocumentError, of_edit};
-use crate::view::View;
 use std::alloc::Global;
 use zed_edit::{Edit, Op};
 use zed_laws::{made_things_stay, replay_goes_edit_by_edit, texts_keep_names};
 use zed_op::fit_is_of_parts;
-use zed_types::{ByteRange, ElemId, Stamp, TextByte, TextId};
+use zed_types::{ByteRange, ElemId, Stamp, TextId};
+use zed_view::View;
 
 /// Whether a byte stands directly behind a stretch, in the same insertion.
 fn ends_before(range: ByteRange, byte: ElemId) -> bool
@@ -79,16 +79,27 @@ fn begun(last: Option<ElemId>, name: ElemId) -> usize
     }
 }
 
+/// The name of an alive byte of a text.
+fn name_of(view: &View, text: TextId, k: usize) -> ElemId
+    requires { k < length (text_shown view.now text) }
+    ensures { option_map (λ x. x.id) (slice_get (alive (elements_of view.now text)) k)
+        ≡ Some result }
+{
+    view.name_at(text, k).unwrap()
+}
+
 /// How many stretches there are of the alive bytes of a text from one position to another. It takes no memory, so that a spent clock
 /// can be told before any is taken.
-fn count_stretches(elements: &[TextByte], from: usize, to: usize) -> usize
-    ensures { result ≡ length (stretches (part from to (alive elements.now))) }
+fn count_stretches(view: &View, text: TextId, from: usize, to: usize) -> usize
+    requires { is_part from to (length (text_shown view.now text)) ≡ true }
+    ensures { result ≡ length (stretches (part from to (alive (elements_of view.now text)))) }
 {
     let mut stretches = 0;
     let mut last = None;
-    for element in elements.iter().filter(|x| x.alive).take(to).skip(from) {
-        stretches += begun(last, element.id);
-        last = Some(element.id);
+    for k in from..to {
+        let name = name_of(view, text, k);
+        stretches += begun(last, name);
+        last = Some(name);
     }
     stretches
 }
@@ -96,17 +107,19 @@ fn count_stretches(elements: &[TextByte], from: usize, to: usize) -> usize
 /// The stretches of the alive bytes of a text from one position to another.
 fn stretches_in(
     alloc: Global,
-    elements: &[TextByte],
+    view: &View,
+    text: TextId,
     from: usize,
     to: usize,
 ) -> Result<Vec<ByteRange>, DocumentError>
+    requires { is_part from to (length (text_shown view.now text)) ≡ true }
     ensures ok { IfOk result (λ ranges.
-        ranges.items ≡ stretches (part from to (alive elements.now))) }
+        ranges.items ≡ stretches (part from to (alive (elements_of view.now text)))) }
     ensures err { IfErr result (λ e. e ≡ DocumentError.Memory) }
 {
     let mut ranges = Vec::new(alloc);
-    for element in elements.iter().filter(|x| x.alive).take(to).skip(from) {
-        add_name(&mut ranges, element.id)?;
+    for k in from..to {
+        add_name(&mut ranges, name_of(view, text, k))?;
     }
     Ok(ranges)
 }
@@ -173,23 +186,23 @@ impl Document {
         ensures memory_only_when { result ≡ Err DocumentError.Memory
             → MayTakeMemoryToDelete self.now text from to }
     {
-        let view = View::of(self.shown_with(text)?);
+        let view = self.view_with(text)?;
         if to <= from || view.length(text) < to {
             return Err(DocumentError::OutOfRange);
         }
-        self.deletions_in(replica, text, view.elements(text), from, to)
+        self.deletions_in(&view, replica, text, from, to)
     }
 
     /// The deletions of a part of a text that is there, where times are left for all of them.
     fn deletions_in(
         &self,
+        view: &View,
         replica: u16,
         text: TextId,
-        elements: &[TextByte],
         from: usize,
         to: usize,
     ) -> Result<Vec<Edit>, DocumentError>
-        requires elements { elements.now ≡ elements_of (replay self.now.edits) text }
+        requires shows { view.now ≡ replay self.now.edits }
         requires part { is_part from to (length (text_shown (replay self.now.edits) text)) ≡ true }
         ensures result { (result ≡ Err DocumentError.Memory)
             ⊎ MatchBool
@@ -199,10 +212,10 @@ impl Document {
         ensures memory_only_when { result ≡ Err DocumentError.Memory
             → is_spent self.now.edits (length (stretches_of self.now.edits text from to)) ≡ false }
     {
-        if are_spent(self.edits(), count_stretches(elements, from, to)) {
+        if are_spent(self.edits(), count_stretches(view, text, from, to)) {
             return Err(DocumentError::ClockSpent);
         }
-        let ranges = stretches_in(self.alloc(), elements, from, to)?;
+        let ranges = stretches_in(self.alloc(), view, text, from, to)?;
         edits_of(
             self.alloc(),
             next_time(self.edits()),

@@ -1,26 +1,32 @@
 //! A document: the edits that a replica accepted, and what they make.
-ghost use Rattle.std.specs.Prelude.{◌≡◌, ◌≢◌, ◌≤◌, ◌⊎◌, [], ◌∷◌, ◌++◌, if◌then◌else◌, length, take, insert, is_ok, true, false, None, Ok, Err, OnOk, OnErr, IfOk, IfErr, IsOkAnd, MatchBool, ◌↔◌};
+ghost use Rattle.std.specs.Prelude.{◌≡◌, ◌≢◌, ◌≤◌, ◌⊎◌, ◌<◌, [], ◌∷◌, if◌then◌else◌, length, insert, is_ok, true, false, None, Ok, Err, OnOk, OnErr, IfOk, IfErr, IsOkAnd, MatchOption, ◌↔◌};
 
-use crate::batch::{Batch, gather, unless_clash};
+use crate::batch::{Batch, copies, gather, unless_clash};
 use crate::delivered::{Delivered, State};
 use crate::error::{DocumentError, of_edit};
-use crate::held::{count_woken, is_among};
-use crate::merge::{join, least_clash};
+use crate::held::{is_among, renew};
+use crate::merge::{joined, least_clash};
 use crate::place::spot_of;
-use crate::view::View;
+use crate::visits::{visits_before, visits_since};
 use std::alloc::Global;
 use std::marker::Model;
-use zed_edit::{Edit, Plain, check, replay, step};
-use zed_laws::replay_goes_edit_by_edit;
+use zed_body::{Body, calm_edits_hold_the_same, empty_bodies_show_none, rising_edits_are_apart};
+use zed_edit::{Edit, check};
+use zed_laws::held_edits_are_remembered;
 use zed_op::{edit_has_sizes, edits_have_sizes, rising_lists_are_sets, sets_rise, sets_stay_fit};
 use zed_types::Stamp;
+use zed_view::{View, parts_show_the_replay};
 
 /// A replica of a world. Contracts see the number of its world, its edits in rising stamp order, and whether it is stale.
 #[derive(Drop)]
 pub struct Document {
     world: u64,
     edits: Vec<Edit>,
-    plain: Plain,
+    /// The stamps of the edits that are held, rising. It changes at the end of a call alone, so that it is right in a
+    /// stale document too.
+    held: Vec<Stamp>,
+    /// What the edits make, and those that wait; of a stale document anything.
+    body: Body,
     is_stale: bool,
 }
 
@@ -32,28 +38,31 @@ impl Model for Document {
 
     ghost view = { λ d. record { world = d.world; edits = d.edits.items; is_stale = d.is_stale } };
 
-    ghost invariant = { λ d. IsKept d.edits.items d.is_stale d.plain };
+    ghost invariant = { λ d. IsKept d.edits.items d.held.items d.is_stale d.body };
 }
 
 impl Document {
     ghost use Rattle.zed_document.specs.Held.{held_stamps, is_among as is_one_of};
+    ghost use Rattle.zed_body.specs.Shows.{BodyShows};
+    ghost use Rattle.zed_document.specs.Batch.{AreNew, HasNew, JoinOn};
     ghost use Rattle.zed_document.specs.Delivery.{Answers, AnswersAt, DeliversEach, MayTakeMemoryFor, MayTakeMemoryForEach, TellsNew, edit_with};
-    ghost use Rattle.zed_document.specs.Kept.{AllBelow};
     ghost use Rattle.zed_edit.specs.Replay.{replay};
     ghost use Rattle.zed_op.specs.Fit.{Fits};
     ghost use Rattle.zed_op.specs.Set.{AllFit, IsRising, union, with_edit};
     ghost use Rattle.zed_op.specs.Sizes.{HaveSizes};
-    ghost use Rattle.zed_document.specs.Merge.{AnswersMerge, below};
+    ghost use Rattle.zed_document.specs.Merge.{Agree, AnswersMerge, below};
     ghost use Rattle.zed_types.specs.declared.stamp.Stamp.{Stamp as TheStamp};
 
     /// A document of the world with this number, with no edit. It takes no memory.
     pub fn new(alloc: Global, world: u64) -> Document
         ensures { result ≡ record { world = world; edits = []; is_stale = false } }
     {
+        empty_bodies_show_none();
         Document {
             world,
             edits: Vec::new(alloc),
-            plain: Plain::empty(alloc),
+            held: Vec::new(alloc),
+            body: Body::new(alloc),
             is_stale: false,
         }
     }
@@ -82,23 +91,10 @@ impl Document {
         ensures shows { IfOk result (λ v. v ≡ replay self.now.edits) }
     {
         if self.is_stale {
-            Err(DocumentError::Stale)
-        } else {
-            Ok(View::of(&self.plain))
+            return Err(DocumentError::Stale);
         }
-    }
-
-    /// The plain document, but of a stale one.
-    pub(crate) fn shown(&self) -> Result<&Plain, DocumentError>
-        ensures { MatchBool self.now.is_stale
-            (result ≡ Err DocumentError.Stale)
-            (IsOkAnd result (λ p. p.now ≡ replay self.now.edits)) }
-    {
-        if self.is_stale {
-            Err(DocumentError::Stale)
-        } else {
-            Ok(&self.plain)
-        }
+        parts_show_the_replay();
+        Ok(View::of(&self.body.live, &self.body.texts, &self.body.inbox))
     }
 
     /// Whether want of memory has left the document stale.
@@ -113,18 +109,27 @@ impl Document {
         *self.edits.allocator()
     }
 
+    /// What the edits make.
+    pub(crate) fn body(&self) -> &Body
+        requires { self.now.is_stale ≡ false }
+        ensures shows { BodyShows self.now.edits result.now }
+        ensures rising { IsRising self.now.edits }
+    {
+        &self.body
+    }
+
     /// How many edits are held.
     pub fn held(&self) -> usize
         ensures { result ≡ length (held_stamps self.now.edits) }
     {
-        self.plain.held().len()
+        self.held.len()
     }
 
     /// Whether the edit with this stamp is held.
     pub fn is_held(&self, stamp: Stamp) -> bool
         ensures { result ≡ is_one_of (held_stamps self.now.edits) stamp }
     {
-        is_among(self.plain.held(), stamp)
+        is_among(&self.held, stamp)
     }
 
     /// Accepts an edit, in whatever order edits come. In this order: Stale; BadEdit where the edit doesn't fit; Clash where another
@@ -176,65 +181,11 @@ impl Document {
         }
     }
 
-    /// Puts in an edit that is new, at its place.
+    /// Puts in an edit that is new, at its place in the log.
     fn accept(&mut self, place: usize, edit: Edit) -> Result<Delivered, DocumentError>
         requires sound { self.old.is_stale ≡ false }
         requires fits { Fits edit }
-        requires within { place ≤ length self.old.edits }
-        requires belongs { with_edit edit self.old.edits ≡ insert self.old.edits place edit }
-        requires below { AllBelow edit.stamp (take place self.old.edits) }
-        ensures tells { (result ≡ Err DocumentError.Memory) ⊎ IsOkAnd result (λ d.
-            TellsNew self.old.edits (with_edit edit self.old.edits) edit d) }
-        ensures edits { self.new.edits
-            ≡ (if is_ok result then with_edit edit self.old.edits else self.old.edits) }
-        ensures world { self.new.world ≡ self.old.world }
-        ensures sound { OnOk result (self.new.is_stale ≡ false) }
-    {
-        if place == self.edits.len() {
-            self.append(edit)
-        } else {
-            self.put_in(place, edit)
-        }
-    }
-
-    /// Puts in an edit that comes after all others: one step of the replay.
-    fn append(&mut self, edit: Edit) -> Result<Delivered, DocumentError>
-        requires sound { self.old.is_stale ≡ false }
-        requires fits { Fits edit }
-        requires last { with_edit edit self.old.edits ≡ self.old.edits ++ edit ∷ [] }
-        requires below { AllBelow edit.stamp self.old.edits }
-        ensures tells { (result ≡ Err DocumentError.Memory) ⊎ IsOkAnd result (λ d.
-            TellsNew self.old.edits (with_edit edit self.old.edits) edit d) }
-        ensures edits { self.new.edits
-            ≡ (if is_ok result then with_edit edit self.old.edits else self.old.edits) }
-        ensures world { self.new.world ≡ self.old.world }
-        ensures sound { OnOk result (self.new.is_stale ≡ false) }
-    {
-        if self.edits.reserve(1).is_err() {
-            return Err(DocumentError::Memory);
-        }
-        let before = self.plain.held().len();
-        if step(*self.edits.allocator(), &mut self.plain, &edit).is_err() {
-            self.is_stale = true;
-            return Err(DocumentError::Memory);
-        }
-        replay_goes_edit_by_edit();
-        sets_rise();
-        sets_stay_fit();
-        edit_has_sizes(&edit);
-        let is_held = before < self.plain.held().len();
-        self.edits.push(edit).unwrap();
-        Ok(Delivered {
-            state: State::of_new(is_held),
-            woken: 0,
-            visits: 0,
-        })
-    }
-
-    /// Puts in an edit before later ones: the replay is made anew.
-    fn put_in(&mut self, place: usize, edit: Edit) -> Result<Delivered, DocumentError>
-        requires sound { self.old.is_stale ≡ false }
-        requires fits { Fits edit }
+        requires new { edit_with edit.stamp self.old.edits ≡ None }
         requires within { place ≤ length self.old.edits }
         requires belongs { with_edit edit self.old.edits ≡ insert self.old.edits place edit }
         ensures tells { (result ≡ Err DocumentError.Memory) ⊎ IsOkAnd result (λ d.
@@ -245,29 +196,32 @@ impl Document {
         ensures sound { OnOk result (self.new.is_stale ≡ false) }
     {
         let alloc = *self.edits.allocator();
-        let stamp = edit.stamp;
-        edit_has_sizes(&edit);
-        if self.edits.insert(place, edit).is_err() {
+        if self.edits.reserve(1).is_err() {
             return Err(DocumentError::Memory);
         }
         sets_rise();
         sets_stay_fit();
-        let Ok(plain) = replay(alloc, &self.edits) else {
-            let _ = self.edits.remove(place);
+        held_edits_are_remembered();
+        calm_edits_hold_the_same();
+        edit_has_sizes(&edit);
+        let before = visits_before(&self.body, &edit);
+        // until all is done; what fails midway leaves it so
+        self.is_stale = true;
+        let Ok(taken) = self.body.take(alloc, &edit) else {
             return Err(DocumentError::Memory);
         };
-        let is_held = is_among(plain.held(), stamp);
-        let woken = count_woken(self.plain.held(), plain.held());
-        self.plain = plain;
+        renew(&mut self.held, &self.body, taken)?;
+        self.edits.insert(place, edit).unwrap();
+        self.is_stale = false;
         Ok(Delivered {
-            state: State::of_new(is_held),
-            woken,
-            visits: 0,
+            state: State::of_new(taken.held),
+            woken: taken.woken,
+            visits: visits_since(&self.body, before),
         })
     }
 
-    /// Replays the edits anew where the document is stale. On one that isn't it changes nothing and takes no memory. Memory leaves it
-    /// as it was.
+    /// Makes what the edits make anew where the document is stale. On one that isn't it changes nothing and takes no
+    /// memory. Memory leaves it as it was.
     pub fn repair(&mut self) -> Result<(), DocumentError>
         ensures edits { self.new.edits ≡ self.old.edits }
         ensures world { self.new.world ≡ self.old.world }
@@ -277,10 +231,12 @@ impl Document {
         ensures memory_only_when { self.old.is_stale ≡ false → result ≡ Ok tt }
     {
         if self.is_stale {
-            let Ok(plain) = replay(*self.edits.allocator(), &self.edits) else {
+            rising_lists_are_sets();
+            rising_edits_are_apart();
+            let Ok(body) = Body::of(*self.edits.allocator(), &self.edits) else {
                 return Err(DocumentError::Memory);
             };
-            self.plain = plain;
+            self.body = body;
             self.is_stale = false;
         }
         Ok(())
@@ -310,76 +266,89 @@ impl Document {
         }
     }
 
-    /// Joins a log to the own one, with which it agrees.
+    /// Takes in copies of edits with which the own ones agree.
     fn take_in(&mut self, other: &[Edit]) -> Result<(), DocumentError>
         requires sound { self.old.is_stale ≡ false }
         requires fit { AllFit other.now }
         requires rising { IsRising other.now }
+        requires agree { Agree self.old.edits other.now }
         ensures edits { OnOk result (self.new.edits ≡ union self.old.edits other.now) }
         ensures err { IfErr result (λ e. e ≡ DocumentError.Memory) }
-        ensures kept { OnErr result (self.new ≡ self.old) }
+        ensures kept { OnErr result (self.new.edits ≡ self.old.edits) }
         ensures world { self.new.world ≡ self.old.world }
-        ensures sound { self.new.is_stale ≡ false }
+        ensures sound { OnOk result (self.new.is_stale ≡ false) }
     {
-        let alloc = *self.edits.allocator();
-        let edits = join(alloc, &self.edits, other)?;
+        let edits = copies(*self.edits.allocator(), other)?;
         sets_rise();
-        sets_stay_fit();
-        self.show(edits)
-    }
-
-    /// Puts other edits in place of the own ones.
-    fn show(&mut self, edits: Vec<Edit>) -> Result<(), DocumentError>
-        requires sound { self.old.is_stale ≡ false }
-        requires fit { AllFit edits.items }
-        requires rising { IsRising edits.items }
-        ensures edits { OnOk result (self.new.edits ≡ edits.items) }
-        ensures err { IfErr result (λ e. e ≡ DocumentError.Memory) }
-        ensures kept { OnErr result (self.new ≡ self.old) }
-        ensures world { self.new.world ≡ self.old.world }
-        ensures sound { self.new.is_stale ≡ false }
-    {
-        let Ok(plain) = replay(*self.edits.allocator(), &edits) else {
-            return Err(DocumentError::Memory);
-        };
-        edits_have_sizes(&edits);
-        self.edits = edits;
-        self.plain = plain;
+        let _ = self.join_all(edits)?;
         Ok(())
     }
 
-    /// Joins new edits to the own ones.
+    /// Takes edits that join the own ones, one after the other, up to the first that clashes, and tells its stamp.
+    fn join_all(&mut self, edits: Vec<Edit>) -> Result<Option<Stamp>, DocumentError>
+        requires sound { self.old.is_stale ≡ false }
+        requires fit { AllFit edits.items }
+        ensures joins { IfOk result (λ clash.
+            JoinOn self.old.edits edits.items clash self.new.edits) }
+        ensures err { IfErr result (λ e. e ≡ DocumentError.Memory) }
+        ensures new { OnErr result (HasNew self.old.edits edits.items) }
+        ensures kept { OnErr result (self.new.edits ≡ self.old.edits) }
+        ensures world { self.new.world ≡ self.old.world }
+        ensures sound { OnOk result (self.new.is_stale ≡ false) }
+    {
+        let alloc = *self.edits.allocator();
+        let Batch { edits, clash } = gather(alloc, &self.edits, edits)?;
+        self.take_all(edits)?;
+        Ok(clash)
+    }
+
+    /// Takes edits in stamp order, all of which are new.
     fn take_all(&mut self, edits: Vec<Edit>) -> Result<(), DocumentError>
         requires sound { self.old.is_stale ≡ false }
         requires fit { AllFit edits.items }
         requires rising { IsRising edits.items }
+        requires new { AreNew self.old.edits edits.items }
         ensures edits { OnOk result (self.new.edits ≡ union self.old.edits edits.items) }
         ensures err { IfErr result (λ e. e ≡ DocumentError.Memory) }
         ensures some { OnErr result (edits.items ≢ []) }
-        ensures kept { OnErr result (self.new ≡ self.old) }
+        ensures kept { OnErr result (self.new.edits ≡ self.old.edits) }
         ensures world { self.new.world ≡ self.old.world }
-        ensures sound { self.new.is_stale ≡ false }
+        ensures sound { OnOk result (self.new.is_stale ≡ false) }
     {
-        rising_lists_are_sets();
         if edits.is_empty() {
             return Ok(());
         }
-        if self.edits.is_empty() {
-            self.show(edits)
-        } else {
-            self.take_in(&edits)
-        }
+        let alloc = *self.edits.allocator();
+        sets_rise();
+        sets_stay_fit();
+        held_edits_are_remembered();
+        rising_edits_are_apart();
+        edits_have_sizes(&edits);
+        // until all is done; what fails midway leaves it so
+        self.is_stale = true;
+        let Ok(()) = self.body.take_all(alloc, &edits) else {
+            return Err(DocumentError::Memory);
+        };
+        let Ok(held) = self.body.inbox.stamps() else {
+            return Err(DocumentError::Memory);
+        };
+        self.edits = joined(alloc, &self.edits, edits)?;
+        self.held = held;
+        self.is_stale = false;
+        Ok(())
     }
 
     /// Delivers edits that fit, one after the other in the order in which they come, up to the first that is refused: Stale, or
-    /// Clash. Those before it stay. On Memory nothing has changed. Whatever their order, the work is as for edits that come in order.
+    /// Clash. Those before it stay. After Memory the edits are as before, and the document may be stale. Whatever their order, the
+    /// work is as for edits that come in order.
     pub fn deliver_all(&mut self, edits: Vec<Edit>) -> Result<(), DocumentError>
         requires { AllFit edits.items }
         ensures result { (result ≡ Err DocumentError.Memory)
             ⊎ DeliversEach self.old edits.items result self.new.edits }
         ensures kept { result ≡ Err DocumentError.Memory → self.new.edits ≡ self.old.edits }
         ensures world { self.new.world ≡ self.old.world }
-        ensures stale { self.new.is_stale ≡ self.old.is_stale }
+        ensures stale { (result ≢ Err DocumentError.Memory)
+            → self.new.is_stale ≡ self.old.is_stale }
         ensures memory_only_when { result ≡ Err DocumentError.Memory
             → MayTakeMemoryForEach self.old edits.items }
     {
@@ -389,9 +358,7 @@ impl Document {
         if self.is_stale {
             return Err(DocumentError::Stale);
         }
-        let alloc = *self.edits.allocator();
-        let Batch { edits, clash } = gather(alloc, &self.edits, edits)?;
-        self.take_all(edits)?;
+        let clash = self.join_all(edits)?;
         unless_clash(clash)
     }
 }

@@ -1,7 +1,9 @@
-//! Edits that wait, and those that a delivery woke.
-ghost use Rattle.std.specs.Prelude.{◌≡◌, not, count_by};
-ghost use Rattle.zed_document.specs.Held.{is_among as is_one_of};
+//! Edits that wait.
+ghost use Rattle.std.specs.Prelude.{◌≡◌, IfErr, OnOk, OnErr};
+ghost use Rattle.zed_document.specs.Held.{is_among as is_one_of, IsRenewed};
 
+use crate::error::DocumentError;
+use zed_body::{Body, Taken};
 use zed_types::Stamp;
 
 /// Whether a stamp is among some.
@@ -11,15 +13,21 @@ pub(crate) fn is_among(stamps: &[Stamp], stamp: Stamp) -> bool
     stamps.iter().any(|s| *s == stamp)
 }
 
-/// How many stamps are among the old ones and not among the new ones.
-pub(crate) fn count_woken(old: &[Stamp], new: &[Stamp]) -> usize
-    ensures { result ≡ count_by (λ s. not (is_one_of new.now s)) old.now }
+/// Renews the stamps of those held after a body took an edit. Memory leaves them as they were.
+pub(crate) fn renew(held: &mut Vec<Stamp>, body: &Body, taken: Taken) -> Result<(), DocumentError>
+    ensures ok { OnOk result
+        (IsRenewed taken body.now.inbox held.old.items held.new.items) }
+    ensures err { IfErr result (λ e. e ≡ DocumentError.Memory) }
+    ensures kept { OnErr result (held.new.items ≡ held.old.items) }
 {
-    let mut woken = 0;
-    for stamp in old {
-        if !is_among(new, *stamp) {
-            woken += 1;
-        }
+    if !taken.held && taken.woken == 0 {
+        return Ok(());
     }
-    woken
+    match body.inbox.stamps() {
+        Ok(stamps) => {
+            *held = stamps;
+            Ok(())
+        }
+        Err(_) => Err(DocumentError::Memory),
+    }
 }

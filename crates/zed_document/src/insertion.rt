@@ -2,47 +2,30 @@
 
 // Bytes that an author puts into a text.
 
-ghost use Rattle.std.specs.Prelude.{◌≡◌, ◌≢◌, ◌⊎◌, ◌++◌, ◌∷◌, ◌-◌, [], if◌then◌else◌, false, is_ok, length, nat_le, slice_get, option_map, Ok, Err, OnOk, MatchBool};
-ghost use Rattle.zed_types.specs.Text.{alive_bytes};
+ghost use Rattle.std.specs.Prelude.{◌≡◌, ◌≢◌, ◌⊎◌, ◌++◌, ◌∷◌, ◌-◌, [], if◌then◌else◌, false, is_ok, length, nat_le, Ok, Err, OnOk, MatchBool};
 ghost use Rattle.zed_edit.specs.Document.{text as text_shown, elements};
 ghost use Rattle.zed_edit.specs.Replay.{replay};
-ghost use Rattle.zed_document.specs.Authoring.{AnswersInsertion, MayTakeMemoryAt, authored, insertion_at, with_bytes, alive, byte_before};
+ghost use Rattle.zed_document.specs.Authoring.{AnswersInsertion, MayTakeMemoryAt, authored, insertion_at, with_bytes, byte_before};
 ghost use Rattle.zed_document.specs.Reading.{TellsOfText};
 
 use crate::clock::next_stamp;
 use crate::document::Document;
 use crate::error::DocumentError;
-use crate::view::View;
 use zed_edit::{Edit, Op};
 use zed_laws::{replay_goes_edit_by_edit, texts_keep_names};
-use zed_types::{Bytes, ElemId, TextByte, TextId};
-
-/// The name of the k-th of the bytes that are alive.
-fn live_name(elements: &[TextByte], k: usize) -> Option<ElemId>
-    ensures { result ≡ option_map (λ x. x.id) (slice_get (alive elements.now) k) }
-{
-    let mut left = k;
-    for element in elements {
-        if element.alive {
-            if left == 0 {
-                return Some(element.id);
-            }
-            left -= 1;
-        }
-    }
-    None
-}
+use zed_types::{Bytes, ElemId, TextId};
+use zed_view::View;
 
 /// The name of the byte before a position, none at the head.
-fn name_before(elements: &[TextByte], position: usize) -> Result<Option<ElemId>, DocumentError>
-    ensures { MatchBool (nat_le position (length (alive_bytes elements.now)))
-        (result ≡ Ok (byte_before elements.now position))
+fn name_before(view: &View, text: TextId, position: usize) -> Result<Option<ElemId>, DocumentError>
+    ensures { MatchBool (nat_le position (length (text_shown view.now text)))
+        (result ≡ Ok (byte_before (elements view.now text) position))
         (result ≡ Err DocumentError.OutOfRange) }
 {
     if position == 0 {
         return Ok(None);
     }
-    match live_name(elements, position - 1) {
+    match view.name_at(text, position - 1) {
         Some(name) => Ok(Some(name)),
         None => Err(DocumentError::OutOfRange),
     }
@@ -56,13 +39,8 @@ impl Document {
             (r ≡ Ok (byte_before (elements (replay self.now.edits) text) position))
             (r ≡ Err DocumentError.OutOfRange)) result }
     {
-        match self.shown_with(text) {
-            Ok(plain) => {
-                let view = View::of(plain);
-                name_before(view.elements(text), position)
-            }
-            Err(error) => Err(error),
-        }
+        let view = self.view_with(text)?;
+        name_before(&view, text, position)
     }
 
     /// Puts bytes into a text at a position among its alive bytes: after the one before it, or at the head. In this order: Stale;

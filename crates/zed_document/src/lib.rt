@@ -2,7 +2,6 @@
 //! who made them in stamp order.
 #![tactic(auto)]
 
-mod appending;
 mod author;
 mod batch;
 mod clock;
@@ -10,26 +9,20 @@ mod deletion;
 mod delivered;
 mod document;
 mod error;
-mod field;
-mod header;
 mod held;
 mod insertion;
 mod laws;
 mod merge;
 mod place;
-mod property;
 mod readers;
-mod register;
 mod same;
-mod view;
+mod visits;
 
-pub use appending::{append_text, append_text_at};
 pub use delivered::{Delivered, State};
 pub use document::Document;
 pub use error::DocumentError;
-pub use field::{Follower, Leader, P3, StatText};
-pub use header::{CurrentBoard, Saved, WorldName};
 pub use laws::{deliveries_come_to_sets, edits_decide, merging_is_of_sets};
-pub use property::TimeLimit;
-pub use register::Register;
-pub use view::{MadeBoard, MadeStat, View};
+pub use zed_view::{
+    CurrentBoard, Follower, HeaderRegister, Leader, MadeBoard, MadeStat, P3, PropertyRegister,
+    Saved, StatRegister, StatText, TimeLimit, View, WorldName, append_text, append_text_at,
+};

@@ -14,6 +14,7 @@ ghost use Rattle.zed_document.specs.Merge.{Agree, AllFrom, IsLeastClash};
 use crate::error::{DocumentError, of_edit};
 use std::alloc::Global;
 use zed_edit::Edit;
+use zed_op::rising_lists_are_sets;
 use zed_types::Stamp;
 
 /// How many edits at the front of a log come before a stamp.
@@ -53,7 +54,7 @@ fn push_copy(joined: &mut Vec<Edit>, edit: &Edit) -> Result<(), DocumentError>
     Ok(())
 }
 
-fn push_copies(joined: &mut Vec<Edit>, edits: &[Edit]) -> Result<(), DocumentError>
+pub(crate) fn push_copies(joined: &mut Vec<Edit>, edits: &[Edit]) -> Result<(), DocumentError>
     ensures ok { OnOk result (joined.new.items ≡ joined.old.items ++ edits.now) }
     ensures err { IfErr result (λ e. e ≡ DocumentError.Memory) }
 {
@@ -88,7 +89,7 @@ fn push_next<'a>(
 }
 
 /// The edits of two logs in one, of which the first has its own where both have a stamp.
-pub(crate) fn join(alloc: Global, own: &[Edit], other: &[Edit]) -> Result<Vec<Edit>, DocumentError>
+fn join(alloc: Global, own: &[Edit], other: &[Edit]) -> Result<Vec<Edit>, DocumentError>
     requires own { IsRising own.now }
     requires other { IsRising other.now }
     ensures ok { IfOk result (λ joined. joined.items ≡ union own.now other.now) }
@@ -101,6 +102,25 @@ pub(crate) fn join(alloc: Global, own: &[Edit], other: &[Edit]) -> Result<Vec<Ed
     }
     push_copies(&mut joined, rest)?;
     Ok(joined)
+}
+
+/// The edits of a log with others, of which a log without an edit needs no copies.
+pub(crate) fn joined(
+    alloc: Global,
+    own: &[Edit],
+    edits: Vec<Edit>,
+) -> Result<Vec<Edit>, DocumentError>
+    requires own { IsRising own.now }
+    requires rising { IsRising edits.items }
+    ensures ok { IfOk result (λ joined. joined.items ≡ union own.now edits.items) }
+    ensures err { IfErr result (λ e. e ≡ DocumentError.Memory) }
+{
+    rising_lists_are_sets();
+    if own.is_empty() {
+        Ok(edits)
+    } else {
+        join(alloc, own, &edits)
+    }
 }
 
 /// The edits of a log from a stamp on.

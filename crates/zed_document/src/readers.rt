@@ -6,9 +6,9 @@ ghost use Rattle.zed_edit.specs.Replay.{replay};
 ghost use Rattle.zed_document.specs.Reading.{unless_stale, unless_no_text, TellsOfText, text_of as text_of_stat};
 
 use crate::document::Document;
-use crate::error::{DocumentError, of_edit};
-use zed_edit::{Plain, has_text};
+use crate::error::DocumentError;
 use zed_types::{BoardId, StatId, TextId};
+use zed_view::{View, append_text};
 
 impl Document {
     /// The board with this number, if there is one: boards that aren't removed are numbered from 0 on, the title first. Stale where
@@ -16,8 +16,8 @@ impl Document {
     pub fn board(&self, n: usize) -> Result<Option<BoardId>, DocumentError>
         ensures { result ≡ unless_stale self.now (board_numbered (replay self.now.edits) n) }
     {
-        match self.shown() {
-            Ok(plain) => Ok(plain.board_numbered(n)),
+        match self.view() {
+            Ok(view) => Ok(view.board_numbered(n)),
             Err(error) => Err(error),
         }
     }
@@ -27,8 +27,8 @@ impl Document {
     pub fn stat(&self, board: BoardId, n: usize) -> Result<Option<StatId>, DocumentError>
         ensures { result ≡ unless_stale self.now (stat_numbered (replay self.now.edits) board n) }
     {
-        match self.shown() {
-            Ok(plain) => Ok(plain.stat_numbered(board, n)),
+        match self.view() {
+            Ok(view) => Ok(view.stat_numbered(board, n)),
             Err(error) => Err(error),
         }
     }
@@ -37,8 +37,8 @@ impl Document {
     pub fn text_of(&self, stat: StatId) -> Result<Option<TextId>, DocumentError>
         ensures { result ≡ unless_stale self.now (text_of_stat (replay self.now.edits) stat) }
     {
-        match self.shown() {
-            Ok(plain) => match plain.text_of_stat(stat) {
+        match self.view() {
+            Ok(view) => match view.text_of_stat(stat) {
                 Some(text) => Ok(text),
                 None => Ok(None),
             },
@@ -46,15 +46,15 @@ impl Document {
         }
     }
 
-    /// The plain document, of a text that was made.
-    pub(crate) fn shown_with(&self, text: TextId) -> Result<&Plain, DocumentError>
+    /// What the document shows, of a text that was made.
+    pub(crate) fn view_with(&self, text: TextId) -> Result<View<'_>, DocumentError>
         ensures { TellsOfText self.now text
-            (λ r. IsOkAnd r (λ p. p.now ≡ replay self.now.edits)) result }
+            (λ r. IsOkAnd r (λ v. v ≡ replay self.now.edits)) result }
     {
-        match self.shown() {
-            Ok(plain) => {
-                if has_text(plain, text) {
-                    Ok(plain)
+        match self.view() {
+            Ok(view) => {
+                if view.has_text(text) {
+                    Ok(view)
                 } else {
                     Err(DocumentError::NoSuch)
                 }
@@ -68,8 +68,8 @@ impl Document {
         ensures { result
             ≡ unless_no_text self.now text (length (text_shown (replay self.now.edits) text)) }
     {
-        match self.shown_with(text) {
-            Ok(plain) => Ok(plain.length(text)),
+        match self.view_with(text) {
+            Ok(view) => Ok(view.length(text)),
             Err(error) => Err(error),
         }
     }
@@ -78,8 +78,8 @@ impl Document {
     pub fn visits(&self, text: TextId) -> Result<u64, DocumentError>
         ensures { TellsOfText self.now text (λ r. IsOk r) result }
     {
-        match self.shown_with(text) {
-            Ok(_) => Ok(0),
+        match self.view_with(text) {
+            Ok(view) => Ok(view.visits(text)),
             Err(error) => Err(error),
         }
     }
@@ -89,8 +89,14 @@ impl Document {
         ensures { TellsOfText self.now text (λ r. (r ≡ Err DocumentError.Memory)
             ⊎ IsOkAnd r (λ bytes. bytes.items ≡ text_shown (replay self.now.edits) text)) result }
     {
-        match self.shown_with(text) {
-            Ok(plain) => plain.text(self.alloc(), text).map_err(of_edit),
+        match self.view_with(text) {
+            Ok(view) => {
+                let mut bytes = Vec::new(self.alloc());
+                match append_text(&view, text, &mut bytes) {
+                    Ok(()) => Ok(bytes),
+                    Err(_) => Err(DocumentError::Memory),
+                }
+            }
             Err(error) => Err(error),
         }
     }

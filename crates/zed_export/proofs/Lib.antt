@@ -3,6 +3,7 @@ pub mod Boards
 pub mod Each
 pub mod IntegersFit
 pub mod Live
+pub mod NameSearch
 pub mod Names
 pub mod Normality
 pub mod Numbers16

@@ -21,7 +21,7 @@ use Rattle.zed_edit.specs.Numbers.{alive_boards, alive_stats, stat_number}
 use Rattle.zed_laws.specs.Regular.{AreTexts, IsRegularBoard, IsRegular}
 use Rattle.zed_types.specs.declared.property.Side.TheVariants.{North, South, West, East}
 use Rattle.zed_types.specs.declared.stat_field.StatByte.TheVariants.{X, Y}
-use Rattle.zed_document.specs.View.{exit, stat_byte}
+use Rattle.zed_view.specs.View.{exit, stat_byte}
 use Rattle.zed_export.specs.World.{number_or_0, exit_number, parameter, exported_stat, exported_above, exported_board, exported_boards, world_of}
 use Rattle.zed_export.specs.Fields.{FitsStat, FitsBoard, FitsHeader, IsOwned}
 use Rattle.zed_export.specs.Limits.{boards_refusal, board_refusal, refusal_of}

@@ -28,7 +28,7 @@ use Rattle.zed_edit.specs.declared.plain.Plain.{Plain}
 use Rattle.zed_edit.specs.Document.{text}
 use Rattle.zed_edit.specs.Numbers.{alive_boards, board_number, alive_stats, stat_number as number_of_stat}
 use Rattle.zed_laws.specs.Registers.{header_number}
-use Rattle.zed_document.specs.View.{board_byte, board_flag, exit, board_text, stat_byte, stat_number}
+use Rattle.zed_view.specs.View.{board_byte, board_flag, exit, board_text, stat_byte, stat_number}
 
 -- the number of a board, or 0 where it is removed
 abbrev pub number_or_0 : Plain → BoardId → ℕ

@@ -4,7 +4,7 @@ ghost use Rattle.std.specs.List.{AllByRecursion};
 ghost use Rattle.zed_world.specs.Normal.{IsInteger};
 ghost use Rattle.zed_edit.specs.Numbers.{alive_stats as stats_there};
 ghost use Rattle.zed_laws.specs.NameOrder.{IsOrdered};
-ghost use Rattle.zed_document.specs.View.{board_at, stat_at};
+ghost use Rattle.zed_view.specs.View.{board_at, stat_at};
 ghost use Rattle.zed_export.specs.World.{stat_with, exported_above, exported_properties, exported_board};
 ghost use Rattle.zed_export.specs.Fields.{board_names as names_of_boards, stat_names as names_of_stats, place_parameter, FitsStat, FitsBoard};
 

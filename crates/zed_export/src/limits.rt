@@ -6,7 +6,7 @@ ghost use Rattle.zed_edit.specs.Document.{has};
 ghost use Rattle.zed_edit.specs.Numbers.{alive_boards as boards_there, alive_stats as stats_there};
 ghost use Rattle.zed_laws.specs.Regular.{IsRegular};
 ghost use Rattle.zed_laws.specs.NameOrder.{IsOrdered};
-ghost use Rattle.zed_document.specs.View.{board_at};
+ghost use Rattle.zed_view.specs.View.{board_at};
 ghost use Rattle.zed_export.specs.World.{exported_board, exported_boards};
 ghost use Rattle.zed_export.specs.Limits.{title_refusal, count_refusal, stats_refusal, board_refusal, boards_refusal, refusal_of};
 

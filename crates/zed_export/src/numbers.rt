@@ -1,7 +1,7 @@
 //! The numbers that the things of an exported world have.
 ghost use Rattle.std.specs.Prelude.{◌≡◌, ◌<◌, ◌≤◌, length, IfOk, IfSome};
 ghost use Rattle.zed_laws.specs.NameOrder.{IsOrdered};
-ghost use Rattle.zed_document.specs.View.{board_at};
+ghost use Rattle.zed_view.specs.View.{board_at};
 ghost use Rattle.zed_export.specs.Fields.{board_names as names_of_boards, stat_names as names_of_stats, place_among, place_or_0, exit_place, stat_place};
 
 use std::alloc::{AllocError, Global};

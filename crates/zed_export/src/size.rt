@@ -6,7 +6,7 @@ ghost use Rattle.zed_world.specs.Writing.{code_text, stat_text, body_text};
 ghost use Rattle.zed_edit.specs.Numbers.{alive_stats};
 ghost use Rattle.zed_laws.specs.NameOrder.{IsOrdered};
 ghost use Rattle.zed_types.specs.declared.property.BoardText.TheVariants.{Name, Message};
-ghost use Rattle.zed_document.specs.View.{board_at, board_text};
+ghost use Rattle.zed_view.specs.View.{board_at, board_text};
 ghost use Rattle.zed_export.specs.World.{exported_code, exported_above, exported_board};
 ghost use Rattle.zed_export.specs.Limits.{told};
 

@@ -91,6 +91,21 @@ pub not_on_screen : (es : List Edit) (n : ℕ) (old new : Option (Option Frame))
     → Answers {X = Unit {0}} (exported 20000 (replay es)) n (ShowsBoard old new) (Err e) → RefusedOr (OfSet (Ok es) n IsShown) e
 not_on_screen es n old new e is = hidden_world (exported 20000 (replay es)) n old new e is
 
+-- a board of the world of a set of edits was shown
+board_on : (header : Header) (board : Option BoardData) (old new : Option (Option Frame)) (u : Unit {0})
+    → InSession {X = Unit {0}} header board (ShowsBoard old new) (Ok u) → OfBoard header board IsShown (Ok tt)
+board_on header (Some board) old new u is = inl refl
+board_on header None old new u is = absurd (cc)
+
+world_on : (world : Result Contents ExportError) (n : ℕ) (old new : Option (Option Frame)) (u : Unit {0})
+    → Answers {X = Unit {0}} world n (ShowsBoard old new) (Ok u) → OfWorld world n IsShown (Ok tt)
+world_on (Ok w) n old new u is = board_on w.header (slice_get w.boards n) old new u is
+world_on (Err x) n old new u is = absurd (cc)
+
+pub on_screen : (es : List Edit) (n : ℕ) (old new : Option (Option Frame)) (u : Unit {0})
+    → Answers {X = Unit {0}} (exported 20000 (replay es)) n (ShowsBoard old new) (Ok u) → OfSet (Ok es) n IsShown (Ok tt)
+on_screen es n old new u is = world_on (exported 20000 (replay es)) n old new u is
+
 -- the world that a document shows, if it isn't stale
 pub shown_of : (d e : Replica) → d ≡ e → e.is_stale ≡ false → world_shown d ≡ exported 20000 (replay e.edits)
 shown_of d e same sound = rw (same, sound) refl
@@ -129,6 +144,18 @@ key_refused _ n words old new keys left p at going plays = absurd plays
 pub lent_is : {X : Type 0} (now : X → Playtest) (play : X) (o : Option X) (started : Option Playtest) (q : Playtest) → option_map now o ≡ started → o ≡ Some play
     → started ≡ Some q → now play ≡ q
 lent_is now play o started q lent is at = let both : Some (now play) ≡ Some q = rw is at lent ∙ at in cc
+
+-- a playtest goes on, whatever a key came to
+pub still_lent : {X : Type 0} (now : X → Playtest) (o : Option X) (used : Option ℕ) (words : List ℕ) (old new : Playing) (keys left : Option (List Key)) (p : Playtest) → old.playtest ≡ Some p
+    → PlaysKey (Ok used) words old keys new left → option_map now o ≡ new.playtest → o ≡ None → ⊥
+still_lent now o (Some used) words old new keys left p at plays lent none =
+    let step = key_steps used words old new keys left p at plays in
+    let bad : None ≡ Some step.1 = sym (ap (option_map now) none) ∙ lent ∙ step.2 in
+    absurd (cc)
+still_lent now o None words old new keys left p at plays lent none =
+    let stays = no_key words old new keys left p at plays in
+    let bad : None ≡ Some p = sym (ap (option_map now) none) ∙ lent ∙ stays in
+    absurd (cc)
 
 -- what isn't something is nothing
 pub not_some : {X : Type 0} (o : Option X) → is_some o ≡ false → o ≡ None

@@ -1,7 +1,9 @@
-use Rattle.std.proofs.Common.{map}
+use Rattle.std.proofs.Common.{◌≤◌}
+use Rattle.zed_edit.specs.Document.{elements}
+use Rattle.zed_document.specs.Authoring.{alive, part}
 use Rattle.zed_document.proofs.Counted.{Counts}
 use Rattle.zed_document.proofs.deletion.count_stretches.Given as goal
 
 -- the stretches of the bytes so far
-abbrev pub invariant-loop-element : goal.invariant-loop-element
-invariant-loop-element l = Counts l.stretches l.last (map (λ x. x.now) l.yielded)
+abbrev pub invariant-loop-k : goal.invariant-loop-k
+invariant-loop-k l = (l.from ≤ l.k) × (l.k ≤ l.to) × Counts l.stretches l.last (part l.from l.k (alive (elements l.view l.text)))

@@ -2,7 +2,7 @@ use Rattle.std.proofs.Common.{◌≡◌, ℕ, List, Option, rules, ap, ◌∙◌
 use Rattle.zed_types.specs.declared.names.BoardId.{BoardId}
 use Rattle.zed_types.specs.declared.property.Side.TheVariants.{North, South, West, East}
 use Rattle.zed_types.specs.declared.property.BoardText.TheVariants.{Message}
-use Rattle.zed_document.specs.View.{board_at, exit, board_text}
+use Rattle.zed_view.specs.View.{board_at, exit, board_text}
 use Rattle.zed_export.specs.World.{exit_number}
 use Rattle.zed_types.specs.declared.names.Name.{Name}
 use Rattle.zed_export.specs.Fields.{exit_place, board_names}

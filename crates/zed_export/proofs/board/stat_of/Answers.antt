@@ -6,7 +6,7 @@ use Rattle.zed_edit.specs.Numbers.{stat_number as number_of_stat}
 use Rattle.std.specs.Prelude.{option_and_then}
 use Rattle.zed_types.specs.declared.stat_field.StatByte.TheVariants.{X, Y}
 use Rattle.zed_types.specs.declared.stat_field.StatNumber.TheVariants.{StepX, StepY, Cycle, Position}
-use Rattle.zed_document.specs.View.{board_at, stat_at, stat_byte, stat_number}
+use Rattle.zed_view.specs.View.{board_at, stat_at, stat_byte, stat_number}
 use Rattle.zed_export.specs.World.{parameter}
 use Rattle.zed_types.specs.declared.names.Name.{Name}
 use Rattle.zed_export.specs.Fields.{place_parameter, board_names, stat_place, stat_names}

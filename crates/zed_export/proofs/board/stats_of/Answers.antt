@@ -4,7 +4,7 @@ use Rattle.std.proofs.lemmas.List.{length_push}
 use Rattle.zed_types.specs.declared.names.TextId.{TextId}
 use Rattle.zed_world.specs.declared.stat.StatData.{StatData}
 use Rattle.zed_edit.specs.declared.plain.Stat.{Stat}
-use Rattle.zed_document.specs.View.{board_at, stat_at, no_stat}
+use Rattle.zed_view.specs.View.{board_at, stat_at, no_stat}
 use Rattle.zed_export.specs.World.{exported_code, exported_stat, exported_above, stat_with}
 use Rattle.zed_laws.proofs.MadeElements.{All-append}
 use Rattle.zed_export.specs.Fields.{FitsStat}

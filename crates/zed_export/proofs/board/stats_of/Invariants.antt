@@ -2,7 +2,7 @@ use Rattle.std.proofs.Common.{◌≡◌, ◌+◌, ◌≤◌, ◌++◌, not, leng
 use Rattle.std.specs.Prelude.{filter}
 use Rattle.std.specs.List.{AllByRecursion}
 use Rattle.zed_edit.specs.Numbers.{alive_stats}
-use Rattle.zed_document.specs.View.{board_at}
+use Rattle.zed_view.specs.View.{board_at}
 use Rattle.zed_export.specs.World.{exported_above}
 use Rattle.zed_export.specs.Fields.{FitsStat, IsOwned}
 use Rattle.zed_export.proofs.board.stats_of.Given as goal

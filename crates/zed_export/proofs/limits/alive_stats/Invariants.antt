@@ -1,7 +1,7 @@
 use Rattle.std.proofs.Common.{◌≡◌, ◌+◌, ◌≤◌, not, length, drop}
 use Rattle.std.specs.Prelude.{filter}
 use Rattle.zed_edit.specs.Numbers.{alive_stats}
-use Rattle.zed_document.specs.View.{board_at}
+use Rattle.zed_view.specs.View.{board_at}
 use Rattle.zed_export.proofs.limits.alive_stats.Given as goal
 
 -- those counted, with those of the rest, are all

@@ -1,11 +1,11 @@
 use Rattle.std.proofs.Common.{◌≡◌, ℕ, length, [], arith}
 use Rattle.zed_edit.specs.Numbers.{alive_stats}
-use Rattle.zed_document.specs.View.{board_at}
+use Rattle.zed_view.specs.View.{board_at}
 use Rattle.zed_export.specs.World.{exported_board}
 use Rattle.zed_export.proofs.Boards.{length_above, stats_over, body_over, not_over}
 use Rattle.zed_edit.specs.declared.plain.Plain.{Plain}
 use Rattle.zed_laws.specs.Regular.{IsRegularBoard}
-use Rattle.zed_document.specs.View.{no_board}
+use Rattle.zed_view.specs.View.{no_board}
 use Rattle.zed_export.proofs.Normality.{texts_fit}
 use Rattle.zed_export.proofs.Ordered.{all_at}
 use Rattle.zed_export.proofs.limits.over.Goals as goal

@@ -2,7 +2,7 @@ use Rattle.std.proofs.Common.{◌≡◌, ◌++◌, List, map, not, sym, ap, ◌�
 use Rattle.std.specs.Prelude.{filter}
 use Rattle.std.proofs.lemmas.List.{drop_all}
 use Rattle.zed_edit.specs.declared.plain.Stat.{Stat}
-use Rattle.zed_document.specs.View.{board_at, no_board}
+use Rattle.zed_view.specs.View.{board_at, no_board}
 use Rattle.zed_laws.specs.NameOrder.{StatsRise}
 use Rattle.zed_export.specs.Fields.{stat_names}
 use Rattle.zed_export.proofs.Ordered.{all_at, stat_names_rise}

@@ -1,6 +1,6 @@
 use Rattle.std.proofs.Common.{◌≡◌, ◌++◌, not, map, drop}
 use Rattle.std.specs.Prelude.{filter}
-use Rattle.zed_document.specs.View.{board_at}
+use Rattle.zed_view.specs.View.{board_at}
 use Rattle.zed_export.specs.Fields.{stat_names}
 use Rattle.zed_export.proofs.numbers.stat_names.Given as goal
 

@@ -3,7 +3,7 @@ use Rattle.std.specs.List.{flat_map}
 use Rattle.zed_types.specs.declared.tile.Tile.{Tile}
 use Rattle.zed_runs.specs.Runs.{greedy}
 use Rattle.zed_world.specs.Writing.{stat_text}
-use Rattle.zed_document.specs.View.{board_at}
+use Rattle.zed_view.specs.View.{board_at}
 use Rattle.zed_export.specs.World.{exported_board}
 use Rattle.zed_export.specs.Limits.{told}
 use Rattle.zed_world.proofs.Sizes.{length_body}

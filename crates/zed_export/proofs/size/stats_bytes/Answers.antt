@@ -5,8 +5,8 @@ use Rattle.std.proofs.lemmas.List.{length_push, drop_all}
 use Rattle.zed_types.specs.declared.names.TextId.{TextId}
 use Rattle.zed_world.specs.Writing.{code_text, stat_text}
 use Rattle.zed_edit.specs.declared.plain.Stat.{Stat}
-use Rattle.zed_document.specs.declared.view.MadeStat.{MadeStat}
-use Rattle.zed_document.specs.View.{board_at, stat_at, no_stat}
+use Rattle.zed_view.specs.declared.made.MadeStat.{MadeStat}
+use Rattle.zed_view.specs.View.{board_at, stat_at, no_stat}
 use Rattle.zed_export.specs.World.{exported_code, exported_above}
 use Rattle.zed_export.specs.Limits.{told}
 use Rattle.zed_export.proofs.Live.{next_passes, next_fails}

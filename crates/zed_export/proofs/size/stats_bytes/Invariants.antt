@@ -3,7 +3,7 @@ use Rattle.std.specs.Prelude.{filter, not}
 use Rattle.std.specs.List.{flat_map}
 use Rattle.zed_world.specs.Writing.{stat_text}
 use Rattle.zed_edit.specs.Numbers.{alive_stats}
-use Rattle.zed_document.specs.View.{board_at}
+use Rattle.zed_view.specs.View.{board_at}
 use Rattle.zed_export.specs.World.{exported_above}
 use Rattle.zed_export.specs.Limits.{told}
 use Rattle.zed_export.proofs.size.stats_bytes.Given as goal

@@ -5,7 +5,7 @@ use Rattle.zed_program.specs.declared.refusal.Refusal.TheVariants.{TooManyTurns}
 use Rattle.zed_program.specs.Lines.{told_of}
 use Rattle.zed_program.specs.Shown.{IsPlayed, OfSet, StepsTo, most_keys}
 use Rattle.zed_program.specs.Refusals.{session_refusal}
-use Rattle.zed_program.proofs.Played.{key_refused, key_steps, lent_is, no_key, not_some, play_begins, shown_of}
+use Rattle.zed_program.proofs.Played.{key_refused, key_steps, lent_is, no_key, not_some, play_begins, shown_of, still_lent}
 use Rattle.zed_program.proofs.Stepping.{at_start, none_more, one_more, uses_few}
 use Rattle.zed_program.proofs.playing.play_board.Goals as goal
 
@@ -94,3 +94,20 @@ returns g c =
     let past = c.loop-test.false in
     let all : c.loop.counter ≡ most_keys = omega (arith, few, past) in
     inr (old.comes (Err TooManyTurns) (c.loop.counter, old.play, old.few, none_more c.loop.counter old.first old.play c.args.words.now c.loop.left.now old.goes, inr (inr (inr (inr (refl, all, old.going))))))
+
+-- a playtest that was started goes on
+pub returns-in_default : goal.returns-in_default
+returns-in_default g c =
+    let old = c.loop.invariant in
+    absurd (still_lent (λ p. p.now) c.playtest.result c.in_ok-used.used c.loop.left.now _ _ _ _ old.play old.now c.in_ok-used.ensures.result c.playtest.ensures.result c.in_default.is)
+
+-- memory is lacking for what is told
+pub returns-in_err-told : goal.returns-in_err-told
+returns-in_err-told g c =
+    let p = err_from_is_err_and c.from_residual-in_err-told.result c.from_residual-in_err-told.ensures.1 in
+    rw p.1 (inl p.2)
+
+pub returns-in_err-told-2 : goal.returns-in_err-told-2
+returns-in_err-told-2 g c =
+    let p = err_from_is_err_and c.from_residual-in_err-told-2.result c.from_residual-in_err-told-2.ensures.1 in
+    rw p.1 (inl p.2)

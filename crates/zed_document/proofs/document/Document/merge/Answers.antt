@@ -1,11 +1,9 @@
 use Rattle.std.proofs.Common.{◌≡◌, ap, ◌∙◌, sym}
 use Rattle.zed_op.specs.Set.{union}
-use Rattle.zed_document.specs.Replica.{Replica}
 use Rattle.zed_document.proofs.Joining.{first_stamp, below-first_stamp}
 use Rattle.zed_document.proofs.document.Document.merge.Goals as goal
 
 pub returns-in-None-clause-err : goal.returns-in-None-clause-err
 returns-in-None-clause-err c = λ m.
-    let same : c.take_in.new.self ≡ c.args.self.now = rw m at c.take_in.ensures.kept in
-    let edits : c.take_in.new.self.edits ≡ c.args.self.now.edits = ap (λ (r : Replica). r.edits) same in
+    let edits : c.take_in.new.self.edits ≡ c.args.self.now.edits = rw m at c.take_in.ensures.kept in
     (first_stamp, edits ∙ ap (union c.args.self.now.edits) (sym (below-first_stamp c.args.other.now.edits)))

@@ -1,6 +1,6 @@
 use Rattle.std.proofs.Common.{◌∙◌, sym, ap}
 use Rattle.zed_types.specs.declared.names.Name.{Name}
-use Rattle.zed_document.proofs.NameSearch.{sought}
+use Rattle.zed_export.proofs.NameSearch.{sought}
 use Rattle.zed_export.specs.Fields.{place_among}
 use Rattle.zed_export.proofs.numbers.Names.place_of.Goals as goal
 

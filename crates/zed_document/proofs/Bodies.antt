@@ -1,0 +1,119 @@
+-- The body of a document, as edits come to it.
+use Rattle.std.proofs.Common.{◌≡◌, ◌∙◌, Bool, true, false, List, [], ◌∷◌, Some, None, refl, ap, sym, subst}
+use mathlib.Core.Logic.{inl, inr}
+use Rattle.std.specs.List.{AllByRecursion}
+use Rattle.zed_types.specs.declared.stamp.Stamp.{Stamp}
+use Rattle.zed_types.specs.Stamp.{same_stamp}
+use Rattle.zed_types.proofs.StampOrder.{same_stamp-true, same_stamp-itself}
+use Rattle.zed_op.specs.declared.op.Edit.{Edit}
+use Rattle.zed_op.specs.Fit.{Fits}
+use Rattle.zed_op.specs.Set.{AllFit, IsRising, stamps_of, union, with_edit}
+use Rattle.zed_op.specs.SetLaws.{EditKeepsFit, EditKeepsRising, UnionKeepsFit, UnionKeepsRising}
+use Rattle.zed_op.specs.Sizes.{HasSizes, HaveSizes}
+use Rattle.zed_op.proofs.SetLaws.{each-with_edit}
+use Rattle.zed_laws.specs.Laws.{HeldAreRemembered}
+use Rattle.zed_body.specs.declared.body.Body.{Body}
+use Rattle.zed_body.specs.declared.take.Taken.{Taken}
+use Rattle.zed_body.specs.Shows.{BodyShows}
+use Rattle.zed_body.specs.Taking.{CalmEditsHoldTheSame, ComesTo, IsApart, IsNewTo, ShowsOneMore, Tells}
+use Rattle.zed_body.specs.TakingAll.{AllComeTo, AreNewTo, RisingAreApart, ShowsAll}
+use Rattle.zed_document.specs.declared.delivered.Delivered.{Delivered}
+use Rattle.zed_document.specs.Batch.{AreNew}
+use Rattle.zed_document.specs.Delivery.{TellsNew, edit_with, state_of}
+use Rattle.zed_document.specs.Held.{held_stamps, IsRenewed}
+use Rattle.zed_document.specs.Kept.{IsKept}
+
+other_way : (a b : Stamp) → same_stamp a b ≡ false → same_stamp b a ≡ false
+other_way a b n = go (same_stamp b a) refl
+  where
+    go : (t : Bool) → same_stamp b a ≡ t → same_stamp b a ≡ false
+    go true q =
+        let same : b ≡ a = same_stamp-true b a q in
+        let yes : same_stamp a b ≡ true = subst (λ x. same_stamp a x ≡ true) (sym same) (same_stamp-itself a) in
+        absurd (cc)
+    go false q = q
+
+-- an edit whose stamp isn't found has one of its own
+pub apart : (e : Edit) (es : List Edit) → edit_with e.stamp es ≡ None → IsApart e es
+apart e [] h = tt
+apart e (f ∷ fs) h = go (same_stamp f.stamp e.stamp) refl (λ k. apart e fs k)
+  where
+    go : (t : Bool) → same_stamp f.stamp e.stamp ≡ t → (edit_with e.stamp fs ≡ None → IsApart e fs) → IsApart e (f ∷ fs)
+    go true q more = absurd (let bad : Some f ≡ None = rw q at h in cc)
+    go false q more = (other_way f.stamp e.stamp q, more (rw q at h))
+
+all_apart : (log more : List Edit) → AreNew log more → AllByRecursion (λ e. IsApart e log) more
+all_apart log [] n = tt
+all_apart log (e ∷ more) n = (apart e log n.0, all_apart log more n.1)
+
+pub comes : (e : Edit) (es : List Edit) (stamps : List Stamp) (stale : Bool) (b : Body) → IsKept es stamps stale b → stale ≡ false → edit_with e.stamp es ≡ None → ComesTo e es b
+comes e es stamps stale b k sound new = record { rising = k.rising; fit = k.fit; shows = k.shown sound; apart = apart e es new }
+
+pub is_new : (e : Edit) (es : List Edit) (stamps : List Stamp) (stale : Bool) (b : Body) → IsKept es stamps stale b → stale ≡ false → edit_with e.stamp es ≡ None → IsNewTo e b
+is_new e es stamps stale b k sound new = (es, comes e es stamps stale b k sound new)
+
+-- the stamps of those held after one edit more
+stamps_now : HeldAreRemembered → CalmEditsHoldTheSame → (e : Edit) (es : List Edit) (was now : List Stamp) (b c : Body) (t : Taken)
+    → ComesTo e es b → Fits e → was ≡ held_stamps es → BodyShows (with_edit e es) c → Tells e b t
+    → IsRenewed t c.inbox was now → now ≡ held_stamps (with_edit e es)
+stamps_now remembered calm e es was now b c t k fits old shows tells (inl listed) =
+    listed ∙ ap stamps_of shows.waiting ∙ remembered (with_edit e es)
+stamps_now remembered calm e es was now b c t k fits old shows tells (inr h) =
+    let told = tells es k in
+    h.2 ∙ old ∙ sym (calm e es k.rising k.fit fits k.apart (sym told.0 ∙ h.0) (sym told.1 ∙ h.1))
+
+-- a document that took one edit more is kept
+pub one_more : HeldAreRemembered → CalmEditsHoldTheSame → EditKeepsRising → EditKeepsFit
+    → (e : Edit) (es : List Edit) (was now : List Stamp) (stale : Bool) (b c : Body) (t : Taken)
+    → IsKept es was stale b → stale ≡ false → edit_with e.stamp es ≡ None → Fits e → HasSizes e
+    → ShowsOneMore e b c → Tells e b t → IsRenewed t c.inbox was now
+    → IsKept (with_edit e es) now false c
+one_more remembered calm rises fit e es was now stale b c t k sound new fits sizes shows tells renewed =
+    let come = comes e es was stale b k sound new in
+    record {
+      fit = fit e es fits k.fit;
+      sizes = each-with_edit HasSizes e es sizes k.sizes;
+      rising = rises e es k.rising;
+      held = stamps_now remembered calm e es was now b c t come fits k.held (shows es come) tells renewed;
+      shown = λ _. shows es come;
+    }
+
+-- and tells of the edit
+pub tells_new : (e : Edit) (es : List Edit) (b : Body) (t : Taken) (d : Delivered) → ComesTo e es b → Tells e b t → d.state ≡ state_of t.held → d.woken ≡ t.woken → TellsNew es (with_edit e es) e d
+tells_new e es b t d k tells state woken =
+    let told = tells es k in
+    (state ∙ ap state_of told.0, woken ∙ told.1)
+
+-- ---- many edits
+
+pub all_come : RisingAreApart → (more es : List Edit) (stamps : List Stamp) (stale : Bool) (b : Body) → IsKept es stamps stale b → stale ≡ false → IsRising more → AreNew es more → AllComeTo more es b
+all_come law more es stamps stale b k sound rising new = record {
+  rising = k.rising;
+  fit = k.fit;
+  shows = k.shown sound;
+  apart = all_apart es more new;
+  among = law more rising;
+}
+
+pub are_new : RisingAreApart → (more es : List Edit) (stamps : List Stamp) (stale : Bool) (b : Body) → IsKept es stamps stale b → stale ≡ false → IsRising more → AreNew es more → AreNewTo more b
+are_new law more es stamps stale b k sound rising new = (es, all_come law more es stamps stale b k sound rising new)
+
+sizes-union : (es more : List Edit) → HaveSizes es → HaveSizes more → HaveSizes (union es more)
+sizes-union es [] a b = a
+sizes-union es (e ∷ more) a b = sizes-union (with_edit e es) more (each-with_edit HasSizes e es b.0 a) b.1
+
+-- a document that took many edits is kept
+pub many_more : HeldAreRemembered → RisingAreApart → UnionKeepsRising → UnionKeepsFit
+    → (more es : List Edit) (was : List Stamp) (stale : Bool) (b c : Body) (stamps : List Stamp)
+    → IsKept es was stale b → stale ≡ false → IsRising more → AllFit more → HaveSizes more → AreNew es more
+    → ShowsAll more b c → stamps ≡ stamps_of c.inbox
+    → IsKept (union es more) stamps false c
+many_more remembered law rises fit more es was stale b c stamps k sound rising fits sizes new shows listed =
+    let all = shows es (all_come law more es was stale b k sound rising new) in
+    record {
+      fit = fit es more k.fit fits;
+      sizes = sizes-union es more k.sizes sizes;
+      rising = rises es more k.rising;
+      held = listed ∙ ap stamps_of all.waiting ∙ remembered (union es more);
+      shown = λ _. all;
+    }

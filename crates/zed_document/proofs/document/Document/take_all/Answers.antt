@@ -1,0 +1,31 @@
+use Rattle.std.proofs.Common.{◌≡◌, ◌∙◌, List, false, ap, subst, sym}
+use Rattle.zed_op.specs.declared.op.Edit.{Edit}
+use Rattle.zed_op.specs.Set.{union}
+use Rattle.zed_op.specs.Sizes.{HaveSizes}
+use Rattle.zed_body.specs.TakingAll.{AreNewTo, ShowsAll}
+use Rattle.zed_document.specs.Batch.{AreNew}
+use Rattle.zed_document.specs.Kept.{IsKept}
+use Rattle.zed_document.specs.Replica.{Replica}
+use Rattle.zed_document.proofs.Bodies.{are_new, many_more}
+use Rattle.zed_document.proofs.document.Document.take_all.Goals as goal
+
+pub take_all-requires-clause-new : goal.take_all-requires-clause-new
+take_all-requires-clause-new c =
+    let v : c.self.inside.edits.items ≡ c.args.self.now.edits = ap (λ (r : Replica). r.edits) c.self.view_is in
+    let f : c.self.inside.is_stale ≡ false = ap (λ (r : Replica). r.is_stale) c.self.view_is ∙ c.requires.sound in
+    let new : AreNew c.self.inside.edits.items c.args.edits.items = subst (λ es. AreNew es c.args.edits.items) (sym v) c.requires.new in
+    let all = are_new c.rising_edits_are_apart.ensures c.args.edits.items c.self.inside.edits.items c.self.inside.held.items c.self.inside.is_stale c.self.inside.body c.self.invariant f c.requires.rising new in
+    subst (λ (es : List Edit). AreNewTo es c.self.inside.body) (sym c.deref-2.ensures.value) all
+
+pub invariant_of-self-2 : goal.invariant_of-self-2
+invariant_of-self-2 c =
+    let v : c.self.inside.edits.items ≡ c.args.self.now.edits = ap (λ (r : Replica). r.edits) c.self.view_is in
+    let f : c.self.inside.is_stale ≡ false = ap (λ (r : Replica). r.is_stale) c.self.view_is ∙ c.requires.sound in
+    let new : AreNew c.self.inside.edits.items c.args.edits.items = subst (λ es. AreNew es c.args.edits.items) (sym v) c.requires.new in
+    let sizes : HaveSizes c.args.edits.items = subst HaveSizes c.deref.ensures.value c.edits_have_sizes.ensures in
+    let shows : ShowsAll c.args.edits.items c.self.inside.body c.take_all.new.self = subst (λ es. ShowsAll es c.self.inside.body c.take_all.new.self) c.deref-2.ensures.value c.in-Ok.ensures.ok in
+    let joined : c.in_ok-self-inside.field-0.items ≡ union c.self.inside.edits.items c.args.edits.items = c.in_ok-self-inside.ensures.ok ∙ ap (λ es. union es c.args.edits.items) c.deref-3.ensures.value in
+    let kept = many_more c.held_edits_are_remembered.ensures c.rising_edits_are_apart.ensures c.sets_rise.ensures.union c.sets_stay_fit.ensures.union
+    c.args.edits.items c.self.inside.edits.items c.self.inside.held.items c.self.inside.is_stale c.self.inside.body c.take_all.new.self c.in-Ok-stamps.held.items
+    c.self.invariant f c.requires.rising c.requires.fit sizes new shows c.in-Ok-stamps.ensures.ok in
+    subst (λ es. IsKept es c.in-Ok-stamps.held.items false c.take_all.new.self) (sym joined) kept
