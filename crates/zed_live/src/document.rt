@@ -13,7 +13,7 @@ use crate::making::made_by;
 use std::alloc::Global;
 use zed_edit::{Edit, Op};
 
-/// A header and boards, each register with its latest write. Texts aren't here yet.
+/// A header and boards, each register with its latest write. The texts are in a crate of their own.
 #[derive(Drop)]
 pub struct LiveDocument {
     pub header: LiveHeader,
