@@ -141,7 +141,7 @@ impl Desk {
     }
 
     /// What one author would have who makes the document's edits in their order.
-    fn replayed(&self) -> Option<Plain> {
+    pub(crate) fn replayed(&self) -> Option<Plain> {
         match replay(self.alloc, self.document.edits()) {
             Ok(plain) => Some(plain),
             Err(_) => None,

@@ -52,6 +52,8 @@ mod session;
 #[cfg(test)]
 mod shapes;
 #[cfg(test)]
+mod shuffled;
+#[cfg(test)]
 mod speeds;
 #[cfg(test)]
 mod steps;
@@ -59,5 +61,7 @@ mod steps;
 mod texts;
 #[cfg(test)]
 mod typing;
+#[cfg(test)]
+mod visits;
 #[cfg(test)]
 mod worlds;

@@ -22,10 +22,16 @@ pub(crate) enum Does {
     RemoveBoard(Name),
     /// An exit of the title.
     Exit(Side, Name),
+    /// An exit of a board.
+    ExitOf(Name, Side, Name),
     /// One cell of the title.
     Cell(u8, u8, Tile),
+    /// A rectangle of a board: left, top, right and bottom.
+    Fill(Name, [u8; 4], Tile),
     /// A stat on the title at a place, with a text or none.
     AddStat(u8, u8, Option<Name>),
+    /// A stat at (2,2) of a board, with a text or none.
+    StatOn(Name, Option<Name>),
     RemoveStat(Name),
     SetText(Name, Option<Name>),
     AddText,
@@ -35,6 +41,8 @@ pub(crate) enum Does {
     Letters(Name, usize),
     /// Deletes one byte.
     Delete(Name, Name),
+    /// Deletes the bytes of an insertion from this one to the one of a number.
+    DeleteTo(Name, Name, u32),
 }
 
 /// An edit: when it is made, by which replica, and what it does.
@@ -109,15 +117,25 @@ fn cell(x: u8, y: u8) -> Rectangle {
     }
 }
 
+fn rectangle(sides: [u8; 4]) -> Rectangle {
+    let [left, top, right, bottom] = sides;
+    Rectangle {
+        left,
+        top,
+        right,
+        bottom,
+    }
+}
+
 fn exit(side: Side, to: Name) -> BoardSetting {
     BoardSetting::Exit(side, Some(board_id(to)))
 }
 
-fn one_byte(name: Name) -> ByteRange {
+fn bytes_to(name: Name, last: u32) -> ByteRange {
     ByteRange {
         stamp: stamp_of(name),
         first: name.2,
-        last: name.2,
+        last,
     }
 }
 
@@ -127,10 +145,13 @@ pub(crate) fn op_of(alloc: Global, does: Does) -> Result<Op, AllocError> {
         Does::AddBoard(name) => Op::BoardAdd(string(alloc, name)?),
         Does::RemoveBoard(name) => Op::BoardRemove(board_id(name)),
         Does::Exit(side, to) => Op::SetBoard(BoardId::TITLE, exit(side, to)),
+        Does::ExitOf(name, side, to) => Op::SetBoard(board_id(name), exit(side, to)),
         Does::Cell(x, y, tile) => Op::SetCells(BoardId::TITLE, cell(x, y), tile),
+        Does::Fill(name, sides, tile) => Op::SetCells(board_id(name), rectangle(sides), tile),
         Does::AddStat(x, y, text) => {
             Op::StatAdd(BoardId::TITLE, fields(x, y, optional_text(text)))
         }
+        Does::StatOn(name, text) => Op::StatAdd(board_id(name), fields(2, 2, optional_text(text))),
         Does::RemoveStat(name) => Op::StatRemove(stat_id(name)),
         Does::SetText(name, text) => {
             Op::SetStat(stat_id(name), StatSetting::Text(optional_text(text)))
@@ -140,7 +161,8 @@ pub(crate) fn op_of(alloc: Global, does: Does) -> Result<Op, AllocError> {
             Op::TextInsert(text_id(text), optional_byte(after), string(alloc, run)?)
         }
         Does::Letters(text, count) => Op::TextInsert(text_id(text), None, letters(alloc, count)?),
-        Does::Delete(text, byte) => Op::TextDelete(text_id(text), one_byte(byte)),
+        Does::Delete(text, byte) => Op::TextDelete(text_id(text), bytes_to(byte, byte.2)),
+        Does::DeleteTo(text, byte, last) => Op::TextDelete(text_id(text), bytes_to(byte, last)),
     })
 }
 
