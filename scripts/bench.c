@@ -81,14 +81,46 @@ static void put_string(number count) { put(count, 1), put_letters(count); }
 
 static void begin(number op) { length = 0, put_stamp(made), put(op, 1); }
 
+static void write_bytes(void *to, const byte *bytes, number count) {
+    if (fwrite(bytes, 1, count, to) != count) fail("a file can't be written");
+}
+
 static void write_record(void *to) {
     byte count[4] = {(byte) length, (byte) (length >> 8)};
-    if (fwrite(count, 1, 4, to) != 4 || fwrite(body, 1, length, to) != length) fail("a file can't be written");
+    write_bytes(to, count, 4), write_bytes(to, body, length);
+}
+
+/* The order in which the edits stand in their file, behind the Genesis. */
+static enum { AS_MADE, LAST_FIRST, SHUFFLED } order;
+
+/* The records of a file whose edits stand in another order than they are made: that of edit n goes from place n to the next. */
+static byte kept[1ul << 28];
+static number places[MOST_EDITS + 2];
+
+static void keep_record(void) {
+    byte *at = kept + places[made];
+    places[made + 1] = places[made] + 4 + length;
+    if (places[made + 1] > sizeof kept) fail("there are too many edits");
+    *at++ = (byte) length, *at++ = (byte) (length >> 8), *at++ = 0, *at++ = 0;
+    for (number n = 0; n < length; n++) *at++ = body[n];
+}
+
+static void write_kept(void *to) {
+    static number turns[MOST_EDITS];
+    for (number n = 1; n < made; n++) {
+        number other = order == SHUFFLED ? 1 + chance(n) : n;
+        turns[n] = turns[other], turns[other] = n;
+    }
+    for (number n = 1; n < made; n++) {
+        number edit = order == LAST_FIRST ? made - n : turns[n];
+        write_bytes(to, kept + places[edit], places[edit + 1] - places[edit]);
+    }
 }
 
 /* Ends an edit, and answers its number. */
 static number end(void) {
-    write_record(out[(made - 1) % files]);
+    if (order == AS_MADE) write_record(out[(made - 1) % files]);
+    else keep_record();
     return made++;
 }
 
@@ -260,21 +292,24 @@ static void make_mixed(void) {
     }
 }
 
-static const struct { const char *name; number authors, files; void (*make)(void); } kinds[] = {
-    {"cells", 8, 8, make_cells},   /* cells of one board, a file of each author */
-    {"stats", 1, 1, make_stats},   /* stats and their fields */
-    {"texts", 2, 1, make_texts},   /* several texts */
-    {"row", 1, 1, make_row},       /* one text, typed in a row */
-    {"places", 4, 1, make_places}, /* one text, at random places */
-    {"mixed", 3, 1, make_mixed},   /* boards and registers */
-    {"turns", 2, 2, make_cells},   /* cells again, for two files whose stamps lie in turn */
+static const struct { const char *name; number authors, files; void (*make)(void); int order; } kinds[] = {
+    {"cells", 8, 8, make_cells},              /* cells of one board, a file of each author */
+    {"stats", 1, 1, make_stats},              /* stats and their fields */
+    {"texts", 2, 1, make_texts},              /* several texts */
+    {"row", 1, 1, make_row},                  /* one text, typed in a row */
+    {"places", 4, 1, make_places},            /* one text, at random places */
+    {"mixed", 3, 1, make_mixed},              /* boards and registers */
+    {"turns", 2, 2, make_cells},              /* cells again, for two files whose stamps lie in turn */
+    {"chain", 1, 1, make_row, LAST_FIRST},    /* the text that is typed in a row: each edit waits for the one that stands behind it */
+    {"random", 3, 1, make_mixed, SHUFFLED},   /* boards and registers, in random order */
 };
 
 static void make(const char *kind, const char *folder) {
     for (number at = 0; at < sizeof kinds / sizeof *kinds; at++) {
         if (strcmp(kinds[at].name, kind)) continue;
-        authors = kinds[at].authors, files = kinds[at].files;
+        authors = kinds[at].authors, files = kinds[at].files, order = kinds[at].order;
         begin_files(folder), kinds[at].make();
+        if (order != AS_MADE) write_kept(out[0]);
         while (files) {
             if (fclose(out[--files])) fail("a file can't be written");
         }
