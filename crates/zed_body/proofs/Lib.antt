@@ -4,7 +4,6 @@ pub mod Calm
 pub mod Cascades
 pub mod Fewer
 pub mod HasThings
-pub mod LastFirstComes
 pub mod MadeThings
 pub mod ManyArrive
 pub mod Members

@@ -1,5 +1,4 @@
 pub mod Cascade
-pub mod LastFirst
 pub mod Made
 pub mod Settling
 pub mod Shows

@@ -18,6 +18,3 @@ pub use laws::{
     empty_bodies_show_none, rising_edits_are_apart,
 };
 pub use take::Taken;
-
-#[cfg(test)]
-mod tests;
