@@ -63,12 +63,14 @@ impl Inbox {
         put(self.alloc, &mut self.edits, &mut self.waits, edit)
     }
 
-    /// The edits that wait for a thing, in stamp order. They no longer wait, and the others do. Memory leaves the inbox as it was.
+    /// The edits that wait for a thing, in stamp order. They no longer wait, and the others do. It takes no memory where none does.
+    /// Memory leaves the inbox as it was.
     pub fn release(&mut self, thing: Thing) -> Result<Vec<Edit>, InboxError>
         ensures ok { IfOk result (λ edits. edits.items ≡ naming thing self.old) }
         ensures others { OnOk result (self.new ≡ not_naming thing self.old) }
         ensures err { IfErr result (λ e. e ≡ InboxError.Memory) }
         ensures kept { OnErr result (self.new ≡ self.old) }
+        ensures memory_only_when { OnErr result (naming thing self.old ≢ []) }
     {
         let stamps = self.stamps_for(thing)?;
         self.take_all(thing, stamps.as_slice())
@@ -115,6 +117,7 @@ impl Inbox {
     fn stamps_for(&self, thing: Thing) -> Result<Vec<Stamp>, InboxError>
         ensures ok { IfOk result (λ stamps. stamps.items ≡ stamps_of (naming thing self.now)) }
         ensures err { IfErr result (λ e. e ≡ InboxError.Memory) }
+        ensures memory_only_when { OnErr result (naming thing self.now ≢ []) }
     {
         let mut stamps = Vec::new(self.alloc);
         let first = Stamp {
@@ -139,6 +142,7 @@ impl Inbox {
         ensures others { OnOk result (self.new ≡ not_naming _thing self.old) }
         ensures err { IfErr result (λ e. e ≡ InboxError.Memory) }
         ensures kept { OnErr result (self.new ≡ self.old) }
+        ensures memory_only_when { OnErr result (naming _thing self.old ≢ []) }
     {
         let mut taken = Vec::with_capacity(self.alloc, stamps.len()).map_err(
             InboxError::of_growth,
