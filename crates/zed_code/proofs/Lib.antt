@@ -1,10 +1,15 @@
 pub mod Alive
+pub mod Entries
+pub mod Halves
+pub mod Hinting
+pub mod Joins
 pub mod Cuts
 pub mod Keeping
 pub mod Killing
+pub mod Kills
 pub mod Places
 pub mod PutBytes
-pub mod Rests
+pub mod Puts
 pub mod RisingEdits
+pub mod Rooms
 pub mod Spelling
-pub mod Starts
