@@ -8,6 +8,7 @@ use Rattle.zed_types.specs.declared.text.ByteRange.{ByteRange}
 use Rattle.zed_types.specs.Stamp.{same_stamp}
 use Rattle.zed_types.specs.Names.{byte_of}
 use Rattle.zed_code.specs.declared.run.Run.{Run}
+use Rattle.zed_code.specs.declared.block.Block.{Block}
 use Rattle.zed_code.specs.declared.block.Spot.{Spot}
 use Rattle.zed_code.specs.declared.insertion.Target.{Target}
 use Rattle.zed_code.specs.Targets.{IsTarget}
@@ -373,3 +374,9 @@ is-inside at ls n l inside end = go (ltb at.block n) refl
     go : (b : Bool) → ltb at.block n ≡ b → IsIn at 1 ls
     go true e = inside (grind (arith))
     go false e = let far : n ≤ at.block = grind (arith) in let m = end far in absurd (omega (arith, l, m))
+
+pub hints-of : (hs : List (ElemId × ℕ)) (ps qs : List ℕ) (bs cs : List Block) → ps ≡ qs → bs ≡ cs → AreHints hs ps (lists bs) → AreHints hs qs (lists cs)
+hints-of hs ps qs bs cs e f are =
+    let P : List ℕ → Type 0 = λ xs. AreHints hs xs (lists bs) in
+    let Q : List Block → Type 0 = λ xs. AreHints hs qs (lists xs) in
+    subst Q f (subst P e are)

@@ -79,7 +79,7 @@ fn cut_block(
     visits: &mut u64,
 ) -> bool
     requires block { block < length blocks.old.items }
-    requires each { AllByRecursion IsSound (runs_of blocks.old.items) }
+    requires each { AllByRecursion IsSound (list_at block (lists blocks.old.items)) }
     requires ordered { AllInOrder (list_at block (lists blocks.old.items)) }
     requires within { start ≤ length (list_at block (lists blocks.old.items)) }
     requires none { NoneFrom range.stamp range.first

@@ -179,8 +179,10 @@ pub(crate) fn put(
     ensures visits { OnOk result
         (LooksAtSome (length (runs_of blocks.old.items)) visits.old visits.new) }
 {
+    let _visits = *visits;
     if blocks.is_empty() {
-        return put_alone(blocks, places, run);
+        put_alone(blocks, places, run)?;
+        return Ok(());
     }
     let wanted = aim(blocks, places, hints, after, run, visits)?;
     let to = make_room(blocks, places, wanted)?;
