@@ -21,8 +21,10 @@ use Rattle.zed_body.specs.Things.{can_do, IsPutIn}
 use Rattle.zed_body.specs.Shows.{ContentShows, IsBodyHalfway}
 use Rattle.zed_body.specs.Steps.{IsInHand, IsDone, IsHeldBack, awaited, IsTried, IsReleased, AreInHand, AreTried, HandIsReady, BodyBegins, BodyEnds}
 use Rattle.zed_body.proofs.Cascades.{cascades_begin, edits_arrive, edits_are_done, edits_are_held, things_are_released, cascades_end, first-new, or-last}
+use Rattle.zed_body.specs.Taking.{IsApart}
 use Rattle.zed_body.proofs.HasThings.{content_can}
 use Rattle.zed_body.proofs.Members.{all-members, IsCut, cut, all-behind}
+use Rattle.zed_body.proofs.Stirring.{few_more}
 
 -- what an edit in hand has of the set of all
 pub record Placed (e : Edit) (done : List Edit) : Type 0 where
@@ -46,8 +48,8 @@ placed e all done waits hand to_come h = record {
     all_fit = all-members Fits done (λ f m. Member-all Fits all h.fit f (h.done_in f m))
 
 -- the live parts take an edit that is put in
-content_takes : DocumentTakes → TextsTake → (e : Edit) (done : List Edit) (d : LiveDocument) (ts : Texts) (d' : LiveDocument) (ts' : Texts) → HasSizes e → Placed e done → can (replay done) e ≡ true → ContentShows done d ts → IsPutIn e d ts d' ts' → ContentShows (with_edit e done) d' ts'
-content_takes takes texts_take e done d ts d' ts' sizes p c was put =
+content_takes : DocumentTakes → TextsTake → (e : Edit) (done : List Edit) (d : LiveDocument) (ts : Texts) (d' : LiveDocument) (ts' : Texts) → HasSizes e → IsApart e done → Placed e done → can (replay done) e ≡ true → ContentShows done d ts → IsPutIn e d ts d' ts' → ContentShows (with_edit e done) d' ts'
+content_takes takes texts_take e done d ts d' ts' sizes new p c was put =
     let k = p.place in
     let now : can (replay (k.low ++ k.high)) e ≡ true = subst (λ es. can (replay es) e ≡ true) k.whole c in
     let live = takes e k.low k.high d p.rises sizes p.none now (subst (λ es. DocumentShows es d) k.whole was.live) in
@@ -57,6 +59,7 @@ content_takes takes texts_take e done d ts d' ts' sizes p c was put =
     record {
       live = subst P (sym put.0) (subst (λ es. DocumentShows es (document_after e d)) (sym k.with_it) live);
       texts = subst Q (sym put.1) (subst (λ es. TextsShow es (texts_after e.stamp e.op (elements_of ts))) (sym k.with_it) texts);
+      few = few_more e done ts ts' new was.few put.2;
     }
 
 tells : (all hand : List Edit) (to_come : Thing → Bool) (b : Body) (e : Edit) (h : IsBodyHalfway all hand to_come b) → can_do b.live.boards b.texts e ≡ can (replay h.0) e
@@ -68,7 +71,7 @@ is_done takes texts_take e b c sizes able put same all hand before after h keep 
     let next = edits_are_done e all h.0 b.inbox hand before after h.2 now keep made in
     let P : List Edit → Type 0 = λ w. IsHalfway all (with_edit e h.0) w hand after in (
       with_edit e h.0,
-      content_takes takes texts_take e h.0 b.live b.texts c.live c.texts sizes (placed e all h.0 b.inbox hand before h.2) now h.1 put,
+      content_takes takes texts_take e h.0 b.live b.texts c.live c.texts sizes (first-new e all h.0 b.inbox hand before h.2) (placed e all h.0 b.inbox hand before h.2) now h.1 put,
       subst P (sym same) next,
     )
 

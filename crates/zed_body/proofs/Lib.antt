@@ -8,5 +8,6 @@ pub mod MadeThings
 pub mod ManyArrive
 pub mod Members
 pub mod Settling
+pub mod Stirring
 pub mod Waking
 pub mod Woken

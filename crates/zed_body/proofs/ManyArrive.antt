@@ -15,10 +15,12 @@ use Rattle.zed_live.specs.declared.document.LiveDocument.{LiveDocument}
 use Rattle.zed_texts.specs.Shows.{NoneIsEmpty as TextsNone, TextsShow}
 use Rattle.zed_texts.specs.Texts.{Texts, elements_of}
 use Rattle.zed_body.specs.declared.body.Body.{Body}
+use Rattle.zed_body.specs.Counts.{HaveFew}
 use Rattle.zed_body.specs.Shows.{BodyShows}
 use Rattle.zed_body.specs.Taking.{IsEmpty, IsApart, ComesTo, IsNewTo, ShowsOneMore}
 use Rattle.zed_body.specs.TakingAll.{AreApart, AllComeTo, AreNewTo, ShowsAll, ComeOneByOne, EmptyShowsNone, RisingAreApart}
 use Rattle.zed_body.proofs.Members.{all-members}
+use Rattle.zed_body.proofs.Stirring.{few_of_none}
 
 -- ---- stamps that differ
 
@@ -83,7 +85,11 @@ empty_shows_none live texts b h =
     let P : LiveDocument → Type 0 = λ d. DocumentShows [] d in
     let Q : Texts → Type 0 = λ ts. TextsShow [] (elements_of ts) in
     record {
-      content = record { live = subst P (sym h.0) live; texts = subst Q (sym h.1) texts };
+      content = record {
+        live = subst P (sym h.0) live;
+        texts = subst Q (sym h.1) texts;
+        few = subst (HaveFew []) (sym h.1) few_of_none;
+      };
       waiting = h.2;
     }
 

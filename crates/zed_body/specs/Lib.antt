@@ -1,8 +1,10 @@
 pub mod Cascade
+pub mod Counts
 pub mod Made
 pub mod Settling
 pub mod Shows
 pub mod Steps
+pub mod Stirring
 pub mod Taking
 pub mod TakingAll
 pub mod Things

@@ -11,12 +11,14 @@ use Rattle.zed_texts.specs.Texts.{Texts, elements_of}
 use Rattle.zed_texts.specs.Shows.{TextsShow}
 use Rattle.zed_body.specs.declared.body.Body.{Body}
 use Rattle.zed_body.specs.Cascade.{IsHalfway}
+use Rattle.zed_body.specs.Counts.{HaveFew}
 use Rattle.zed_body.specs.Things.{has_thing, can_do}
 
--- a live document and texts show these edits, all of them done
+-- a live document and texts show these edits, all of them done, and the texts have few runs for them
 pub record ContentShows (done : List Edit) (d : LiveDocument) (ts : Texts) : Type 0 where
   pub live : DocumentShows done d
   pub texts : TextsShow done (elements_of ts)
+  pub few : HaveFew done ts
 
 -- a body shows edits: its live parts those taken, and those held wait
 pub record BodyShows (es : List Edit) (b : Body) : Type 0 where

@@ -11,6 +11,7 @@ use Rattle.zed_live.specs.Boards.{Boards, board_in, home_in}
 use Rattle.zed_live.specs.Document.{document_after}
 use Rattle.zed_texts.specs.ByName.{text_in}
 use Rattle.zed_texts.specs.Texts.{Texts, elements_of, elements_or_none, texts_after}
+use Rattle.zed_body.specs.Counts.{AreWorkedBy}
 
 -- whether boards and texts have a thing, removed or not, dead or not
 abbrev pub has_thing : Boards → Texts → Thing → Bool
@@ -23,8 +24,9 @@ has_thing ys ts (thing.Element t a) = list_any (λ x. same_element x.id a) (elem
 abbrev pub can_do : Boards → Texts → Edit → Bool
 can_do ys ts e = list_all (has_thing ys ts) (names_of e.op)
 
--- an edit is put into the live document and into the texts
+-- an edit is put into the live document and into the texts, of which it changes the runs of its own alone
 abbrev pub IsPutIn : Edit → LiveDocument → Texts → LiveDocument → Texts → Type 0
 IsPutIn e live texts live' texts' =
     (live' ≡ document_after e live)
     × (elements_of texts' ≡ texts_after e.stamp e.op (elements_of texts))
+    × AreWorkedBy e texts texts'

@@ -6,6 +6,8 @@ ghost use Rattle.zed_texts.specs.Texts.{elements_of, IsReady};
 ghost use Rattle.zed_live.specs.Document.{empty_live};
 ghost use Rattle.zed_body.specs.Steps.{IsInHand, IsDone, IsHeldBack, IsTried, IsReleased, AreInHand, AreTried};
 ghost use Rattle.zed_body.specs.Things.{has_thing as is_made, can_do, IsPutIn};
+ghost use Rattle.zed_body.specs.Counts.{AreWorkedBy};
+ghost use Rattle.zed_body.specs.Stirring.{Stirs};
 
 use crate::error::BodyError;
 use crate::laws::bodies_begin_and_end;
@@ -88,6 +90,7 @@ impl Body {
         ensures ok { OnOk result (IsDone edit.now self.old self.new) }
         ensures err { IfErr result (λ e. e ≡ BodyError.Memory) }
         ensures inbox { self.new.inbox ≡ self.old.inbox }
+        ensures runs { OnOk result (AreWorkedBy edit.now self.old.texts self.new.texts) }
     {
         bodies_begin_and_end();
         document_shows_its_edits();
@@ -103,6 +106,7 @@ impl Body {
         ensures ok { OnOk result (IsHeldBack edit self.old self.new) }
         ensures err { IfErr result (λ e. e ≡ BodyError.Memory) }
         ensures few { OnOk result (length self.new.inbox ≤ length self.old.inbox + 1) }
+        ensures texts { self.new.texts ≡ self.old.texts }
         ensures kept { OnErr result (self.new ≡ self.old) }
     {
         match self.inbox.hold(edit) {
@@ -126,6 +130,7 @@ impl Body {
         ensures fits { OnOk result (AllFit done.old.items → AllFit done.new.items) }
         ensures one { OnOk result (length done.new.items ≡ length done.old.items + 1) }
         ensures inbox { self.new.inbox ≡ self.old.inbox }
+        ensures visits { OnOk result (Stirs 1 self.old self.new) }
     {
         self.do_one(alloc, &edit)?;
         add(done, edit)?;
@@ -146,6 +151,7 @@ impl Body {
         ensures fits { OnOk result (AllFit done.old.items → AllFit done.new.items) }
         ensures few { OnOk result (length self.new.inbox + length done.new.items
             ≤ length self.old.inbox + (length done.old.items + 1)) }
+        ensures visits { OnOk result (Stirs 1 self.old self.new) }
     {
         if self.can(alloc, &edit) {
             self.do_and_add(alloc, done, edit)
@@ -161,6 +167,7 @@ impl Body {
         ensures err { IfErr result (λ e. e ≡ BodyError.Memory) }
         ensures few { IfOk result (λ edits.
             length edits.items + length self.new.inbox ≡ length self.old.inbox) }
+        ensures texts { self.new.texts ≡ self.old.texts }
         ensures kept { OnErr result (self.new ≡ self.old) }
     {
         match self.inbox.release(thing) {
@@ -183,6 +190,7 @@ impl Body {
         ensures fits { OnOk result (AllFit done.old.items → AllFit done.new.items) }
         ensures few { OnOk result (length self.new.inbox + length done.new.items
             ≤ length self.old.inbox + (length done.old.items + length edits.items)) }
+        ensures visits { OnOk result (Stirs (length edits.items) self.old self.new) }
     {
         for edit in edits {
             self.retry(alloc, done, edit)?;

@@ -5,6 +5,7 @@ ghost use Rattle.zed_op.specs.Set.{AllFit};
 ghost use Rattle.zed_body.specs.Steps.{AreInHand};
 ghost use Rattle.zed_body.specs.Waking.{IsFollowed};
 ghost use Rattle.zed_body.specs.Settling.{AreSettled};
+ghost use Rattle.zed_body.specs.Stirring.{Stirs};
 
 use crate::body::Body;
 use crate::error::BodyError;
@@ -26,6 +27,7 @@ impl Body {
         ensures fits { OnOk result (AllFit rest.old.items → AllFit rest.new.items) }
         ensures few { OnOk result (length self.new.inbox + length rest.new.items
             ≤ length self.old.inbox + (length rest.old.items)) }
+        ensures visits { OnOk result (Stirs 0 self.old self.new) }
     {
         self.wake(alloc, rest, &edit)
     }
@@ -38,6 +40,7 @@ impl Body {
         ensures ok { OnOk result (AreSettled done.items self.old [] self.new) }
         ensures err { IfErr result (λ e. e ≡ BodyError.Memory) }
         ensures few { OnOk result (length self.new.inbox ≤ length self.old.inbox + length done.items) }
+        ensures visits { OnOk result (Stirs 0 self.old self.new) }
     {
         let mut rest = done;
         while let Some(edit) = rest.pop() {

@@ -2,6 +2,8 @@
 ghost use Rattle.std.specs.Prelude.{◌≡◌, ◌≤◌, true, false, length, IfOk, IfErr, OnOk, OnErr};
 ghost use Rattle.zed_op.specs.Fit.{Fits};
 ghost use Rattle.zed_body.specs.Things.{can_do};
+ghost use Rattle.zed_body.specs.Counts.{Works};
+ghost use Rattle.zed_body.specs.Stirring.{IsDoneWithAll};
 ghost use Rattle.zed_body.specs.Taking.{IsEmpty, IsNewTo, ShowsOneMore, Tells};
 
 use crate::body::Body;
@@ -27,6 +29,7 @@ impl Body {
         ensures ok { OnOk result (ShowsOneMore edit.now self.old self.new) }
         ensures err { IfErr result (λ e. e ≡ BodyError.Memory) }
         ensures few { OnOk result (length self.new.inbox ≤ length self.old.inbox) }
+        ensures visits { OnOk result (IsDoneWithAll edit.now self.old self.new) }
     {
         let mut done = Vec::new(alloc);
         self.do_one(alloc, edit)?;
@@ -41,6 +44,7 @@ impl Body {
         requires cant { can_do self.old.live.boards self.old.texts edit.now ≡ false }
         ensures ok { OnOk result (ShowsOneMore edit.now self.old self.new) }
         ensures err { IfErr result (λ e. e ≡ BodyError.Memory) }
+        ensures texts { self.new.texts ≡ self.old.texts }
     {
         let Ok(copy) = edit.copy() else {
             return Err(BodyError::Memory);
@@ -56,6 +60,7 @@ impl Body {
         ensures ok { OnOk result (ShowsOneMore edit.now self.old self.new) }
         ensures tells { IfOk result (λ t. Tells edit.now self.old t) }
         ensures err { IfErr result (λ e. e ≡ BodyError.Memory) }
+        ensures visits { IfOk result (λ t. Works edit.now t self.old.texts self.new.texts) }
     {
         if !self.can(alloc, edit) {
             self.hold_copy(edit)?;
@@ -81,6 +86,7 @@ impl Body {
         ensures tells { IfOk result (λ t. Tells edit.now self.old t) }
         ensures err { IfErr result (λ e. e ≡ BodyError.Memory) }
         ensures emptied { OnErr result (IsEmpty self.new) }
+        ensures visits { IfOk result (λ t. Works edit.now t self.old.texts self.new.texts) }
     {
         match self.bring(alloc, edit) {
             Ok(taken) => Ok(taken),

@@ -1,6 +1,7 @@
 //! A body takes many edits.
 ghost use Rattle.std.specs.Prelude.{◌≡◌, IfOk, IfErr, OnOk, OnErr};
 ghost use Rattle.zed_op.specs.Set.{AllFit, set_of};
+ghost use Rattle.zed_body.specs.Counts.{NoneFalls};
 ghost use Rattle.zed_body.specs.Shows.{BodyShows};
 ghost use Rattle.zed_body.specs.Taking.{IsEmpty};
 ghost use Rattle.zed_body.specs.TakingAll.{AreApart, AreNewTo, ShowsAll};
@@ -19,6 +20,7 @@ impl Body {
         ensures ok { OnOk result (ShowsAll edits.now self.old self.new) }
         ensures err { IfErr result (λ e. e ≡ BodyError.Memory) }
         ensures emptied { OnErr result (IsEmpty self.new) }
+        ensures visits { OnOk result (NoneFalls self.old.texts self.new.texts) }
     {
         for edit in edits {
             self.take(alloc, edit)?;

@@ -3,6 +3,7 @@ ghost use Rattle.std.specs.Prelude.{◌≡◌, ◌≤◌, ◌+◌, ◌∷◌, �
 ghost use Rattle.zed_op.specs.Fit.{Fits};
 ghost use Rattle.zed_op.specs.Set.{AllFit};
 ghost use Rattle.zed_body.specs.Steps.{AreInHand};
+ghost use Rattle.zed_body.specs.Stirring.{Stirs};
 ghost use Rattle.zed_body.specs.Waking.{AreToWake, IsWoken, AreWoken, IsFollowed};
 
 use crate::body::Body;
@@ -25,6 +26,7 @@ impl Body {
         ensures fits { OnOk result (AllFit done.old.items → AllFit done.new.items) }
         ensures few { OnOk result (length self.new.inbox + length done.new.items
             ≤ length self.old.inbox + (length done.old.items)) }
+        ensures visits { OnOk result (Stirs 0 self.old self.new) }
     {
         let edits = self.release(thing)?;
         self.retry_all(alloc, done, edits)?;
@@ -45,6 +47,7 @@ impl Body {
         ensures fits { OnOk result (AllFit done.old.items → AllFit done.new.items) }
         ensures few { OnOk result (length self.new.inbox + length done.new.items
             ≤ length self.old.inbox + (length done.old.items)) }
+        ensures visits { OnOk result (Stirs 0 self.old self.new) }
     {
         for thing in things {
             self.wake_one(alloc, done, thing)?;
@@ -62,6 +65,7 @@ impl Body {
         ensures fits { OnOk result (AllFit done.old.items → AllFit done.new.items) }
         ensures few { OnOk result (length self.new.inbox + length done.new.items
             ≤ length self.old.inbox + (length done.old.items)) }
+        ensures visits { OnOk result (Stirs 0 self.old self.new) }
     {
         let things = things_of(alloc, edit)?;
         self.wake_all(alloc, done, things)?;
@@ -83,6 +87,7 @@ impl Body {
         ensures fits { OnOk result (AllFit done.old.items → AllFit done.new.items) }
         ensures few { OnOk result (length self.new.inbox + length done.new.items
             ≤ length self.old.inbox + (length done.old.items)) }
+        ensures visits { OnOk result (Stirs 0 self.old self.new) }
     {
         if self.inbox.held() == 0 {
             return Ok(());

@@ -4,6 +4,7 @@ use Rattle.zed_body.specs.Steps.{IsTried}
 use Rattle.zed_body.proofs.BodySteps.{tried_done}
 use Rattle.zed_op.specs.Set.{AllFit}
 use Rattle.zed_body.proofs.Fewer.{fit_one_more}
+use Rattle.zed_body.proofs.Stirring.{stirs_done}
 use Rattle.zed_body.proofs.body.Body.do_and_add.Goals as goal
 
 pub returns-clause-ok : goal.returns-clause-ok
@@ -15,3 +16,6 @@ pub returns-clause-fits : goal.returns-clause-fits
 returns-clause-fits c =
     let P : List Edit → Type 0 = λ ds. AllFit c.args.done.now.items → AllFit ds in
     subst P (sym c.in_ok-add.ensures.ok) (fit_one_more c.args.edit c.args.self.now c.args.done.now.items c.requires.hand)
+
+pub returns-clause-visits : goal.returns-clause-visits
+returns-clause-visits c = stirs_done c.args.edit c.args.self.now c.do_one.new.self c.requires.hand c.in_ok-do_one.ensures.runs c.do_one.ensures.inbox

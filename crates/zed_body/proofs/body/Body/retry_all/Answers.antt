@@ -1,7 +1,9 @@
-use Rattle.std.proofs.Common.{◌≡◌, List, [], ◌∷◌, length, suc, refl, ap, subst, rules, arith}
+use Rattle.std.proofs.Common.{◌≡◌, ◌+◌, List, [], ◌∷◌, length, suc, refl, ap, subst, rules, arith}
 use Rattle.zed_op.specs.declared.op.Edit.{Edit}
 use Rattle.zed_body.specs.Steps.{AreTried}
+use Rattle.zed_body.specs.Stirring.{Stirs}
 use Rattle.zed_body.proofs.BodySteps.{first_in_hand, tried_one_more}
+use Rattle.zed_body.proofs.Stirring.{stirs_on}
 use Rattle.zed_body.proofs.body.Body.retry_all.Goals as goal
 
 pub retry-requires : goal.retry-requires
@@ -20,6 +22,11 @@ loop-edit-preserved c = record {
       let many : P (c.in-Some.edit ∷ c.next.new.self.rest.items) = subst P steps c.loop-edit.invariant.tried in
       tried_one_more c.args.edits.items c.args.self.now c.args.done.now.items c.in-Some.edit c.next.new.self.rest.items c.loop-edit.self c.loop-edit.done.items c.retry.new.self c.retry.new.done.items many c.in_ok-retry.ensures.ok;
   fit = λ a. c.in_ok-retry.ensures.fits (c.loop-edit.invariant.fit a);
+  texts =
+      let steps : c.loop-edit.edit-iterator.rest.items ≡ c.in-Some.edit ∷ c.next.new.self.rest.items = search rules in
+      let count : length c.loop-edit.edit-iterator.rest.items ≡ suc (length c.next.new.self.rest.items) = ap length steps in
+      let so_far = c.loop-edit.invariant.texts in
+      (so_far.0 + 1, omega (arith, so_far.1, count), stirs_on so_far.0 1 c.args.self.now c.loop-edit.self c.retry.new.self so_far.2 c.in_ok-retry.ensures.visits);
   few =
       let steps : c.loop-edit.edit-iterator.rest.items ≡ c.in-Some.edit ∷ c.next.new.self.rest.items = search rules in
       let count : length c.loop-edit.edit-iterator.rest.items ≡ suc (length c.next.new.self.rest.items) = ap length steps in
@@ -38,3 +45,11 @@ returns-clause-ok c =
     let ends : c.loop-edit.edit-iterator.rest.items ≡ [] = no_edits c.loop-edit.edit-iterator.rest.items count in
     let P : List Edit → Type 0 = λ es. AreTried c.args.edits.items c.args.self.now c.args.done.now.items es c.loop-edit.self c.loop-edit.done.items in
     subst P ends c.loop-edit.invariant.tried
+
+pub returns-clause-visits : goal.returns-clause-visits
+returns-clause-visits c =
+    let none = c.in-None.ensures.steps.0 in
+    let count : length c.loop-edit.edit-iterator.rest.items ≡ 0 = search rules in
+    let so_far = c.loop-edit.invariant.texts in
+    let all : so_far.0 ≡ length c.args.edits.items = omega (arith, so_far.1, count) in
+    subst (λ n. Stirs n c.args.self.now c.loop-edit.self) all so_far.2

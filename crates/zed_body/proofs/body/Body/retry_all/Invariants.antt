@@ -1,6 +1,7 @@
-use Rattle.std.proofs.Common.{◌≤◌, ◌+◌, length}
+use Rattle.std.proofs.Common.{◌≡◌, ◌≤◌, ℕ, ◌+◌, length}
 use Rattle.zed_op.specs.Set.{AllFit}
 use Rattle.zed_body.specs.Steps.{AreTried}
+use Rattle.zed_body.specs.Stirring.{Stirs}
 use Rattle.zed_body.proofs.body.Body.retry_all.Given as goal
 
 -- what was tried so far, with what is left in hand
@@ -8,5 +9,6 @@ abbrev pub invariant-loop-edit : goal.invariant-loop-edit
 invariant-loop-edit l = record {
   tried : AreTried l.fn.edits.items l.fn.self l.fn.done.items l.edit-iterator.rest.items l.self l.done.items;
   fit : AllFit l.fn.done.items → AllFit l.done.items;
+  texts : (n : ℕ) × (n + length l.edit-iterator.rest.items ≡ length l.fn.edits.items) × Stirs n l.fn.self l.self;
   few : length l.self.inbox + (length l.done.items + length l.edit-iterator.rest.items) ≤ length l.fn.self.inbox + (length l.fn.done.items + length l.fn.edits.items);
 }

@@ -3,6 +3,7 @@ use Rattle.zed_op.specs.declared.op.Edit.{Edit}
 use Rattle.zed_op.specs.Set.{AllFit}
 use Rattle.zed_body.specs.Settling.{AreSettled}
 use Rattle.zed_body.proofs.Settling.{front_fits, next_in_hand, settled_one_more}
+use Rattle.zed_body.proofs.Stirring.{stirs_on}
 use Rattle.zed_body.proofs.body.Body.settle.Goals as goal
 
 pub wake_last-requires-clause-last : goal.wake_last-requires-clause-last
@@ -20,6 +21,7 @@ loop-edit-preserved c =
           settled_one_more c.args.done.items c.args.self.now c.in-Some.edit c.pop.new.self.items c.loop-edit.self c.wake_last.new.rest.items c.wake_last.new.self
           (subst P last c.loop-edit.invariant.settled) c.in_ok-wake_last.ensures.ok;
       fit = c.in_ok-wake_last.ensures.fits (front_fits c.in-Some.edit c.pop.new.self.items (subst AllFit last c.loop-edit.invariant.fit));
+      texts = stirs_on 0 0 c.args.self.now c.loop-edit.self c.wake_last.new.self c.loop-edit.invariant.texts c.in_ok-wake_last.ensures.visits;
       few =
           let step = c.in_ok-wake_last.ensures.few in
           let fewer : length c.loop-edit.rest.items ≡ length c.pop.new.self.items + 1 = search rules in

@@ -1,6 +1,7 @@
 use Rattle.std.proofs.Common.{◌≡◌, List, [], ◌∷◌, length, refl, subst, rules, arith}
 use Rattle.zed_op.specs.declared.thing.Thing.{Thing}
 use Rattle.zed_body.specs.Waking.{AreWoken}
+use Rattle.zed_body.proofs.Stirring.{stirs_on}
 use Rattle.zed_body.proofs.Waking.{next_to_wake, woken_one_more}
 use Rattle.zed_body.proofs.body.Body.wake_all.Goals as goal
 
@@ -16,6 +17,7 @@ loop-thing-preserved c = record {
       let many : P (c.in-Some.thing ∷ c.next.new.self.rest.items) = subst P steps c.loop-thing.invariant.woken in
       woken_one_more c.args.things.items c.args.self.now c.args.done.now.items c.in-Some.thing c.next.new.self.rest.items c.loop-thing.self c.loop-thing.done.items c.wake_one.new.self c.wake_one.new.done.items many c.in_ok-wake_one.ensures.ok;
   fit = λ a. c.in_ok-wake_one.ensures.fits (c.loop-thing.invariant.fit a);
+  texts = stirs_on 0 0 c.args.self.now c.loop-thing.self c.wake_one.new.self c.loop-thing.invariant.texts c.in_ok-wake_one.ensures.visits;
   few = let step = c.in_ok-wake_one.ensures.few in omega (arith, c.loop-thing.invariant.few);
 }
 
