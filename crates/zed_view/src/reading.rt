@@ -55,12 +55,4 @@ impl<'a> View<'a> {
             None => None,
         }
     }
-
-    /// How often runs of a text were looked at; 0 where there is no such text. The plain document doesn't show it.
-    pub fn visits(&self, id: TextId) -> u64 {
-        match self.text(id) {
-            Some(text) => text.visits(),
-            None => 0,
-        }
-    }
 }
