@@ -15,6 +15,7 @@ use Rattle.zed_document.specs.declared.error.DocumentError.TheVariants as docume
 use Rattle.zed_document.specs.Authoring.{AnswersAuthor, AnswersDeletion, AnswersMade, AnswersToDo, authored, is_part, is_spent, is_spent_for, stretches_of}
 use Rattle.zed_document.specs.Delivery.{edit_with}
 use Rattle.zed_document.specs.Reading.{has_text}
+use Rattle.zed_document.specs.Counts.{Counts}
 use Rattle.zed_document.specs.Replica.{Replica}
 use Rattle.zed_op.specs.declared.op.Op.TheVariants as op
 use Rattle.zed_types.specs.declared.stat_field.StatSetting.TheVariants as stat_setting
@@ -120,20 +121,20 @@ not_deleted d replica t from to e result is why =
     ]
 
 -- documents are told apart by what their calls see of them
-abbrev seen : ℕ → List Edit → Bool → Replica
-seen w es b = record { world = w; edits = es; is_stale = b }
+abbrev seen : ℕ → List Edit → Bool → Counts → Replica
+seen w es b c = record { world = w; edits = es; is_stale = b; counts = c }
 
 inserts_same : (d o : Replica) (replica : ℕ) (t : TextId) (p : ℕ) (bytes : List ℕ) (made : Result (List Edit) ActionError)
     → d.edits ≡ o.edits → d.is_stale ≡ o.is_stale → Inserts d replica t p bytes made → Inserts o replica t p bytes made
 inserts_same d o replica t p bytes made edits stale h =
-    let first : Inserts (seen o.world d.edits o.is_stale) replica t p bytes made = subst (λ b. Inserts (seen o.world d.edits b) replica t p bytes made) stale h in
-    subst (λ es. Inserts (seen o.world es o.is_stale) replica t p bytes made) edits first
+    let first : Inserts (seen o.world d.edits o.is_stale o.counts) replica t p bytes made = subst (λ b. Inserts (seen o.world d.edits b o.counts) replica t p bytes made) stale h in
+    subst (λ es. Inserts (seen o.world es o.is_stale o.counts) replica t p bytes made) edits first
 
 authors_same : (d o : Replica) (replica : ℕ) (op : Op) (made : Result (List Edit) ActionError)
     → d.edits ≡ o.edits → d.is_stale ≡ o.is_stale → Authors d replica op made → Authors o replica op made
 authors_same d o replica op made edits stale h =
-    let first : Authors (seen o.world d.edits o.is_stale) replica op made = subst (λ b. Authors (seen o.world d.edits b) replica op made) stale h in
-    subst (λ es. Authors (seen o.world es o.is_stale) replica op made) edits first
+    let first : Authors (seen o.world d.edits o.is_stale o.counts) replica op made = subst (λ b. Authors (seen o.world d.edits b o.counts) replica op made) stale h in
+    subst (λ es. Authors (seen o.world es o.is_stale o.counts) replica op made) edits first
 
 -- the second of three edits was refused
 pub second_refused : (d d1 : Replica) (replica : ℕ) (s : StatId) (t : TextId) (bytes : List ℕ) (e : ActionError)

@@ -4,11 +4,13 @@ pub mod Bodies
 pub mod Checked
 pub mod Clashing
 pub mod Counted
+pub mod CountsAside
 pub mod Deleted
 pub mod DeletedParts
 pub mod FirstClash
 pub mod Following
 pub mod Joining
+pub mod Looks
 pub mod Lookups
 pub mod Merging
 pub mod Parts
@@ -18,4 +20,5 @@ pub mod Stamped
 pub mod Stretched
 pub mod Times
 pub mod TypedTexts
+pub mod Visited
 pub mod Walks

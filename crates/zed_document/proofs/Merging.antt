@@ -50,12 +50,10 @@ pub merge-itself : UnionOfItsOwn → MergeOfItself
 merge-itself law d r = edits_decide (merged d d) d refl (law d.edits d.edits r (λ e m. m))
 
 pub deliveries-make_it : SetGrowsByEdits → DeliveriesMakeIt
-deliveries-make_it law world es e = law es e
+deliveries-make_it law world c k es e = law es e
 
 pub merge-is_deliveries : UnionOfSets → MergeIsDeliveries
-merge-is_deliveries law world es fs a =
-    let make : List Edit → Replica = λ xs. record { world = world; edits = xs; is_stale = false } in
-    ap make (law es fs a)
+merge-is_deliveries law world b c k es fs a = (refl, law es fs a, refl)
 
 pub order-never_counts : SetIsOfAnyOrder → OrderNeverCounts
-order-never_counts law world es fs a h = edits_decide (document_of world es) (document_of world fs) refl (law es fs a h)
+order-never_counts law world c k es fs a h = edits_decide (document_of world c es) (document_of world k fs) refl (law es fs a h)

@@ -51,7 +51,7 @@ Answers d e r = MatchBool d.is_stale (r ≡ Err Stale) (AnswersFit (fault e) d.e
 abbrev pub MayTakeMemoryFor : Replica → Edit → Type 0
 MayTakeMemoryFor d e = (d.is_stale ≡ false) × (HangsOnItsWorld e ⊎ (Fits e × (edit_with e.stamp d.edits ≡ None)))
 
--- a document with one more edit
+-- a document with one more edit, its counts aside
 abbrev pub after_edit : Edit → Replica → Replica
 after_edit e d = record d { edits = with_edit e d.edits }
 

@@ -3,9 +3,10 @@ use Rattle.std.specs.Prelude.{◌≡◌, ℕ, false, List, [], ◌∷◌, ◌++�
 use Rattle.zed_op.specs.declared.op.Edit.{Edit}
 use Rattle.zed_op.specs.Set.{Agrees, IsRising, with_edit, union, set_of}
 use Rattle.zed_op.specs.SetLaws.{HaveTheSame}
+use Rattle.zed_document.specs.Counts.{Counts}
 use Rattle.zed_document.specs.Merge.{Agree}
 use Rattle.zed_document.specs.Replica.{Replica}
-use Rattle.zed_document.specs.Same.{AreSame}
+use Rattle.zed_document.specs.Same.{AreAlike, AreSame}
 
 -- one document with the edits of another
 abbrev pub merged : Replica → Replica → Replica
@@ -35,18 +36,18 @@ MergeOfItself = (d : Replica) → IsRising d.edits → AreSame (merged d d) d
 abbrev pub EditsDecide : Type 0
 EditsDecide = (d o : Replica) → d.world ≡ o.world → d.edits ≡ o.edits → AreSame d o
 
--- the document to which these edits were delivered, one after the other
-abbrev pub document_of : ℕ → List Edit → Replica
-document_of world es = record { world = world; edits = set_of es; is_stale = false }
+-- a document to which these edits were delivered, one after the other, however often its runs were looked at
+abbrev pub document_of : ℕ → Counts → List Edit → Replica
+document_of world counts es = record { world = world; edits = set_of es; is_stale = false; counts = counts }
 
 -- it is made by one delivery after the other
 abbrev pub DeliveriesMakeIt : Type 0
-DeliveriesMakeIt = (world : ℕ) (es : List Edit) (e : Edit) → (document_of world (es ++ e ∷ [])).edits ≡ with_edit e (document_of world es).edits
+DeliveriesMakeIt = (world : ℕ) (c k : Counts) (es : List Edit) (e : Edit) → (document_of world c (es ++ e ∷ [])).edits ≡ with_edit e (document_of world k es).edits
 
 -- a merge is as all deliveries of both
 abbrev pub MergeIsDeliveries : Type 0
-MergeIsDeliveries = (world : ℕ) (es fs : List Edit) → Agrees (es ++ fs) → merged (document_of world es) (document_of world fs) ≡ document_of world (es ++ fs)
+MergeIsDeliveries = (world : ℕ) (b c k : Counts) (es fs : List Edit) → Agrees (es ++ fs) → AreAlike (merged (document_of world b es) (document_of world c fs)) (document_of world k (es ++ fs))
 
 -- neither the order of deliveries nor their repeats count
 abbrev pub OrderNeverCounts : Type 0
-OrderNeverCounts = (world : ℕ) (es fs : List Edit) → Agrees es → HaveTheSame es fs → AreSame (document_of world es) (document_of world fs)
+OrderNeverCounts = (world : ℕ) (c k : Counts) (es fs : List Edit) → Agrees es → HaveTheSame es fs → AreSame (document_of world c es) (document_of world k fs)

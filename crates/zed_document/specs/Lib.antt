@@ -1,5 +1,6 @@
 pub mod Authoring
 pub mod Batch
+pub mod Counts
 pub mod Delivery
 pub mod Errors
 pub mod Held
@@ -10,3 +11,4 @@ pub mod Reading
 pub mod Replica
 pub mod Same
 pub mod Stretches
+pub mod Visits

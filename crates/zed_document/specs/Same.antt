@@ -8,6 +8,10 @@ use Rattle.zed_document.specs.Replica.{Replica}
 abbrev pub HaveSameContent : Plain → Plain → Type 0
 HaveSameContent p q = (p.header ≡ q.header) × (p.boards ≡ q.boards) × (p.texts ≡ q.texts)
 
+-- two documents have one world and one log, and both are stale or neither is; how often their runs were looked at may differ
+abbrev pub AreAlike : Replica → Replica → Type 0
+AreAlike d o = (d.world ≡ o.world) × (d.edits ≡ o.edits) × (d.is_stale ≡ o.is_stale)
+
 -- two documents have equal world numbers, equal contents and equal held edits
 abbrev pub AreSame : Replica → Replica → Type 0
 AreSame d o = (d.world ≡ o.world) × HaveSameContent (replay d.edits) (replay o.edits) × (held d.edits ≡ held o.edits)

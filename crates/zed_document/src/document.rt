@@ -7,17 +7,18 @@ use crate::error::{DocumentError, of_edit};
 use crate::held::{is_among, renew};
 use crate::merge::{joined, least_clash};
 use crate::place::spot_of;
-use crate::visits::{visits_before, visits_since};
+use crate::visits::{visits_at, visits_before, visits_since};
 use std::alloc::Global;
 use std::marker::Model;
 use zed_body::{Body, calm_edits_hold_the_same, empty_bodies_show_none, rising_edits_are_apart};
 use zed_edit::{Edit, check};
 use zed_laws::held_edits_are_remembered;
 use zed_op::{edit_has_sizes, edits_have_sizes, rising_lists_are_sets, sets_rise, sets_stay_fit};
-use zed_types::Stamp;
+use zed_types::{Stamp, TextId};
 use zed_view::{View, parts_show_the_replay};
 
-/// A replica of a world. Contracts see the number of its world, its edits in rising stamp order, and whether it is stale.
+/// A replica of a world. Contracts see the number of its world, its edits in rising stamp order, whether it is stale, and how often
+/// runs of its texts were looked at.
 #[derive(Drop)]
 pub struct Document {
     world: u64,
@@ -31,12 +32,18 @@ pub struct Document {
 }
 
 impl Model for Document {
+    ghost use Rattle.zed_document.specs.Counts.{counts_of};
     ghost use Rattle.zed_document.specs.Kept.{IsKept};
     ghost use Rattle.zed_document.specs.Replica.{Replica};
 
     ghost Value = { Replica };
 
-    ghost view = { λ d. record { world = d.world; edits = d.edits.items; is_stale = d.is_stale } };
+    ghost view = { λ d. record {
+      world = d.world;
+      edits = d.edits.items;
+      is_stale = d.is_stale;
+      counts = counts_of d.body.texts;
+    } };
 
     ghost invariant = { λ d. IsKept d.edits.items d.held.items d.is_stale d.body };
 }
@@ -52,10 +59,12 @@ impl Document {
     ghost use Rattle.zed_op.specs.Sizes.{HaveSizes};
     ghost use Rattle.zed_document.specs.Merge.{Agree, AnswersMerge, below};
     ghost use Rattle.zed_types.specs.declared.stamp.Stamp.{Stamp as TheStamp};
+    ghost use Rattle.zed_document.specs.Counts.{count_of};
+    ghost use Rattle.zed_document.specs.Visits.{TellsVisits};
 
     /// A document of the world with this number, with no edit. It takes no memory.
     pub fn new(alloc: Global, world: u64) -> Document
-        ensures { result ≡ record { world = world; edits = []; is_stale = false } }
+        ensures { result ≡ record { world = world; edits = []; is_stale = false; counts = [] } }
     {
         empty_bodies_show_none();
         Document {
@@ -118,6 +127,13 @@ impl Document {
         &self.body
     }
 
+    /// How many runs of a text were looked at, 0 where it isn't there.
+    pub(crate) fn visits_at(&self, text: TextId) -> u64
+        ensures { result ≡ count_of text self.now.counts }
+    {
+        visits_at(&self.body.texts, text)
+    }
+
     /// How many edits are held.
     pub fn held(&self) -> usize
         ensures { result ≡ length (held_stamps self.now.edits) }
@@ -143,6 +159,9 @@ impl Document {
         ensures sound { OnOk result (self.new.is_stale ≡ false) }
         ensures stale { (result ≢ Err DocumentError.Memory)
             → self.new.is_stale ≡ self.old.is_stale }
+        ensures kept { OnErr result ((result ≢ Err DocumentError.Memory) → self.new ≡ self.old) }
+        ensures visits { IfOk result (λ d.
+            TellsVisits edit self.old.edits self.old.counts self.new.counts d) }
         ensures memory_only_when { result ≡ Err DocumentError.Memory
             → MayTakeMemoryFor self.old edit }
     {
@@ -166,6 +185,9 @@ impl Document {
         ensures world { self.new.world ≡ self.old.world }
         ensures sound { OnOk result (self.new.is_stale ≡ false) }
         ensures stale { (result ≢ Err DocumentError.Memory) → self.new.is_stale ≡ false }
+        ensures kept { OnErr result ((result ≢ Err DocumentError.Memory) → self.new ≡ self.old) }
+        ensures visits { IfOk result (λ d.
+            TellsVisits edit self.old.edits self.old.counts self.new.counts d) }
         ensures memory_only_when { result ≡ Err DocumentError.Memory
             → edit_with edit.stamp self.old.edits ≡ None }
     {
@@ -194,6 +216,8 @@ impl Document {
             ≡ (if is_ok result then with_edit edit self.old.edits else self.old.edits) }
         ensures world { self.new.world ≡ self.old.world }
         ensures sound { OnOk result (self.new.is_stale ≡ false) }
+        ensures visits { IfOk result (λ d.
+            TellsVisits edit self.old.edits self.old.counts self.new.counts d) }
     {
         let alloc = *self.edits.allocator();
         if self.edits.reserve(1).is_err() {

@@ -1,8 +1,9 @@
 //! What is told of a document by the numbers of boards and stats.
-ghost use Rattle.std.specs.Prelude.{◌≡◌, ◌⊎◌, length, Err, IsOk, IsOkAnd};
+ghost use Rattle.std.specs.Prelude.{◌≡◌, ◌⊎◌, length, Err, IsOkAnd};
 ghost use Rattle.zed_edit.specs.Numbers.{board_numbered, stat_numbered};
 ghost use Rattle.zed_edit.specs.Document.{text as text_shown};
 ghost use Rattle.zed_edit.specs.Replay.{replay};
+ghost use Rattle.zed_document.specs.Counts.{count_of};
 ghost use Rattle.zed_document.specs.Reading.{unless_stale, unless_no_text, TellsOfText, text_of as text_of_stat};
 
 use crate::document::Document;
@@ -76,10 +77,10 @@ impl Document {
 
     /// How many runs of a text were looked at. In this order: Stale; NoSuch where the text wasn't made.
     pub fn visits(&self, text: TextId) -> Result<u64, DocumentError>
-        ensures { TellsOfText self.now text (λ r. IsOk r) result }
+        ensures { result ≡ unless_no_text self.now text (count_of text self.now.counts) }
     {
         match self.view_with(text) {
-            Ok(view) => Ok(view.visits(text)),
+            Ok(_) => Ok(self.visits_at(text)),
             Err(error) => Err(error),
         }
     }

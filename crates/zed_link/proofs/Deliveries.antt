@@ -8,6 +8,7 @@ use Rattle.zed_document.specs.declared.error.DocumentError.{DocumentError}
 use Rattle.zed_document.specs.declared.error.DocumentError.TheVariants as document
 use Rattle.zed_document.specs.Delivery.{DeliversEach, MayTakeMemoryFor, after_edit, edit_with}
 use Rattle.zed_document.specs.Replica.{Replica}
+use Rattle.zed_document.proofs.CountsAside.{delivers_aside, with_counts}
 use Rattle.zed_link.specs.declared.error.LinkError.{LinkError}
 use Rattle.zed_link.specs.declared.pulled.Pulled.{Pulled}
 use Rattle.zed_link.specs.Pieces.{DeliversOne, IsStopped}
@@ -15,10 +16,10 @@ use Rattle.zed_link.specs.Pull.{AllDelivered, FrontDelivered, StopsForMemory}
 use Rattle.zed_link.specs.Tally.{plus, state_in, states, tally}
 use Rattle.zed_link.proofs.Tallies.{tally_more}
 
--- documents of which contracts see the same
-replica_is : (d m : Replica) → m.world ≡ d.world → m.edits ≡ d.edits → m.is_stale ≡ d.is_stale → m ≡ d
+-- documents of which contracts see the same, but for the counts of looks
+replica_is : (d m : Replica) → m.world ≡ d.world → m.edits ≡ d.edits → m.is_stale ≡ d.is_stale → m ≡ with_counts m.counts d
 replica_is d m w es s =
-    let make : ℕ → List Edit → Bool → Replica = λ w es s. record { world = w; edits = es; is_stale = s } in
+    let make : ℕ → List Edit → Bool → Replica = λ w es s. record { world = w; edits = es; is_stale = s; counts = m.counts } in
     let path : make m.world m.edits m.is_stale ≡ make d.world d.edits d.is_stale = rw (w, es, s) refl in path
 
 abbrev Deliveries : Type 0
@@ -27,7 +28,7 @@ Deliveries = Result (Unit {0}) DocumentError
 -- all of a list were delivered, and then others
 pub delivered_more : (d m : Replica) (xs ys : List Edit) (r : Deliveries) (left : List Edit) → m.world ≡ d.world → m.is_stale ≡ d.is_stale
     → AllDelivered d xs m.edits → DeliversEach m ys r left → DeliversEach d (xs ++ ys) r left
-delivered_more d m [] ys r left w s all more = subst (λ q. DeliversEach q ys r left) (replica_is d m w all.1 s) more
+delivered_more d m [] ys r left w s all more = delivers_aside m.counts d ys r left (subst (λ q. DeliversEach q ys r left) (replica_is d m w all.1 s) more)
 delivered_more d m (x ∷ xs) ys r left w s (inl one) more = inl (one.0, one.1, delivered_more (after_edit x d) m xs ys r left w s one.2 more)
 delivered_more d m (x ∷ xs) ys r left w s (inr one) more = absurd (let allowed : Deliveries = Ok tt in let refused : Deliveries = Err one.0 in let bad : allowed ≡ refused = one.2 in cc)
 

@@ -1,3 +1,4 @@
+pub mod CountsAside
 pub mod EndsLaws
 pub mod Deliveries
 pub mod Tallies

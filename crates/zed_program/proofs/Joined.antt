@@ -11,7 +11,10 @@ use Rattle.zed_editfile.specs.Stream.{AreRecords}
 use Rattle.zed_document.specs.declared.error.DocumentError.TheVariants as document
 use Rattle.zed_document.specs.declared.error.DocumentError.{DocumentError}
 use Rattle.zed_document.specs.Delivery.{DeliveriesComeToSets, DeliversEach}
+use Rattle.zed_document.specs.Counts.{Counts}
 use Rattle.zed_document.specs.Replica.{Replica}
+use Rattle.zed_document.proofs.CountsAside.{with_counts}
+use Rattle.zed_link.proofs.CountsAside.{pull_aside}
 use Rattle.zed_link.specs.declared.error.LinkError.{LinkError}
 use Rattle.zed_link.specs.declared.error.LinkError.TheVariants as link
 use Rattle.zed_link.specs.Ends.{LinkEnds}
@@ -35,11 +38,19 @@ use Rattle.zed_program.proofs.FileTexts.{no_clash, records_fit, records_left, re
 abbrev pub each_of : {X Y : Type 0} → List X → (X → Y) → List Y
 each_of xs f = map f xs
 
--- a document of the same world that isn't stale either is the other with its own edits
-with_own : (d m : Replica) → m.world ≡ d.world → m.is_stale ≡ d.is_stale → m ≡ with_edits m.edits d
+-- a document of the same world that isn't stale either is the other with its own edits and counts
+with_own : (d m : Replica) → m.world ≡ d.world → m.is_stale ≡ d.is_stale → m ≡ with_counts m.counts (with_edits m.edits d)
 with_own d m w s =
-    let make : ℕ → Bool → Replica = λ w s. record { world = w; edits = m.edits; is_stale = s } in
+    let make : ℕ → Bool → Replica = λ w s. record { world = w; edits = m.edits; is_stale = s; counts = m.counts } in
     let path : make m.world m.is_stale ≡ make d.world d.is_stale = rw (w, s) refl in path
+
+-- nor do pulls depend on the counts
+pulls_aside : (c : Counts) (d : Replica) (links : List LinkSeen) (r : Result (List Edit) Refusal) → PullsEach (with_counts c d) links r → PullsEach d links r
+pulls_aside c d [] r h = h
+pulls_aside c d (link ∷ links) r (inl (pulled, gone, left, over, rest)) =
+    inl (pulled, gone, left, pull_aside c d link.ends gone.ends link.reads gone.reads (Ok pulled) left over, pulls_aside c (with_edits left d) links r rest)
+pulls_aside c d (link ∷ links) r (inr (e, gone, left, over, is)) =
+    inr (e, gone, left, pull_aside c d link.ends gone.ends link.reads gone.reads (Err e) left over, is)
 
 -- nothing was pulled yet
 pub pulls_start : {X : Type 0} (f : X → LinkSeen) (d : Replica) (world count : ℕ) (links rest : List X) (r : Result (List Edit) Refusal)
@@ -53,7 +64,7 @@ pub pulls_more : {X : Type 0} (f : X → LinkSeen) (d m : Replica) (all rest : L
     → m.world ≡ d.world → m.is_stale ≡ d.is_stale → all ≡ x ∷ rest → PullsOver d (f x) gone (Ok pulled) m.edits
     → PullsEach m (map f rest) r → PullsEach d (map f all) r
 pulls_more f d m all rest x pulled gone r w s is over pulls =
-    subst (λ xs. PullsEach d (map f xs) r) (sym is) (inl (pulled, gone, m.edits, over, subst (λ q. PullsEach q (map f rest) r) (with_own d m w s) pulls))
+    subst (λ xs. PullsEach d (map f xs) r) (sym is) (inl (pulled, gone, m.edits, over, pulls_aside m.counts (with_edits m.edits d) (map f rest) r (subst (λ q. PullsEach q (map f rest) r) (with_own d m w s) pulls)))
 
 -- a pull was refused
 pub pulls_refused : {X : Type 0} (f : X → LinkSeen) (d : Replica) (all rest : List X) (x : X) (e : LinkError) (gone : LinkSeen) (left : List Edit)

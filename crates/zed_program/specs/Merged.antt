@@ -11,7 +11,7 @@ use Rattle.zed_program.specs.Refusals.{link_refusal}
 
 -- a document of a world, without edits
 abbrev pub empty_document : ℕ → Replica
-empty_document world = record { world = world; edits = []; is_stale = false }
+empty_document world = record { world = world; edits = []; is_stale = false; counts = [] }
 
 -- a document with these edits in place of its own
 abbrev pub with_edits : List Edit → Replica → Replica
