@@ -1,5 +1,5 @@
 -- What the counts of texts come to as an edit is taken.
-use Rattle.std.proofs.Common.{◌≡◌, ◌∙◌, ℕ, zero, suc, ◌≤◌, ◌<◌, ◌+◌, ◌-◌, ◌*◌, min, Bool, true, false, ◌||◌, cond, List, [], ◌∷◌, length, map, take, slice_get, Option, Some, None, refl, ap, sym, subst, arith, add-one}
+use Rattle.std.proofs.Common.{◌≡◌, ◌∙◌, ℕ, zero, suc, ◌≤◌, ◌<◌, ◌+◌, ◌-◌, ◌*◌, min, Bool, true, false, cond, List, [], ◌∷◌, length, map, take, slice_get, Option, Some, None, refl, ap, sym, subst, arith, add-one}
 use Rattle.std.specs.List.{AllByRecursion, sum_by}
 use Rattle.std.specs.Option.{option_map}
 use Rattle.std.proofs.lemmas.List.Sums.{sum_by-cons}
@@ -13,7 +13,7 @@ use Rattle.zed_code.specs.Visits.{greatest, raised}
 use Rattle.zed_code.specs.Text.{elements}
 use Rattle.zed_texts.specs.ByName.{text_in}
 use Rattle.zed_texts.specs.Texts.{Texts, elements_of, Grows, AllGrow}
-use Rattle.zed_body.specs.Counts.{HasFew, HaveFew, IsNoLess, NoneFalls, edits_of}
+use Rattle.zed_body.specs.Counts.{HasFew, IsNoLess, NoneFalls}
 use Rattle.zed_document.specs.Counts.{Counts, added, capped, count_of, counts_of, or_zero, total, NoCountFalls}
 
 -- ---- sums
@@ -68,7 +68,7 @@ each-found [] r = tt
 each-found (x ∷ xs) r = (
   rw (same_text-itself x.0) refl,
   all-from (λ y. is_earlier (x.0).name (y.0).name ≡ true) (λ y. text_in y.0 xs ≡ Some y.1) (λ y. text_in y.0 (x ∷ xs) ≡ Some y.1) xs
-  (λ y e f. rw (earlier-differs x.0 y.0 e) f) r.0 (each-found xs r.1),
+      (λ y e f. rw (earlier-differs x.0 y.0 e) f) r.0 (each-found xs r.1),
 )
 
 -- what stands under one name in a sum, where no other has the name

@@ -1,14 +1,12 @@
 -- The laws of merging.
 use Rattle.std.proofs.Common.{List, ◌++◌, refl, ap, sym, inl, inr}
 use Rattle.std.specs.List.{Contains}
-use Rattle.std.specs.Prelude.{false}
 use Rattle.std.proofs.lemmas.List.Elements.{Contains-append_right, Contains-append_cases}
 use Rattle.zed_op.specs.declared.op.Edit.{Edit}
 use Rattle.zed_op.specs.Set.{Agrees, IsRising, union}
 use Rattle.zed_op.specs.SetLaws.{RisingAgrees, UnionHasBoth, UnionCommutes, UnionAssociates, UnionOfItsOwn, UnionOfSets, SetIsOfAnyOrder, SetGrowsByEdits}
 use Rattle.zed_edit.specs.Replay.{replay, held}
 use Rattle.zed_document.specs.Merge.{Agree}
-use Rattle.zed_document.specs.Replica.{Replica}
 use Rattle.zed_document.specs.Laws.{merged, MergeCommutes, MergeAssociates, MergeRepeats, MergeOfItself, EditsDecide, document_of, DeliveriesMakeIt, MergeIsDeliveries, OrderNeverCounts}
 
 pub edits_decide : EditsDecide

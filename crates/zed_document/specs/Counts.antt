@@ -1,5 +1,5 @@
 -- How often runs of texts were looked at, text by text.
-use Rattle.std.specs.Prelude.{◌≤◌, ℕ, ◌+◌, ◌-◌, min, List, [], ◌∷◌, map, sum_by, Option, Some, None}
+use Rattle.std.specs.Prelude.{◌≤◌, ℕ, ◌-◌, min, map, sum_by, Option, Some, None}
 use Rattle.zed_types.specs.declared.names.TextId.{TextId}
 use Rattle.zed_code.specs.Visits.{greatest}
 use Rattle.zed_texts.specs.ByName.{ByName, text_in}

@@ -1,5 +1,4 @@
-use Rattle.std.proofs.Common.{◌≡◌, ◌∙◌, List, false, ap, refl, subst}
-use Rattle.zed_op.specs.declared.op.Edit.{Edit}
+use Rattle.std.proofs.Common.{◌≡◌, ◌∙◌, false, ap, refl, subst}
 use Rattle.zed_document.specs.declared.delivered.Delivered.{Delivered}
 use Rattle.zed_document.specs.declared.delivered.State.TheVariants.{Known}
 use Rattle.zed_document.specs.Counts.{Counts, counts_of}
