@@ -13,11 +13,13 @@ pub mod Joining
 pub mod Looks
 pub mod Lookups
 pub mod Merging
+pub mod Opened
 pub mod Parts
 pub mod Passed
 pub mod Spots
 pub mod Stamped
 pub mod Stretched
+pub mod Taking
 pub mod Times
 pub mod TypedTexts
 pub mod Visited

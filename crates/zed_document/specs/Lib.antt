@@ -7,6 +7,7 @@ pub mod Held
 pub mod Kept
 pub mod Laws
 pub mod Merge
+pub mod Open
 pub mod Reading
 pub mod Replica
 pub mod Same

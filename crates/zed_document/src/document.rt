@@ -4,7 +4,7 @@ ghost use Rattle.std.specs.Prelude.{◌≡◌, ◌≢◌, ◌≤◌, ◌⊎◌, 
 use crate::batch::{Batch, copies, gather, unless_clash};
 use crate::delivered::{Delivered, State};
 use crate::error::{DocumentError, of_edit};
-use crate::held::{is_among, renew};
+use crate::held::{is_among, renewed, replace};
 use crate::merge::{joined, least_clash};
 use crate::place::spot_of;
 use crate::visits::{visits_at, visits_before, visits_since};
@@ -21,14 +21,14 @@ use zed_view::{View, parts_show_the_replay};
 /// runs of its texts were looked at.
 #[derive(Drop)]
 pub struct Document {
-    world: u64,
-    edits: Vec<Edit>,
+    pub(crate) world: u64,
+    pub(crate) edits: Vec<Edit>,
     /// The stamps of the edits that are held, rising. It changes at the end of a call alone, so that it is right in a
     /// stale document too.
-    held: Vec<Stamp>,
+    pub(crate) held: Vec<Stamp>,
     /// What the edits make, and those that wait; of a stale document anything.
-    body: Body,
-    is_stale: bool,
+    pub(crate) body: Body,
+    pub(crate) is_stale: bool,
 }
 
 impl Model for Document {
@@ -234,8 +234,9 @@ impl Document {
         let Ok(taken) = self.body.take(alloc, &edit) else {
             return Err(DocumentError::Memory);
         };
-        renew(&mut self.held, &self.body, taken)?;
+        let held = renewed(&self.body, taken)?;
         self.edits.insert(place, edit).unwrap();
+        replace(&mut self.held, held);
         self.is_stale = false;
         Ok(Delivered {
             state: State::of_new(taken.held),

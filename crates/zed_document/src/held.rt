@@ -1,6 +1,7 @@
 //! Edits that wait.
-ghost use Rattle.std.specs.Prelude.{◌≡◌, IfErr, OnOk, OnErr};
-ghost use Rattle.zed_document.specs.Held.{is_among as is_one_of, IsRenewed};
+ghost use Rattle.std.specs.Prelude.{◌≡◌, false, IfErr, IfNone, IfOk, IfSome, MatchOption};
+ghost use Rattle.zed_op.specs.Set.{stamps_of};
+ghost use Rattle.zed_document.specs.Held.{is_among as is_one_of};
 
 use crate::error::DocumentError;
 use zed_body::{Body, Taken};
@@ -13,21 +14,29 @@ pub(crate) fn is_among(stamps: &[Stamp], stamp: Stamp) -> bool
     stamps.iter().any(|s| *s == stamp)
 }
 
-/// Renews the stamps of those held after a body took an edit. Memory leaves them as they were.
-pub(crate) fn renew(held: &mut Vec<Stamp>, body: &Body, taken: Taken) -> Result<(), DocumentError>
-    ensures ok { OnOk result
-        (IsRenewed taken body.now.inbox held.old.items held.new.items) }
+/// The stamps of those held after a body took an edit, unless they are those held before.
+pub(crate) fn renewed(body: &Body, taken: Taken) -> Result<Option<Vec<Stamp>>, DocumentError>
+    ensures some { IfOk result (λ held. IfSome held (λ stamps.
+        stamps.items ≡ stamps_of body.now.inbox)) }
+    ensures none { IfOk result (λ held. IfNone held
+        ((taken.held ≡ false) × (taken.woken ≡ 0))) }
     ensures err { IfErr result (λ e. e ≡ DocumentError.Memory) }
-    ensures kept { OnErr result (held.new.items ≡ held.old.items) }
 {
     if !taken.held && taken.woken == 0 {
-        return Ok(());
+        return Ok(None);
     }
     match body.inbox.stamps() {
-        Ok(stamps) => {
-            *held = stamps;
-            Ok(())
-        }
+        Ok(stamps) => Ok(Some(stamps)),
         Err(_) => Err(DocumentError::Memory),
+    }
+}
+
+/// Replaces stamps by others, if there are any.
+pub(crate) fn replace(held: &mut Vec<Stamp>, renewed: Option<Vec<Stamp>>)
+    ensures { MatchOption renewed (held.new.items ≡ held.old.items)
+        (λ stamps. held.new.items ≡ stamps.items) }
+{
+    if let Some(stamps) = renewed {
+        *held = stamps;
     }
 }

@@ -11,8 +11,10 @@ mod document;
 mod error;
 mod held;
 mod insertion;
+mod intake;
 mod laws;
 mod merge;
+mod open_log;
 mod place;
 mod readers;
 mod same;
@@ -21,6 +23,7 @@ mod visits;
 pub use delivered::{Delivered, State};
 pub use document::Document;
 pub use error::DocumentError;
+pub use intake::Intake;
 pub use laws::{deliveries_come_to_sets, edits_decide, merging_is_of_sets};
 pub use zed_view::{
     CurrentBoard, Follower, HeaderRegister, Leader, MadeBoard, MadeStat, P3, PropertyRegister,

@@ -2,6 +2,7 @@ use Rattle.std.proofs.Common.{rules, ◌≡◌, ◌∙◌, false, None, ap, refl
 use Rattle.std.specs.Prelude.{insert}
 use Rattle.zed_op.specs.Set.{with_edit}
 use Rattle.zed_document.specs.Delivery.{TellsNew, edit_with}
+use Rattle.zed_document.specs.Held.{IsRenewed}
 use Rattle.zed_document.specs.Kept.{IsKept}
 use Rattle.zed_document.specs.Replica.{Replica}
 use Rattle.zed_document.specs.declared.delivered.Delivered.{Delivered}
@@ -9,6 +10,7 @@ use Rattle.zed_document.specs.Counts.{Counts, counts_of}
 use Rattle.zed_document.specs.Visits.{TellsVisits}
 use Rattle.zed_document.proofs.Bodies.{comes, is_new, one_more, tells_new}
 use Rattle.zed_document.proofs.Visited.{none_woken, tells_visits, told_by}
+use Rattle.zed_document.proofs.Taking.{is_renewed}
 use Rattle.zed_document.proofs.document.Document.accept.Goals as goal
 
 pub take-requires-clause-new : goal.take-requires-clause-new
@@ -25,10 +27,12 @@ invariant_of-self-2 c =
     let new : edit_with c.args.edit.stamp c.self.inside.edits.items ≡ None = ap (edit_with c.args.edit.stamp) v ∙ c.requires.new in
     let items : c.insert.new.self.items ≡ insert c.self.inside.edits.items c.args.place c.args.edit = search rules in
     let is : with_edit c.args.edit c.self.inside.edits.items ≡ c.insert.new.self.items = rw v (c.requires.belongs ∙ sym (items ∙ ap (λ es. insert es c.args.place c.args.edit) v)) in
+    let renewed : IsRenewed c.in-Ok.taken c.take.new.self.inbox c.self.inside.held.items c.replace.new.held.items =
+    is_renewed (λ stamps. stamps.items) c.in-Ok.taken c.take.new.self.inbox c.self.inside.held.items c.replace.new.held.items c.in_ok-held.held c.in_ok-held.ensures.some c.in_ok-held.ensures.none c.replace.ensures in
     let kept = one_more c.held_edits_are_remembered.ensures c.calm_edits_hold_the_same.ensures c.sets_rise.ensures.edit c.sets_stay_fit.ensures.edit
-    c.args.edit c.self.inside.edits.items c.self.inside.held.items c.renew.new.held.items c.self.inside.is_stale c.self.inside.body c.take.new.self c.in-Ok.taken
-    c.self.invariant f new c.requires.fits (c.edit_has_sizes.ensures c.requires.fits) c.in-Ok.ensures.ok c.in-Ok.ensures.tells c.in_ok-renew.ensures.ok in
-    subst (λ es. IsKept es c.renew.new.held.items false c.take.new.self) is kept
+    c.args.edit c.self.inside.edits.items c.self.inside.held.items c.replace.new.held.items c.self.inside.is_stale c.self.inside.body c.take.new.self c.in-Ok.taken
+    c.self.invariant f new c.requires.fits (c.edit_has_sizes.ensures c.requires.fits) c.in-Ok.ensures.ok c.in-Ok.ensures.tells renewed in
+    subst (λ es. IsKept es c.replace.new.held.items false c.take.new.self) is kept
 
 pub returns-clause-tells : goal.returns-clause-tells
 returns-clause-tells c =

@@ -1,0 +1,37 @@
+use Rattle.std.proofs.Common.{◌≡◌, ◌∙◌, false, None, ap, refl, subst, sym, inr}
+use Rattle.zed_op.specs.Set.{with_edit}
+use Rattle.zed_document.specs.Delivery.{TellsNew, edit_with}
+use Rattle.zed_document.specs.Held.{IsRenewed}
+use Rattle.zed_document.specs.Kept.{IsKept}
+use Rattle.zed_document.specs.Replica.{Replica}
+use Rattle.zed_document.proofs.Bodies.{comes, is_new, one_more, tells_new}
+use Rattle.zed_document.proofs.Taking.{is_renewed}
+use Rattle.zed_document.proofs.intake.Intake.accept.Goals as goal
+
+pub take-requires-clause-new : goal.take-requires-clause-new
+take-requires-clause-new c =
+    let v : c.self.inside.log ≡ c.args.self.now.edits = ap (λ (r : Replica). r.edits) c.self.view_is in
+    let f : c.self.inside.is_stale ≡ false = ap (λ (r : Replica). r.is_stale) c.self.view_is ∙ c.requires.sound in
+    let new : edit_with c.args.edit.stamp c.self.inside.log ≡ None = ap (edit_with c.args.edit.stamp) v ∙ c.requires.new in
+    is_new c.args.edit c.self.inside.log c.self.inside.held.items c.self.inside.is_stale c.self.inside.body c.self.invariant f new
+
+pub invariant_of-self-2 : goal.invariant_of-self-2
+invariant_of-self-2 c =
+    let v : c.self.inside.log ≡ c.args.self.now.edits = ap (λ (r : Replica). r.edits) c.self.view_is in
+    let f : c.self.inside.is_stale ≡ false = ap (λ (r : Replica). r.is_stale) c.self.view_is ∙ c.requires.sound in
+    let new : edit_with c.args.edit.stamp c.self.inside.log ≡ None = ap (edit_with c.args.edit.stamp) v ∙ c.requires.new in
+    let renewed : IsRenewed c.in-Ok.taken c.take.new.self.inbox c.self.inside.held.items c.replace.new.held.items =
+    is_renewed (λ stamps. stamps.items) c.in-Ok.taken c.take.new.self.inbox c.self.inside.held.items c.replace.new.held.items c.in_ok-held.held c.in_ok-held.ensures.some c.in_ok-held.ensures.none c.replace.ensures in
+    let kept = one_more c.held_edits_are_remembered.ensures c.calm_edits_hold_the_same.ensures c.sets_rise.ensures.edit c.sets_stay_fit.ensures.edit
+    c.args.edit c.self.inside.log c.self.inside.held.items c.replace.new.held.items c.self.inside.is_stale c.self.inside.body c.take.new.self c.in-Ok.taken
+    c.self.invariant f new c.requires.fits (c.edit_has_sizes.ensures c.requires.fits) c.in-Ok.ensures.ok c.in-Ok.ensures.tells renewed in
+    subst (λ es. IsKept es c.replace.new.held.items false c.take.new.self) (sym c.in_ok-add.ensures.ok) kept
+
+pub returns-clause-tells : goal.returns-clause-tells
+returns-clause-tells c =
+    let v : c.self.inside.log ≡ c.args.self.now.edits = ap (λ (r : Replica). r.edits) c.self.view_is in
+    let f : c.self.inside.is_stale ≡ false = ap (λ (r : Replica). r.is_stale) c.self.view_is ∙ c.requires.sound in
+    let new : edit_with c.args.edit.stamp c.self.inside.log ≡ None = ap (edit_with c.args.edit.stamp) v ∙ c.requires.new in
+    let come = comes c.args.edit c.self.inside.log c.self.inside.held.items c.self.inside.is_stale c.self.inside.body c.self.invariant f new in
+    let tells = tells_new c.args.edit c.self.inside.log c.self.inside.body c.in-Ok.taken (record { state = c.of_new.result; woken = c.in-Ok.taken.woken; visits = c.visits_since.result }) come c.in-Ok.ensures.tells c.of_new.ensures refl in
+    inr (subst (λ es. TellsNew es (with_edit c.args.edit es) c.args.edit (record { state = c.of_new.result; woken = c.in-Ok.taken.woken; visits = c.visits_since.result })) v tells)

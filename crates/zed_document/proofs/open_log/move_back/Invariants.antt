@@ -1,0 +1,11 @@
+use Rattle.std.proofs.Common.{◌≡◌, ◌≤◌, ◌+◌, ◌++◌, length, reverse, vec_capacity}
+use Rattle.zed_document.proofs.open_log.move_back.Given as goal
+
+abbrev pub invariant-loop-edit : goal.invariant-loop-edit
+invariant-loop-edit l = record {
+  whole : l.log.items ++ reverse l.from.items ≡ l.fn.log.items ++ reverse l.fn.from.items;
+  room : length l.log.items + length l.from.items ≤ vec_capacity l.log;
+}
+
+abbrev pub decreases-loop-edit : goal.decreases-loop-edit
+decreases-loop-edit l = length l.from.items

@@ -1,0 +1,156 @@
+//! A document that takes many edits as they come.
+ghost use Rattle.std.specs.Prelude.{◌≡◌, ◌≢◌, ◌⊎◌, if◌then◌else◌, is_ok, true, false, None, Err, OnOk, IsOkAnd};
+ghost use Rattle.zed_document.specs.Delivery.{Answers, MayTakeMemoryFor, TellsNew, edit_with};
+ghost use Rattle.zed_op.specs.Fit.{Fits};
+ghost use Rattle.zed_op.specs.Set.{with_edit};
+
+use crate::delivered::{Delivered, State};
+use crate::document::Document;
+use crate::error::DocumentError;
+use crate::held::{renewed, replace};
+use crate::open_log::OpenLog;
+use crate::visits::{visits_before, visits_since};
+use std::marker::Model;
+use zed_body::{Body, calm_edits_hold_the_same};
+use zed_edit::Edit;
+use zed_laws::held_edits_are_remembered;
+use zed_op::{edit_has_sizes, edit_joins_a_set, sets_rise, sets_stay_fit};
+use zed_types::Stamp;
+
+/// A document that takes many edits, one after the other in whatever order, with the work of edits that come in stamp order. Contracts
+/// see it as the document that it is when it is closed.
+#[derive(Drop)]
+pub struct Intake {
+    world: u64,
+    log: OpenLog,
+    /// As in a document.
+    held: Vec<Stamp>,
+    body: Body,
+    is_stale: bool,
+}
+
+impl Model for Intake {
+    ghost use Rattle.zed_document.specs.Kept.{IsKept};
+    ghost use Rattle.zed_document.specs.Replica.{Replica};
+
+    ghost Value = { Replica };
+
+    ghost view = { λ i. record { world = i.world; edits = i.log; is_stale = i.is_stale } };
+
+    ghost invariant = { λ i. IsKept i.log i.held.items i.is_stale i.body };
+}
+
+impl Intake {
+    /// A document, ready to take edits. It takes no memory.
+    pub fn of(document: Document) -> Intake
+        ensures { result ≡ document }
+    {
+        let Document {
+            world,
+            edits,
+            held,
+            body,
+            is_stale,
+        } = document;
+        Intake {
+            world,
+            log: OpenLog::of(edits),
+            held,
+            body,
+            is_stale,
+        }
+    }
+
+    /// The number of the document's world.
+    pub fn world(&self) -> u64
+        ensures { result ≡ self.now.world }
+    {
+        self.world
+    }
+
+    /// Accepts an edit that fits, in whatever order edits come. In this order: Stale; Clash where another edit has its stamp, held or
+    /// taken; Memory. The set of edits is as before on each of them. After Memory the document may be stale. An edit that is there
+    /// already takes no memory.
+    pub fn deliver(&mut self, edit: Edit) -> Result<Delivered, DocumentError>
+        requires { Fits edit }
+        ensures result { (result ≡ Err DocumentError.Memory) ⊎ Answers self.old edit result }
+        ensures edits { self.new.edits
+            ≡ (if is_ok result then with_edit edit self.old.edits else self.old.edits) }
+        ensures world { self.new.world ≡ self.old.world }
+        ensures sound { OnOk result (self.new.is_stale ≡ false) }
+        ensures stale { (result ≢ Err DocumentError.Memory)
+            → self.new.is_stale ≡ self.old.is_stale }
+        ensures memory_only_when { result ≡ Err DocumentError.Memory
+            → MayTakeMemoryFor self.old edit }
+    {
+        if self.is_stale {
+            return Err(DocumentError::Stale);
+        }
+        edit_joins_a_set();
+        match self.log.find(edit.stamp) {
+            Some(there) => {
+                if there.is_same(&edit) {
+                    Ok(Delivered::KNOWN)
+                } else {
+                    Err(DocumentError::Clash(edit.stamp))
+                }
+            }
+            None => self.accept(edit),
+        }
+    }
+
+    /// Takes an edit that is new.
+    fn accept(&mut self, edit: Edit) -> Result<Delivered, DocumentError>
+        requires sound { self.old.is_stale ≡ false }
+        requires fits { Fits edit }
+        requires new { edit_with edit.stamp self.old.edits ≡ None }
+        ensures tells { (result ≡ Err DocumentError.Memory) ⊎ IsOkAnd result (λ d.
+            TellsNew self.old.edits (with_edit edit self.old.edits) edit d) }
+        ensures edits { self.new.edits
+            ≡ (if is_ok result then with_edit edit self.old.edits else self.old.edits) }
+        ensures world { self.new.world ≡ self.old.world }
+        ensures sound { OnOk result (self.new.is_stale ≡ false) }
+    {
+        let alloc = self.log.alloc();
+        sets_rise();
+        sets_stay_fit();
+        held_edits_are_remembered();
+        calm_edits_hold_the_same();
+        edit_has_sizes(&edit);
+        let before = visits_before(&self.body, &edit);
+        // until all is done; what fails midway leaves it so
+        self.is_stale = true;
+        let Ok(taken) = self.body.take(alloc, &edit) else {
+            return Err(DocumentError::Memory);
+        };
+        let held = renewed(&self.body, taken)?;
+        self.log.add(edit)?;
+        replace(&mut self.held, held);
+        self.is_stale = false;
+        Ok(Delivered {
+            state: State::of_new(taken.held),
+            woken: taken.woken,
+            visits: visits_since(&self.body, before),
+        })
+    }
+
+    /// The document with the edits that it took. It takes no memory.
+    pub fn close(self) -> Document
+        ensures { result ≡ self }
+    {
+        let Intake {
+            world,
+            log,
+            held,
+            body,
+            is_stale,
+        } = self;
+        Document {
+            world,
+            edits: log.close(),
+            held,
+            body,
+            is_stale,
+        }
+    }
+}
