@@ -1,6 +1,7 @@
 //! A document that takes many edits as they come.
-ghost use Rattle.std.specs.Prelude.{◌≡◌, ◌≢◌, ◌⊎◌, if◌then◌else◌, is_ok, true, false, None, Err, OnOk, IsOkAnd};
+ghost use Rattle.std.specs.Prelude.{◌≡◌, ◌≢◌, ◌⊎◌, if◌then◌else◌, is_ok, true, false, None, Err, IfOk, OnErr, OnOk, IsOkAnd};
 ghost use Rattle.zed_document.specs.Delivery.{Answers, MayTakeMemoryFor, TellsNew, edit_with};
+ghost use Rattle.zed_document.specs.Visits.{TellsVisits};
 ghost use Rattle.zed_op.specs.Fit.{Fits};
 ghost use Rattle.zed_op.specs.Set.{with_edit};
 
@@ -30,12 +31,18 @@ pub struct Intake {
 }
 
 impl Model for Intake {
+    ghost use Rattle.zed_document.specs.Counts.{counts_of};
     ghost use Rattle.zed_document.specs.Kept.{IsKept};
     ghost use Rattle.zed_document.specs.Replica.{Replica};
 
     ghost Value = { Replica };
 
-    ghost view = { λ i. record { world = i.world; edits = i.log; is_stale = i.is_stale } };
+    ghost view = { λ i. record {
+      world = i.world;
+      edits = i.log;
+      is_stale = i.is_stale;
+      counts = counts_of i.body.texts;
+    } };
 
     ghost invariant = { λ i. IsKept i.log i.held.items i.is_stale i.body };
 }
@@ -80,6 +87,9 @@ impl Intake {
         ensures sound { OnOk result (self.new.is_stale ≡ false) }
         ensures stale { (result ≢ Err DocumentError.Memory)
             → self.new.is_stale ≡ self.old.is_stale }
+        ensures kept { OnErr result ((result ≢ Err DocumentError.Memory) → self.new ≡ self.old) }
+        ensures visits { IfOk result (λ d.
+            TellsVisits edit self.old.edits self.old.counts self.new.counts d) }
         ensures memory_only_when { result ≡ Err DocumentError.Memory
             → MayTakeMemoryFor self.old edit }
     {
@@ -110,6 +120,8 @@ impl Intake {
             ≡ (if is_ok result then with_edit edit self.old.edits else self.old.edits) }
         ensures world { self.new.world ≡ self.old.world }
         ensures sound { OnOk result (self.new.is_stale ≡ false) }
+        ensures visits { IfOk result (λ d.
+            TellsVisits edit self.old.edits self.old.counts self.new.counts d) }
     {
         let alloc = self.log.alloc();
         sets_rise();
