@@ -16,7 +16,8 @@ use crate::error::LinkError;
 use crate::link::{Failed, Link};
 use crate::pulled::Pulled;
 use std::alloc::Global;
-use zed_document::{Document, DocumentError, State};
+use std::mem::replace;
+use zed_document::{Document, DocumentError, Intake, State};
 use zed_edit::Edit;
 use zed_editfile::{EditReader, fronts_are_read};
 
@@ -27,15 +28,15 @@ const PIECE: usize = 4096;
 const MOST_READS: u32 = 1_048_576;
 
 /// Delivers an edit that fits.
-fn deliver_one(document: &mut Document, edit: Edit) -> Result<State, LinkError>
-    requires sound { document.old.is_stale ≡ false }
+fn deliver_one(intake: &mut Intake, edit: Edit) -> Result<State, LinkError>
+    requires sound { intake.old.is_stale ≡ false }
     requires fits { Fits edit }
-    ensures result { DeliversOne document.old edit result document.new.edits }
-    ensures world { document.new.world ≡ document.old.world }
+    ensures result { DeliversOne intake.old edit result intake.new.edits }
+    ensures world { intake.new.world ≡ intake.old.world }
     ensures stale { (result ≢ Err LinkError.Memory)
-        → document.new.is_stale ≡ document.old.is_stale }
+        → intake.new.is_stale ≡ intake.old.is_stale }
 {
-    match document.deliver(edit) {
+    match intake.deliver(edit) {
         Ok(told) => Ok(told.state),
         Err(DocumentError::Clash(stamp)) => Err(LinkError::Clash(stamp)),
         // it isn't stale, and the edit fits
@@ -52,17 +53,17 @@ fn deliver_one(document: &mut Document, edit: Edit) -> Result<State, LinkError>
 }
 
 /// Delivers edits one after the other, up to the first that is refused, and counts them.
-fn deliver_each(document: &mut Document, edits: Vec<Edit>) -> Result<Pulled, LinkError>
-    requires sound { document.old.is_stale ≡ false }
+fn deliver_each(intake: &mut Intake, edits: Vec<Edit>) -> Result<Pulled, LinkError>
+    requires sound { intake.old.is_stale ≡ false }
     requires fit { AllFit edits.items }
-    ensures result { DeliversCounting document.old edits.items result document.new.edits }
-    ensures world { document.new.world ≡ document.old.world }
+    ensures result { DeliversCounting intake.old edits.items result intake.new.edits }
+    ensures world { intake.new.world ≡ intake.old.world }
     ensures stale { (result ≢ Err LinkError.Memory)
-        → document.new.is_stale ≡ document.old.is_stale }
+        → intake.new.is_stale ≡ intake.old.is_stale }
 {
     let mut pulled = Pulled::NONE;
     for edit in edits {
-        let state = deliver_one(document, edit)?;
+        let state = deliver_one(intake, edit)?;
         pulled.count(state);
     }
     Ok(pulled)
@@ -74,19 +75,19 @@ fn take_piece(
     alloc: Global,
     reader: &mut EditReader,
     piece: &[u8],
-    document: &mut Document,
+    intake: &mut Intake,
 ) -> Result<Pulled, LinkError>
-    requires sound { document.old.is_stale ≡ false }
+    requires sound { intake.old.is_stale ≡ false }
     ensures result { (es : List TheEdit) × Feeds piece.now [] es reader.old reader.new
-        × TakesPiece document.old es reader.new result document.new.edits }
+        × TakesPiece intake.old es reader.new result intake.new.edits }
     ensures asked { reader.new.asked ≡ reader.old.asked }
-    ensures world { document.new.world ≡ document.old.world }
+    ensures world { intake.new.world ≡ intake.old.world }
     ensures stale { (result ≢ Err LinkError.Memory)
-        → document.new.is_stale ≡ document.old.is_stale }
+        → intake.new.is_stale ≡ intake.old.is_stale }
 {
     let mut edits = Vec::new(alloc);
     let fed = reader.feed(piece, &mut edits);
-    let pulled = deliver_each(document, edits)?;
+    let pulled = deliver_each(intake, edits)?;
     fed?;
     Ok(pulled)
 }
@@ -110,6 +111,39 @@ fn read_some(link: &mut dyn Link, into: &mut [u8]) -> Result<usize, LinkError>
         Ok(count) => Ok(count),
         Err(Failed) => Err(LinkError::LinkFault),
     }
+}
+
+/// Reads an edit file of the world of an intake from a link, to the end of input, and delivers each of its edits as soon as it is whole.
+fn receive_into(
+    alloc: Global,
+    link: &mut dyn Link,
+    intake: &mut Intake,
+) -> Result<Pulled, LinkError>
+    requires sound { intake.old.is_stale ≡ false }
+    ensures pull { Pull intake.old (ends link.old) (ends link.new) (reads link.old)
+        (reads link.new) result intake.new.edits }
+    ensures world { intake.new.world ≡ intake.old.world }
+    ensures stale { (result ≢ Err LinkError.Memory)
+        → intake.new.is_stale ≡ intake.old.is_stale }
+    ensures reads { reads link.new ≤ reads link.old + most_reads }
+    ensures failures { Counts (is_fault result) (failed link.old) (failed link.new) }
+    ensures stalls { stalls link.new ≡ stalls link.old }
+{
+    // no fault in the midst is taken for a cut end
+    fronts_are_read();
+    let mut reader = EditReader::new(alloc, Some(intake.world()));
+    let mut pulled = Pulled::NONE;
+    let mut buffer = [0; PIECE];
+    for reads in 0..MOST_READS {
+        let count = read_some(link, &mut buffer)?;
+        if count == 0 {
+            reader.finish()?;
+            return Ok(pulled);
+        }
+        let (piece, _) = buffer.split_at(count);
+        pulled = pulled.plus(take_piece(alloc, &mut reader, piece, intake)?);
+    }
+    Err(LinkError::TooManyTurns)
 }
 
 /// Reads an edit file of the document's world from a link, to the end of input, and delivers each of its edits as soon as it is whole.
@@ -139,19 +173,9 @@ pub fn receive(
     if document.view().is_err() {
         return Err(LinkError::Stale);
     }
-    // no fault in the midst is taken for a cut end
-    fronts_are_read();
-    let mut reader = EditReader::new(alloc, Some(document.world()));
-    let mut pulled = Pulled::NONE;
-    let mut buffer = [0; PIECE];
-    for reads in 0..MOST_READS {
-        let count = read_some(link, &mut buffer)?;
-        if count == 0 {
-            reader.finish()?;
-            return Ok(pulled);
-        }
-        let (piece, _) = buffer.split_at(count);
-        pulled = pulled.plus(take_piece(alloc, &mut reader, piece, document)?);
-    }
-    Err(LinkError::TooManyTurns)
+    let taken = replace(document, Document::new(alloc, document.world()));
+    let mut intake = Intake::of(taken);
+    let result = receive_into(alloc, link, &mut intake);
+    *document = intake.close();
+    result
 }

@@ -11,13 +11,13 @@ returns-in_err-state-clause-result c =
     let old = c.loop-edit.invariant in
     let p = err_from_is_err_and c.from_residual.result c.from_residual.ensures.1 in
     let same : p.0 ≡ c.in_err-state.field-0.0 = p.2 in
-    rw (p.1, same) (one_stops c.args.document.now c.loop-edit.document old.done c.next.new.self.rest.items c.args.edits.items c.in-Some.edit c.in_err-state.field-0.0 c.deliver_one.new.document.edits
+    rw (p.1, same) (one_stops c.args.intake.now c.loop-edit.intake old.done c.next.new.self.rest.items c.args.edits.items c.in-Some.edit c.in_err-state.field-0.0 c.deliver_one.new.intake.edits
     old.world old.sound (old.whole ∙ ap (λ z. old.done ++ z) c.in-Some.ensures.steps.0) old.all c.in_err-state.ensures.result)
 
 pub count-requires-clause-taken : goal.count-requires-clause-taken
 count-requires-clause-taken c =
     let old = c.loop-edit.invariant in
-    let below = (tally_below c.args.document.now.edits old.done c.loop-edit.pulled old.counted).taken in
+    let below = (tally_below c.args.intake.now.edits old.done c.loop-edit.pulled old.counted).taken in
     let more : length c.args.edits.items ≡ length (old.done ++ c.loop-edit.edit-iterator.rest.items) = ap length old.whole in
     let sum = length-append old.done c.loop-edit.edit-iterator.rest.items in
     let next : length c.loop-edit.edit-iterator.rest.items ≡ length (c.in-Some.edit ∷ c.next.new.self.rest.items) = ap length c.in-Some.ensures.steps.0 in
@@ -28,7 +28,7 @@ count-requires-clause-taken c =
 pub count-requires-clause-held : goal.count-requires-clause-held
 count-requires-clause-held c =
     let old = c.loop-edit.invariant in
-    let below = (tally_below c.args.document.now.edits old.done c.loop-edit.pulled old.counted).held in
+    let below = (tally_below c.args.intake.now.edits old.done c.loop-edit.pulled old.counted).held in
     let more : length c.args.edits.items ≡ length (old.done ++ c.loop-edit.edit-iterator.rest.items) = ap length old.whole in
     let sum = length-append old.done c.loop-edit.edit-iterator.rest.items in
     let next : length c.loop-edit.edit-iterator.rest.items ≡ length (c.in-Some.edit ∷ c.next.new.self.rest.items) = ap length c.in-Some.ensures.steps.0 in
@@ -39,7 +39,7 @@ count-requires-clause-held c =
 pub count-requires-clause-known : goal.count-requires-clause-known
 count-requires-clause-known c =
     let old = c.loop-edit.invariant in
-    let below = (tally_below c.args.document.now.edits old.done c.loop-edit.pulled old.counted).known in
+    let below = (tally_below c.args.intake.now.edits old.done c.loop-edit.pulled old.counted).known in
     let more : length c.args.edits.items ≡ length (old.done ++ c.loop-edit.edit-iterator.rest.items) = ap length old.whole in
     let sum = length-append old.done c.loop-edit.edit-iterator.rest.items in
     let next : length c.loop-edit.edit-iterator.rest.items ≡ length (c.in-Some.edit ∷ c.next.new.self.rest.items) = ap length c.in-Some.ensures.steps.0 in
@@ -51,12 +51,12 @@ pub loop-edit-preserved : goal.loop-edit-preserved
 loop-edit-preserved c =
     let old = c.loop-edit.invariant in
     let one = c.in_ok-state.ensures.result in
-    let sound : c.deliver_one.new.document.is_stale ≡ c.loop-edit.document.is_stale = c.in_ok-state.ensures.stale (λ bad. cc) in
+    let sound : c.deliver_one.new.intake.is_stale ≡ c.loop-edit.intake.is_stale = c.in_ok-state.ensures.stale (λ bad. cc) in
     record {
       done = old.done ++ c.in-Some.edit ∷ [];
       whole = one_behind old.done c.next.new.self.rest.items c.args.edits.items c.loop-edit.edit-iterator.rest.items c.in-Some.edit old.whole c.in-Some.ensures.steps.0;
-      all = delivered_more c.args.document.now c.loop-edit.document old.done (c.in-Some.edit ∷ []) (Ok tt) c.deliver_one.new.document.edits old.world old.sound old.all one.0;
-      counted = counted_more c.args.document.now old.done (c.in-Some.edit ∷ []) c.loop-edit.document.edits c.loop-edit.pulled (tally (c.in_ok-state.state ∷ [])) c.count.new.self old.all
+      all = delivered_more c.args.intake.now c.loop-edit.intake old.done (c.in-Some.edit ∷ []) (Ok tt) c.deliver_one.new.intake.edits old.world old.sound old.all one.0;
+      counted = counted_more c.args.intake.now old.done (c.in-Some.edit ∷ []) c.loop-edit.intake.edits c.loop-edit.pulled (tally (c.in_ok-state.state ∷ [])) c.count.new.self old.all
           old.counted (ap (λ s. tally (s ∷ [])) one.1) c.count.ensures;
       world = c.in_ok-state.ensures.world ∙ old.world;
       sound = sound ∙ old.sound;

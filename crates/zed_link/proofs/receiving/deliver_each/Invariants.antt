@@ -9,8 +9,8 @@ abbrev pub invariant-loop-edit : goal.invariant-loop-edit
 invariant-loop-edit l = record {
   done : List Edit;
   whole : l.fn.edits.items ≡ done ++ l.edit-iterator.rest.items;
-  all : AllDelivered l.fn.document done l.document.edits;
-  counted : l.pulled ≡ tally (states l.fn.document.edits done);
-  world : l.document.world ≡ l.fn.document.world;
-  sound : l.document.is_stale ≡ l.fn.document.is_stale;
+  all : AllDelivered l.fn.intake done l.intake.edits;
+  counted : l.pulled ≡ tally (states l.fn.intake.edits done);
+  world : l.intake.world ≡ l.fn.intake.world;
+  sound : l.intake.is_stale ≡ l.fn.intake.is_stale;
 }
