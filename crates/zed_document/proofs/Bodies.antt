@@ -1,5 +1,5 @@
 -- The body of a document, as edits come to it.
-use Rattle.std.proofs.Common.{◌≡◌, ◌∙◌, Bool, true, false, List, [], ◌∷◌, Some, None, refl, ap, sym, subst}
+use Rattle.std.proofs.Common.{◌≡◌, ◌∙◌, Bool, true, false, cond, List, [], ◌∷◌, Some, None, refl, ap, sym, subst}
 use mathlib.Core.Logic.{inl, inr}
 use Rattle.std.specs.List.{AllByRecursion}
 use Rattle.zed_types.specs.declared.stamp.Stamp.{Stamp}
@@ -15,12 +15,13 @@ use Rattle.zed_laws.specs.Laws.{HeldAreRemembered}
 use Rattle.zed_body.specs.declared.body.Body.{Body}
 use Rattle.zed_body.specs.declared.take.Taken.{Taken}
 use Rattle.zed_body.specs.Shows.{BodyShows}
-use Rattle.zed_body.specs.Taking.{CalmEditsHoldTheSame, ComesTo, IsApart, IsNewTo, ShowsOneMore, Tells}
+use Rattle.zed_body.specs.Taking.{CalmEditsHoldTheSame, ComesTo, IsApart, IsNewTo, ShowsOneMore, Tells, is_held, woken}
 use Rattle.zed_body.specs.TakingAll.{AllComeTo, AreNewTo, RisingAreApart, ShowsAll}
 use Rattle.zed_document.specs.declared.delivered.Delivered.{Delivered}
 use Rattle.zed_document.specs.Batch.{AreNew}
 use Rattle.zed_document.specs.Delivery.{TellsNew, edit_with, state_of}
-use Rattle.zed_document.specs.Held.{held_stamps, IsRenewed}
+use Rattle.zed_document.specs.Held.{IsRenewed, held_stamps, with_stamp}
+use Rattle.zed_document.proofs.Taking.{held-more}
 use Rattle.zed_document.specs.Kept.{IsKept}
 
 other_way : (a b : Stamp) → same_stamp a b ≡ false → same_stamp b a ≡ false
@@ -55,18 +56,23 @@ is_new e es stamps stale b k sound new = (es, comes e es stamps stale b k sound 
 -- the stamps of those held after one edit more
 stamps_now : HeldAreRemembered → CalmEditsHoldTheSame → (e : Edit) (es : List Edit) (was now : List Stamp) (b c : Body) (t : Taken)
     → ComesTo e es b → Fits e → was ≡ held_stamps es → BodyShows (with_edit e es) c → Tells e b t
-    → IsRenewed t c.inbox was now → now ≡ held_stamps (with_edit e es)
+    → IsRenewed t e c.inbox was now → now ≡ held_stamps (with_edit e es)
 stamps_now remembered calm e es was now b c t k fits old shows tells (inl listed) =
     listed ∙ ap stamps_of shows.waiting ∙ remembered (with_edit e es)
-stamps_now remembered calm e es was now b c t k fits old shows tells (inr h) =
-    let told = tells es k in
-    h.2 ∙ old ∙ sym (calm e es k.rising k.fit fits k.apart (sym told.0 ∙ h.0) (sym told.1 ∙ h.1))
+stamps_now remembered calm e es was now b c t k fits old shows tells (inr h) = go t.held refl h.1
+  where
+    told : (t.held ≡ is_held (with_edit e es) e.stamp) × (t.woken ≡ woken es (with_edit e es))
+    told = tells es k
+
+    go : (b : Bool) → t.held ≡ b → now ≡ cond b (with_stamp e.stamp was) was → now ≡ held_stamps (with_edit e es)
+    go true q is = is ∙ ap (with_stamp e.stamp) old ∙ sym (held-more e es k.rising k.fit fits k.apart (sym told.0 ∙ q))
+    go false q is = is ∙ old ∙ sym (calm e es k.rising k.fit fits k.apart (sym told.0 ∙ q) (sym told.1 ∙ h.0))
 
 -- a document that took one edit more is kept
 pub one_more : HeldAreRemembered → CalmEditsHoldTheSame → EditKeepsRising → EditKeepsFit
     → (e : Edit) (es : List Edit) (was now : List Stamp) (stale : Bool) (b c : Body) (t : Taken)
     → IsKept es was stale b → stale ≡ false → edit_with e.stamp es ≡ None → Fits e → HasSizes e
-    → ShowsOneMore e b c → Tells e b t → IsRenewed t c.inbox was now
+    → ShowsOneMore e b c → Tells e b t → IsRenewed t e c.inbox was now
     → IsKept (with_edit e es) now false c
 one_more remembered calm rises fit e es was now stale b c t k sound new fits sizes shows tells renewed =
     let come = comes e es was stale b k sound new in

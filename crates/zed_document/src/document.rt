@@ -4,7 +4,7 @@ ghost use Rattle.std.specs.Prelude.{◌≡◌, ◌≢◌, ◌≤◌, ◌⊎◌, 
 use crate::batch::{Batch, copies, gather, unless_clash};
 use crate::delivered::{Delivered, State};
 use crate::error::{DocumentError, of_edit};
-use crate::held::{is_among, renewed, replace};
+use crate::held::{is_among, renew, renewed};
 use crate::merge::{joined, least_clash};
 use crate::place::spot_of;
 use crate::visits::{visits_at, visits_before, visits_since};
@@ -220,7 +220,7 @@ impl Document {
             TellsVisits edit self.old.edits self.old.counts self.new.counts d) }
     {
         let alloc = *self.edits.allocator();
-        if self.edits.reserve(1).is_err() {
+        if self.edits.reserve(1).is_err() || self.held.reserve(1).is_err() {
             return Err(DocumentError::Memory);
         }
         sets_rise();
@@ -234,9 +234,9 @@ impl Document {
         let Ok(taken) = self.body.take(alloc, &edit) else {
             return Err(DocumentError::Memory);
         };
-        let held = renewed(&self.body, taken)?;
+        let others = renewed(&self.body, taken)?;
+        renew(&mut self.held, edit.stamp, taken.held, others);
         self.edits.insert(place, edit).unwrap();
-        replace(&mut self.held, held);
         self.is_stale = false;
         Ok(Delivered {
             state: State::of_new(taken.held),

@@ -8,7 +8,7 @@ ghost use Rattle.zed_op.specs.Set.{with_edit};
 use crate::delivered::{Delivered, State};
 use crate::document::Document;
 use crate::error::DocumentError;
-use crate::held::{renewed, replace};
+use crate::held::{renew, renewed};
 use crate::open_log::OpenLog;
 use crate::visits::{visits_before, visits_since};
 use std::marker::Model;
@@ -129,15 +129,19 @@ impl Intake {
         held_edits_are_remembered();
         calm_edits_hold_the_same();
         edit_has_sizes(&edit);
+        if self.held.reserve(1).is_err() {
+            return Err(DocumentError::Memory);
+        }
         let before = visits_before(&self.body, &edit);
         // until all is done; what fails midway leaves it so
         self.is_stale = true;
         let Ok(taken) = self.body.take(alloc, &edit) else {
             return Err(DocumentError::Memory);
         };
-        let held = renewed(&self.body, taken)?;
+        let others = renewed(&self.body, taken)?;
+        let stamp = edit.stamp;
         self.log.add(edit)?;
-        replace(&mut self.held, held);
+        renew(&mut self.held, stamp, taken.held, others);
         self.is_stale = false;
         Ok(Delivered {
             state: State::of_new(taken.held),
