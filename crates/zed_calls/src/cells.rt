@@ -1,6 +1,8 @@
-//! Registers and cells by example.
+//! Registers and cells by example, and growths refused.
+use crate::growths::{TURNS, Turn, is_last, refuse, turn_of, was_refused};
+use std::alloc::Global;
 use std::test::Fail;
-use zed_cells::{Cells, Registers};
+use zed_cells::{Cells, CellsError, Registers};
 use zed_types::{Place, Rectangle, Stamp, TILES, Tile};
 
 fn at(time: u64, replica: u16) -> Stamp {
@@ -71,5 +73,63 @@ fn a_register_keeps_the_later_write(rt: HostRuntime) -> Result<(), Fail> {
     assert_eq!(rt; numbers.get(3), Some(&50));
     assert_eq!(rt; numbers.get(8), Some(&20));
     assert_eq!(rt; numbers.get(0), None);
+    Ok(())
+}
+
+/// Makes the cells of a board with a growth refused.
+fn cells_once(alloc: Global, nth: usize) -> Turn {
+    refuse(alloc, nth);
+    match Cells::new(alloc, [LION; TILES], Stamp::GENESIS) {
+        Ok(cells) => turn_of(alloc, cells.get(Place { x: 60, y: 25 }) == LION, false),
+        Err(error) => turn_of(alloc, false, error == CellsError::Memory),
+    }
+}
+
+#[test]
+fn each_growth_of_cells_refused(rt: HostRuntime) -> Result<(), Fail> {
+    for nth in 1..=TURNS {
+        if is_last(cells_once(rt.alloc(), nth))? {
+            return Ok(());
+        }
+    }
+    Err(Fail::new("more growths than expected"))
+}
+
+/// Makes registers with a growth refused.
+fn registers_once(alloc: Global, nth: usize) -> Turn {
+    refuse(alloc, nth);
+    let made: Result<Registers<i16>, CellsError> = Registers::new(alloc, 40);
+    match made {
+        Ok(numbers) => turn_of(alloc, numbers.get(39).is_none(), false),
+        Err(error) => turn_of(alloc, false, error == CellsError::Memory),
+    }
+}
+
+#[test]
+fn each_growth_of_registers_refused(rt: HostRuntime) -> Result<(), Fail> {
+    for nth in 1..=TURNS {
+        if is_last(registers_once(rt.alloc(), nth))? {
+            return Ok(());
+        }
+    }
+    Err(Fail::new("more growths than expected"))
+}
+
+#[test]
+fn writing_takes_no_memory_refused(rt: HostRuntime) -> Result<(), Fail> {
+    let mut cells = Cells::new(rt.alloc(), [Tile::EMPTY; TILES], Stamp::GENESIS)?;
+    let mut numbers = Registers::new(rt.alloc(), 9)?;
+    let all = Rectangle {
+        left: 1,
+        top: 1,
+        right: 60,
+        bottom: 25,
+    };
+    refuse(rt.alloc(), 1);
+    cells.set(all, at(2, 1), GEM);
+    numbers.set(3, at(5, 1), 50i16);
+    assert!(rt; !was_refused(rt.alloc()));
+    assert_eq!(rt; cells.get(Place { x: 60, y: 25 }), GEM);
+    assert_eq!(rt; numbers.get(3), Some(&50));
     Ok(())
 }

@@ -1,6 +1,7 @@
-//! Stats by example.
+//! Stats by example, and growths refused.
+use crate::growths::{TURNS, Turn, is_last, refuse, turn_of, was_refused};
 use std::test::Fail;
-use zed_stats::{StatField, StatValues, Stats};
+use zed_stats::{StatField, StatValues, Stats, StatsError};
 use zed_types::{Stamp, StatByte, StatFields, StatId, StatNumber, StatSetting, ThirdParameter};
 
 fn at(time: u64) -> Stamp {
@@ -109,5 +110,67 @@ fn a_field_keeps_the_later_write(rt: HostRuntime) -> Result<(), Fail> {
         StatSetting::Follower(None)
     );
     assert_eq!(rt; stats.number_of(stat(2)), Some(0));
+    Ok(())
+}
+
+/// A board with so many stats, the latest first.
+fn crowd(rt: HostRuntime, count: u64) -> Result<Stats, Fail> {
+    let mut stats = Stats::new(rt.alloc());
+    for k in 0..count {
+        stats.add(stat(100 - k % 50), false, values(1, 1))?;
+    }
+    Ok(stats)
+}
+
+/// Adds a stat in front of so many with a growth refused. Then all is as before, and it is added when that is tried again.
+fn add_once(rt: HostRuntime, count: u64, nth: usize) -> Result<Turn, Fail> {
+    let mut stats = crowd(rt, count)?;
+    refuse(rt.alloc(), nth);
+    let answer = stats.add(stat(50), false, values(1, 6));
+    let is_added = answer.is_ok() && stats.number_of(stat(50)) == Some(0);
+    let is_as_before = !stats.has(stat(50)) && stats.count() as u64 == count;
+    let is_memory = answer == Err(StatsError::Memory) && is_as_before;
+    let turn = turn_of(rt.alloc(), is_added, is_memory);
+    stats.add(stat(50), false, values(1, 6))?;
+    if stats.number_of(stat(50)) == Some(0) && stats.count() as u64 == count.saturating_add(1) {
+        Ok(turn)
+    } else {
+        Ok(Turn::Wrong)
+    }
+}
+
+/// Refuses each growth of `add` in turn.
+fn sweep_add(rt: HostRuntime, count: u64) -> Result<bool, Fail> {
+    for nth in 1..=TURNS {
+        if is_last(add_once(rt, count, nth)?)? {
+            return Ok(true);
+        }
+    }
+    Ok(false)
+}
+
+#[test]
+fn each_growth_of_add_refused(rt: HostRuntime) -> Result<(), Fail> {
+    for count in 0..9 {
+        assert_eq!(rt; sweep_add(rt, count)?, true);
+    }
+    Ok(())
+}
+
+/// Whether a stat of a board is found, changed, added again and removed, all without memory.
+fn changes_without_memory(rt: HostRuntime, stats: &mut Stats) -> bool {
+    refuse(rt.alloc(), 1);
+    let is_known = stats.add(stat(4), false, values(9, 9)).is_ok();
+    stats.set_field(stat(4), at(9), StatSetting::Byte(StatByte::X, 60));
+    stats.set_field(stat(4), at(9), StatSetting::Leader(Some(stat(3))));
+    stats.remove(stat(3));
+    let is_found = stats.number_of(stat(4)) == Some(1) && stats.has(stat(3));
+    !was_refused(rt.alloc()) && is_known && is_found && stats.count() == 4
+}
+
+#[test]
+fn changes_take_no_memory_refused(rt: HostRuntime) -> Result<(), Fail> {
+    let mut stats = board(rt)?;
+    assert!(rt; changes_without_memory(rt, &mut stats));
     Ok(())
 }
