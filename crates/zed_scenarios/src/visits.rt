@@ -135,25 +135,35 @@ fn told_by(desk: &mut Desk, look: Look) -> Option<u64> {
     }
 }
 
-/// The first delivery that comes out otherwise, or after which the text has other visits than all told together. They are
-/// counted from 1, and 0 is the text that isn't made in the end.
-fn first_wrong(desk: &mut Desk, text: Name, looks: &[Look]) -> Option<usize> {
+/// Adds what deliveries tell to a sum of visits. The first of them that comes out otherwise, or after which the text has other
+/// visits than that sum, counted from 1.
+fn add_up(desk: &mut Desk, text: Name, looks: &[Look], sum: &mut u64) -> Option<usize> {
     let mut n: usize = 0;
-    let mut sum: u64 = 0;
     for look in looks {
         n = n.saturating_add(1);
         match told_by(desk, *look) {
-            Some(visits) => sum = sum.saturating_add(visits),
+            Some(visits) => *sum = sum.saturating_add(visits),
             None => return Some(n),
         }
-        if visits_of(desk, text) != Some(sum) {
+        if visits_of(desk, text) != Some(*sum) {
             return Some(n);
         }
     }
-    if desk.document.visits(text_id(text)) == Ok(sum) {
-        None
-    } else {
-        Some(0)
+    None
+}
+
+/// The first delivery that comes out otherwise. They are counted from 1, and 0 is the text that isn't made in the end.
+fn first_wrong(desk: &mut Desk, text: Name, looks: &[Look]) -> Option<usize> {
+    let mut sum: u64 = 0;
+    match add_up(desk, text, looks, &mut sum) {
+        Some(n) => Some(n),
+        None => {
+            if desk.document.visits(text_id(text)) == Ok(sum) {
+                None
+            } else {
+                Some(0)
+            }
+        }
     }
 }
 
@@ -181,6 +191,87 @@ fn visits_of_insertions(rt: HostRuntime) -> Result<(), Fail> {
 fn visits_of_edits_that_wait(rt: HostRuntime) -> Result<(), Fail> {
     tells(rt.alloc(), T, WOKEN)?;
     tells(rt.alloc(), T, WOKEN_BY_THE_TEXT)
+}
+
+/// Two insertions behind the first byte of a world's text, and one behind the first of these; and the deletion of that byte.
+const Y: Row = (2, 2, Does::Insert(FIRST, Some(FIRST), "y"));
+
+const BEHIND_Y: Row = (3, 2, Does::Insert(FIRST, Some((2, 2, 0)), "w"));
+
+const X: Row = (2, 1, Does::Insert(FIRST, Some(FIRST), "x"));
+
+const NO_FIRST: Row = (4, 3, Does::Delete(FIRST, FIRST));
+
+/// The orders in which the three may arrive. One that waits looks at runs when it is woken.
+const ORDERS: [&[Look]; 6] = [
+    &[
+        (Y, State::Taken, 1, 2),
+        (BEHIND_Y, State::Taken, 1, 4),
+        (X, State::Taken, 1, 6),
+    ],
+    &[
+        (Y, State::Taken, 1, 2),
+        (X, State::Taken, 1, 4),
+        (BEHIND_Y, State::Taken, 1, 6),
+    ],
+    &[
+        (X, State::Taken, 1, 2),
+        (Y, State::Taken, 1, 4),
+        (BEHIND_Y, State::Taken, 1, 6),
+    ],
+    &[
+        (BEHIND_Y, State::Held, 0, 0),
+        (Y, State::Taken, 2, 6),
+        (X, State::Taken, 1, 6),
+    ],
+    &[
+        (BEHIND_Y, State::Held, 0, 0),
+        (X, State::Taken, 1, 2),
+        (Y, State::Taken, 2, 10),
+    ],
+    &[
+        (X, State::Taken, 1, 2),
+        (BEHIND_Y, State::Held, 0, 0),
+        (Y, State::Taken, 2, 10),
+    ],
+];
+
+/// What looks at no run of the text, and the deletion, which does.
+const AFTERWARDS: &[Look] = &[
+    (X, State::Known, 0, 0),
+    (BEHIND_Y, State::Known, 0, 0),
+    (Y, State::Known, 0, 0),
+    (CELL, State::Taken, 0, 0),
+    (CELL, State::Known, 0, 0),
+    (NO_FIRST, State::Taken, 1, 8),
+    (NO_FIRST, State::Known, 0, 0),
+];
+
+/// Whether the three come out so in an order, with what is looked at before and afterwards, and the text reads the same in the end.
+fn agrees(desk: &mut Desk, order: &[Look]) -> bool {
+    let mut sum: u64 = 0;
+    add_up(desk, FIRST, &[WORLD], &mut sum).is_none()
+        && sum == 0
+        && add_up(desk, FIRST, order, &mut sum).is_none()
+        && desk.finds(Fact::Text(FIRST, "AywxB"))
+        && add_up(desk, FIRST, AFTERWARDS, &mut sum).is_none()
+        && desk.finds(Fact::Text(FIRST, "ywxB"))
+}
+
+// A function that owns a document is dear to prove, so this one does nothing else.
+fn agrees_anew(alloc: Global, order: &[Look]) -> bool {
+    let mut desk = Desk::new(alloc, 7);
+    agrees(&mut desk, order)
+}
+
+#[test]
+fn visits_in_any_order(rt: HostRuntime) -> Result<(), Fail> {
+    for order in ORDERS {
+        if !agrees_anew(rt.alloc(), order) {
+            return Err(Fail::new("an order tells other visits"));
+        }
+    }
+    Ok(())
 }
 
 const TITLE: Row = (1, 0, Does::World(EMPTY));
