@@ -6,7 +6,7 @@ use std::alloc::Global;
 use std::test::Fail;
 use zed_document::DocumentError;
 use zed_edit::{Cause, Edit};
-use zed_types::{Side, Stamp};
+use zed_types::{Side, Stamp, Tile};
 
 /// What an author does, or what is looked at.
 #[derive(Clone, Copy)]
@@ -184,6 +184,21 @@ fn bytes_go_to_the_ends(rt: HostRuntime) -> Result<(), Fail> {
     plays(rt.alloc(), AT_THE_ENDS)
 }
 
+const AT_THE_END: &[(Act, Comes)] = &[
+    TEXT,
+    ABC,
+    NO_B,
+    (Act::Types(2, T, 3, "x"), OUT_OF_RANGE),
+    (Act::Finds(Fact::Edits(3, 0)), YES),
+    (Act::Types(2, T, 2, "x"), Comes::Made(5, 2)),
+    (Act::Finds(Fact::Text(T, "ACx")), YES),
+];
+
+#[test]
+fn bytes_go_behind_the_last_alive_byte(rt: HostRuntime) -> Result<(), Fail> {
+    plays(rt.alloc(), AT_THE_END)
+}
+
 const WORLD: Does = Does::World(WITH_PROGRAM);
 
 const IN_ORDER: &[(Act, Comes)] = &[
@@ -202,6 +217,13 @@ const IN_ORDER: &[(Act, Comes)] = &[
     ),
     (Act::Finds(Fact::Edits(1, 0)), YES),
     (Act::Makes(1, Does::Exit(Side::North, (1, 0, 5))), NO_SUCH),
+    (
+        Act::Makes(1, Does::Fill((1, 0, 5), [1, 1, 1, 1], Tile::EMPTY)),
+        NO_SUCH,
+    ),
+    (Act::Finds(Fact::Sound), YES),
+    (Act::Finds(Fact::Edits(1, 0)), YES),
+    (Act::Finds(Fact::Text(FIRST, "AB")), YES),
 ];
 
 #[test]

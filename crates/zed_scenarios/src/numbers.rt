@@ -1,5 +1,6 @@
 //! What a world file and later edits make, by their names and by their numbers.
 use crate::desk::{Fact, Registers, Told};
+use crate::files::Saved;
 use crate::rows::{Does, FIRST, Row};
 use crate::steps::{Step, Who, plays};
 use crate::worlds::{EMPTY, TWO_BOARDS, WITH_PROGRAM};
@@ -159,6 +160,8 @@ const CELLS: &[Step] = &[
     Step::Finds(Who::One, Fact::Cell(0, 245, Tile::EMPTY)),
     Step::Same(true),
     Step::SavedAlike,
+    Step::Saves(Who::One, Saved::World(1, 713)),
+    Step::Saves(Who::One, Saved::Bytes(565, b"\xf4\0\0\x01\x13\x9f\xff\0\0\xbd\0\0")),
 ];
 
 #[test]

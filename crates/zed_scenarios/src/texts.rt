@@ -1,5 +1,6 @@
 //! Bytes of one text by several authors.
 use crate::desk::{Fact, Told};
+use crate::files::Saved;
 use crate::rows::{Does, FIRST, Name, Row};
 use crate::steps::{Step, Who, plays};
 use crate::worlds::WITH_PROGRAM;
@@ -35,12 +36,18 @@ fn two_insertions_after_one_byte(rt: HostRuntime) -> Result<(), Fail> {
 const NESTED: &[Step] = &[
     Step::Takes(Who::One, &[WORLD, Y, W, X]),
     Step::Finds(Who::One, Fact::Text(FIRST, "AywxB")),
+    Step::Takes(Who::Other, &[WORLD, Y, W, X]),
+    Step::Saves(Who::One, Saved::Bytes(743, b"AywxB")),
     Step::Gives(Who::One, Y, Told::Known),
     Step::Gives(Who::One, W, Told::Known),
     Step::Gives(Who::One, X, Told::Known),
     Step::Gives(Who::One, WORLD, Told::Known),
     Step::Finds(Who::One, Fact::Text(FIRST, "AywxB")),
     Step::Finds(Who::One, Fact::Edits(4, 0)),
+    Step::Saves(Who::One, Saved::World(1, 748)),
+    Step::Saves(Who::One, Saved::Bytes(743, b"AywxB")),
+    Step::Same(true),
+    Step::SavedAlike,
 ];
 
 #[test]
