@@ -42,6 +42,8 @@ mod records;
 #[cfg(test)]
 mod refusals;
 #[cfg(test)]
+mod registers;
+#[cfg(test)]
 mod repairing;
 #[cfg(test)]
 mod rows;
@@ -65,3 +67,5 @@ mod typing;
 mod visits;
 #[cfg(test)]
 mod worlds;
+#[cfg(test)]
+mod written;

@@ -1,4 +1,5 @@
 //! Edits as the rows of tables, so that a test is data and its proof is small.
+use crate::registers::{Field, Header, Property, board_setting, header_setting, stat_setting};
 use crate::worlds::{Piece, spelled};
 use std::alloc::{AllocError, Global};
 use zed_edit::{Edit, Op};
@@ -34,6 +35,11 @@ pub(crate) enum Does {
     StatOn(Name, Option<Name>),
     RemoveStat(Name),
     SetText(Name, Option<Name>),
+    Header(Header),
+    /// A register of a board.
+    Board(Name, Property),
+    /// A register of a stat.
+    Stat(Name, Field),
     AddText,
     /// Puts bytes into a text, directly after one of its bytes or at its head.
     Insert(Name, Option<Name>, &'static str),
@@ -156,6 +162,11 @@ pub(crate) fn op_of(alloc: Global, does: Does) -> Result<Op, AllocError> {
         Does::SetText(name, text) => {
             Op::SetStat(stat_id(name), StatSetting::Text(optional_text(text)))
         }
+        Does::Header(header) => Op::SetHeader(header_setting(alloc, header)?),
+        Does::Board(name, property) => {
+            Op::SetBoard(board_id(name), board_setting(alloc, property)?)
+        }
+        Does::Stat(name, field) => Op::SetStat(stat_id(name), stat_setting(field)),
         Does::AddText => Op::TextAdd,
         Does::Insert(text, after, run) => {
             Op::TextInsert(text_id(text), optional_byte(after), string(alloc, run)?)
