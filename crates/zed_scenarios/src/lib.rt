@@ -30,6 +30,8 @@ mod lean;
 #[cfg(test)]
 mod limits;
 #[cfg(test)]
+mod linked;
+#[cfg(test)]
 mod memory;
 #[cfg(test)]
 mod merging;

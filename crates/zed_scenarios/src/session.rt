@@ -14,7 +14,7 @@ mod worlds;
 
 use desk::{Case, Desk, Told, attach, desk_of, outcome_of, wanted_of};
 use devices::Fails;
-use links::{LINKS, NOTHING_PUSHED};
+use links::{LINKS, NO_END, NOTHING_PUSHED};
 use stages::STAGES;
 use wires::{Wired, wire_over};
 use worlds::GEM_WORLD;
@@ -104,6 +104,13 @@ fn each_show_failing(rt: HostRuntime) -> Result<(), Fail> {
 fn nothing_is_pushed(rt: HostRuntime) -> Result<(), Fail> {
     let outcome = outcome_of(rt.alloc(), &NOTHING_PUSHED)?;
     assert_eq!(rt; outcome, wanted_of(&NOTHING_PUSHED));
+    Ok(())
+}
+
+#[test]
+fn a_million_reads_of_a_session_are_too_many(rt: HostRuntime) -> Result<(), Fail> {
+    let outcome = outcome_of(rt.alloc(), &NO_END)?;
+    assert_eq!(rt; outcome, wanted_of(&NO_END));
     Ok(())
 }
 

@@ -1,6 +1,6 @@
 //! A session whose devices and links are over memory, what is done with it, and what is seen then.
 use super::devices::{Fails, MemoryKeys, MemoryScreen, Traces};
-use super::wires::{Wired, sink_of, wire_of};
+use super::wires::{Wired, endless_of, sink_of, wire_of};
 use super::worlds::{Does, document_of};
 use std::alloc::{AllocError, Global};
 use std::collections::VecDeque;
@@ -18,6 +18,8 @@ pub enum Act {
     Wire(Wired),
     /// Attaches a link that takes all that it is given, and hands over a file.
     Sink,
+    /// Attaches a link without an end.
+    Endless,
     Detach(usize),
     Push(usize),
     Pull(usize),
@@ -188,6 +190,10 @@ pub fn told_by(desk: &mut Desk, act: Act) -> Told {
             let link = sink_of(desk.alloc, &desk.traces);
             attach(desk, link)
         }
+        Act::Endless => {
+            let link = endless_of(desk.alloc, &desk.traces);
+            attach(desk, link)
+        }
         Act::Detach(i) => done(desk.session.detach(i)),
         Act::Push(i) => number(desk.session.push(i)),
         Act::Pull(i) => pulled(desk.session.pull(i)),
@@ -277,7 +283,7 @@ pub fn wanted_of(case: &Case) -> Outcome {
         ) {
             faults = faults.saturating_add(1);
         }
-        if matches!(act, Act::Wire(_) | Act::Sink) {
+        if matches!(act, Act::Wire(_) | Act::Sink | Act::Endless) {
             ends = ends.saturating_add(1);
         }
     }

@@ -2,6 +2,7 @@
 use super::desk::{Act, Case, Sees, Told};
 use super::devices::Fails;
 use super::wires::{FILE, Wired};
+use super::worlds::GEM_WORLD;
 use zed_link::Pulled;
 use zed_op::Cause;
 use zed_session::SessionError;
@@ -146,6 +147,25 @@ pub const NOTHING_PUSHED: Case = Case {
             Told::Done,
             Sees::Left(b"ZED\x01\x07\0\0\0\0\0\0\0"),
         ),
+    ],
+};
+
+/// A link without an end lets itself go, and no other.
+pub const NO_END: Case = Case {
+    name: "a link has no end",
+    edits: GEM_WORLD,
+    keys: &[],
+    screen: Fails::Never,
+    source: Fails::Never,
+    acts: &[
+        (Act::Endless, Told::Number(0), Sees::Links(1, 3, 3)),
+        (FAST, Told::Number(1), Sees::Links(2, 3, 3)),
+        (
+            Act::Pull(0),
+            Told::Refused(SessionError::TooManyTurns),
+            Sees::Links(1, 3, 3),
+        ),
+        (Act::Pull(0), NEW, Sees::Links(1, 5, 5)),
     ],
 };
 

@@ -140,6 +140,20 @@ pub fn wire_of(alloc: Global, wired: Wired, traces: &Traces) -> Result<Box<dyn L
     wire_over(alloc, handed, wired, traces)
 }
 
+/// A link that hands over a head and the front of one long record, byte by byte, and has no end within a million reads.
+pub fn endless_of(alloc: Global, traces: &Traces) -> Result<Box<dyn Link>, AllocError> {
+    let wired = Wired {
+        handed: b"ZED\x01\x07\0\0\0\0\0\0\0\0\0\x40\0",
+        piece: 1,
+        passing: None,
+    };
+    let mut handed = Vec::from_slice(alloc, wired.handed)?;
+    for _ in 0..1_048_576u32 {
+        handed.push(0)?;
+    }
+    wire_over(alloc, handed, wired, traces)
+}
+
 pub fn sink_of(alloc: Global, traces: &Traces) -> Result<Box<dyn Link>, AllocError> {
     let sunk = Rc::clone(&traces.sunk)?;
     let end = end_in(traces)?;
