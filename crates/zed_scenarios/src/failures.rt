@@ -60,7 +60,7 @@ const EDIT: Command = Command {
 
 /// Whether a refused command says Memory and writes no file. The host's own growths count as failures of a device: only then is
 /// something else said, and may the file stand there already.
-fn is_told(alloc: Global, host: &mut MemoryHost, kept: Output) -> bool {
+pub(crate) fn is_told(alloc: Global, host: &mut MemoryHost, kept: Output) -> bool {
     let is_memory = host.complained() == b"zzted: Memory\n".as_slice();
     if host.failures() == 0 {
         is_memory && has_written(alloc, host, kept)

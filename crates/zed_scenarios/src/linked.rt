@@ -1,6 +1,9 @@
 //! `merge` over links in memory, of which it is told how many came to their end, and how many of these unread.
 use crate::devices::{DarkScreen, NoKeys};
+use crate::failures::is_told;
+use crate::growths::{MOST, refuse, was_refused};
 use crate::hosts::{Output, edit_file, has_written, words_of};
+use crate::refusals::{Turn, told_of};
 use crate::rows::{Does, Row};
 use crate::worlds::EMPTY;
 use std::alloc::{AllocError, Global};
@@ -147,17 +150,19 @@ fn links_of(alloc: Global, wires: &[Wired], traces: &Traces) -> Option<Vec<Box<d
     Some(links)
 }
 
-/// Runs words with these links. None where they couldn't be run.
+/// Runs words with these links, with the growth `nth` refused, or with none refused where that is 0. None where they couldn't be run.
 fn status_of(
     alloc: Global,
     host: &mut MemoryHost,
     words: &[&str],
     links: Vec<Box<dyn Link>>,
+    nth: usize,
 ) -> Option<u8> {
     let screen = Box::new(alloc, DarkScreen { failures: 0 });
     let keys = Box::new(alloc, NoKeys);
     match (words_of(alloc, words), screen, keys) {
         (Ok(words), Ok(screen), Ok(keys)) => {
+            refuse(alloc, nth);
             Some(run(alloc, words.as_slice(), host, links, screen, keys))
         }
         _ => None,
@@ -169,7 +174,7 @@ fn comes_out(alloc: Global, host: &mut MemoryHost, traces: &Traces, wanted: Merg
     let Some(links) = links_of(alloc, wanted.links, traces) else {
         return false;
     };
-    status_of(alloc, host, wanted.words, links) == Some(wanted.status)
+    status_of(alloc, host, wanted.words, links, 0) == Some(wanted.status)
         && host.printed() == wanted.printed.as_bytes()
         && host.complained() == wanted.complained.as_bytes()
         && has_written(alloc, host, wanted.output)
@@ -314,4 +319,52 @@ const ENDLESS: &[Merge] = &[Merge {
 #[test]
 fn a_million_reads_are_too_many(rt: HostRuntime) -> Result<(), Fail> {
     come_out(rt.alloc(), ENDLESS)
+}
+
+/// Runs a `merge` with the growth `nth` refused. Its links come to their end in any case.
+fn take_turn(alloc: Global, host: &mut MemoryHost, traces: &Traces, nth: usize) -> Turn {
+    let Some(links) = links_of(alloc, WHOLE.links, traces) else {
+        return Turn::Wrong;
+    };
+    let status = status_of(alloc, host, WHOLE.words, links, nth);
+    let was_refused = was_refused(alloc);
+    if traces.ends.get() != WHOLE.ends {
+        return Turn::Wrong;
+    }
+    if was_refused {
+        if status == Some(1) && is_told(alloc, host, Output::Nothing("o")) {
+            Turn::Refused
+        } else {
+            Turn::Wrong
+        }
+    } else if status == Some(0) && has_written(alloc, host, WHOLE.output) {
+        Turn::NoneRefused
+    } else {
+        Turn::Wrong
+    }
+}
+
+fn take_turn_anew(alloc: Global, nth: usize) -> Turn {
+    let mut host = MemoryHost::new(alloc, u64::MAX);
+    match traces_of(alloc) {
+        Ok(traces) => take_turn(alloc, &mut host, &traces, nth),
+        Err(_) => Turn::Wrong,
+    }
+}
+
+/// The first growth whose refusal comes out otherwise.
+fn wrong_growth(alloc: Global) -> Option<usize> {
+    for nth in 1..=MOST {
+        match take_turn_anew(alloc, nth) {
+            Turn::Refused => {}
+            Turn::NoneRefused => return None,
+            Turn::Wrong => return Some(nth),
+        }
+    }
+    Some(MOST)
+}
+
+#[test]
+fn each_growth_of_merging_links_refused(rt: HostRuntime) -> Result<(), Fail> {
+    told_of(wrong_growth(rt.alloc()))
 }
