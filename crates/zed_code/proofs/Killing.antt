@@ -248,7 +248,7 @@ order-kill_runs x (r ∷ rs) h =
     (all-pieces (λ p. AllByRecursion (InOrder p) (kill_runs x rs)) x r behind (λ i j l k. order-from-part r i j (kill_runs x rs) l k behind))
 
 -- as many bytes as before
-total-append : (rs qs : List Run) → total (rs ++ qs) ≡ total rs + total qs
+pub total-append : (rs qs : List Run) → total (rs ++ qs) ≡ total rs + total qs
 total-append [] qs = sym (omega arith)
 total-append (r ∷ rs) qs = omega (arith, total-append rs qs)
 

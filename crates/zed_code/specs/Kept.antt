@@ -1,11 +1,13 @@
 -- What has of the runs of a text and their store.
-use Rattle.std.specs.Prelude.{◌≡◌, ◌≤◌, ◌<◌, ℕ, ◌+◌, ◌^◌, true, false, List, [], ◌∷◌, length, take, Some}
-use Rattle.std.specs.BTreeMap.{is_at}
-use Rattle.std.specs.List.{AllByRecursion}
-use Rattle.std.specs.Map.{lookup}
+use Rattle.std.specs.Prelude.{◌≡◌, ◌≤◌, ◌<◌, ℕ, ◌+◌, ◌^◌, Bool, true, false, if◌then◌else◌, nat_lt, min, List, [], ◌∷◌, length, take, slice_get, Some}
+use Rattle.std.specs.List.{AllByRecursion, list_any}
 use Rattle.zed_types.specs.declared.stamp.Stamp.{Stamp}
-use Rattle.zed_types.specs.Stamp.{same_stamp, stamp_cmp}
+use Rattle.zed_types.specs.declared.names.ElemId.{ElemId}
+use Rattle.zed_types.specs.Stamp.{same_stamp}
 use Rattle.zed_code.specs.declared.run.Run.{Run}
+use Rattle.zed_code.specs.Runs.{lasts}
+use Rattle.zed_code.specs.Blocks.{joined, NoneEmpty}
+use Rattle.zed_code.specs.Visits.{greatest}
 
 -- a run has a byte, and its bytes are in the store
 pub record IsRun (store : List ℕ) (r : Run) : Type 0 where
@@ -37,6 +39,14 @@ total (r ∷ rs) = r.len + total rs
 abbrev pub NoneOf : Stamp → List Run → Type 0
 NoneOf s rs = AllByRecursion (λ r. same_stamp r.stamp s ≡ false) rs
 
+-- no run has bytes of the edit `s` from n on
+abbrev pub NoneFrom : Stamp → ℕ → List Run → Type 0
+NoneFrom s n rs = AllByRecursion (λ r. lasts s n r ≡ false) rs
+
+-- whether some run is of the edit `s`
+abbrev pub some_of : Stamp → List Run → Bool
+some_of s rs = list_any (λ r. same_stamp r.stamp s) rs
+
 -- what is kept of runs and the store of their bytes: each run is one of it, those of one insertion are in order, and
 -- together they have as many bytes as the store
 pub record AreKept (store : List ℕ) (rs : List Run) : Type 0 where
@@ -44,11 +54,28 @@ pub record AreKept (store : List ℕ) (rs : List Run) : Type 0 where
   pub ordered : AllInOrder rs
   pub all : total rs ≡ length store
 
--- before the place that the hints have for an edit no run of it stands
-abbrev pub AreHints : List (Stamp × ℕ) → List Run → Type 0
-AreHints hints rs = (s : Stamp) (h : ℕ) → lookup (is_at (stamp_cmp s)) hints ≡ Some h → NoneOf s (take h rs)
+-- a hint, which is kept under the name of a byte: its insertion is there, and before the place of a block stands no run
+-- that has the byte or later ones of it
+pub record IsHint (places : List ℕ) (ls : List (List Run)) (hint : ElemId × ℕ) : Type 0 where
+  pub within : hint.1 < length places
+  pub some : some_of hint.0.name.stamp (joined ls) ≡ true
+  pub none : (p : ℕ) → slice_get places hint.1 ≡ Some p
+      → NoneFrom hint.0.name.stamp hint.0.name.index (joined (take p ls))
 
--- what is kept of a text: its runs and their store, and hints that hold
-pub record IsWhole (store : List ℕ) (rs : List Run) (places : List (Stamp × ℕ)) : Type 0 where
-  pub kept : AreKept store rs
-  pub hints : AreHints places rs
+-- a hint is one of some
+abbrev pub IsOne : List (ElemId × ℕ) → ElemId × ℕ → Type 0
+IsOne hints hint = (i : ℕ) × (slice_get hints i ≡ Some hint)
+
+-- so all hints
+abbrev pub AreHints : List (ElemId × ℕ) → List ℕ → List (List Run) → Type 0
+AreHints hints places ls = (hint : ElemId × ℕ) → IsOne hints hint → IsHint places ls hint
+
+-- the place of a block once another was put behind block b
+abbrev pub moved : ℕ → ℕ → ℕ
+moved b p = if nat_lt b p then min (p + 1) greatest else p
+
+-- what is kept of a text: its runs and their store, blocks that have runs, and hints that hold
+pub record IsWhole (store : List ℕ) (ls : List (List Run)) (es : List (ElemId × ℕ)) (places : List ℕ) : Type 0 where
+  pub kept : AreKept store (joined ls)
+  pub full : NoneEmpty ls
+  pub hints : AreHints es places ls

@@ -1,5 +1,8 @@
+pub mod Targets
+pub mod Blocks
 pub mod Cursors
 pub mod Cutting
+pub mod Halving
 pub mod Kept
 pub mod Pieces
 pub mod Reading

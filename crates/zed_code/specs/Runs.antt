@@ -1,5 +1,5 @@
 -- Runs of a text, and what an insertion and a deletion do to a list of them.
-use Rattle.std.specs.Prelude.{ℕ, suc, ◌+◌, ◌-◌, Bool, true, false, ◌&&◌, if◌then◌else◌, nat_le, nat_lt, List, [], ◌∷◌, ◌++◌, min, Option, Some, None}
+use Rattle.std.specs.Prelude.{ℕ, zero, suc, ◌+◌, ◌-◌, Bool, true, false, ◌&&◌, if◌then◌else◌, nat_le, nat_lt, List, [], ◌∷◌, ◌++◌, min, Option, Some, None}
 use Rattle.std.specs.List.{flat_map}
 use Rattle.zed_types.specs.declared.stamp.Stamp.{Stamp}
 use Rattle.zed_types.specs.declared.names.ElemId.{ElemId}
@@ -72,6 +72,21 @@ touches x r = r.alive && (same_stamp r.stamp x.stamp && nat_lt (low x r) (high x
 -- whether the end of a range stands before the end of a run of its insertion
 abbrev pub reaches : ByteRange → Run → Bool
 reaches x r = same_stamp r.stamp x.stamp && nat_lt x.last (r.first + r.len)
+
+-- whether a run of the edit `s` has bytes numbered from n on
+abbrev pub lasts : Stamp → ℕ → Run → Bool
+lasts s n r = same_stamp r.stamp s && nat_lt n (r.first + r.len)
+
+-- how many runs stand before the first of the edit `s` that has bytes from n on
+abbrev pub sought : Stamp → ℕ → List Run → ℕ
+sought s n [] = 0
+sought s n (r ∷ rs) = if lasts s n r then 0 else suc (sought s n rs)
+
+-- `run` at place i, or, unless n is 0, behind n bytes of the run there
+abbrev pub put_in : ℕ → ℕ → Run → List Run → List Run
+put_in i n run [] = run ∷ []
+put_in zero n run (r ∷ rs) = if nat_lt 0 n then front n r ∷ run ∷ back n r ∷ rs else run ∷ r ∷ rs
+put_in (suc i) n run (r ∷ rs) = r ∷ put_in i n run rs
 
 -- the bytes of a run from one place to another
 abbrev pub part : ℕ → ℕ → Run → Run

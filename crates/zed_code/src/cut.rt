@@ -1,14 +1,20 @@
 //! What a deletion does to the runs of a text.
 
-ghost use Rattle.std.specs.Prelude.{◌≡◌, ◌∷◌, ◌++◌, ◌<◌, ◌≤◌, ◌+◌, ◌-◌, length, take, drop, vec_len, vec_capacity};
-ghost use Rattle.std.specs.List.{AllByRecursion};
-ghost use Rattle.zed_code.specs.Runs.{pieces, kill_runs, touches as is_touched};
-ghost use Rattle.zed_code.specs.Kept.{IsSound, AllInOrder, NoneOf};
-ghost use Rattle.zed_code.specs.Visits.{LooksAtSome};
+ghost use Rattle.std.specs.Prelude.{◌≡◌, ◌∷◌, ◌++◌, ◌<◌, ◌≤◌, ◌+◌, ◌-◌, ℕ, true, length, map, take, drop, set, vec_len, vec_capacity, OnOk, OnErr};
+ghost use Rattle.std.specs.List.{AllByRecursion, list_any};
+ghost use Rattle.zed_code.specs.Blocks.{lists, list_at, runs_of, before_spot, IsIn, NoneEmpty, HasRoom};
+ghost use Rattle.zed_code.specs.Runs.{pieces, kill_runs, reaches as is_reached, touches as is_touched};
+ghost use Rattle.zed_code.specs.Kept.{IsSound, AllInOrder, NoneFrom, AreHints};
+ghost use Rattle.zed_code.specs.Visits.{raised, LooksAtSome};
 
+use crate::block::{Block, Spot};
+use crate::blocks::{reserve_from, split_full};
+use crate::error::CodeError;
 use crate::place::look;
 use crate::run::Run;
-use zed_types::ByteRange;
+use crate::search::seek;
+use std::collections::BTreeMap;
+use zed_types::{ByteRange, ElemId};
 
 /// Puts the bytes of a run before and behind a range into runs of their own, of which it leaves the range dead.
 /// Answers how many runs it is now.
@@ -39,16 +45,18 @@ fn cut_at(runs: &mut Vec<Run>, i: usize, run: Run, range: ByteRange) -> usize
     count
 }
 
-/// Marks the bytes of a range dead, from a place on before which no run of their insertion stands.
-pub(crate) fn cut(runs: &mut Vec<Run>, range: ByteRange, start: usize, visits: &mut u64)
+/// Marks the bytes of a range dead in one block, from a place on before which it has none of them.
+/// Answers whether the block has the end of the range.
+fn cut_in(runs: &mut Vec<Run>, range: ByteRange, start: usize, visits: &mut u64) -> bool
     requires each { AllByRecursion IsSound runs.old.items }
     requires ordered { AllInOrder runs.old.items }
     requires within { start ≤ length runs.old.items }
-    requires some { 0 < length runs.old.items → start < length runs.old.items }
-    requires none { NoneOf range.stamp (take start runs.old.items) }
+    requires none { NoneFrom range.stamp range.first (take start runs.old.items) }
     requires room { length (kill_runs range runs.old.items) ≤ vec_capacity runs.old }
     ensures runs { runs.new.items ≡ kill_runs range runs.old.items }
-    ensures visits { LooksAtSome (length runs.old.items) visits.old visits.new }
+    ensures end { result ≡ true → list_any (is_reached range) runs.old.items ≡ true }
+    ensures visits { (k : ℕ) × (visits.new ≡ raised visits.old k)
+        × (k + start ≤ length runs.old.items) }
 {
     let _visits = *visits;
     let mut i = start;
@@ -56,7 +64,86 @@ pub(crate) fn cut(runs: &mut Vec<Run>, range: ByteRange, start: usize, visits: &
         let run = look(runs, i, visits);
         i += cut_at(runs, i, run, range);
         if run.reaches(range) {
-            return;
+            return true;
         }
     }
+    false
+}
+
+/// The same in the block with a number.
+fn cut_block(
+    blocks: &mut Vec<Block>,
+    block: usize,
+    range: ByteRange,
+    start: usize,
+    visits: &mut u64,
+) -> bool
+    requires block { block < length blocks.old.items }
+    requires each { AllByRecursion IsSound (list_at block (lists blocks.old.items)) }
+    requires ordered { AllInOrder (list_at block (lists blocks.old.items)) }
+    requires within { start ≤ length (list_at block (lists blocks.old.items)) }
+    requires none { NoneFrom range.stamp range.first
+        (take start (list_at block (lists blocks.old.items))) }
+    requires room { AllByRecursion HasRoom (drop block blocks.old.items) }
+    ensures runs { lists blocks.new.items ≡ set (lists blocks.old.items) block
+        (kill_runs range (list_at block (lists blocks.old.items))) }
+    ensures room { AllByRecursion HasRoom (drop (block + 1) blocks.new.items) }
+    ensures end { result ≡ true
+        → list_any (is_reached range) (list_at block (lists blocks.old.items)) ≡ true }
+    ensures visits { (k : ℕ) × (visits.new ≡ raised visits.old k)
+        × (k + start ≤ length (list_at block (lists blocks.old.items))) }
+{
+    cut_in(&mut blocks[block].runs, range, start, visits)
+}
+
+/// Marks the bytes of a range dead, from a place on before which no run has any.
+fn cut(blocks: &mut Vec<Block>, range: ByteRange, at: Spot, visits: &mut u64)
+    requires each { AllByRecursion IsSound (runs_of blocks.old.items) }
+    requires ordered { AllInOrder (runs_of blocks.old.items) }
+    requires within { IsIn at 0 (lists blocks.old.items) }
+    requires none { NoneFrom range.stamp range.first
+        (take (before_spot at (lists blocks.old.items)) (runs_of blocks.old.items)) }
+    requires room { AllByRecursion HasRoom (drop at.block blocks.old.items) }
+    ensures runs { lists blocks.new.items ≡ map (kill_runs range) (lists blocks.old.items) }
+    ensures visits { (k : ℕ) × (visits.new ≡ raised visits.old k)
+        × (k + before_spot at (lists blocks.old.items) ≤ length (runs_of blocks.old.items)) }
+{
+    let _visits = *visits;
+    let mut start = at.place;
+    for block in at.block..blocks.len() {
+        if cut_block(blocks, block, range, start, visits) {
+            return;
+        }
+        start = 0;
+    }
+}
+
+/// Marks the bytes of a range dead. Memory leaves all runs as they were.
+pub(crate) fn kill(
+    blocks: &mut Vec<Block>,
+    places: &mut Vec<usize>,
+    hints: &mut BTreeMap<ElemId, usize>,
+    range: ByteRange,
+    visits: &mut u64,
+) -> Result<(), CodeError>
+    requires full { NoneEmpty (lists blocks.old.items) }
+    requires each { AllByRecursion IsSound (runs_of blocks.old.items) }
+    requires ordered { AllInOrder (runs_of blocks.old.items) }
+    requires hints { AreHints hints.old.entries places.old.items (lists blocks.old.items) }
+    ensures ok { OnOk result (runs_of blocks.new.items ≡ kill_runs range (runs_of blocks.old.items)) }
+    ensures err { OnErr result (runs_of blocks.new.items ≡ runs_of blocks.old.items) }
+    ensures full { NoneEmpty (lists blocks.new.items) }
+    ensures hints { AreHints hints.new.entries places.new.items (lists blocks.new.items) }
+    ensures visits { OnOk result
+        (LooksAtSome (length (runs_of blocks.old.items)) visits.old visits.new) }
+{
+    let first = ElemId::new(range.stamp, range.first);
+    let at = seek(blocks, places, hints, first, visits)?;
+    if at.block >= blocks.len() {
+        return Ok(());
+    }
+    let at = split_full(blocks, places, at)?;
+    reserve_from(blocks, at.block)?;
+    cut(blocks, range, at, visits);
+    Ok(())
 }

@@ -1,43 +1,84 @@
 //! Where the runs of an insertion are sought.
 
-ghost use Rattle.std.specs.Prelude.{◌≡◌, ◌<◌, ◌≤◌, length, take, OnOk, OnErr, Some, None};
-ghost use Rattle.std.specs.BTreeMap.{get};
-ghost use Rattle.zed_types.specs.Stamp.{stamp_cmp};
-ghost use Rattle.zed_code.specs.Kept.{NoneOf, AreHints};
+ghost use Rattle.std.specs.Prelude.{◌≡◌, ◌<◌, ◌≤◌, length, take, IfSome, OnErr};
+ghost use Rattle.zed_code.specs.Blocks.{lists, joined};
+ghost use Rattle.zed_code.specs.Halving.{AddsHint, SetsHint};
+ghost use Rattle.zed_code.specs.Kept.{NoneFrom, AreHints, IsOne};
 
+use crate::block::Block;
 use crate::error::CodeError;
-use crate::run::Run;
 use std::collections::BTreeMap;
-use zed_types::Stamp;
+use zed_types::ElemId;
 
-/// A place before which no run of an insertion stands: its hint, or the first place.
-pub(crate) fn hint_of(hints: &BTreeMap<Stamp, usize>, runs: &[Run], stamp: Stamp) -> usize
-    requires { AreHints hints.now.entries runs.now }
-    ensures within { result ≤ length runs.now }
-    ensures none { NoneOf stamp (take result runs.now) }
-    ensures some { 0 < length runs.now → result < length runs.now }
+/// A block before which no run stands that has a byte or later ones of its insertion, as the hints tell, or the first.
+pub(crate) fn start_of(
+    hints: &BTreeMap<ElemId, usize>,
+    places: &[usize],
+    blocks: &[Block],
+    id: ElemId,
+) -> usize
+    requires { AreHints hints.now.entries places.now (lists blocks.now) }
+    ensures none { NoneFrom id.name.stamp id.name.index (joined (take result (lists blocks.now))) }
+    ensures within { result ≤ length blocks.now }
+    ensures some { 0 < length blocks.now → result < length blocks.now }
 {
-    match hints.get(&stamp) {
-        Some(place) if *place < runs.len() => *place,
-        _ => 0,
+    match nearest(hints, id) {
+        Some((near, block)) => {
+            let place = places[block];
+            if near.name.stamp == id.name.stamp
+                && near.name.index <= id.name.index
+                && place < blocks.len()
+            {
+                place
+            } else {
+                0
+            }
+        }
+        None => 0,
     }
 }
 
-/// Keeps a place before which no run of an insertion stands. Memory is only for a first hint of it.
-pub(crate) fn keep_hint(
-    hints: &mut BTreeMap<Stamp, usize>,
-    runs: &[Run],
-    stamp: Stamp,
-    place: usize,
-) -> Result<(), CodeError>
-    requires hints { AreHints hints.old.entries runs.now }
-    requires none { NoneOf stamp (take place runs.now) }
-    ensures hints { AreHints hints.new.entries runs.now }
-    ensures ok { OnOk result (get stamp_cmp hints.new stamp ≡ Some place) }
-    ensures err { OnErr result (get stamp_cmp hints.old stamp ≡ None) }
+/// The last hint up to a byte.
+fn nearest(hints: &BTreeMap<ElemId, usize>, id: ElemId) -> Option<(ElemId, usize)>
+    ensures { IfSome result (IsOne hints.now.entries) }
 {
-    match hints.insert(stamp, place) {
+    match hints.range(..=id).next_back() {
+        Some((near, block)) => Some((*near, *block)),
+        None => None,
+    }
+}
+
+/// Keeps a number under the name of a byte.
+fn set_hint(
+    hints: &mut BTreeMap<ElemId, usize>,
+    id: ElemId,
+    number: usize,
+) -> Result<(), CodeError>
+    ensures hints { SetsHint id number hints.old.entries hints.new.entries }
+    ensures err { OnErr result (hints.new.entries ≡ hints.old.entries) }
+{
+    match hints.insert(id, number) {
         Ok(_) => Ok(()),
         Err(_) => Err(CodeError::Memory),
+    }
+}
+
+/// Keeps a block under the name of a byte. Memory is only for a name that had none.
+pub(crate) fn keep_hint(
+    hints: &mut BTreeMap<ElemId, usize>,
+    places: &[usize],
+    blocks: &[Block],
+    id: ElemId,
+    block: usize,
+) -> Result<(), CodeError>
+    requires { block < length blocks.now }
+    ensures hints { AddsHint places.now block id hints.old.entries hints.new.entries }
+    ensures err { OnErr result (hints.new.entries ≡ hints.old.entries) }
+{
+    let number = blocks[block].id;
+    if number < places.len() && places[number] <= block {
+        set_hint(hints, id, number)
+    } else {
+        Ok(())
     }
 }

@@ -1,80 +1,193 @@
 //! What an insertion does to the runs of a text.
 
-ghost use Rattle.std.specs.Prelude.{◌≡◌, ◌<◌, ◌≤◌, ◌+◌, ◌-◌, length, take, vec_len, vec_capacity, Some};
+ghost use Rattle.std.specs.Prelude.{◌≡◌, ◌∷◌, ◌<◌, ◌≤◌, ◌+◌, ◌-◌, [], ℕ, List, length, min, drop, take, set, Some, OnOk, OnErr, IfOk};
 ghost use Rattle.std.specs.List.{AllByRecursion};
-ghost use Rattle.zed_code.specs.Runs.{put_run, put_at, pass_runs};
+ghost use Rattle.zed_code.specs.declared.run.Run.{Run as SpecRun};
+ghost use Rattle.zed_code.specs.declared.block.Block.{Block as SpecBlock};
+ghost use Rattle.zed_code.specs.Targets.{IsTarget};
+ghost use Rattle.zed_code.specs.Blocks.{lists, list_at, joined, runs_of, before_spot, IsIn, NoneEmpty, HasRoom};
+ghost use Rattle.zed_code.specs.Halving.{IsSameText, IsMoved};
+ghost use Rattle.zed_code.specs.Runs.{put_run, put_at, pass_runs, found, put_in as put_into};
 ghost use Rattle.zed_code.specs.There.{IsThere};
-ghost use Rattle.zed_code.specs.Kept.{IsSound, NoneOf, AreHints};
+ghost use Rattle.zed_code.specs.Kept.{IsSound, AllInOrder, NoneOf, AreHints};
 ghost use Rattle.zed_code.specs.Visits.{raised, LooksAtSome};
 
-use crate::hints::hint_of;
-use crate::place::{find, pass};
+use crate::block::{Block, Spot, put_in, reserve, runs_at};
+use crate::blocks::split_full;
+use crate::error::CodeError;
+use crate::hints::keep_hint;
+use crate::place::pass;
 use crate::run::Run;
+use crate::search::seek;
 use std::collections::BTreeMap;
-use zed_types::{ElemId, Stamp};
+use zed_types::ElemId;
 
-/// Puts a run at the head, past the runs of later edits. Answers its place.
-fn put_first(runs: &mut Vec<Run>, run: Run, visits: &mut u64) -> usize
-    requires room { vec_len runs.old < vec_capacity runs.old }
-    requires new { NoneOf run.stamp runs.old.items }
-    ensures runs { runs.new.items ≡ pass_runs run runs.old.items }
-    ensures place { NoneOf run.stamp (take result runs.new.items) }
-    ensures visits { LooksAtSome (length runs.old.items) visits.old visits.new }
-{
-    let place = pass(runs, 0, run.stamp, visits);
-    runs.insert(place, run).unwrap();
-    place
+/// Where a run goes: to a place, or, unless `cut` is 0, behind so many bytes of the run there.
+#[derive(Clone, Copy, Debug)]
+pub struct Target {
+    pub at: Spot,
+    pub cut: u32,
 }
 
-/// Puts a run behind a byte, which is sought from a place on, past the runs of later edits that follow it. Answers its place.
-fn put_behind(runs: &mut Vec<Run>, a: ElemId, run: Run, start: usize, visits: &mut u64) -> usize
-    requires room { vec_len runs.old + 2 ≤ vec_capacity runs.old }
-    requires each { AllByRecursion IsSound runs.old.items }
-    requires there { IsThere (Some a) runs.old.items }
-    requires new { NoneOf run.stamp runs.old.items }
-    requires within { start ≤ length runs.old.items }
-    requires none { NoneOf a.name.stamp (take start runs.old.items) }
-    ensures runs { runs.new.items ≡ put_at a run runs.old.items }
-    ensures place { NoneOf run.stamp (take result runs.new.items) }
-    ensures visits { LooksAtSome (length runs.old.items) visits.old visits.new }
+/// Where a run goes that is put at the head, past the runs of later edits.
+fn aim_first(blocks: &[Block], run: Run, visits: &mut u64) -> Target
+    requires some { 0 < length blocks.now }
+    requires full { NoneEmpty (lists blocks.now) }
+    requires each { AllByRecursion IsSound (runs_of blocks.now) }
+    ensures runs { put_into (before_spot result.at (lists blocks.now)) result.cut run (runs_of blocks.now)
+        ≡ pass_runs run (runs_of blocks.now) }
+    ensures aim { IsTarget result (lists blocks.now) }
+    ensures visits { LooksAtSome (length (runs_of blocks.now)) visits.old visits.new }
 {
-    let i = find(runs, a, start, visits);
-    let there = runs[i];
-    let count = there.up_to(a);
-    if count < there.len {
-        runs[i] = there.front(count);
-        runs.insert(i + 1, there.back(count)).unwrap();
-        runs.insert(i + 1, run).unwrap();
-        i + 1
-    } else {
-        let place = pass(runs, i + 1, run.stamp, visits);
-        runs.insert(place, run).unwrap();
-        place
+    let head = Spot { block: 0, place: 0 };
+    let at = pass(blocks, head, run.stamp, visits);
+    Target { at, cut: 0 }
+}
+
+/// Where a run goes that is put behind a byte of the run at a place, past the runs of later edits that follow it.
+fn aim_behind(blocks: &[Block], a: ElemId, at: Spot, run: Run, visits: &mut u64) -> Target
+    requires within { IsIn at 1 (lists blocks.now) }
+    requires each { AllByRecursion IsSound (runs_of blocks.now) }
+    requires there { IsThere (Some a) (runs_of blocks.now) }
+    requires found { before_spot at (lists blocks.now) ≡ found a (runs_of blocks.now) }
+    ensures runs { put_into (before_spot result.at (lists blocks.now)) result.cut run (runs_of blocks.now)
+        ≡ put_at a run (runs_of blocks.now) }
+    ensures aim { IsTarget result (lists blocks.now) }
+    ensures visits { (k : ℕ) × (visits.new ≡ raised visits.old k)
+        × (k + before_spot at (lists blocks.now) < length (runs_of blocks.now) + 1) }
+{
+    let _visits = *visits;
+    let there = runs_at(blocks, at.block)[at.place];
+    let cut = there.up_to(a);
+    if cut < there.len {
+        return Target { at, cut };
     }
+    let behind = Spot {
+        block: at.block,
+        place: at.place + 1,
+    };
+    let at = pass(blocks, behind, run.stamp, visits);
+    Target { at, cut: 0 }
 }
 
-/// Puts a run behind the byte named, or at the head, past the runs of later edits. Answers its place.
-pub(crate) fn put(
-    runs: &mut Vec<Run>,
-    hints: &BTreeMap<Stamp, usize>,
+/// Where a run goes that is put behind the byte named, or at the head, past the runs of later edits.
+fn aim(
+    blocks: &[Block],
+    places: &[usize],
+    hints: &mut BTreeMap<ElemId, usize>,
     after: Option<ElemId>,
     run: Run,
     visits: &mut u64,
-) -> usize
-    requires room { vec_len runs.old + 2 ≤ vec_capacity runs.old }
-    requires each { AllByRecursion IsSound runs.old.items }
-    requires there { IsThere after runs.old.items }
-    requires new { NoneOf run.stamp runs.old.items }
-    requires hints { AreHints hints.now.entries runs.old.items }
-    ensures runs { runs.new.items ≡ put_run after run runs.old.items }
-    ensures place { NoneOf run.stamp (take result runs.new.items) }
-    ensures visits { LooksAtSome (length runs.old.items) visits.old visits.new }
+) -> Result<Target, CodeError>
+    requires some { 0 < length blocks.now }
+    requires full { NoneEmpty (lists blocks.now) }
+    requires each { AllByRecursion IsSound (runs_of blocks.now) }
+    requires ordered { AllInOrder (runs_of blocks.now) }
+    requires there { IsThere after (runs_of blocks.now) }
+    requires hints { AreHints hints.old.entries places.now (lists blocks.now) }
+    ensures runs { IfOk result (λ aim.
+        put_into (before_spot aim.at (lists blocks.now)) aim.cut run (runs_of blocks.now)
+        ≡ put_run after run (runs_of blocks.now)) }
+    ensures aim { IfOk result (λ aim. IsTarget aim (lists blocks.now)) }
+    ensures visits { OnOk result
+        (LooksAtSome (length (runs_of blocks.now)) visits.old visits.new) }
+    ensures hints { AreHints hints.new.entries places.now (lists blocks.now) }
 {
     match after {
-        None => put_first(runs, run, visits),
+        None => Ok(aim_first(blocks, run, visits)),
         Some(a) => {
-            let start = hint_of(hints, runs, a.name.stamp);
-            put_behind(runs, a, run, start, visits)
+            let at = seek(blocks, places, hints, a, visits)?;
+            Ok(aim_behind(blocks, a, at, run, visits))
         }
     }
+}
+
+/// Makes room where a run goes. Answers where it goes then. Memory leaves all runs as they were.
+fn make_room(
+    blocks: &mut Vec<Block>,
+    places: &mut Vec<usize>,
+    aim: Target,
+) -> Result<Target, CodeError>
+    requires { IsTarget aim (lists blocks.old.items) }
+    ensures same { IsSameText (lists blocks.old.items) (lists blocks.new.items)
+        places.old.items places.new.items }
+    ensures aim { IfOk result (λ to. IsTarget to (lists blocks.new.items)) }
+    ensures moved { IfOk result (λ to. before_spot to.at (lists blocks.new.items)
+        ≡ before_spot aim.at (lists blocks.old.items)) }
+    ensures cut { IfOk result (λ to. to.cut ≡ aim.cut) }
+    ensures room { IfOk result (λ to.
+        AllByRecursion HasRoom (take 1 (drop to.at.block blocks.new.items))) }
+{
+    let at = split_full(blocks, places, aim.at)?;
+    reserve(&mut blocks[at.block])?;
+    Ok(Target { at, cut: aim.cut })
+}
+
+/// Puts a run where it goes.
+fn put_at_aim(blocks: &mut Vec<Block>, aim: Target, run: Run)
+    requires aim { IsTarget aim (lists blocks.old.items) }
+    requires each { AllByRecursion IsSound (runs_of blocks.old.items) }
+    requires room { AllByRecursion HasRoom (take 1 (drop aim.at.block blocks.old.items)) }
+    ensures { lists blocks.new.items ≡ set (lists blocks.old.items) aim.at.block
+        (put_into aim.at.place aim.cut run (list_at aim.at.block (lists blocks.old.items))) }
+{
+    put_in(&mut blocks[aim.at.block].runs, aim.at.place, aim.cut, run);
+}
+
+/// The first run of a text.
+fn put_alone(
+    blocks: &mut Vec<Block>,
+    places: &mut Vec<usize>,
+    run: Run,
+) -> Result<(), CodeError>
+    requires { blocks.old.items ≡ [] }
+    ensures ok { OnOk result (lists blocks.new.items ≡ (run ∷ []) ∷ []) }
+    ensures err { OnErr result (blocks.new.items ≡ []) }
+{
+    places.reserve(1).map_err(CodeError::of_growth)?;
+    let mut runs = Vec::new(*blocks.allocator());
+    if runs.push(run).is_err() {
+        return Err(CodeError::Memory);
+    }
+    let id = places.len();
+    if blocks.push(Block { runs, id }).is_err() {
+        return Err(CodeError::Memory);
+    }
+    places.push(0).unwrap();
+    Ok(())
+}
+
+/// Puts a run behind the byte named, or at the head, past the runs of later edits. Memory leaves all runs as they were.
+pub(crate) fn put(
+    blocks: &mut Vec<Block>,
+    places: &mut Vec<usize>,
+    hints: &mut BTreeMap<ElemId, usize>,
+    after: Option<ElemId>,
+    run: Run,
+    visits: &mut u64,
+) -> Result<(), CodeError>
+    requires full { NoneEmpty (lists blocks.old.items) }
+    requires each { AllByRecursion IsSound (runs_of blocks.old.items) }
+    requires ordered { AllInOrder (runs_of blocks.old.items) }
+    requires there { IsThere after (runs_of blocks.old.items) }
+    requires new { NoneOf run.stamp (runs_of blocks.old.items) }
+    requires hints { AreHints hints.old.entries places.old.items (lists blocks.old.items) }
+    ensures ok { OnOk result (runs_of blocks.new.items ≡ put_run after run (runs_of blocks.old.items)) }
+    ensures err { OnErr result (runs_of blocks.new.items ≡ runs_of blocks.old.items) }
+    ensures full { NoneEmpty (lists blocks.new.items) }
+    ensures hints { AreHints hints.new.entries places.new.items (lists blocks.new.items) }
+    ensures visits { OnOk result
+        (LooksAtSome (length (runs_of blocks.old.items)) visits.old visits.new) }
+{
+    let _visits = *visits;
+    if blocks.is_empty() {
+        put_alone(blocks, places, run)?;
+        return Ok(());
+    }
+    let wanted = aim(blocks, places, hints, after, run, visits)?;
+    let to = make_room(blocks, places, wanted)?;
+    let first = ElemId::new(run.stamp, 0);
+    keep_hint(hints, places, blocks, first, to.at.block)?;
+    put_at_aim(blocks, to, run);
+    Ok(())
 }

@@ -2,6 +2,8 @@
 //! Edits come in any order, as long as what they name is there.
 #![tactic(auto)]
 
+mod block;
+mod blocks;
 mod cut;
 mod error;
 mod hints;
@@ -11,6 +13,7 @@ mod place;
 mod readers;
 mod run;
 mod same;
+mod search;
 mod text;
 
 pub use error::CodeError;

@@ -1,16 +1,19 @@
 //! What is read of runs.
 
-ghost use Rattle.std.specs.Prelude.{◌≡◌, ◌<◌, ◌≤◌, ◌^◌, length, take, MatchOption};
-ghost use Rattle.std.specs.List.{list_any};
-ghost use Rattle.zed_code.specs.Kept.{total, NoneOf};
-ghost use Rattle.zed_code.specs.Runs.{has as is_in};
+ghost use Rattle.std.specs.Prelude.{◌≡◌, ◌<◌, ◌^◌, ◌++◌, OnOk, OnErr, MatchOption};
+ghost use Rattle.std.specs.List.{AllByRecursion};
+ghost use Rattle.zed_types.specs.Text.{alive_bytes};
+ghost use Rattle.zed_code.specs.Blocks.{runs_of};
+ghost use Rattle.zed_code.specs.Cutting.{spelled};
+ghost use Rattle.zed_code.specs.Kept.{total, IsRun};
 ghost use Rattle.zed_code.specs.Reading.{live, live_at as place_of};
 
+use crate::block::Block;
+use crate::error::CodeError;
 use crate::run::Run;
-use zed_types::ElemId;
 
 /// How many bytes of runs are alive.
-pub(crate) fn count_live(runs: &[Run]) -> usize
+fn count_in(runs: &[Run]) -> usize
     requires { total runs.now < 2 ^ 64 }
     ensures { result ≡ live runs.now }
 {
@@ -24,7 +27,7 @@ pub(crate) fn count_live(runs: &[Run]) -> usize
 }
 
 /// The run of the k-th live byte, and which of its bytes that is.
-pub(crate) fn live_at(runs: &[Run], k: usize) -> Option<(Run, u32)>
+fn live_in(runs: &[Run], k: usize) -> Option<(Run, u32)>
     ensures { result ≡ place_of runs.now k }
 {
     let mut left = k;
@@ -39,16 +42,45 @@ pub(crate) fn live_at(runs: &[Run], k: usize) -> Option<(Run, u32)>
     None
 }
 
-/// Whether some run has a byte, sought from a place before which no run of its insertion stands.
-pub(crate) fn any_has(runs: &[Run], id: ElemId, start: usize) -> bool
-    requires within { start ≤ length runs.now }
-    requires none { NoneOf id.name.stamp (take start runs.now) }
-    ensures { result ≡ list_any (is_in id) runs.now }
+/// How many bytes of blocks are alive.
+pub(crate) fn count_live(blocks: &[Block]) -> usize
+    requires { total (runs_of blocks.now) < 2 ^ 64 }
+    ensures { result ≡ live (runs_of blocks.now) }
 {
-    for i in start..runs.len() {
-        if runs[i].has(id) {
-            return true;
+    let mut count = 0;
+    for block in blocks {
+        count += count_in(&block.runs);
+    }
+    count
+}
+
+/// The run of the k-th live byte of blocks, and which of its bytes that is.
+pub(crate) fn live_at(blocks: &[Block], k: usize) -> Option<(Run, u32)>
+    requires { total (runs_of blocks.now) < 2 ^ 64 }
+    ensures { result ≡ place_of (runs_of blocks.now) k }
+{
+    let mut left = k;
+    for block in blocks {
+        let count = count_in(&block.runs);
+        if left < count {
+            return live_in(&block.runs, left);
+        }
+        left -= count;
+    }
+    None
+}
+
+/// Appends the live bytes of runs.
+pub(crate) fn push_live(out: &mut Vec<u8>, store: &[u8], runs: &[Run]) -> Result<(), CodeError>
+    requires { AllByRecursion (IsRun store.now) runs.now }
+    ensures ok { OnOk result
+        (out.new.items ≡ out.old.items ++ alive_bytes (spelled store.now runs.now)) }
+{
+    for run in runs {
+        if run.alive {
+            out.extend_from_slice(run.bytes_of(store))
+                .map_err(CodeError::of_growth)?;
         }
     }
-    false
+    Ok(())
 }

@@ -1,7 +1,7 @@
 ghost use Rattle.std.specs.Prelude.{◌≡◌, ◌+◌, ◌<◌, ◌≤◌, ◌^◌, ◌-◌, length};
 ghost use Rattle.zed_types.specs.Names.{byte_of};
 ghost use Rattle.zed_code.specs.Cutting.{bytes_in};
-ghost use Rattle.zed_code.specs.Runs.{has as is_in, front as front_of, back as back_of, low as low_of, high as high_of, touches as is_touched, reaches as is_reached, part as part_of, killed as killed_of, up_to as count_to, whole as whole_of};
+ghost use Rattle.zed_code.specs.Runs.{has as is_in, front as front_of, back as back_of, low as low_of, high as high_of, touches as is_touched, reaches as is_reached, lasts as is_lasting, part as part_of, killed as killed_of, up_to as count_to, whole as whole_of};
 
 use zed_types::{ByteRange, ElemId, Stamp};
 
@@ -112,6 +112,13 @@ impl Run {
     {
         self.stamp == range.stamp
             && u64::from(range.last) < u64::from(self.first) + u64::from(self.len)
+    }
+
+    /// Whether the run is of an insertion and has bytes of it from a number on.
+    pub(crate) fn lasts(self, stamp: Stamp, index: u32) -> bool
+        ensures { result ≡ is_lasting stamp index self }
+    {
+        self.stamp == stamp && u64::from(index) < u64::from(self.first) + u64::from(self.len)
     }
 
     /// The bytes of the run from one place to another.

@@ -4,19 +4,21 @@ ghost use Rattle.std.specs.Prelude.{◌≡◌, ◌↔◌, IsTrue, ◌<◌, ◌�
 ghost use Rattle.std.specs.List.{AllByRecursion, filter, list_any};
 ghost use Rattle.zed_types.specs.Stamp.{before, same_stamp};
 ghost use Rattle.zed_types.specs.Names.{same_element};
-ghost use Rattle.zed_types.specs.Text.{run_from, put_late, kill, alive_bytes};
+ghost use Rattle.zed_types.specs.Text.{run_from, put_late, kill as killed_in, alive_bytes};
 ghost use Rattle.zed_code.specs.Text.{elements, StandsAfter, IsNewStamp, HasMore, alive_names, bytes_from, genesis};
 ghost use Rattle.zed_code.specs.Runs.{if_any, whole};
+ghost use Rattle.zed_code.specs.Blocks.{lists, runs_of, NoneEmpty};
 ghost use Rattle.zed_code.specs.Visits.{raised, LooksAtSome};
 
-use crate::cut::cut;
+use crate::block::Block;
+use crate::cut::kill;
 use crate::error::CodeError;
-use crate::hints::{hint_of, keep_hint};
 use crate::insertion::put;
 use crate::place::look_once;
-use crate::readers::{any_has, count_live, live_at};
+use crate::readers::{count_live, live_at, push_live};
 use crate::run::Run;
 use crate::same::spell_same;
+use crate::search::any_has;
 use std::alloc::Global;
 use std::collections::BTreeMap;
 use std::marker::Model;
@@ -26,40 +28,48 @@ use zed_types::{ByteRange, ElemId, Stamp};
 #[derive(Drop)]
 pub struct Text {
     store: Vec<u8>,
-    runs: Vec<Run>,
+    blocks: Vec<Block>,
     visits: u64,
-    // where the runs of an insertion are sought: before its place stands none of them
-    hints: BTreeMap<Stamp, usize>,
+    // the number of a block before which no run stands that has a byte or later ones of its insertion
+    hints: BTreeMap<ElemId, usize>,
+    // where the block with a number stands; blocks are halved, and so move, without a change of their hints
+    places: Vec<usize>,
 }
 
 impl Model for Text {
     ghost use Rattle.zed_code.specs.Cutting.{piece_in};
     ghost use Rattle.zed_code.specs.Kept.{IsWhole};
+    ghost use Rattle.zed_code.specs.Blocks.{lists, runs_of};
     ghost use Rattle.zed_code.specs.Pieces.{Shown};
     ghost use Rattle.std.specs.Prelude.{map};
 
     ghost Value = { Shown };
 
     ghost view = { λ t. record {
-      cutting = map (piece_in t.store.items) t.runs.items;
+      cutting = map (piece_in t.store.items) (runs_of t.blocks.items);
       visits = t.visits;
     } };
 
-    ghost invariant = { λ t. IsWhole t.store.items t.runs.items t.hints.entries };
+    ghost invariant = { λ t. IsWhole t.store.items (lists t.blocks.items) t.hints.entries t.places.items };
 }
 
-/// The runs of a text that is made with so many bytes.
-fn first_runs(alloc: Global, len: u32) -> Result<Vec<Run>, CodeError>
-    ensures ok { IfOk result (λ runs. runs.items ≡ if_any (whole genesis 0 len)) }
+/// The blocks of a text that is made with so many bytes.
+fn first_blocks(alloc: Global, len: u32) -> Result<Vec<Block>, CodeError>
+    ensures runs { IfOk result (λ blocks. runs_of blocks.items ≡ if_any (whole genesis 0 len)) }
+    ensures full { IfOk result (λ blocks. NoneEmpty (lists blocks.items)) }
 {
-    let mut runs = Vec::new(alloc);
+    let mut blocks = Vec::new(alloc);
     if len > 0 {
+        let mut runs = Vec::new(alloc);
         let run = Run::whole(Stamp::GENESIS, 0, len);
         if runs.push(run).is_err() {
             return Err(CodeError::Memory);
         }
+        if blocks.push(Block { runs, id: 0 }).is_err() {
+            return Err(CodeError::Memory);
+        }
     }
-    Ok(runs)
+    Ok(blocks)
 }
 
 impl Text {
@@ -69,9 +79,10 @@ impl Text {
     {
         Text {
             store: Vec::new(alloc),
-            runs: Vec::new(alloc),
+            blocks: Vec::new(alloc),
             visits: 0,
             hints: BTreeMap::new(alloc),
+            places: Vec::new(alloc),
         }
     }
 
@@ -83,12 +94,17 @@ impl Text {
         ensures visits { IfOk result (λ t. t.visits ≡ 0) }
     {
         let store = Vec::from_slice(alloc, bytes).map_err(CodeError::of_growth)?;
-        let runs = first_runs(alloc, bytes.len() as u32)?;
+        let blocks = first_blocks(alloc, bytes.len() as u32)?;
+        let mut places = Vec::new(alloc);
+        if places.push(0).is_err() {
+            return Err(CodeError::Memory);
+        }
         Ok(Text {
             store,
-            runs,
+            blocks,
             visits: 0,
             hints: BTreeMap::new(alloc),
+            places,
         })
     }
 
@@ -112,7 +128,7 @@ impl Text {
             (LooksAtSome (length self.old.cutting) self.old.visits self.new.visits) }
     {
         if bytes.is_empty() {
-            look_once(&self.runs, &mut self.visits);
+            look_once(&self.blocks, &mut self.visits);
             return Ok(());
         }
         self.insert_some(after, stamp, bytes)
@@ -138,32 +154,44 @@ impl Text {
         self.store
             .reserve(bytes.len())
             .map_err(CodeError::of_growth)?;
-        self.runs.reserve(2).map_err(CodeError::of_growth)?;
-        keep_hint(&mut self.hints, &self.runs, stamp, 0)?;
         let run = Run::whole(stamp, self.store.len(), bytes.len() as u32);
-        let place = put(&mut self.runs, &self.hints, after, run, &mut self.visits);
+        let mut visits = self.visits;
+        put(
+            &mut self.blocks,
+            &mut self.places,
+            &mut self.hints,
+            after,
+            run,
+            &mut visits,
+        )?;
         self.store.extend_from_slice(bytes).unwrap();
-        keep_hint(&mut self.hints, &self.runs, stamp, place).unwrap();
+        self.visits = visits;
         Ok(())
     }
 
     /// Marks bytes from..to, both included, of the insertion with a stamp dead. Memory leaves the text as it was.
     pub fn delete(&mut self, stamp: Stamp, from: u32, to: u32) -> Result<(), CodeError>
         ensures ok { OnOk result (elements self.new
-            ≡ kill (bytes_from stamp from to) (elements self.old)) }
+            ≡ killed_in (bytes_from stamp from to) (elements self.old)) }
         ensures kept { OnErr result (self.new ≡ self.old) }
         ensures runs { HasMore 2 self.old self.new }
         ensures visits { OnOk result
             (LooksAtSome (length self.old.cutting) self.old.visits self.new.visits) }
     {
-        self.runs.reserve(2).map_err(CodeError::of_growth)?;
         let range = ByteRange {
             stamp,
             first: from,
             last: to,
         };
-        let start = hint_of(&self.hints, &self.runs, stamp);
-        cut(&mut self.runs, range, start, &mut self.visits);
+        let mut visits = self.visits;
+        kill(
+            &mut self.blocks,
+            &mut self.places,
+            &mut self.hints,
+            range,
+            &mut visits,
+        )?;
+        self.visits = visits;
         Ok(())
     }
 
@@ -172,11 +200,8 @@ impl Text {
         ensures ok { IfOk result (λ bytes. bytes.items ≡ alive_bytes (elements self.now)) }
     {
         let mut out = Vec::new(*self.store.allocator());
-        for run in &self.runs {
-            if run.alive {
-                out.extend_from_slice(run.bytes_of(&self.store))
-                    .map_err(CodeError::of_growth)?;
-            }
+        for block in &self.blocks {
+            push_live(&mut out, &self.store, &block.runs)?;
         }
         Ok(out)
     }
@@ -186,15 +211,14 @@ impl Text {
     pub fn same(&self, other: &Text) -> bool
         ensures { IsTrue result ↔ elements self.now ≡ elements other.now }
     {
-        spell_same(&self.store, &self.runs, &other.store, &other.runs)
+        spell_same(&self.store, &self.blocks, &other.store, &other.blocks)
     }
 
     /// Whether a byte was put into the text, dead or not.
     pub fn has(&self, id: ElemId) -> bool
         ensures { result ≡ list_any (λ x. same_element x.id id) (elements self.now) }
     {
-        let start = hint_of(&self.hints, &self.runs, id.name.stamp);
-        any_has(&self.runs, id, start)
+        any_has(&self.blocks, &self.places, &self.hints, id)
     }
 
     /// How many runs were looked at since the text was made.
@@ -208,14 +232,14 @@ impl Text {
     pub fn length(&self) -> usize
         ensures { result ≡ length (alive_bytes (elements self.now)) }
     {
-        count_live(&self.runs)
+        count_live(&self.blocks)
     }
 
     /// The name of the k-th live byte, if there are so many.
     pub fn elem_at(&self, k: usize) -> Option<ElemId>
         ensures { result ≡ slice_get (alive_names (elements self.now)) k }
     {
-        match live_at(&self.runs, k) {
+        match live_at(&self.blocks, k) {
             Some((run, i)) => Some(run.name(i)),
             None => None,
         }
@@ -225,7 +249,7 @@ impl Text {
     pub fn byte_at(&self, k: usize) -> Option<u8>
         ensures { result ≡ slice_get (alive_bytes (elements self.now)) k }
     {
-        match live_at(&self.runs, k) {
+        match live_at(&self.blocks, k) {
             Some((run, i)) => Some(self.store[run.start + i as usize]),
             None => None,
         }

@@ -1,7 +1,13 @@
-use Rattle.std.proofs.Common.{rules, ◌≡◌, length, arith}
+use Rattle.std.proofs.Common.{rules, ◌≡◌, ◌<◌, length, ap, arith}
+use Rattle.zed_code.specs.Blocks.{lists}
+use Rattle.zed_code.proofs.Joins.{length-lists}
+use Rattle.zed_code.proofs.Hinting.{full-some}
 use Rattle.zed_code.proofs.place.look_once.Goals as goal
 
-pub returns-else-not-is_empty : goal.returns-else-not-is_empty
-returns-else-not-is_empty c =
-    let none : length c.args.runs.now ≡ 0 = search rules in
-    record { visits = (0, omega arith, omega arith, λ some. omega (arith, some, none)) }
+pub look-requires : goal.look-requires
+look-requires c =
+    let ls = lists c.args.blocks.now in
+    let some : 0 < length c.args.blocks.now = search rules in
+    let first = full-some ls 0 (omega (arith, some, length-lists c.args.blocks.now)) c.requires in
+    let n = ap length c.runs_at.ensures in
+    omega (arith, first, n)

@@ -1,42 +1,50 @@
-use Rattle.std.proofs.Common.{rules, ◌≡◌, ◌+◌, ◌++◌, ◌∷◌, [], ℕ, Vec, Global, false, length, drop, get_or, sym, ap, ◌∙◌, arith, append_assoc, append-nil}
-use Rattle.std.proofs.lemmas.List.{drop_more, drop_all}
+use Rattle.std.proofs.Common.{rules, ◌≡◌, ◌<◌, ◌+◌, ◌++◌, [], ℕ, List, length, drop, sym, ap, ◌∙◌, subst, arith, append_assoc, append-nil}
+use Rattle.std.specs.List.{AllByRecursion}
 use Rattle.zed_types.specs.Text.{alive_bytes}
 use Rattle.zed_code.specs.declared.run.Run.{Run}
-use Rattle.zed_code.specs.Cutting.{spelled, bytes_in}
+use Rattle.zed_code.specs.declared.block.Block.{Block}
+use Rattle.zed_code.specs.Blocks.{lists, joined, list_at, runs_of}
+use Rattle.zed_code.specs.Cutting.{spelled}
+use Rattle.zed_code.specs.Kept.{IsRun}
 use Rattle.zed_code.specs.Text.{elements}
 use Rattle.zed_code.proofs.PutBytes.{spelled-cutting}
-use Rattle.zed_code.proofs.Alive.{alive-next, dead-next}
+use Rattle.zed_code.proofs.Joins.{length-lists, list_at-is, drop-none}
+use Rattle.zed_code.proofs.Rests.{each-at}
+use Rattle.zed_code.proofs.ReadBlocks.{next-block, alive-append}
 use Rattle.zed_code.proofs.text.Text.text.Goals as goal
-use Rattle.zed_code.proofs.text.Text.text.Goals.{then-run+in_ok-map_err, else-run}
 
-pub loop-run-preserved : goal.loop-run-preserved
-loop-run-preserved c =
+pub push_live-requires : goal.push_live-requires
+push_live-requires c =
     let store = c.self.inside.store.items in
-    let runs = c.self.inside.runs.items in
-    let d : c.deref-run-items.result.now ≡ runs = c.deref-run-items.ensures.value in
-    let n = ap length d in
-    let none : Run = record { stamp = record { time = 0; replica = 0 }; first = 0; start = 0; len = 0; alive = false } in
-    let r : Run = get_or c.deref-run-items.result.now c.loop-run.run-index none in
-    let at : drop c.loop-run.run-index runs ≡ r ∷ drop (c.loop-run.run-index + 1) runs = rw (← d) (drop_more c.deref-run-items.result.now c.loop-run.run-index none c.loop-run-test.true) in
-    let was = sym (ap (λ rs. c.loop-run.out.items ++ alive_bytes (spelled store rs)) at) ∙ c.loop-run.invariant in
-    elim c.if-run.branch [
-      | then-run+in_ok-map_err w ↦
-          let b : w.bytes_of.result.now ≡ bytes_in store r = w.bytes_of.ensures ∙ ap (λ xs. bytes_in xs r) w.deref.ensures.value in
-          let made : c.if-run.out.items ≡ c.loop-run.out.items ++ w.bytes_of.result.now = search rules in
-          ap (λ xs. xs ++ alive_bytes (spelled store (drop (c.loop-run.run-index + 1) runs))) (made ∙ ap (λ xs. c.loop-run.out.items ++ xs) b)
-          ∙ append_assoc c.loop-run.out.items (bytes_in store r) (alive_bytes (spelled store (drop (c.loop-run.run-index + 1) runs)))
-          ∙ ap (λ xs. c.loop-run.out.items ++ xs) (sym (alive-next store r (drop (c.loop-run.run-index + 1) runs) w.if-run.true)) ∙ was
-      | else-run w ↦
-          ap (λ (v : Vec ℕ Global). v.items ++ alive_bytes (spelled store (drop (c.loop-run.run-index + 1) runs))) w.out-is
-          ∙ ap (λ xs. c.loop-run.out.items ++ xs) (sym (dead-next store r (drop (c.loop-run.run-index + 1) runs) w.if-run.false)) ∙ was
-    ]
+    let bs = c.deref-block-items.result.now in
+    let b = c.block-item.result in
+    let each : AllByRecursion (IsRun store) (joined (lists bs)) = let P : List Block → Type 0 = λ cs. AllByRecursion (IsRun store) (joined (lists cs)) in subst P (sym c.deref-block-items.ensures.value) c.self.invariant.kept.each in
+    let here : list_at c.loop-block.block-index (lists bs) ≡ c.deref-in-loop-block.result.now = list_at-is bs c.loop-block.block-index b c.loop-block-test.true c.block-item.is ∙ sym c.deref-in-loop-block.ensures.value in
+    let P : List Run → Type 0 = λ rs. AllByRecursion (IsRun store) rs in
+    let Q : List ℕ → Type 0 = λ s. AllByRecursion (IsRun s) c.deref-in-loop-block.result.now in
+    subst Q (sym c.deref.ensures.value) (subst P here (each-at (IsRun store) (lists bs) c.loop-block.block-index each))
+
+pub loop-block-preserved : goal.loop-block-preserved
+loop-block-preserved c =
+    let store = c.self.inside.store.items in
+    let bs = c.self.inside.blocks.items in
+    let d : c.deref-block-items.result.now ≡ bs = c.deref-block-items.ensures.value in
+    let xs = c.block-item.result.runs.items in
+    let ys = joined (drop (c.loop-block.block-index + 1) (lists bs)) in
+    let N : List Block → Type 0 = λ cs. joined (drop c.loop-block.block-index (lists cs)) ≡ xs ++ joined (drop (c.loop-block.block-index + 1) (lists cs)) in
+    let next : joined (drop c.loop-block.block-index (lists bs)) ≡ xs ++ ys = subst N d (next-block c.deref-block-items.result.now c.loop-block.block-index c.block-item.result c.loop-block-test.true c.block-item.is) in
+    let made : c.push_live.new.out.items ≡ c.loop-block.out.items ++ alive_bytes (spelled store xs) =
+        c.in_ok-push_live.ensures.ok ∙ ap (λ s. c.loop-block.out.items ++ alive_bytes (spelled s c.deref-in-loop-block.result.now)) c.deref.ensures.value ∙ ap (λ rs. c.loop-block.out.items ++ alive_bytes (spelled store rs)) c.deref-in-loop-block.ensures.value in
+    ap (λ zs. zs ++ alive_bytes (spelled store ys)) made
+    ∙ append_assoc c.loop-block.out.items (alive_bytes (spelled store xs)) (alive_bytes (spelled store ys))
+    ∙ ap (λ zs. c.loop-block.out.items ++ zs) (sym (ap (λ rs. alive_bytes (spelled store rs)) next ∙ alive-append store xs ys))
+    ∙ c.loop-block.invariant
 
 pub returns : goal.returns
 returns c =
     let store = c.self.inside.store.items in
-    let runs = c.self.inside.runs.items in
-    let d : c.deref-run-items.result.now ≡ runs = c.deref-run-items.ensures.value in
-    let n = ap length d in
-    let none : drop c.loop-run.run-index runs ≡ [] = drop_all c.loop-run.run-index runs (omega (arith, n, c.loop-run-test.false)) in
-    let v : elements c.args.self.now ≡ spelled store runs = ap elements (sym c.self.view_is) ∙ spelled-cutting store runs in
-    record { ok = sym (append-nil c.loop-run.out.items) ∙ ap (λ rs. c.loop-run.out.items ++ alive_bytes (spelled store rs)) (sym none) ∙ c.loop-run.invariant ∙ ap alive_bytes (sym v) }
+    let bs = c.self.inside.blocks.items in
+    let n = ap length c.deref-block-items.ensures.value in
+    let none : joined (drop c.loop-block.block-index (lists bs)) ≡ [] = drop-none (lists bs) c.loop-block.block-index (omega (arith, n, length-lists bs, c.loop-block-test.false)) in
+    let v : elements c.args.self.now ≡ spelled store (runs_of bs) = ap elements (sym c.self.view_is) ∙ spelled-cutting store (runs_of bs) in
+    record { ok = sym (append-nil c.loop-block.out.items) ∙ ap (λ rs. c.loop-block.out.items ++ alive_bytes (spelled store rs)) (sym none) ∙ c.loop-block.invariant ∙ ap alive_bytes (sym v) }

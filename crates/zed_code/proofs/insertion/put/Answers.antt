@@ -1,0 +1,87 @@
+use Rattle.std.proofs.Common.{rules, ◌≡◌, ◌≤◌, ◌<◌, ◌+◌, [], ℕ, List, min, length, set, vec_len, sym, ap, ◌∙◌, subst, arith}
+use Rattle.std.proofs.lemmas.List.{nil_from_length}
+use Rattle.zed_types.specs.declared.names.ElemId.{ElemId}
+use Rattle.zed_types.specs.Names.{byte_of}
+use Rattle.zed_code.specs.declared.run.Run.{Run}
+use Rattle.zed_code.specs.declared.block.Block.{Block}
+use Rattle.zed_code.specs.Blocks.{lists, joined, list_at, before_spot, NoneEmpty}
+use Rattle.zed_code.specs.Halving.{AddsHint}
+use Rattle.zed_code.specs.Kept.{AreHints, IsOne, NoneOf}
+use Rattle.zed_code.specs.Runs.{put_in, put_run}
+use Rattle.zed_code.specs.Visits.{LooksAtSome}
+use Rattle.zed_code.proofs.Puts.{put-joined, full-set, some-put_in}
+use Rattle.zed_code.proofs.Hinting.{put-hints, no-hints, cut-inside, hints-of}
+use Rattle.zed_code.proofs.insertion.put.Goals as goal
+
+pub aim-requires-clause-hints : goal.aim-requires-clause-hints
+aim-requires-clause-hints c = hints-of c.args.hints.now.entries c.args.places.now.items c.deref-2.result.now c.args.blocks.now.items c.deref.result.now (sym c.deref-2.ensures.value) (sym c.deref.ensures.value) c.requires.hints
+
+pub returns-in_err-wanted-clause-hints : goal.returns-in_err-wanted-clause-hints
+returns-in_err-wanted-clause-hints c = hints-of c.aim.new.hints.entries c.deref-2.result.now c.args.places.now.items c.deref.result.now c.args.blocks.now.items c.deref-2.ensures.value c.deref.ensures.value c.aim.ensures.hints
+
+pub returns-in_err-to-clause-hints : goal.returns-in_err-to-clause-hints
+returns-in_err-to-clause-hints c =
+    c.make_room.ensures.same.hints c.aim.new.hints.entries (hints-of c.aim.new.hints.entries c.deref-2.result.now c.args.places.now.items c.deref.result.now c.args.blocks.now.items c.deref-2.ensures.value c.deref.ensures.value c.aim.ensures.hints)
+
+pub returns-in_err-keep_hint-clause-hints : goal.returns-in_err-keep_hint-clause-hints
+returns-in_err-keep_hint-clause-hints c hint one =
+    let P : List (ElemId × ℕ) → Type 0 = λ es. IsOne es hint in
+    c.make_room.ensures.same.hints c.aim.new.hints.entries (hints-of c.aim.new.hints.entries c.deref-2.result.now c.args.places.now.items c.deref.result.now c.args.blocks.now.items c.deref-2.ensures.value c.deref.ensures.value c.aim.ensures.hints) hint (subst P c.in_err-keep_hint.ensures.err one)
+
+pub returns-clause-ok : goal.returns-clause-ok
+returns-clause-ok c =
+    let old = lists c.args.blocks.now.items in
+    let ls = lists c.make_room.new.blocks.items in
+    let to = c.in_ok-to.to in
+    let d : joined (lists c.deref.result.now) ≡ joined old = ap (λ bs. joined (lists bs)) c.deref.ensures.value in
+    let wanted = c.in_ok-wanted.ensures.runs in
+    ap joined c.put_at_aim.ensures
+    ∙ put-joined to.at to.cut c.args.run ls c.in_ok-to.ensures.aim.within
+    ∙ ap (put_in (before_spot to.at ls) to.cut c.args.run) (c.make_room.ensures.same.runs)
+    ∙ ap (λ n. put_in n to.cut c.args.run (joined old)) c.in_ok-to.ensures.moved
+    ∙ ap (λ n. put_in (before_spot c.in_ok-wanted.wanted.at old) n c.args.run (joined old)) c.in_ok-to.ensures.cut
+    ∙ ap (λ bs. put_in (before_spot c.in_ok-wanted.wanted.at (lists bs)) c.in_ok-wanted.wanted.cut c.args.run (joined (lists bs))) (sym c.deref.ensures.value)
+    ∙ wanted ∙ ap (put_run c.args.after c.args.run) d
+
+pub returns-clause-full : goal.returns-clause-full
+returns-clause-full c =
+    let ls = lists c.make_room.new.blocks.items in
+    let to = c.in_ok-to.to in
+    let xs = put_in to.at.place to.cut c.args.run (list_at to.at.block ls) in
+    let P : List (List Run) → Type 0 = λ qs. NoneEmpty qs in
+    subst P (sym c.put_at_aim.ensures) (full-set ls to.at.block xs (some-put_in to.at.place to.cut c.args.run (list_at to.at.block ls)) (c.make_room.ensures.same.full c.requires.full))
+
+pub returns-clause-hints : goal.returns-clause-hints
+returns-clause-hints c =
+    let ls = lists c.make_room.new.blocks.items in
+    let places = c.make_room.new.places.items in
+    let hs = c.aim.new.hints.entries in
+    let more = c.keep_hint.new.hints.entries in
+    let to = c.in_ok-to.to in
+    let are = c.make_room.ensures.same.hints hs (hints-of hs c.deref-2.result.now c.args.places.now.items c.deref.result.now c.args.blocks.now.items c.deref-2.ensures.value c.deref.ensures.value c.aim.ensures.hints) in
+    let N : List Run → Type 0 = λ rs. NoneOf c.args.run.stamp rs in
+    let new = subst N (sym c.make_room.ensures.same.runs) c.requires.new in
+    let A : List ℕ → ElemId → Type 0 = λ ps id. AddsHint ps to.at.block id hs more in
+    let B : ElemId → Type 0 = λ id. A places id in
+    let C : List ℕ → Type 0 = λ ps. A ps c.new-first.result in
+    let adds = subst B c.new-first.ensures (subst C c.deref-3.ensures.value c.keep_hint.ensures.hints) in
+    let P : List (List Run) → Type 0 = λ qs. AreHints more places qs in
+    subst P (sym c.put_at_aim.ensures) (put-hints hs more places ls to.at to.cut c.args.run c.in_ok-to.ensures.aim.within (λ r rs. cut-inside to ls r rs c.in_ok-to.ensures.aim) new are adds)
+
+pub returns-in_err-put_alone-clause-hints : goal.returns-in_err-put_alone-clause-hints
+returns-in_err-put_alone-clause-hints c =
+    let empty : c.args.blocks.now.items ≡ [] = nil_from_length c.args.blocks.now.items (search rules) in
+    let E : List Block → Type 0 = λ bs. AreHints c.args.hints.now.entries c.args.places.now.items (lists bs) in
+    no-hints c.args.hints.now.entries c.args.places.now.items c.put_alone.new.places.items (lists c.put_alone.new.blocks.items) (subst E empty c.requires.hints)
+
+pub returns-then-is_empty-clause-hints : goal.returns-then-is_empty-clause-hints
+returns-then-is_empty-clause-hints c =
+    let empty : c.args.blocks.now.items ≡ [] = nil_from_length c.args.blocks.now.items (search rules) in
+    let E : List Block → Type 0 = λ bs. AreHints c.args.hints.now.entries c.args.places.now.items (lists bs) in
+    no-hints c.args.hints.now.entries c.args.places.now.items c.put_alone.new.places.items (lists c.put_alone.new.blocks.items) (subst E empty c.requires.hints)
+
+pub returns-then-is_empty-clause-visits : goal.returns-then-is_empty-clause-visits
+returns-then-is_empty-clause-visits c =
+    let empty : c.args.blocks.now.items ≡ [] = nil_from_length c.args.blocks.now.items (search rules) in
+    let none = ap (λ bs. length (joined (lists bs))) empty in
+    (0, search rules, omega arith, λ some. omega (arith, some, none))
