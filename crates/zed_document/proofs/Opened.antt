@@ -220,6 +220,29 @@ moving-on whole log low moved moved' moved'' late m p was is (later, cut, back, 
 pub moving-ends : (whole log : List Edit) (late : Entries) (moved : List Edit) → IsMoving whole log late moved → late ≡ [] → log ++ reverse moved ≡ whole
 moving-ends whole log late moved was none = ap (λ m. union log (values_of m) ++ reverse moved) (sym none) ∙ was.joins
 
+-- ---- late edits in a list
+
+stamped-last : (es : List Edit) (e : Edit) → stamped (es ++ e ∷ []) ≡ stamped es ++ (e.stamp, e) ∷ []
+stamped-last [] e = refl
+stamped-last (f ∷ es) e = ap (λ m. (f.stamp, f) ∷ m) (stamped-last es e)
+
+pub stamped-cut : (es rest : List Edit) (e : Edit) → es ≡ rest ++ e ∷ [] → stamped es ≡ stamped rest ++ (e.stamp, e) ∷ []
+stamped-cut es rest e is = ap stamped is ∙ stamped-last rest e
+
+pub stamped-opens : (log es : List Edit) → IsRising log → IsRising es → AreNew log es → IsOpen log (stamped es)
+stamped-opens log es r s n =
+    let same : values_of (stamped es) ≡ es = edits_stamped es in
+    record {
+      rising = r;
+      late_rising = subst IsRising (sym same) s;
+      under = ap stamped (sym same);
+      apart = subst (AreNew log) (sym same) n;
+    }
+
+pub stamped-begins : (log es moved : List Edit) → IsRising log → IsRising es → AreNew log es → moved ≡ [] → IsMoving (union log es) log (stamped es) moved
+stamped-begins log es moved r s n none =
+    subst (λ fs. IsMoving (union log fs) log (stamped es) moved) (edits_stamped es) (moving-begins log (stamped es) moved (stamped-opens log es r s n) none)
+
 -- ---- the end of a log
 
 all-below : (s : Stamp) (es : List Edit) → IsRising es → IfSome (slice_get es (length es - 1)) (λ f. before f.stamp s ≡ true) → AllBelow s es

@@ -5,7 +5,8 @@ use crate::batch::{Batch, copies, gather, unless_clash};
 use crate::delivered::{Delivered, State};
 use crate::error::{DocumentError, of_edit};
 use crate::held::{is_among, renew, renewed};
-use crate::merge::{joined, least_clash};
+use crate::merge::least_clash;
+use crate::moving::join;
 use crate::place::spot_of;
 use crate::visits::{visits_at, visits_before, visits_since};
 use std::alloc::Global;
@@ -357,7 +358,7 @@ impl Document {
         let Ok(held) = self.body.inbox.stamps() else {
             return Err(DocumentError::Memory);
         };
-        self.edits = joined(alloc, &self.edits, edits)?;
+        join(&mut self.edits, edits)?;
         self.held = held;
         self.is_stale = false;
         Ok(())

@@ -14,6 +14,7 @@ mod insertion;
 mod intake;
 mod laws;
 mod merge;
+mod moving;
 mod open_log;
 mod place;
 mod readers;

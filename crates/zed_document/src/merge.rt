@@ -31,18 +31,6 @@ fn count_before(edits: &[Edit], stamp: Stamp) -> usize
     count
 }
 
-/// Whether a log begins with an edit of a stamp.
-fn begins_with(edits: &[Edit], stamp: Stamp) -> bool
-    ensures yes { OnTrue result (IsSomeAnd (slice_get edits.now 0) (λ e. e.stamp ≡ stamp)) }
-    ensures no { OnFalse result
-        (IfSome (slice_get edits.now 0) (λ e. same_stamp stamp e.stamp ≡ false)) }
-{
-    match edits.first() {
-        Some(first) => first.stamp == stamp,
-        None => false,
-    }
-}
-
 fn push_copy(joined: &mut Vec<Edit>, edit: &Edit) -> Result<(), DocumentError>
     ensures ok { OnOk result (joined.new.items ≡ joined.old.items ++ edit.now ∷ []) }
     ensures err { IfErr result (λ e. e ≡ DocumentError.Memory) }
@@ -62,65 +50,6 @@ pub(crate) fn push_copies(joined: &mut Vec<Edit>, edits: &[Edit]) -> Result<(), 
         push_copy(joined, edit)?;
     }
     Ok(())
-}
-
-/// Appends the edits at the front of a log that come before an edit, and then the edit, unless the log has one with its stamp.
-/// Hands back the rest of the log.
-fn push_next<'a>(
-    joined: &mut Vec<Edit>,
-    log: &'a [Edit],
-    edit: &Edit,
-) -> Result<&'a [Edit], DocumentError>
-    requires rising { IsRising log.now }
-    requires below { AllBelow edit.now.stamp joined.old.items }
-    ensures next { IfOk result (λ rest. joined.new.items ++ rest.now
-        ≡ with_edit edit.now (joined.old.items ++ log.now)) }
-    ensures rising { IfOk result (λ rest. IsRising rest.now) }
-    ensures below { OnOk result ((s : TheStamp)
-        → before edit.now.stamp s ≡ true → AllBelow s joined.new.items) }
-    ensures err { IfErr result (λ e. e ≡ DocumentError.Memory) }
-{
-    let (front, rest) = log.split_at(count_before(log, edit.stamp));
-    push_copies(joined, front)?;
-    if !begins_with(rest, edit.stamp) {
-        push_copy(joined, edit)?;
-    }
-    Ok(rest)
-}
-
-/// The edits of two logs in one, of which the first has its own where both have a stamp.
-fn join(alloc: Global, own: &[Edit], other: &[Edit]) -> Result<Vec<Edit>, DocumentError>
-    requires own { IsRising own.now }
-    requires other { IsRising other.now }
-    ensures ok { IfOk result (λ joined. joined.items ≡ union own.now other.now) }
-    ensures err { IfErr result (λ e. e ≡ DocumentError.Memory) }
-{
-    let mut joined = Vec::new(alloc);
-    let mut rest = own;
-    for edit in other {
-        rest = push_next(&mut joined, rest, edit)?;
-    }
-    push_copies(&mut joined, rest)?;
-    Ok(joined)
-}
-
-/// The edits of a log with others, of which a log without an edit needs no copies.
-pub(crate) fn joined(
-    alloc: Global,
-    own: &[Edit],
-    edits: Vec<Edit>,
-) -> Result<Vec<Edit>, DocumentError>
-    requires own { IsRising own.now }
-    requires rising { IsRising edits.items }
-    ensures ok { IfOk result (λ joined. joined.items ≡ union own.now edits.items) }
-    ensures err { IfErr result (λ e. e ≡ DocumentError.Memory) }
-{
-    rising_lists_are_sets();
-    if own.is_empty() {
-        Ok(edits)
-    } else {
-        join(alloc, own, &edits)
-    }
 }
 
 /// The edits of a log from a stamp on.

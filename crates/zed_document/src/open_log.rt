@@ -12,6 +12,7 @@ ghost use Rattle.zed_document.specs.Kept.{AllBelow};
 ghost use Rattle.zed_document.specs.Open.{HasRoom, IsOpen, MovesLater};
 
 use crate::error::DocumentError;
+use crate::moving::{move_back, move_later};
 use crate::place::spot_of;
 use std::alloc::Global;
 use std::collections::BTreeMap;
@@ -46,36 +47,6 @@ impl Model for OpenLog {
         × HasRoom (length l.log.items) (length l.late.entries) (vec_capacity l.log) (vec_capacity l.spare) };
 }
 
-/// The last edit of a log, if it comes after a stamp.
-fn pop_later(log: &mut Vec<Edit>, stamp: Stamp) -> Option<Edit>
-    requires rising { IsRising log.old.items }
-    requires new { edit_with stamp log.old.items ≡ None }
-    ensures some { IfSome result (λ e. (log.old.items ≡ log.new.items ++ e ∷ [])
-        × (before stamp e.stamp ≡ true)) }
-    ensures none { IfNone result ((log.new.items ≡ log.old.items) × AllBelow stamp log.old.items) }
-    ensures capacity { vec_capacity log.new ≡ vec_capacity log.old }
-{
-    match log.last() {
-        Some(last) if stamp.is_before(last.stamp) => log.pop(),
-        _ => None,
-    }
-}
-
-/// Moves the edits of a log that come after a stamp behind a list, the last one first.
-fn move_later(log: &mut Vec<Edit>, stamp: Stamp, into: &mut Vec<Edit>)
-    requires rising { IsRising log.old.items }
-    requires new { edit_with stamp log.old.items ≡ None }
-    requires room { length log.old.items + length into.old.items ≤ vec_capacity into.old }
-    ensures moved { MovesLater stamp log.old.items into.old.items log.new.items into.new.items }
-    ensures below { AllBelow stamp log.new.items }
-    ensures log_room { vec_capacity log.new ≡ vec_capacity log.old }
-    ensures room { vec_capacity into.new ≡ vec_capacity into.old }
-{
-    while let Some(edit) = pop_later(log, stamp) {
-        into.push_reserved(edit);
-    }
-}
-
 /// Moves late edits, and those of a log that come after one of them, to a list, the last of all first.
 fn move_joined(log: &mut Vec<Edit>, mut late: BTreeMap<Stamp, Edit>, into: &mut Vec<Edit>)
     requires open { IsOpen log.old.items late.entries }
@@ -90,16 +61,6 @@ fn move_joined(log: &mut Vec<Edit>, mut late: BTreeMap<Stamp, Edit>, into: &mut 
     while let Some((stamp, edit)) = late.pop_last() {
         move_later(log, stamp, into);
         into.push_reserved(edit);
-    }
-}
-
-/// Moves edits behind a log, the last one first.
-fn move_back(log: &mut Vec<Edit>, mut from: Vec<Edit>)
-    requires { length log.old.items + length from.items ≤ vec_capacity log.old }
-    ensures { log.new.items ≡ log.old.items ++ reverse from.items }
-{
-    while let Some(edit) = from.pop() {
-        log.push_reserved(edit);
     }
 }
 

@@ -5,7 +5,7 @@ use Rattle.zed_op.specs.declared.op.Edit.{Edit}
 use Rattle.zed_op.specs.Set.{IsRising}
 use Rattle.zed_document.specs.Delivery.{edit_with}
 use Rattle.zed_document.proofs.Opened.{moves-more, none-front, rising-front}
-use Rattle.zed_document.proofs.open_log.move_later.Goals as goal
+use Rattle.zed_document.proofs.moving.move_later.Goals as goal
 
 pub loop-edit-preserved : goal.loop-edit-preserved
 loop-edit-preserved c =

@@ -2,8 +2,8 @@ use Rattle.std.proofs.Common.{◌≡◌, ◌-◌, Some, None, false, length, ref
 use Rattle.std.specs.Prelude.{slice_get}
 use Rattle.zed_types.specs.Stamp.{before}
 use Rattle.zed_document.proofs.Opened.{below-empty, below-new}
-use Rattle.zed_document.proofs.open_log.pop_later.Goals as goal
-use Rattle.zed_document.proofs.open_log.pop_later.Goals.{in_default-via-in-Some+else-is_before, in_default-via-in_default}
+use Rattle.zed_document.proofs.moving.pop_later.Goals as goal
+use Rattle.zed_document.proofs.moving.pop_later.Goals.{in_default-via-in-Some+else-is_before, in_default-via-in_default}
 
 pub returns-in_default-clause-none : goal.returns-in_default-clause-none
 returns-in_default-clause-none c =

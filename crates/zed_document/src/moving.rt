@@ -1,0 +1,95 @@
+//! Edits moved between lists, which takes no memory where there is room for them.
+ghost use Rattle.std.specs.Prelude.{◌≡◌, ◌≤◌, ◌+◌, ◌++◌, ◌∷◌, [], true, None, length, reverse, vec_capacity, IfSome, IfNone, IfErr, OnOk, OnErr};
+ghost use Rattle.zed_types.specs.Stamp.{before};
+ghost use Rattle.zed_op.specs.Set.{IsRising, union};
+ghost use Rattle.zed_document.specs.Batch.{AreNew};
+ghost use Rattle.zed_document.specs.Delivery.{edit_with};
+ghost use Rattle.zed_document.specs.Kept.{AllBelow};
+ghost use Rattle.zed_document.specs.Open.{MovesLater};
+
+use crate::error::DocumentError;
+use zed_edit::Edit;
+use zed_op::rising_lists_are_sets;
+use zed_types::Stamp;
+
+/// The last edit of a log, if it comes after a stamp.
+fn pop_later(log: &mut Vec<Edit>, stamp: Stamp) -> Option<Edit>
+    requires rising { IsRising log.old.items }
+    requires new { edit_with stamp log.old.items ≡ None }
+    ensures some { IfSome result (λ e. (log.old.items ≡ log.new.items ++ e ∷ [])
+        × (before stamp e.stamp ≡ true)) }
+    ensures none { IfNone result ((log.new.items ≡ log.old.items) × AllBelow stamp log.old.items) }
+    ensures capacity { vec_capacity log.new ≡ vec_capacity log.old }
+{
+    match log.last() {
+        Some(last) if stamp.is_before(last.stamp) => log.pop(),
+        _ => None,
+    }
+}
+
+/// Moves the edits of a log that come after a stamp behind a list, the last one first.
+pub(crate) fn move_later(log: &mut Vec<Edit>, stamp: Stamp, into: &mut Vec<Edit>)
+    requires rising { IsRising log.old.items }
+    requires new { edit_with stamp log.old.items ≡ None }
+    requires room { length log.old.items + length into.old.items ≤ vec_capacity into.old }
+    ensures moved { MovesLater stamp log.old.items into.old.items log.new.items into.new.items }
+    ensures below { AllBelow stamp log.new.items }
+    ensures log_room { vec_capacity log.new ≡ vec_capacity log.old }
+    ensures room { vec_capacity into.new ≡ vec_capacity into.old }
+{
+    while let Some(edit) = pop_later(log, stamp) {
+        into.push_reserved(edit);
+    }
+}
+
+/// Moves edits behind a log, the last one first.
+pub(crate) fn move_back(log: &mut Vec<Edit>, mut from: Vec<Edit>)
+    requires { length log.old.items + length from.items ≤ vec_capacity log.old }
+    ensures { log.new.items ≡ log.old.items ++ reverse from.items }
+{
+    while let Some(edit) = from.pop() {
+        log.push_reserved(edit);
+    }
+}
+
+/// Moves edits of new stamps to their places in a log, by a list that has room for all.
+fn move_in(log: &mut Vec<Edit>, mut edits: Vec<Edit>, mut by: Vec<Edit>)
+    requires log_rising { IsRising log.old.items }
+    requires rising { IsRising edits.items }
+    requires new { AreNew log.old.items edits.items }
+    requires empty { by.items ≡ [] }
+    requires log_room { length log.old.items + length edits.items ≤ vec_capacity log.old }
+    requires room { length log.old.items + length edits.items ≤ vec_capacity by }
+    ensures { log.new.items ≡ union log.old.items edits.items }
+{
+    while let Some(edit) = edits.pop() {
+        move_later(log, edit.stamp, &mut by);
+        by.push_reserved(edit);
+    }
+    move_back(log, by);
+}
+
+/// Joins edits of new stamps to a log. None is copied. Memory leaves the log as it was.
+pub(crate) fn join(log: &mut Vec<Edit>, edits: Vec<Edit>) -> Result<(), DocumentError>
+    requires log_rising { IsRising log.old.items }
+    requires rising { IsRising edits.items }
+    requires new { AreNew log.old.items edits.items }
+    ensures ok { OnOk result (log.new.items ≡ union log.old.items edits.items) }
+    ensures err { IfErr result (λ e. e ≡ DocumentError.Memory) }
+    ensures kept { OnErr result (log.new.items ≡ log.old.items) }
+{
+    rising_lists_are_sets();
+    if log.is_empty() {
+        *log = edits;
+        return Ok(());
+    }
+    if log.reserve(edits.len()).is_err() {
+        return Err(DocumentError::Memory);
+    }
+    let mut by = Vec::new(*log.allocator());
+    if by.reserve(log.len() + edits.len()).is_err() {
+        return Err(DocumentError::Memory);
+    }
+    move_in(log, edits, by);
+    Ok(())
+}
