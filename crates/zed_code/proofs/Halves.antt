@@ -1,14 +1,14 @@
 -- A block that is halved: what stands where.
-use Rattle.std.proofs.Common.{◌≡◌, ◌≤◌, ◌<◌, ℕ, zero, suc, ◌+◌, ◌-◌, min, Bool, true, false, cond, List, [], ◌∷◌, ◌++◌, length, take, drop, set, map, get_or, slice_get, Option, Some, None, length-append, append_assoc, refl, ap, ◌∙◌, sym, subst, arith, ltb}
-use Rattle.std.specs.List.{AllByRecursion, insert}
+use Rattle.std.proofs.Common.{◌≡◌, ◌≤◌, ◌<◌, ℕ, zero, suc, ◌+◌, ◌-◌, min, Bool, true, false, cond, List, [], ◌∷◌, ◌++◌, length, take, set, map, get_or, slice_get, Some, length-append, append_assoc, refl, ap, ◌∙◌, sym, subst, arith, ltb}
+use Rattle.std.specs.List.{insert}
 use Rattle.std.proofs.lemmas.List.{length-map}
 use Rattle.zed_types.specs.declared.names.ElemId.{ElemId}
 use Rattle.zed_code.specs.declared.run.Run.{Run}
 use Rattle.zed_code.specs.declared.block.Block.{Block}
 use Rattle.zed_code.specs.declared.block.Spot.{Spot}
-use Rattle.zed_code.specs.Blocks.{lists, joined, list_at, before_spot, IsIn, NoneEmpty}
-use Rattle.zed_code.specs.Halving.{IsSameText, IsMoved}
-use Rattle.zed_code.specs.Kept.{NoneFrom, IsHint, AreHints, IsOne, moved, some_of}
+use Rattle.zed_code.specs.Blocks.{lists, joined, list_at, IsIn, NoneEmpty}
+use Rattle.zed_code.specs.Halving.{IsSameText, IsMoved, spot_behind}
+use Rattle.zed_code.specs.Kept.{NoneFrom, AreHints, moved}
 use Rattle.zed_code.specs.Visits.{greatest}
 use Rattle.zed_code.proofs.Joins.{joined-take, length-lists, list_at-is}
 use Rattle.zed_code.proofs.Puts.{lists-set}
@@ -147,27 +147,44 @@ same-kept ls ps qs e = record {
   hints = λ hs are. let P : List ℕ → Type 0 = λ xs. AreHints hs xs ls in subst P (sym e) are;
 }
 
--- what a split leaves
-pub lists-split : (old kept new : List Block) (b : ℕ) (front behind : Block) → kept ≡ old → new ≡ insert (set kept b front) (b + 1) behind → lists new ≡ halved (lists old) b front.runs.items behind.runs.items
-lists-split old kept new b front behind k e =
-    let n : b + 1 ≡ suc b = omega arith in
-    ap lists (e ∙ ap (λ m. insert (set kept b front) m behind) n ∙ ap (λ bs. insert (set bs b front) (suc b) behind) k)
-    ∙ lists-insert (set old b front) (suc b) behind ∙ ap (λ ls. insert ls (suc b) behind.runs.items) (lists-set old b front)
-
-pub runs-split : (old kept : List Block) (b : ℕ) (was : Block) (xs ys : List Run) → kept ≡ old → b < length (lists old) → was ≡ get_or kept b was → was.runs.items ≡ xs ++ ys → list_at b (lists old) ≡ xs ++ ys
-runs-split old kept b was xs ys k l e h =
-    let n = length-lists old in
-    let m = ap length k in
-    ap (λ bs. list_at b (lists bs)) (sym k) ∙ list_at-is kept b was (omega (arith, l, n, m)) e ∙ h
+pub moves-halved : (xs ys : List Run) (ls : List (List Run)) (at : Spot) → IsIn at 0 ls → list_at at.block ls ≡ xs ++ ys → IsMoved ls (halved ls at.block xs ys) at (spot_behind (length xs) at)
+moves-halved xs ys ls at h e = go (ltb at.place (length xs)) refl
+  where
+    go : (b : Bool) → ltb at.place (length xs) ≡ b → IsMoved ls (halved ls at.block xs ys) at (cond b at (record { block = at.block + 1; place = at.place - length xs }))
+    go true b = stays-halved xs ys ls at h (grind (arith))
+    go false b = goes-halved xs ys ls at h (grind (arith)) e
 
 list_at-set : (ls : List (List Run)) (i : ℕ) (xs : List Run) → i < length ls → list_at i (set ls i xs) ≡ xs
 list_at-set [] i xs l = absurd (omega (arith, l))
 list_at-set (rs ∷ ls) zero xs l = refl
 list_at-set (rs ∷ ls) (suc i) xs l = list_at-set ls i xs (omega (arith, l))
 
-pub front-half : (old kept : List Block) (b : ℕ) (front : Block) (rs : List Run) → kept ≡ old → b < length (lists old) → rs ≡ list_at b (lists (set kept b front)) → length rs ≡ length front.runs.items
-front-half old kept b front rs k l e =
-    let n = length-lists old in
-    let m = ap length k in
-    let i = length-lists kept in
-    ap length (e ∙ ap (list_at b) (lists-set kept b front) ∙ list_at-set (lists kept) b front.runs.items (omega (arith, l, n, m, i)))
+-- what a split leaves of blocks, of which one is halved
+module _ (old kept new : List Block) (at : Spot) (was front back : Block) (k : kept ≡ old) (h : IsIn at 0 (lists old)) (e : was ≡ get_or kept at.block was) (parts : was.runs.items ≡ front.runs.items ++ back.runs.items) (made : new ≡ insert (set kept at.block front) (at.block + 1) back) where
+  becomes : lists new ≡ halved (lists old) at.block front.runs.items back.runs.items
+  becomes =
+      let n : at.block + 1 ≡ suc at.block = omega arith in
+      ap lists (made ∙ ap (λ m. insert (set kept at.block front) m back) n ∙ ap (λ bs. insert (set bs at.block front) (suc at.block) back) k)
+      ∙ lists-insert (set old at.block front) (suc at.block) back ∙ ap (λ ls. insert ls (suc at.block) back.runs.items) (lists-set old at.block front)
+
+  here : list_at at.block (lists old) ≡ front.runs.items ++ back.runs.items
+  here =
+      let l = h.block in
+      let m = ap length k in
+      ap (λ bs. list_at at.block (lists bs)) (sym k) ∙ list_at-is kept at.block was (omega (arith, l, length-lists old, m)) e ∙ parts
+
+  pub split-same : (places more news : List ℕ) → length old < greatest → 0 < length front.runs.items → 0 < length back.runs.items → more ≡ places → news ≡ map (moved at.block) more ++ ((at.block + 1) ∷ []) → IsSameText (lists old) (lists new) places news
+  split-same places more news small m n kept-places moved-places =
+      let same = same-halved front.runs.items back.runs.items (lists old) at.block places h.block (omega (arith, small, length-lists old)) here m n in
+      let P : List (List Run) → Type 0 = λ ls. IsSameText (lists old) ls places (map (moved at.block) places ++ ((at.block + 1) ∷ [])) in
+      let Q : List ℕ → Type 0 = λ ps. IsSameText (lists old) (lists new) places ps in
+      subst Q (sym (moved-places ∙ ap (λ ps. map (moved at.block) ps ++ ((at.block + 1) ∷ [])) kept-places)) (subst P (sym becomes) same)
+
+  pub split-moved : (half : List Run) → half ≡ list_at at.block (lists (set kept at.block front)) → IsMoved (lists old) (lists new) at (spot_behind (length half) at)
+  split-moved half read =
+      let l = h.block in
+      let n = ap length k in
+      let m : length half ≡ length front.runs.items = ap length (read ∙ ap (list_at at.block) (lists-set kept at.block front) ∙ list_at-set (lists kept) at.block front.runs.items (omega (arith, l, n, length-lists old, length-lists kept))) in
+      let P : List (List Run) → Type 0 = λ ls. IsMoved (lists old) ls at (spot_behind (length front.runs.items) at) in
+      let Q : ℕ → Type 0 = λ i. IsMoved (lists old) (lists new) at (spot_behind i at) in
+      subst Q (sym m) (subst P (sym becomes) (moves-halved front.runs.items back.runs.items (lists old) at h here))

@@ -1,10 +1,9 @@
 -- Hints stay right: runs only move to the right.
 use mathlib.Core.Logic.{◌⊎◌, inl, inr}
-use Rattle.std.proofs.Common.{◌≡◌, ◌≤◌, ◌<◌, ℕ, zero, suc, ◌+◌, ◌-◌, min, Bool, true, false, cond, ◌&&◌, ◌||◌, List, [], ◌∷◌, ◌++◌, length, take, drop, set, map, get_or, slice_get, Option, Some, None, length-append, refl, ap, ◌∙◌, sym, subst, arith, ltb, leb}
+use Rattle.std.proofs.Common.{◌≡◌, ◌≤◌, ◌<◌, ℕ, zero, suc, ◌+◌, ◌-◌, min, Bool, true, false, cond, ◌&&◌, ◌||◌, List, [], ◌∷◌, ◌++◌, length, take, drop, set, get_or, refl, ap, ◌∙◌, sym, subst, arith, ltb, leb}
 use Rattle.std.specs.List.{AllByRecursion, list_any}
 use Rattle.zed_types.specs.declared.stamp.Stamp.{Stamp}
 use Rattle.zed_types.specs.declared.names.ElemId.{ElemId}
-use Rattle.zed_types.specs.declared.text.ByteRange.{ByteRange}
 use Rattle.zed_types.specs.Stamp.{same_stamp}
 use Rattle.zed_types.specs.Names.{byte_of}
 use Rattle.zed_code.specs.declared.run.Run.{Run}
@@ -14,13 +13,12 @@ use Rattle.zed_code.specs.declared.insertion.Target.{Target}
 use Rattle.zed_code.specs.Targets.{IsTarget}
 use Rattle.zed_code.specs.Blocks.{lists, joined, list_at, before_spot, IsIn, NoneEmpty}
 use Rattle.zed_code.specs.Halving.{AddsHint, IsNumber, IsMoved}
-use Rattle.zed_code.specs.Runs.{lasts, sought, put_in, front, back, has, found, low, high, touches, part, killed, if_any, pieces, kill_runs}
+use Rattle.zed_code.specs.Runs.{lasts, sought, put_in, front, back, has, found}
 use Rattle.zed_code.specs.Kept.{NoneFrom, NoneOf, InOrder, AllInOrder, IsHint, AreHints, IsOne, some_of}
-use Rattle.zed_code.proofs.Joins.{joined-cut, length-lists, length-at, none-sought, take-spot, drop-spot}
+use Rattle.zed_code.proofs.Joins.{joined-cut, length-at, none-sought, take-spot, drop-spot}
 use Rattle.std.proofs.lemmas.List.{drop_more, get_or_default}
 use Rattle.zed_code.specs.Visits.{raised}
 use Rattle.zed_code.proofs.Puts.{put-joined}
-use Rattle.zed_code.proofs.Killing.{all-pieces}
 
 pub all-left : (P : Run → Type 0) (xs ys : List Run) → AllByRecursion P (xs ++ ys) → AllByRecursion P xs
 all-left P [] ys h = tt
@@ -326,10 +324,11 @@ spot-run at ls r h e =
     ∙ ap (λ xs. xs ++ joined (drop (at.block + 1) ls)) (drop_more (list_at at.block ls) at.place r (omega (arith, h.place)))
     ∙ ap (λ q. q ∷ (drop (at.place + 1) (list_at at.block ls) ++ joined (drop (at.block + 1) ls))) (sym e)
 
-pub list-all : (P : Run → Type 0) (ls : List (List Run)) (i : ℕ) → i < length ls → AllByRecursion P (joined ls) → AllByRecursion P (list_at i ls)
-list-all P [] i l h = absurd (omega (arith, l))
-list-all P (rs ∷ ls) zero l h = all-left P rs (joined ls) h
-list-all P (rs ∷ ls) (suc i) l h = list-all P ls i (omega (arith, l)) (all-right P rs (joined ls) h)
+-- what has of all runs has of those of each block
+pub each-at : (P : Run → Type 0) (ls : List (List Run)) (i : ℕ) → AllByRecursion P (joined ls) → AllByRecursion P (list_at i ls)
+each-at P [] i h = tt
+each-at P (rs ∷ ls) zero h = all-left P rs (joined ls) h
+each-at P (rs ∷ ls) (suc i) h = each-at P ls i (all-right P rs (joined ls) h)
 
 -- a run that is cut is cut within, as its block shows it
 pub cut-inside : (aim : Target) (ls : List (List Run)) (r : Run) (rs : List Run) → IsTarget aim ls → drop aim.at.place (list_at aim.at.block ls) ≡ r ∷ rs → aim.cut < r.len

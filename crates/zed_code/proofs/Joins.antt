@@ -1,14 +1,13 @@
 -- Lists of runs, joined.
-use Rattle.std.proofs.Common.{◌≡◌, ◌≤◌, ◌<◌, ℕ, zero, suc, ◌+◌, ◌-◌, min, Bool, true, false, cond, ◌&&◌, List, [], ◌∷◌, ◌++◌, length, take, drop, set, map, get_or, length-append, length-drop, append_assoc, append-nil, refl, ap, ◌∙◌, sym, subst, arith, leb, ltb}
-use Rattle.std.specs.List.{AllByRecursion, insert}
+use Rattle.std.proofs.Common.{◌≡◌, ◌≤◌, ◌<◌, ℕ, zero, suc, ◌+◌, Bool, true, false, cond, List, [], ◌∷◌, ◌++◌, length, take, drop, get_or, length-append, length-drop, append_assoc, append-nil, refl, ap, ◌∙◌, sym, arith}
 use Rattle.std.proofs.lemmas.List.{length-map}
 use Rattle.zed_types.specs.declared.stamp.Stamp.{Stamp}
-use Rattle.zed_types.specs.Stamp.{before, same_stamp}
+use Rattle.zed_types.specs.Stamp.{before}
 use Rattle.zed_code.specs.declared.run.Run.{Run}
 use Rattle.zed_code.specs.declared.block.Block.{Block}
 use Rattle.zed_code.specs.declared.block.Spot.{Spot}
-use Rattle.zed_code.specs.Blocks.{lists, joined, list_at, before_spot, IsIn, NoneEmpty, HasRoom}
-use Rattle.zed_code.specs.Runs.{lasts, sought, passed, put_in, front, back}
+use Rattle.zed_code.specs.Blocks.{lists, joined, list_at, before_spot, IsIn}
+use Rattle.zed_code.specs.Runs.{lasts, sought, passed}
 use Rattle.zed_code.specs.Kept.{NoneFrom}
 
 pub joined-cut : (ls : List (List Run)) (i : ℕ) → joined ls ≡ joined (take i ls) ++ joined (drop i ls)
@@ -81,20 +80,11 @@ list_at-get (q ∷ bs) (suc i) b l = list_at-get bs i b (omega (arith, l))
 pub length-lists : (bs : List Block) → length (lists bs) ≡ length bs
 length-lists bs = length-map bs (λ b. b.runs.items)
 
--- searches
-pub sought-within : (s : Stamp) (n : ℕ) (rs : List Run) → sought s n rs ≤ length rs
-sought-within s n [] = omega arith
-sought-within s n (r ∷ rs) = go (sought-within s n rs) (lasts s n r)
-  where
-    go : sought s n rs ≤ length rs → (b : Bool) → cond b 0 (suc (sought s n rs)) ≤ suc (length rs)
-    go more true = omega arith
-    go more false = omega (arith, more)
-
 pub sought-from : (s : Stamp) (n : ℕ) (rs qs : List Run) → NoneFrom s n rs → sought s n (rs ++ qs) ≡ length rs + sought s n qs
 sought-from s n [] qs none = omega arith
 sought-from s n (r ∷ rs) qs none = rw none.0 (omega (arith, sought-from s n rs qs none.1))
 
-pub sought-pass : (s : Stamp) (n : ℕ) (rs qs : List Run) → length rs ≤ sought s n rs → sought s n (rs ++ qs) ≡ length rs + sought s n qs
+sought-pass : (s : Stamp) (n : ℕ) (rs qs : List Run) → length rs ≤ sought s n rs → sought s n (rs ++ qs) ≡ length rs + sought s n qs
 sought-pass s n [] qs l = omega arith
 sought-pass s n (r ∷ rs) qs l = go (lasts s n r) (λ k. sought-pass s n rs qs k) l
   where
@@ -102,13 +92,27 @@ sought-pass s n (r ∷ rs) qs l = go (lasts s n r) (λ k. sought-pass s n rs qs 
     go true more k = absurd (omega (arith, k))
     go false more k = let m : length rs ≤ sought s n rs = omega (arith, k) in omega (arith, more m)
 
-pub sought-in : (s : Stamp) (n : ℕ) (rs qs : List Run) → sought s n rs < length rs → sought s n (rs ++ qs) ≡ sought s n rs
+sought-in : (s : Stamp) (n : ℕ) (rs qs : List Run) → sought s n rs < length rs → sought s n (rs ++ qs) ≡ sought s n rs
 sought-in s n [] qs l = absurd (omega (arith, l))
 sought-in s n (r ∷ rs) qs l = go (lasts s n r) (λ k. sought-in s n rs qs k) l
   where
     go : (b : Bool) → (sought s n rs < length rs → sought s n (rs ++ qs) ≡ sought s n rs) → cond b 0 (suc (sought s n rs)) < suc (length rs) → cond b 0 (suc (sought s n (rs ++ qs))) ≡ cond b 0 (suc (sought s n rs))
     go true more k = refl
     go false more k = ap suc (more (omega (arith, k)))
+
+-- a search in one block, of which none before it has what is sought: it ends there, or behind it
+module _ (s : Stamp) (n : ℕ) (ls : List (List Run)) (b k : ℕ) (rs : List Run) (l : b < length ls) (read : rs ≡ list_at b ls) (told : k ≡ sought s n rs) (rest : length (joined (take b ls)) + sought s n (joined (drop b ls)) ≡ sought s n (joined ls)) where
+  pub sought-here : k < length rs → length (joined (take b ls)) + k ≡ sought s n (joined ls)
+  sought-here m =
+      let p = told ∙ ap (sought s n) read in
+      let e = ap (sought s n) (joined-drop ls b l) ∙ sought-in s n (list_at b ls) (joined (drop (b + 1) ls)) (omega (arith, m, p, ap length read)) in
+      omega (arith, e, p, rest)
+
+  pub sought-behind : length rs ≤ k → length (joined (take (b + 1) ls)) + sought s n (joined (drop (b + 1) ls)) ≡ sought s n (joined ls)
+  sought-behind m =
+      let p = told ∙ ap (sought s n) read in
+      let e = ap (sought s n) (joined-drop ls b l) ∙ sought-pass s n (list_at b ls) (joined (drop (b + 1) ls)) (omega (arith, m, p, ap length read)) in
+      omega (arith, e, rest, length-next ls b l)
 
 pub none-sought : (s : Stamp) (n : ℕ) (rs : List Run) → NoneFrom s n (take (sought s n rs) rs)
 none-sought s n [] = tt

@@ -1,15 +1,17 @@
 -- A deletion begins where a range does, and ends behind it.
-use Rattle.std.proofs.Common.{◌≡◌, ◌≤◌, ◌<◌, ◌∙◌, ◌&&◌, ◌||◌, ℕ, zero, suc, ◌+◌, ◌-◌, min, Bool, true, false, cond, List, [], ◌∷◌, ◌++◌, length, take, drop, set, map, slice_get, Some, length-append, append_assoc, refl, ap, sym, subst, arith, leb, ltb}
+use Rattle.std.proofs.Common.{◌≡◌, ◌≤◌, ◌<◌, ◌∙◌, ◌&&◌, ◌||◌, ℕ, zero, suc, ◌+◌, ◌-◌, Bool, true, false, cond, List, [], ◌∷◌, ◌++◌, length, take, drop, set, map, length-append, append_assoc, refl, ap, sym, subst, arith, ltb}
 use Rattle.std.specs.List.{AllByRecursion, list_any}
 use Rattle.zed_types.specs.declared.stamp.Stamp.{Stamp}
 use Rattle.zed_types.specs.declared.names.ElemId.{ElemId}
 use Rattle.zed_types.specs.declared.text.ByteRange.{ByteRange}
 use Rattle.zed_types.specs.Stamp.{same_stamp}
 use Rattle.zed_code.specs.declared.run.Run.{Run}
+use Rattle.zed_code.specs.declared.block.Block.{Block}
 use Rattle.zed_code.specs.Blocks.{lists, joined, list_at, NoneEmpty}
 use Rattle.zed_code.specs.Runs.{lasts, low, high, touches, reaches, part, killed, pieces, kill_runs, if_any}
-use Rattle.zed_code.specs.Kept.{InOrder, AllInOrder, NoneFrom, IsHint, AreHints, IsOne, some_of}
+use Rattle.zed_code.specs.Kept.{InOrder, AllInOrder, NoneFrom, AreHints, some_of}
 use Rattle.zed_code.proofs.Killing.{all-pieces}
+use Rattle.zed_code.proofs.Joins.{length-lists}
 use Rattle.zed_code.proofs.Cuts.{some-pieces}
 use Rattle.zed_code.proofs.Hinting.{all-left, all-right, all-both}
 
@@ -82,18 +84,10 @@ pub order-left : (xs ys : List Run) → AllInOrder (xs ++ ys) → AllInOrder xs
 order-left [] ys h = tt
 order-left (x ∷ xs) ys h = (all-left (InOrder x) xs ys h.0, order-left xs ys h.1)
 
-pub order-at : (ls : List (List Run)) (i : ℕ) → i < length ls → AllInOrder (joined ls) → AllInOrder (list_at i ls)
-order-at [] i l h = absurd (omega (arith, l))
-order-at (rs ∷ ls) zero l h = order-left rs (joined ls) h
-order-at (rs ∷ ls) (suc i) l h = order-at ls i (omega (arith, l)) (order-right rs (joined ls) h)
-
-done-behind : (x : ByteRange) (rs qs : List Run) → list_any (reaches x) rs ≡ true → AllInOrder (rs ++ qs) → kill_runs x qs ≡ qs
-done-behind x [] qs h ordered = absurd (cc)
-done-behind x (r ∷ rs) qs h ordered = go (reaches x r) refl h (λ k. done-behind x rs qs k ordered.1)
-  where
-    go : (b : Bool) → reaches x r ≡ b → (b || list_any (reaches x) rs) ≡ true → (list_any (reaches x) rs ≡ true → kill_runs x qs ≡ qs) → kill_runs x qs ≡ qs
-    go true e k more = cut_done x r qs e (all-right (InOrder r) rs qs ordered.0)
-    go false e k more = more k
+pub order-at : (ls : List (List Run)) (i : ℕ) → AllInOrder (joined ls) → AllInOrder (list_at i ls)
+order-at [] i h = tt
+order-at (rs ∷ ls) zero h = order-left rs (joined ls) h
+order-at (rs ∷ ls) (suc i) h = order-at ls i (order-right rs (joined ls) h)
 
 -- nothing of a range is behind a run that has its end
 reach-touch : (x : ByteRange) (rs qs : List Run) → list_any (reaches x) rs ≡ true → AllInOrder (rs ++ qs) → AllByRecursion (λ r. touches x r ≡ false) qs
@@ -136,27 +130,21 @@ cut_up_to-first x ls n h = sym (ap (λ qs. qs ++ drop n ls) (lists-before x (tak
     take-on [] (suc n) = refl
     take-on (rs ∷ ls) (suc n) = ap (λ qs. rs ∷ qs) (take-on ls n)
 
-pub cut_up_to-next : (x : ByteRange) (ls : List (List Run)) (n : ℕ) → n < length ls → set (cut_up_to x n ls) n (kill_runs x (list_at n (cut_up_to x n ls))) ≡ cut_up_to x (n + 1) ls
+cut_up_to-next : (x : ByteRange) (ls : List (List Run)) (n : ℕ) → n < length ls → set (cut_up_to x n ls) n (kill_runs x (list_at n (cut_up_to x n ls))) ≡ cut_up_to x (n + 1) ls
 cut_up_to-next x [] n l = absurd (omega (arith, l))
 cut_up_to-next x (rs ∷ ls) zero l = refl
 cut_up_to-next x (rs ∷ ls) (suc n) l = let e : suc n + 1 ≡ suc (n + 1) = omega arith in rw e (ap (λ qs. kill_runs x rs ∷ qs) (cut_up_to-next x ls n (omega (arith, l))))
 
-pub cut_up_to-at : (x : ByteRange) (ls : List (List Run)) (n : ℕ) → list_at n (cut_up_to x n ls) ≡ list_at n ls
+cut_up_to-at : (x : ByteRange) (ls : List (List Run)) (n : ℕ) → list_at n (cut_up_to x n ls) ≡ list_at n ls
 cut_up_to-at x [] zero = refl
 cut_up_to-at x [] (suc n) = refl
 cut_up_to-at x (rs ∷ ls) zero = refl
 cut_up_to-at x (rs ∷ ls) (suc n) = cut_up_to-at x ls n
 
-pub length-cut_up_to : (x : ByteRange) (ls : List (List Run)) (n : ℕ) → length (cut_up_to x n ls) ≡ length ls
+length-cut_up_to : (x : ByteRange) (ls : List (List Run)) (n : ℕ) → length (cut_up_to x n ls) ≡ length ls
 length-cut_up_to x ls zero = refl
 length-cut_up_to x [] (suc n) = refl
 length-cut_up_to x (rs ∷ ls) (suc n) = ap suc (length-cut_up_to x ls n)
-
-pub cut_up_to-all : (x : ByteRange) (ls : List (List Run)) (n : ℕ) → length ls ≤ n → cut_up_to x n ls ≡ map (kill_runs x) ls
-cut_up_to-all x [] zero l = refl
-cut_up_to-all x [] (suc n) l = refl
-cut_up_to-all x (rs ∷ ls) zero l = absurd (omega (arith, l))
-cut_up_to-all x (rs ∷ ls) (suc n) l = ap (λ qs. kill_runs x rs ∷ qs) (cut_up_to-all x ls n (omega (arith, l)))
 
 pub cut_up_to-end : (x : ByteRange) (ls : List (List Run)) (n : ℕ) → n < length ls → list_any (reaches x) (list_at n ls) ≡ true → AllInOrder (joined ls) → cut_up_to x (n + 1) ls ≡ map (kill_runs x) ls
 cut_up_to-end x [] n l h ordered = absurd (omega (arith, l))
@@ -259,3 +247,14 @@ past-end [] zero l = (refl, refl)
 past-end [] (suc n) l = (refl, refl)
 past-end (rs ∷ ls) zero l = absurd (omega (arith, l))
 past-end (rs ∷ ls) (suc n) l = let more = past-end ls n (omega (arith, l)) in (omega (arith, more.0, length-append rs (joined (take n ls)), length-append rs (joined ls)), more.1)
+
+-- a step of a deletion over blocks
+module _ (x : ByteRange) (bs cs : List Block) (b : ℕ) (e : lists cs ≡ cut_up_to x b (lists bs)) where
+  pub block-same : list_at b (lists cs) ≡ list_at b (lists bs)
+  block-same = ap (list_at b) e ∙ cut_up_to-at x (lists bs) b
+
+  pub blocks-count : length cs ≡ length bs
+  blocks-count = let n = ap length e ∙ length-cut_up_to x (lists bs) b in omega (arith, n, length-lists bs, length-lists cs)
+
+  pub block-cut : (ds : List Block) → b < length bs → lists ds ≡ set (lists cs) b (kill_runs x (list_at b (lists cs))) → lists ds ≡ cut_up_to x (b + 1) (lists bs)
+  block-cut ds l h = h ∙ ap (λ qs. set qs b (kill_runs x (list_at b qs))) e ∙ cut_up_to-next x (lists bs) b (omega (arith, l, length-lists bs))

@@ -16,3 +16,4 @@ pub mod Spelling
 pub mod ReadBlocks
 pub mod Rests
 pub mod Deaths
+pub mod LiveBytes

@@ -1,5 +1,5 @@
 -- What an insertion makes of a text, said of its elements.
-use Rattle.std.proofs.Common.{◌≡◌, ◌≤◌, ◌<◌, ◌^◌, ℕ, suc, ◌+◌, Bool, true, false, cond, ◌&&◌, List, [], ◌∷◌, ◌++◌, map, length, take, drop, Option, Some, None, append-nil, refl, ap, ◌∙◌, sym, arith, eqb, leb, ltb}
+use Rattle.std.proofs.Common.{◌≡◌, ◌≤◌, ◌<◌, ℕ, suc, ◌+◌, Bool, true, false, cond, ◌&&◌, List, [], ◌∷◌, ◌++◌, map, length, take, drop, Option, Some, None, append-nil, refl, ap, ◌∙◌, sym, subst, arith, eqb, leb, ltb}
 use Rattle.std.specs.List.{AllByRecursion, list_any}
 use Rattle.std.proofs.lemmas.List.{drop_at, take_all, drop-append-le, take-append-le, length-drop, length-map}
 use Rattle.zed_types.specs.declared.stamp.Stamp.{Stamp}
@@ -10,11 +10,11 @@ use Rattle.zed_types.specs.Names.{same_element}
 use Rattle.zed_types.specs.Text.{run_from, behind, pass_later, put_late}
 use Rattle.zed_code.specs.declared.run.Run.{Run}
 use Rattle.zed_code.specs.Runs.{has, found, put_run, whole, if_any}
-use Rattle.zed_code.specs.Pieces.{run_of, written_out}
+use Rattle.zed_code.specs.Pieces.{Shown, run_of, written_out}
 use Rattle.zed_code.specs.Cutting.{bytes_in, elements_in, piece_in, spelled}
 use Rattle.zed_code.specs.There.{IsThere}
-use Rattle.zed_code.specs.Kept.{IsRun, IsSound, NoneOf, AreKept}
-use Rattle.zed_code.specs.Text.{StandsAfter, IsNewStamp}
+use Rattle.zed_code.specs.Kept.{IsRun, NoneOf, AreKept}
+use Rattle.zed_code.specs.Text.{elements, StandsAfter, IsNewStamp}
 use Rattle.zed_code.proofs.Spelling.{run_from-is, bytes-count, spelled-pass_runs, spelled-put_at}
 use Rattle.zed_code.proofs.Keeping.{kept-put_run, length-put_run, is-longer}
 
@@ -26,10 +26,6 @@ spelled-cutting store (r ∷ rs) = ap (λ xs. elements_in store r ++ xs) (spelle
 -- the same, under a name that a function can use
 pub cutting_spells : (store : List ℕ) (rs : List Run) → written_out (map (piece_in store) rs) ≡ spelled store rs
 cutting_spells store rs = spelled-cutting store rs
-
-pub all-sound : (store : List ℕ) (rs : List Run) → length store < 2 ^ 64 → AllByRecursion (IsRun store) rs → AllByRecursion IsSound rs
-all-sound store [] l h = tt
-all-sound store (r ∷ rs) l h = (record { some = h.0.some; numbered = h.0.numbered; stored = omega (arith, h.0.within, l) }, all-sound store rs l h.1)
 
 -- a byte that no run has isn't in the text
 none-here : (a : ElemId) (r : Stamp) (alive : Bool) (n : ℕ) (bs : List ℕ) (rest : List TextByte) → (same_stamp r a.name.stamp && (leb n a.name.index && ltb a.name.index (n + length bs))) ≡ false → list_any (λ x. same_element x.id a) (run_of r alive n bs ++ rest) ≡ list_any (λ x. same_element x.id a) rest
@@ -71,7 +67,7 @@ spelled-has store a (r ∷ rs) each = go (spelled-has store a rs each.1) (has a 
     go more true b = rw b (some-here a r.stamp r.alive r.first (bytes_in store r) (spelled store rs) (rw (bytes-count store r each.0) b))
     go more false b = rw b (none-here a r.stamp r.alive r.first (bytes_in store r) (spelled store rs) (rw (bytes-count store r each.0) b) ∙ more)
 
-pub held-there : (store : List ℕ) (a : ElemId) (rs : List Run) → AllByRecursion (IsRun store) rs → list_any (λ x. same_element x.id a) (spelled store rs) ≡ true → found a rs < length rs
+held-there : (store : List ℕ) (a : ElemId) (rs : List Run) → AllByRecursion (IsRun store) rs → list_any (λ x. same_element x.id a) (spelled store rs) ≡ true → found a rs < length rs
 held-there store a [] each h = absurd (cc)
 held-there store a (r ∷ rs) each h = go (λ k. held-there store a rs each.1 k) (has a r) refl
   where
@@ -81,7 +77,7 @@ held-there store a (r ∷ rs) each h = go (λ k. held-there store a rs each.1 k)
         let n = none-here a r.stamp r.alive r.first (bytes_in store r) (spelled store rs) (rw (bytes-count store r each.0) b) in
         omega (arith, more (sym n ∙ h))
 
-pub held-after : (store : List ℕ) (after : Option ElemId) (s : Stamp) (rs : List Run) → AllByRecursion (IsRun store) rs → StandsAfter after s (spelled store rs) → IsThere after rs
+held-after : (store : List ℕ) (after : Option ElemId) (s : Stamp) (rs : List Run) → AllByRecursion (IsRun store) rs → StandsAfter after s (spelled store rs) → IsThere after rs
 held-after store None s rs each h = tt
 held-after store (Some a) s rs each h = held-there store a rs each h.1
 
@@ -94,7 +90,7 @@ rest-new : (s r : Stamp) (alive : Bool) (n : ℕ) (bs : List ℕ) (rest : List T
 rest-new s r alive n [] rest h = h
 rest-new s r alive n (b ∷ bs) rest h = rest-new s r alive (n + 1) bs rest h.1
 
-pub none-of : (store : List ℕ) (s : Stamp) (rs : List Run) → AllByRecursion (IsRun store) rs → IsNewStamp s (spelled store rs) → NoneOf s rs
+none-of : (store : List ℕ) (s : Stamp) (rs : List Run) → AllByRecursion (IsRun store) rs → IsNewStamp s (spelled store rs) → NoneOf s rs
 none-of store s [] each h = tt
 none-of store s (r ∷ rs) each h = (
   first-stamp s r.stamp r.alive r.first (bytes_in store r) (spelled store rs) (rw (bytes-count store r each.0) each.0.some) h,
@@ -127,15 +123,32 @@ spelled-put_run store (Some a) run rs xs each h = spelled-put_at store a run rs 
 abbrev pub new_run : Stamp → List ℕ → ℕ → Run
 new_run s store n = whole s (length store) n
 
-pub put-spells : (store bytes : List ℕ) (after : Option ElemId) (s : Stamp) (rs : List Run) (xs : List TextByte) → AreKept store rs → StandsAfter after s xs → spelled (store ++ bytes) (put_run after (new_run s store (length bytes)) rs) ≡ put_late after s (run_from s 0 bytes) (spelled store rs)
-put-spells store bytes after s rs xs h t =
-    let run = new_run s store (length bytes) in
-    spelled-put_run (store ++ bytes) after run rs xs (is-longer store bytes rs h.each) t
-    ∙ rw (new-elements store bytes run refl refl refl refl, spelled-longer store bytes rs h.each) refl
+-- what contracts see of a text spells what its runs do
+pub shown : (store : List ℕ) (rs : List Run) (s t : Shown) → s.cutting ≡ map (piece_in store) rs → s ≡ t → elements t ≡ spelled store rs
+shown store rs s t e f = ap elements (sym f) ∙ ap written_out e ∙ spelled-cutting store rs
 
-pub put-keeps : (store bytes : List ℕ) (after : Option ElemId) (s : Stamp) (rs : List Run) → AreKept store rs → StandsAfter after s (spelled store rs) → IsNewStamp s (spelled store rs) → 0 < length bytes → length bytes ≤ 32767 → AreKept (store ++ bytes) (put_run after (new_run s store (length bytes)) rs)
-put-keeps store bytes after s rs h t n some most =
-    kept-put_run store bytes after (new_run s store (length bytes)) rs h (none-of store s rs h.each n) (held-after store after s rs h.each t) some refl refl (omega (arith, most))
+-- the runs that were made are those with the new run
+pub put-made : (store bytes : List ℕ) (after : Option ElemId) (s : Stamp) (rs news : List Run) (run : Run) (n : ℕ) → run ≡ whole s n (length bytes) → n ≡ length store → news ≡ put_run after run rs → news ≡ put_run after (new_run s store (length bytes)) rs
+put-made store bytes after s rs news run n e f made = made ∙ rw (e, f) refl
+
+-- what an insertion finds in a text, and what it makes of it
+module _ (store bytes : List ℕ) (after : Option ElemId) (s : Stamp) (rs : List Run) (t : Shown) (v : elements t ≡ spelled store rs) (h : AreKept store rs) where
+  pub names-there : StandsAfter after s (elements t) → IsThere after rs
+  names-there there = held-after store after s rs h.each (let P : List TextByte → Type 0 = λ xs. StandsAfter after s xs in subst P v there)
+
+  pub none-yet : IsNewStamp s (elements t) → NoneOf s rs
+  none-yet new = none-of store s rs h.each (let P : List TextByte → Type 0 = λ xs. IsNewStamp s xs in subst P v new)
+
+  pub put-spells : StandsAfter after s (elements t) → spelled (store ++ bytes) (put_run after (new_run s store (length bytes)) rs) ≡ put_late after s (run_from s 0 bytes) (elements t)
+  put-spells there =
+      let run = new_run s store (length bytes) in
+      spelled-put_run (store ++ bytes) after run rs (elements t) (is-longer store bytes rs h.each) there
+      ∙ rw (new-elements store bytes run refl refl refl refl, spelled-longer store bytes rs h.each) refl
+      ∙ ap (put_late after s (run_from s 0 bytes)) (sym v)
+
+  pub put-keeps : StandsAfter after s (elements t) → IsNewStamp s (elements t) → 0 < length bytes → length bytes ≤ 32767 → AreKept (store ++ bytes) (put_run after (new_run s store (length bytes)) rs)
+  put-keeps there new some most =
+      kept-put_run store bytes after (new_run s store (length bytes)) rs h (none-yet new) (names-there there) some refl refl (omega (arith, most))
 
 pub put-more : (store bytes : List ℕ) (after : Option ElemId) (run : Run) (rs : List Run) → length (map (piece_in (store ++ bytes)) (put_run after run rs)) ≤ length (map (piece_in store) rs) + 2
 put-more store bytes after run rs = rw (length-map, length-map) (length-put_run after run rs)

@@ -1,16 +1,14 @@
 -- A run that is put into a list of runs, and into one of lists that are joined.
-use Rattle.std.proofs.Common.{◌≡◌, ◌≤◌, ◌<◌, ℕ, zero, suc, ◌+◌, ◌-◌, min, Bool, true, false, cond, ◌&&◌, ◌||◌, List, [], ◌∷◌, ◌++◌, length, take, drop, set, get_or, length-append, append_assoc, refl, ap, ◌∙◌, sym, arith, ltb}
-use Rattle.std.specs.List.{AllByRecursion, insert, list_any}
-use Rattle.zed_types.specs.declared.stamp.Stamp.{Stamp}
+use Rattle.std.proofs.Common.{◌≡◌, ◌≤◌, ◌<◌, ℕ, zero, suc, ◌+◌, min, Bool, true, false, cond, List, [], ◌∷◌, ◌++◌, length, take, drop, set, get_or, append_assoc, refl, ap, ◌∙◌, sym, arith, ltb}
+use Rattle.std.specs.List.{insert}
 use Rattle.zed_types.specs.declared.names.ElemId.{ElemId}
-use Rattle.zed_types.specs.Stamp.{before, same_stamp}
+use Rattle.zed_types.specs.Stamp.{before}
 use Rattle.zed_code.specs.declared.run.Run.{Run}
 use Rattle.zed_code.specs.declared.block.Block.{Block}
 use Rattle.zed_code.specs.declared.block.Spot.{Spot}
 use Rattle.zed_code.specs.Blocks.{lists, joined, list_at, before_spot, IsIn, NoneEmpty}
-use Rattle.zed_code.specs.Runs.{lasts, passed, put_in, front, back, found, has, pass_runs, put_at, put_behind, up_to}
-use Rattle.zed_code.specs.Kept.{NoneFrom, NoneOf, some_of}
-use Rattle.zed_code.proofs.Joins.{joined-at, drop-spot}
+use Rattle.zed_code.specs.Runs.{passed, put_in, front, back, found, has, pass_runs, put_at, put_behind, up_to}
+use Rattle.zed_code.proofs.Joins.{joined-at}
 
 pub put_in-whole : (i n : ℕ) (run : Run) (rs : List Run) → n ≡ 0 → i ≤ length rs → insert rs i run ≡ put_in i n run rs
 put_in-whole zero n run [] e l = refl

@@ -1,13 +1,12 @@
 -- What is read of lists of runs that are joined.
-use Rattle.std.proofs.Common.{◌≡◌, ◌≤◌, ◌<◌, ℕ, suc, ◌+◌, ◌-◌, Bool, true, false, cond, List, [], ◌∷◌, ◌++◌, map, length, drop, get_or, Option, Some, None, refl, ap, ◌∙◌, arith, ltb}
+use Rattle.std.proofs.Common.{◌≡◌, ◌≤◌, ◌<◌, ℕ, ◌+◌, ◌-◌, Bool, true, false, cond, List, [], ◌∷◌, ◌++◌, map, length, drop, get_or, Some, refl, ap, ◌∙◌, arith, ltb}
 use Rattle.std.proofs.lemmas.List.{map-append}
 use Rattle.std.proofs.lemmas.List.Elements.{filter-append}
-use Rattle.zed_types.specs.declared.text.TextByte.{TextByte}
 use Rattle.zed_types.specs.Text.{alive_bytes}
 use Rattle.std.specs.List.{filter}
 use Rattle.zed_code.specs.declared.run.Run.{Run}
 use Rattle.zed_code.specs.declared.block.Block.{Block}
-use Rattle.zed_code.specs.Blocks.{lists, joined, list_at}
+use Rattle.zed_code.specs.Blocks.{lists, joined}
 use Rattle.zed_code.specs.Cutting.{spelled}
 use Rattle.zed_code.specs.Kept.{total}
 use Rattle.zed_code.specs.Reading.{live, live_at}
@@ -21,7 +20,7 @@ next-block bs i b l e =
     joined-drop (lists bs) i (omega (arith, l, length-lists bs))
     ∙ ap (λ xs. xs ++ joined (drop (i + 1) (lists bs))) (list_at-is bs i b l e)
 
-pub live-append : (xs ys : List Run) → live (xs ++ ys) ≡ live xs + live ys
+live-append : (xs ys : List Run) → live (xs ++ ys) ≡ live xs + live ys
 live-append [] ys = omega arith
 live-append (r ∷ xs) ys = go r.alive (live-append xs ys)
   where
@@ -29,7 +28,7 @@ live-append (r ∷ xs) ys = go r.alive (live-append xs ys)
     go true more = omega (arith, more)
     go false more = more
 
-pub live_at-first : (xs ys : List Run) (k : ℕ) → k < live xs → live_at (xs ++ ys) k ≡ live_at xs k
+live_at-first : (xs ys : List Run) (k : ℕ) → k < live xs → live_at (xs ++ ys) k ≡ live_at xs k
 live_at-first [] ys k l = absurd (omega (arith, l))
 live_at-first (r ∷ xs) ys k l = go r.alive (ltb k r.len) refl l (λ j m. live_at-first xs ys j m)
   where
@@ -38,7 +37,7 @@ live_at-first (r ∷ xs) ys k l = go r.alive (ltb k r.len) refl l (λ j m. live_
     go true true e m more = refl
     go true false e m more = let n : r.len ≤ k = grind (arith) in more (k - r.len) (omega (arith, m, n))
 
-pub live_at-later : (xs ys : List Run) (k : ℕ) → live xs ≤ k → live_at (xs ++ ys) k ≡ live_at ys (k - live xs)
+live_at-later : (xs ys : List Run) (k : ℕ) → live xs ≤ k → live_at (xs ++ ys) k ≡ live_at ys (k - live xs)
 live_at-later [] ys k l = ap (live_at ys) (omega arith)
 live_at-later (r ∷ xs) ys k l = go r.alive (ltb k r.len) refl l (λ j m. live_at-later xs ys j m)
   where
@@ -47,19 +46,40 @@ live_at-later (r ∷ xs) ys k l = go r.alive (ltb k r.len) refl l (λ j m. live_
     go true true e m more = let n : k < r.len = grind (arith) in absurd (omega (arith, m, n))
     go true false e m more = let n : k - r.len - live xs ≡ k - (r.len + live xs) = omega arith in more (k - r.len) (omega (arith, m)) ∙ ap (live_at ys) n
 
--- what is left of a count, and of its bound
-pub count-next : (xs ys : List Run) (n m k : ℕ) → n + live (xs ++ ys) ≡ m → n + total (xs ++ ys) ≤ k → (n + live xs + live ys ≡ m) × (n + live xs + total ys ≤ k) × (n + live xs ≤ k) × (total xs ≤ k)
-count-next xs ys n m k e l =
-    let a = live-append xs ys in
-    let b = total-append xs ys in
-    let c = live-within xs in
-    (omega (arith, a, e), omega (arith, b, c, l), omega (arith, b, c, l), omega (arith, b, l))
+-- a count over blocks, one block further: what it tells, and that it has room
+pub record IsCounted (bs : List Block) (i n : ℕ) (b : Block) : Type 0 where
+  pub rest : n + live b.runs.items + live (joined (drop (i + 1) (lists bs))) ≡ live (joined (lists bs))
+  pub room : n + live b.runs.items + total (joined (drop (i + 1) (lists bs))) ≤ total (joined (lists bs))
+  pub fits : n + live b.runs.items ≤ total (joined (lists bs))
+  pub here : total b.runs.items ≤ total (joined (lists bs))
 
-pub total-next : (xs ys : List Run) (k : ℕ) → total (xs ++ ys) ≤ k → (total xs ≤ k) × (total ys ≤ k)
-total-next xs ys k l =
-    let b = total-append xs ys in
-    (omega (arith, b, l), omega (arith, b, l))
+pub counted : (bs : List Block) (i n : ℕ) (b : Block) → i < length bs → b ≡ get_or bs i b → n + live (joined (drop i (lists bs))) ≡ live (joined (lists bs)) → n + total (joined (drop i (lists bs))) ≤ total (joined (lists bs)) → IsCounted bs i n b
+counted bs i n b l e rest room =
+    let next = next-block bs i b l e in
+    let a = ap live next ∙ live-append b.runs.items (joined (drop (i + 1) (lists bs))) in
+    let t = ap total next ∙ total-append b.runs.items (joined (drop (i + 1) (lists bs))) in
+    let most = live-within b.runs.items in
+    record { rest = omega (arith, a, rest); room = omega (arith, t, room, most); fits = omega (arith, t, room, most); here = omega (arith, t, room) }
 
+-- a search for a live byte: it is in a block, or behind it
+pub record IsSought (bs : List Block) (i : ℕ) (b : Block) : Type 0 where
+  pub within : (k : ℕ) → k < live b.runs.items → live_at (joined (drop i (lists bs))) k ≡ live_at b.runs.items k
+  pub behind : (k : ℕ) → live b.runs.items ≤ k → live_at (joined (drop i (lists bs))) k ≡ live_at (joined (drop (i + 1) (lists bs))) (k - live b.runs.items)
+  pub here : total b.runs.items ≤ total (joined (drop i (lists bs)))
+  pub room : total (joined (drop (i + 1) (lists bs))) ≤ total (joined (drop i (lists bs)))
+
+pub searched : (bs : List Block) (i : ℕ) (b : Block) → i < length bs → b ≡ get_or bs i b → IsSought bs i b
+searched bs i b l e =
+    let next = next-block bs i b l e in
+    let t = ap total next ∙ total-append b.runs.items (joined (drop (i + 1) (lists bs))) in
+    record {
+      within = λ k m. ap (λ rs. live_at rs k) next ∙ live_at-first b.runs.items (joined (drop (i + 1) (lists bs))) k m;
+      behind = λ k m. ap (λ rs. live_at rs k) next ∙ live_at-later b.runs.items (joined (drop (i + 1) (lists bs))) k m;
+      here = omega (arith, t);
+      room = omega (arith, t);
+    }
+
+-- the live bytes of some runs, and of those behind them
 pub alive-append : (store : List ℕ) (xs ys : List Run) → alive_bytes (spelled store (xs ++ ys)) ≡ alive_bytes (spelled store xs) ++ alive_bytes (spelled store ys)
 alive-append store xs ys =
     ap alive_bytes (spelled-append store xs ys)

@@ -16,7 +16,7 @@ use Rattle.zed_code.proofs.Spelling.{bytes-count}
 use Rattle.zed_code.proofs.Alive.{byte-there, length-run}
 use Rattle.zed_code.proofs.Places.{all-behind}
 use Rattle.zed_code.proofs.Joins.{joined-drop, drop-within, drop-none}
-use Rattle.zed_code.proofs.Hinting.{all-left, all-right, first-is, full-some}
+use Rattle.zed_code.proofs.Hinting.{each-at, first-is, full-some}
 
 abbrev value : ℕ → Option ℕ → ℕ
 value d None = d
@@ -45,12 +45,6 @@ read-is store i l = get_or_default store i 0 (get_or store i 0) l
 
 abbrev pub none : Run
 none = record { stamp = record { time = 0; replica = 0 }; first = 0; start = 0; len = 0; alive = false }
-
--- what has of all runs has of those of each block
-pub each-at : (P : Run → Type 0) (ls : List (List Run)) (i : ℕ) → AllByRecursion P (joined ls) → AllByRecursion P (list_at i ls)
-each-at P [] i h = tt
-each-at P (rs ∷ ls) zero h = all-left P rs (joined ls) h
-each-at P (rs ∷ ls) (suc i) h = each-at P ls i (all-right P rs (joined ls) h)
 
 -- the run that is read at a place
 pub run-at : (ls : List (List Run)) (c : Cursor) (rs : List Run) → c.block < length ls → IsPlace c ls → rs ≡ list_at c.block ls → drop c.run (list_at c.block ls) ≡ get_or rs c.run none ∷ drop (c.run + 1) (list_at c.block ls)

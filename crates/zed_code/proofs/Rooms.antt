@@ -3,16 +3,10 @@ use Rattle.std.proofs.Common.{◌≡◌, ◌≤◌, ◌<◌, ℕ, zero, suc, ◌
 use Rattle.std.specs.List.{AllByRecursion}
 use Rattle.std.proofs.lemmas.List.{get_or_default}
 use Rattle.std.proofs.lemmas.List.Edits.{map_over_more}
-use Rattle.zed_code.specs.declared.run.Run.{Run}
 use Rattle.zed_code.specs.declared.block.Block.{Block}
-use Rattle.zed_code.specs.Blocks.{lists, joined, list_at, HasRoom}
+use Rattle.zed_code.specs.Blocks.{lists, list_at, HasRoom}
 use Rattle.zed_code.proofs.Puts.{lists-set}
 use Rattle.zed_code.proofs.Joins.{list_at-is}
-
-set-own : (ls : List (List Run)) (i : ℕ) → i < length ls → set ls i (list_at i ls) ≡ ls
-set-own [] i l = refl
-set-own (rs ∷ ls) zero l = refl
-set-own (rs ∷ ls) (suc i) l = ap (λ qs. rs ∷ qs) (set-own ls i (omega (arith, l)))
 
 -- a block that keeps its runs
 pub lists-kept : (bs : List Block) (i : ℕ) (old new : Block) → i < length bs → old ≡ get_or bs i old → new.runs.items ≡ old.runs.items → lists (set bs i new) ≡ lists bs
@@ -30,12 +24,6 @@ room-next (b ∷ bs) zero zero new f l h room = (room, tt)
 room-next (b ∷ bs) zero (suc first) new f l h room = absurd (omega (arith, f))
 room-next (b ∷ bs) (suc i) zero new f l h room = let e : suc i + 1 ≡ suc (i + 1) = omega arith in rw e (h.0, room-next bs i zero new (omega arith) (omega (arith, l)) h.1 room)
 room-next (b ∷ bs) (suc i) (suc first) new f l h room = let e : suc i + 1 ≡ suc (i + 1) = omega arith in rw e (room-next bs i first new (omega (arith, f)) (omega (arith, l)) h room)
-
--- one block is given room
-pub room-set : (bs : List Block) (i : ℕ) (new : Block) → i < length bs → HasRoom new → AllByRecursion HasRoom (take 1 (drop i (set bs i new)))
-room-set [] i new l room = absurd (omega (arith, l))
-room-set (b ∷ bs) zero new l room = (room, tt)
-room-set (b ∷ bs) (suc i) new l room = room-set bs i new (omega (arith, l)) room
 
 pub room-at : (bs : List Block) (i : ℕ) (b : Block) → i < length bs → b ≡ get_or bs i b → AllByRecursion HasRoom (take 1 (drop i bs)) → HasRoom b
 room-at [] i b l e h = absurd (omega (arith, l))

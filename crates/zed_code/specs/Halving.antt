@@ -1,5 +1,5 @@
 -- What stays as it was where a block is halved.
-use Rattle.std.specs.Prelude.{◌≡◌, ◌≤◌, ◌<◌, ℕ, List, length, slice_get, Some, ◌⊎◌}
+use Rattle.std.specs.Prelude.{◌≡◌, ◌≤◌, ◌<◌, ℕ, ◌+◌, ◌-◌, if◌then◌else◌, nat_lt, List, length, slice_get, Some, ◌⊎◌}
 use Rattle.zed_types.specs.declared.names.ElemId.{ElemId}
 use Rattle.zed_code.specs.declared.run.Run.{Run}
 use Rattle.zed_code.specs.declared.block.Spot.{Spot}
@@ -16,6 +16,10 @@ pub record IsSameText (old new : List (List Run)) (olds news : List ℕ) : Type 
 pub record IsMoved (old new : List (List Run)) (from to : Spot) : Type 0 where
   pub place : before_spot to new ≡ before_spot from old
   pub within : (n : ℕ) → n ≤ 1 → IsIn from n old → IsIn to n new
+
+-- where a place of a list is once n of its runs are left in it, and the others follow in one of their own
+abbrev pub spot_behind : ℕ → Spot → Spot
+spot_behind n at = if nat_lt at.place n then at else record { block = at.block + 1; place = at.place - n }
 
 -- the number of a block whose place is none behind b
 pub record IsNumber (places : List ℕ) (b i : ℕ) : Type 0 where

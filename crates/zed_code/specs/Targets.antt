@@ -1,5 +1,5 @@
 -- Where a run goes.
-use Rattle.std.specs.Prelude.{◌≡◌, ◌<◌, ℕ, min, List, ◌∷◌, drop}
+use Rattle.std.specs.Prelude.{◌≡◌, ◌<◌, min, List, ◌∷◌, drop}
 use Rattle.zed_code.specs.declared.run.Run.{Run}
 use Rattle.zed_code.specs.declared.insertion.Target.{Target}
 use Rattle.zed_code.specs.Blocks.{joined, before_spot, IsIn}

@@ -1,9 +1,9 @@
 //! How blocks are halved, and given room.
 
-ghost use Rattle.std.specs.Prelude.{◌≡◌, ◌∷◌, [], ◌<◌, ◌≤◌, ◌+◌, ◌^◌, ◌++◌, vec_len, vec_capacity, length, map, drop, OnOk, OnErr, IfOk};
+ghost use Rattle.std.specs.Prelude.{◌≡◌, ◌∷◌, [], ◌<◌, ◌≤◌, ◌+◌, ◌^◌, ◌++◌, vec_len, vec_capacity, length, map, take, drop, OnOk, OnErr, IfOk};
 ghost use Rattle.std.specs.List.{AllByRecursion};
 ghost use Rattle.zed_code.specs.Blocks.{lists, list_at, IsIn, HasRoom};
-ghost use Rattle.zed_code.specs.Halving.{IsSameText, IsMoved};
+ghost use Rattle.zed_code.specs.Halving.{IsSameText, IsMoved, spot_behind};
 ghost use Rattle.zed_code.specs.Kept.{moved};
 
 use crate::block::{Block, Spot, reserve, runs_at};
@@ -55,12 +55,22 @@ fn halve(block: &mut Block, id: usize) -> Result<Block, CodeError>
     Ok(Block { runs, id })
 }
 
+/// Where a place of a block is once so many of its runs are left in it, and the others follow in one of their own.
+fn halved_spot(at: Spot, half: usize) -> Spot
+    requires { at.block + 1 < 2 ^ 64 }
+    ensures { result ≡ spot_behind half at }
+{
+    if at.place < half {
+        return at;
+    }
+    Spot {
+        block: at.block + 1,
+        place: at.place - half,
+    }
+}
+
 /// Halves a block. Answers where a place of it is then. Memory leaves all as it was.
-fn split(
-    blocks: &mut Vec<Block>,
-    places: &mut Vec<usize>,
-    at: Spot,
-) -> Result<Spot, CodeError>
+fn split(blocks: &mut Vec<Block>, places: &mut Vec<usize>, at: Spot) -> Result<Spot, CodeError>
     requires within { IsIn at 0 (lists blocks.old.items) }
     requires long { 2 ≤ length (list_at at.block (lists blocks.old.items)) }
     ensures same { IsSameText (lists blocks.old.items) (lists blocks.new.items)
@@ -74,14 +84,7 @@ fn split(
     let half = runs_at(blocks, at.block).len();
     blocks.insert(at.block + 1, behind).unwrap();
     add_place(places, at.block);
-    if at.place < half {
-        Ok(at)
-    } else {
-        Ok(Spot {
-            block: at.block + 1,
-            place: at.place - half,
-        })
-    }
+    Ok(halved_spot(at, half))
 }
 
 /// Halves the block of a place if it is full. Answers where the place is then. Memory leaves all as it was.
@@ -101,6 +104,15 @@ pub(crate) fn split_full(
         return Ok(at);
     }
     split(blocks, places, at)
+}
+
+/// Makes room for two more runs in a block.
+pub(crate) fn reserve_at(blocks: &mut Vec<Block>, block: usize) -> Result<(), CodeError>
+    requires { block < length blocks.old.items }
+    ensures kept { lists blocks.new.items ≡ lists blocks.old.items }
+    ensures room { OnOk result (AllByRecursion HasRoom (take 1 (drop block blocks.new.items))) }
+{
+    reserve(&mut blocks[block])
 }
 
 /// Makes room for two more runs in each block from one on.

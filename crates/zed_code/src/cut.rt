@@ -3,7 +3,7 @@
 ghost use Rattle.std.specs.Prelude.{◌≡◌, ◌∷◌, ◌++◌, ◌<◌, ◌≤◌, ◌+◌, ◌-◌, ℕ, true, length, map, take, drop, set, vec_len, vec_capacity, OnOk, OnErr};
 ghost use Rattle.std.specs.List.{AllByRecursion, list_any};
 ghost use Rattle.zed_code.specs.Blocks.{lists, list_at, runs_of, before_spot, IsIn, NoneEmpty, HasRoom};
-ghost use Rattle.zed_code.specs.Runs.{pieces, kill_runs, reaches as is_reached, touches as is_touched};
+ghost use Rattle.zed_code.specs.Runs.{pieces, kill_runs, reaches as is_reached};
 ghost use Rattle.zed_code.specs.Kept.{IsSound, AllInOrder, NoneFrom, AreHints};
 ghost use Rattle.zed_code.specs.Visits.{raised, LooksAtSome};
 
@@ -119,7 +119,7 @@ fn cut(blocks: &mut Vec<Block>, range: ByteRange, at: Spot, visits: &mut u64)
 }
 
 /// Marks the bytes of a range dead. Memory leaves all runs as they were.
-pub(crate) fn kill(
+pub(crate) fn mark_dead(
     blocks: &mut Vec<Block>,
     places: &mut Vec<usize>,
     hints: &mut BTreeMap<ElemId, usize>,
@@ -130,7 +130,8 @@ pub(crate) fn kill(
     requires each { AllByRecursion IsSound (runs_of blocks.old.items) }
     requires ordered { AllInOrder (runs_of blocks.old.items) }
     requires hints { AreHints hints.old.entries places.old.items (lists blocks.old.items) }
-    ensures ok { OnOk result (runs_of blocks.new.items ≡ kill_runs range (runs_of blocks.old.items)) }
+    ensures ok { OnOk result
+        (runs_of blocks.new.items ≡ kill_runs range (runs_of blocks.old.items)) }
     ensures err { OnErr result (runs_of blocks.new.items ≡ runs_of blocks.old.items) }
     ensures full { NoneEmpty (lists blocks.new.items) }
     ensures hints { AreHints hints.new.entries places.new.items (lists blocks.new.items) }

@@ -49,11 +49,7 @@ fn nearest(hints: &BTreeMap<ElemId, usize>, id: ElemId) -> Option<(ElemId, usize
 }
 
 /// Keeps a number under the name of a byte.
-fn set_hint(
-    hints: &mut BTreeMap<ElemId, usize>,
-    id: ElemId,
-    number: usize,
-) -> Result<(), CodeError>
+fn set_hint(hints: &mut BTreeMap<ElemId, usize>, id: ElemId, number: usize) -> Result<(), CodeError>
     ensures hints { SetsHint id number hints.old.entries hints.new.entries }
     ensures err { OnErr result (hints.new.entries ≡ hints.old.entries) }
 {

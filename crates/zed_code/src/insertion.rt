@@ -1,19 +1,17 @@
 //! What an insertion does to the runs of a text.
 
-ghost use Rattle.std.specs.Prelude.{◌≡◌, ◌∷◌, ◌<◌, ◌≤◌, ◌+◌, ◌-◌, [], ℕ, List, length, min, drop, take, set, Some, OnOk, OnErr, IfOk};
+ghost use Rattle.std.specs.Prelude.{◌≡◌, ◌∷◌, ◌<◌, ◌+◌, ◌-◌, [], ℕ, length, drop, take, set, Some, OnOk, OnErr, IfOk};
 ghost use Rattle.std.specs.List.{AllByRecursion};
-ghost use Rattle.zed_code.specs.declared.run.Run.{Run as SpecRun};
-ghost use Rattle.zed_code.specs.declared.block.Block.{Block as SpecBlock};
 ghost use Rattle.zed_code.specs.Targets.{IsTarget};
-ghost use Rattle.zed_code.specs.Blocks.{lists, list_at, joined, runs_of, before_spot, IsIn, NoneEmpty, HasRoom};
-ghost use Rattle.zed_code.specs.Halving.{IsSameText, IsMoved};
+ghost use Rattle.zed_code.specs.Blocks.{lists, list_at, runs_of, before_spot, IsIn, NoneEmpty, HasRoom};
+ghost use Rattle.zed_code.specs.Halving.{IsSameText};
 ghost use Rattle.zed_code.specs.Runs.{put_run, put_at, pass_runs, found, put_in as put_into};
 ghost use Rattle.zed_code.specs.There.{IsThere};
 ghost use Rattle.zed_code.specs.Kept.{IsSound, AllInOrder, NoneOf, AreHints};
 ghost use Rattle.zed_code.specs.Visits.{raised, LooksAtSome};
 
-use crate::block::{Block, Spot, put_in, reserve, runs_at};
-use crate::blocks::split_full;
+use crate::block::{Block, Spot, put_in, runs_at};
+use crate::blocks::{reserve_at, split_full};
 use crate::error::CodeError;
 use crate::hints::keep_hint;
 use crate::place::pass;
@@ -119,7 +117,7 @@ fn make_room(
         AllByRecursion HasRoom (take 1 (drop to.at.block blocks.new.items))) }
 {
     let at = split_full(blocks, places, aim.at)?;
-    reserve(&mut blocks[at.block])?;
+    reserve_at(blocks, at.block)?;
     Ok(Target { at, cut: aim.cut })
 }
 
@@ -135,11 +133,7 @@ fn put_at_aim(blocks: &mut Vec<Block>, aim: Target, run: Run)
 }
 
 /// The first run of a text.
-fn put_alone(
-    blocks: &mut Vec<Block>,
-    places: &mut Vec<usize>,
-    run: Run,
-) -> Result<(), CodeError>
+fn put_alone(blocks: &mut Vec<Block>, places: &mut Vec<usize>, run: Run) -> Result<(), CodeError>
     requires { blocks.old.items ≡ [] }
     ensures ok { OnOk result (lists blocks.new.items ≡ (run ∷ []) ∷ []) }
     ensures err { OnErr result (blocks.new.items ≡ []) }
@@ -172,7 +166,8 @@ pub(crate) fn put(
     requires there { IsThere after (runs_of blocks.old.items) }
     requires new { NoneOf run.stamp (runs_of blocks.old.items) }
     requires hints { AreHints hints.old.entries places.old.items (lists blocks.old.items) }
-    ensures ok { OnOk result (runs_of blocks.new.items ≡ put_run after run (runs_of blocks.old.items)) }
+    ensures ok { OnOk result
+        (runs_of blocks.new.items ≡ put_run after run (runs_of blocks.old.items)) }
     ensures err { OnErr result (runs_of blocks.new.items ≡ runs_of blocks.old.items) }
     ensures full { NoneEmpty (lists blocks.new.items) }
     ensures hints { AreHints hints.new.entries places.new.items (lists blocks.new.items) }

@@ -1,6 +1,6 @@
 //! Where an insertion goes.
 
-ghost use Rattle.std.specs.Prelude.{◌≡◌, ◌∷◌, ◌<◌, ◌≤◌, ◌+◌, ◌-◌, ℕ, min, length, take, drop};
+ghost use Rattle.std.specs.Prelude.{◌≡◌, ◌∷◌, ◌<◌, ◌≤◌, ◌+◌, ◌-◌, min, length, take, drop};
 ghost use Rattle.zed_code.specs.Blocks.{lists, joined, runs_of, before_spot, IsIn, NoneEmpty};
 ghost use Rattle.zed_code.specs.Runs.{sought, passed};
 ghost use Rattle.zed_code.specs.Kept.{NoneFrom};
@@ -66,7 +66,7 @@ pub(crate) fn find(
         → before_spot result (lists blocks.now) ≡ length (runs_of blocks.now) }
     ensures visits { visits.new ≡ raised visits.old
         (min (before_spot result (lists blocks.now) + 1) (length (runs_of blocks.now))
-            - length (joined (take start (lists blocks.now)))) }
+        - length (joined (take start (lists blocks.now)))) }
 {
     let _visits = *visits;
     for block in start..blocks.len() {
@@ -106,7 +106,7 @@ pub(crate) fn pass(blocks: &[Block], from: Spot, stamp: Stamp, visits: &mut u64)
     ensures within { IsIn result 0 (lists blocks.now) }
     ensures visits { visits.new ≡ raised visits.old
         (min (before_spot result (lists blocks.now) + 1) (length (runs_of blocks.now))
-            - before_spot from (lists blocks.now)) }
+        - before_spot from (lists blocks.now)) }
 {
     let _visits = *visits;
     let mut at = from;

@@ -1,6 +1,6 @@
 //! What is read of runs.
 
-ghost use Rattle.std.specs.Prelude.{◌≡◌, ◌<◌, ◌^◌, ◌++◌, OnOk, OnErr, MatchOption};
+ghost use Rattle.std.specs.Prelude.{◌≡◌, ◌<◌, ◌^◌, ◌++◌, OnOk};
 ghost use Rattle.std.specs.List.{AllByRecursion};
 ghost use Rattle.zed_types.specs.Text.{alive_bytes};
 ghost use Rattle.zed_code.specs.Blocks.{runs_of};
@@ -47,11 +47,11 @@ pub(crate) fn count_live(blocks: &[Block]) -> usize
     requires { total (runs_of blocks.now) < 2 ^ 64 }
     ensures { result ≡ live (runs_of blocks.now) }
 {
-    let mut count = 0;
+    let mut sum = 0;
     for block in blocks {
-        count += count_in(&block.runs);
+        sum += count_in(&block.runs);
     }
-    count
+    sum
 }
 
 /// The run of the k-th live byte of blocks, and which of its bytes that is.
@@ -59,13 +59,13 @@ pub(crate) fn live_at(blocks: &[Block], k: usize) -> Option<(Run, u32)>
     requires { total (runs_of blocks.now) < 2 ^ 64 }
     ensures { result ≡ place_of (runs_of blocks.now) k }
 {
-    let mut left = k;
+    let mut rest = k;
     for block in blocks {
         let count = count_in(&block.runs);
-        if left < count {
-            return live_in(&block.runs, left);
+        if rest < count {
+            return live_in(&block.runs, rest);
         }
-        left -= count;
+        rest -= count;
     }
     None
 }

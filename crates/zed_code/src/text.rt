@@ -4,14 +4,14 @@ ghost use Rattle.std.specs.Prelude.{◌≡◌, ◌↔◌, IsTrue, ◌<◌, ◌�
 ghost use Rattle.std.specs.List.{AllByRecursion, filter, list_any};
 ghost use Rattle.zed_types.specs.Stamp.{before, same_stamp};
 ghost use Rattle.zed_types.specs.Names.{same_element};
-ghost use Rattle.zed_types.specs.Text.{run_from, put_late, kill as killed_in, alive_bytes};
+ghost use Rattle.zed_types.specs.Text.{run_from, put_late, kill, alive_bytes};
 ghost use Rattle.zed_code.specs.Text.{elements, StandsAfter, IsNewStamp, HasMore, alive_names, bytes_from, genesis};
 ghost use Rattle.zed_code.specs.Runs.{if_any, whole};
 ghost use Rattle.zed_code.specs.Blocks.{lists, runs_of, NoneEmpty};
 ghost use Rattle.zed_code.specs.Visits.{raised, LooksAtSome};
 
 use crate::block::Block;
-use crate::cut::kill;
+use crate::cut::mark_dead;
 use crate::error::CodeError;
 use crate::insertion::put;
 use crate::place::look_once;
@@ -172,7 +172,7 @@ impl Text {
     /// Marks bytes from..to, both included, of the insertion with a stamp dead. Memory leaves the text as it was.
     pub fn delete(&mut self, stamp: Stamp, from: u32, to: u32) -> Result<(), CodeError>
         ensures ok { OnOk result (elements self.new
-            ≡ killed_in (bytes_from stamp from to) (elements self.old)) }
+            ≡ kill (bytes_from stamp from to) (elements self.old)) }
         ensures kept { OnErr result (self.new ≡ self.old) }
         ensures runs { HasMore 2 self.old self.new }
         ensures visits { OnOk result
@@ -184,7 +184,7 @@ impl Text {
             last: to,
         };
         let mut visits = self.visits;
-        kill(
+        mark_dead(
             &mut self.blocks,
             &mut self.places,
             &mut self.hints,

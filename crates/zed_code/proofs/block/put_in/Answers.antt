@@ -1,6 +1,6 @@
-use Rattle.std.proofs.Common.{rules, ◌≡◌, ◌≤◌, ◌<◌, ◌+◌, suc, true, length, set, vec_len, arith, ap, ◌∙◌, ltb}
+use Rattle.std.proofs.Common.{rules, ◌≡◌, ◌<◌, ◌+◌, suc, true, length, set, arith, ap, ◌∙◌, ltb}
 use Rattle.std.specs.List.{insert}
-use Rattle.zed_code.specs.Runs.{front, back}
+use Rattle.zed_code.specs.Runs.{front}
 use Rattle.zed_code.proofs.Puts.{put_in-whole, put_in-cut}
 use Rattle.zed_code.proofs.block.put_in.Goals as goal
 

@@ -1,4 +1,4 @@
-use Rattle.std.proofs.Common.{◌≡◌, sym, ◌∙◌}
+use Rattle.std.proofs.Common.{sym, ◌∙◌}
 use Rattle.zed_code.proofs.Joins.{list_at-get}
 use Rattle.zed_code.proofs.block.runs_at.Goals as goal
 

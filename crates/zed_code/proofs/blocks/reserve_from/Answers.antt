@@ -1,6 +1,4 @@
-use Rattle.std.proofs.Common.{rules, ◌≡◌, ◌≤◌, ◌<◌, ◌+◌, length, set, get_or, sym, ap, ◌∙◌, arith}
-use Rattle.std.specs.List.{AllByRecursion}
-use Rattle.zed_code.specs.Blocks.{lists, HasRoom}
+use Rattle.std.proofs.Common.{rules, ◌<◌, length, ◌∙◌, arith}
 use Rattle.zed_code.proofs.Puts.{length-set}
 use Rattle.zed_code.proofs.Rooms.{lists-kept, room-next}
 use Rattle.zed_code.proofs.blocks.reserve_from.Goals as goal

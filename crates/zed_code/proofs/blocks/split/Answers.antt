@@ -1,14 +1,13 @@
-use Rattle.std.proofs.Common.{rules, ◌≡◌, ◌≤◌, ◌<◌, ◌+◌, ◌-◌, ◌++◌, ◌∷◌, [], ℕ, List, length, vec_len, set, map, get_or, sym, ap, ◌∙◌, subst, arith}
+use Rattle.std.proofs.Common.{rules, ◌≡◌, ◌<◌, ◌+◌, List, length, vec_len, set, sym, ap, ◌∙◌, subst, arith}
 use Rattle.std.specs.List.{insert}
 use Rattle.zed_code.specs.declared.run.Run.{Run}
+use Rattle.zed_code.specs.declared.block.Spot.{Spot}
 use Rattle.zed_code.specs.Blocks.{lists, list_at}
 use Rattle.zed_code.specs.Halving.{IsSameText, IsMoved}
-use Rattle.zed_code.specs.Kept.{moved}
 use Rattle.zed_code.specs.Visits.{greatest}
 use Rattle.zed_code.proofs.Joins.{length-lists, list_at-is}
 use Rattle.zed_code.proofs.Rooms.{lists-kept}
-use Rattle.zed_code.proofs.Halves.{halved, same-kept, lists-split, runs-split, same-halved, stays-halved, goes-halved, front-half}
-use Rattle.zed_code.proofs.Puts.{lists-set}
+use Rattle.zed_code.proofs.Halves.{same-kept, split-same, split-moved}
 use Rattle.zed_code.proofs.blocks.split.Goals as goal
 
 pub returns-in_err-map_err-clause-same : goal.returns-in_err-map_err-clause-same
@@ -38,71 +37,18 @@ returns-in_err-behind-clause-same c =
     let P : List (List Run) → Type 0 = λ ls. IsSameText (lists c.args.blocks.now.items) ls c.args.places.now.items c.reserve.new.self.items in
     subst P (sym same) (same-kept (lists c.args.blocks.now.items) c.args.places.now.items c.reserve.new.self.items c.reserve.ensures.items)
 
-pub returns-then-at-half-clause-same : goal.returns-then-at-half-clause-same
-returns-then-at-half-clause-same c =
+pub returns-clause-same : goal.returns-clause-same
+returns-clause-same c =
     let old = c.args.blocks.now.items in
-    let b = c.args.at.block in
-    let xs = c.halve.new.block.runs.items in
-    let ys = c.in_ok-behind.behind.runs.items in
-    let k = c.reserve-2.ensures.items in
-    let l = c.requires.within.block in
-    let made : c.insert.new.self.items ≡ insert (set c.reserve-2.new.self.items b c.halve.new.block) (b + 1) c.in_ok-behind.behind = search rules in
-    let ls = lists-split old c.reserve-2.new.self.items c.insert.new.self.items b c.halve.new.block c.in_ok-behind.behind k made in
-    let e = runs-split old c.reserve-2.new.self.items b c.index_mut.result.now xs ys k l c.index_mut.ensures.value c.in_ok-behind.ensures.ok in
-    let small : length (lists old) < greatest = let n = length-lists old in let v : length old ≡ vec_len c.args.blocks.now = search rules in omega (arith, n, v, c.args.blocks.now.ok.0, c.args.blocks.now.ok.1, c.args.blocks.now.small) in
-    let places : c.add_place.new.places.items ≡ map (moved b) c.args.places.now.items ++ (b + 1) ∷ [] = c.add_place.ensures ∙ ap (λ ps. map (moved b) ps ++ (b + 1) ∷ []) c.reserve.ensures.items in
-    let same = same-halved xs ys (lists old) b c.args.places.now.items l small e c.in_ok-behind.ensures.front c.in_ok-behind.ensures.back in
-    let P : List (List Run) → Type 0 = λ qs. IsSameText (lists old) qs c.args.places.now.items (map (moved b) c.args.places.now.items ++ (b + 1) ∷ []) in
-    let Q : List ℕ → Type 0 = λ ps. IsSameText (lists old) (lists c.insert.new.self.items) c.args.places.now.items ps in
-    subst Q (sym places) (subst P (sym ls) same)
+    let made : c.insert.new.self.items ≡ insert (set c.reserve-2.new.self.items c.args.at.block c.halve.new.block) (c.args.at.block + 1) c.in_ok-behind.behind = search rules in
+    let small : length old < greatest = let v : length old ≡ vec_len c.args.blocks.now = search rules in omega (arith, v, c.args.blocks.now.ok.0, c.args.blocks.now.ok.1, c.args.blocks.now.small) in
+    split-same old c.reserve-2.new.self.items c.insert.new.self.items c.args.at c.index_mut.result.now c.halve.new.block c.in_ok-behind.behind c.reserve-2.ensures.items c.requires.within c.index_mut.ensures.value c.in_ok-behind.ensures.ok made
+    c.args.places.now.items c.reserve.new.self.items c.add_place.new.places.items small c.in_ok-behind.ensures.front c.in_ok-behind.ensures.back c.reserve.ensures.items c.add_place.ensures
 
-pub returns-else-at-half-clause-same : goal.returns-else-at-half-clause-same
-returns-else-at-half-clause-same c =
+pub returns-clause-ok : goal.returns-clause-ok
+returns-clause-ok c =
     let old = c.args.blocks.now.items in
-    let b = c.args.at.block in
-    let xs = c.halve.new.block.runs.items in
-    let ys = c.in_ok-behind.behind.runs.items in
-    let k = c.reserve-2.ensures.items in
-    let l = c.requires.within.block in
-    let made : c.insert.new.self.items ≡ insert (set c.reserve-2.new.self.items b c.halve.new.block) (b + 1) c.in_ok-behind.behind = search rules in
-    let ls = lists-split old c.reserve-2.new.self.items c.insert.new.self.items b c.halve.new.block c.in_ok-behind.behind k made in
-    let e = runs-split old c.reserve-2.new.self.items b c.index_mut.result.now xs ys k l c.index_mut.ensures.value c.in_ok-behind.ensures.ok in
-    let small : length (lists old) < greatest = let n = length-lists old in let v : length old ≡ vec_len c.args.blocks.now = search rules in omega (arith, n, v, c.args.blocks.now.ok.0, c.args.blocks.now.ok.1, c.args.blocks.now.small) in
-    let places : c.add_place.new.places.items ≡ map (moved b) c.args.places.now.items ++ (b + 1) ∷ [] = c.add_place.ensures ∙ ap (λ ps. map (moved b) ps ++ (b + 1) ∷ []) c.reserve.ensures.items in
-    let same = same-halved xs ys (lists old) b c.args.places.now.items l small e c.in_ok-behind.ensures.front c.in_ok-behind.ensures.back in
-    let P : List (List Run) → Type 0 = λ qs. IsSameText (lists old) qs c.args.places.now.items (map (moved b) c.args.places.now.items ++ (b + 1) ∷ []) in
-    let Q : List ℕ → Type 0 = λ ps. IsSameText (lists old) (lists c.insert.new.self.items) c.args.places.now.items ps in
-    subst Q (sym places) (subst P (sym ls) same)
-
-pub returns-then-at-half-clause-ok : goal.returns-then-at-half-clause-ok
-returns-then-at-half-clause-ok c =
-    let old = c.args.blocks.now.items in
-    let b = c.args.at.block in
-    let xs = c.halve.new.block.runs.items in
-    let ys = c.in_ok-behind.behind.runs.items in
-    let k = c.reserve-2.ensures.items in
-    let l = c.requires.within.block in
-    let made : c.insert.new.self.items ≡ insert (set c.reserve-2.new.self.items b c.halve.new.block) (b + 1) c.in_ok-behind.behind = search rules in
-    let ls = lists-split old c.reserve-2.new.self.items c.insert.new.self.items b c.halve.new.block c.in_ok-behind.behind k made in
-    let seen : c.runs_at-half.result.now ≡ list_at b (lists (set c.reserve-2.new.self.items b c.halve.new.block)) = rw (← c.deref.ensures.value) c.runs_at-half.ensures in
-    let half = front-half old c.reserve-2.new.self.items b c.halve.new.block c.runs_at-half.result.now k l seen in
-    let P : List (List Run) → Type 0 = λ qs. IsMoved (lists old) qs c.args.at c.args.at in
-    subst P (sym ls) (stays-halved xs ys (lists old) c.args.at c.requires.within (omega (arith, half, c.if-at-half.true)))
-
-pub returns-else-at-half-clause-ok : goal.returns-else-at-half-clause-ok
-returns-else-at-half-clause-ok c =
-    let old = c.args.blocks.now.items in
-    let b = c.args.at.block in
-    let xs = c.halve.new.block.runs.items in
-    let ys = c.in_ok-behind.behind.runs.items in
-    let k = c.reserve-2.ensures.items in
-    let l = c.requires.within.block in
-    let made : c.insert.new.self.items ≡ insert (set c.reserve-2.new.self.items b c.halve.new.block) (b + 1) c.in_ok-behind.behind = search rules in
-    let ls = lists-split old c.reserve-2.new.self.items c.insert.new.self.items b c.halve.new.block c.in_ok-behind.behind k made in
-    let e = runs-split old c.reserve-2.new.self.items b c.index_mut.result.now xs ys k l c.index_mut.ensures.value c.in_ok-behind.ensures.ok in
-    let seen : c.runs_at-half.result.now ≡ list_at b (lists (set c.reserve-2.new.self.items b c.halve.new.block)) = rw (← c.deref.ensures.value) c.runs_at-half.ensures in
-    let half : length c.runs_at-half.result.now ≡ length xs = front-half old c.reserve-2.new.self.items b c.halve.new.block c.runs_at-half.result.now k l seen in
-    let P : List (List Run) → ℕ → Type 0 = λ qs n. IsMoved (lists old) qs c.args.at (record { block = b + 1; place = c.args.at.place - n }) in
-    let R : List (List Run) → Type 0 = λ qs. P qs (length c.runs_at-half.result.now) in
-    let Q : ℕ → Type 0 = λ n. P (halved (lists old) b xs ys) n in
-    subst R (sym ls) (subst Q (sym half) (goes-halved xs ys (lists old) c.args.at c.requires.within (omega (arith, half, c.if-at-half.false)) e))
+    let made : c.insert.new.self.items ≡ insert (set c.reserve-2.new.self.items c.args.at.block c.halve.new.block) (c.args.at.block + 1) c.in_ok-behind.behind = search rules in
+    let read : c.runs_at-half.result.now ≡ list_at c.args.at.block (lists (set c.reserve-2.new.self.items c.args.at.block c.halve.new.block)) = rw (← c.deref.ensures.value) c.runs_at-half.ensures in
+    let P : Spot → Type 0 = λ to. IsMoved (lists old) (lists c.insert.new.self.items) c.args.at to in
+    subst P (sym c.halved_spot.ensures) (split-moved old c.reserve-2.new.self.items c.insert.new.self.items c.args.at c.index_mut.result.now c.halve.new.block c.in_ok-behind.behind c.reserve-2.ensures.items c.requires.within c.index_mut.ensures.value c.in_ok-behind.ensures.ok made c.runs_at-half.result.now read)

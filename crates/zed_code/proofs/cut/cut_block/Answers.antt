@@ -1,11 +1,10 @@
-use Rattle.std.proofs.Common.{rules, ◌≡◌, ◌≤◌, ◌<◌, ◌+◌, List, true, length, take, drop, set, vec_len, vec_capacity, sym, ap, ◌∙◌, subst, arith}
+use Rattle.std.proofs.Common.{rules, ◌≡◌, List, true, length, take, set, vec_len, sym, ap, ◌∙◌, subst, arith}
 use Rattle.std.specs.List.{AllByRecursion, list_any}
 use Rattle.zed_code.specs.declared.run.Run.{Run}
-use Rattle.zed_code.specs.Blocks.{lists, joined, list_at, HasRoom}
+use Rattle.zed_code.specs.Blocks.{lists, HasRoom}
 use Rattle.zed_code.specs.Kept.{IsSound, AllInOrder, NoneFrom}
 use Rattle.zed_code.specs.Runs.{kill_runs, reaches}
-use Rattle.zed_code.proofs.Joins.{length-lists, list_at-is}
-use Rattle.zed_code.proofs.Hinting.{list-all}
+use Rattle.zed_code.proofs.Joins.{list_at-is}
 use Rattle.zed_code.proofs.Killing.{length-kill_runs}
 use Rattle.zed_code.proofs.Puts.{lists-set}
 use Rattle.zed_code.proofs.Rooms.{room-at, room-first, room-behind}

@@ -1,6 +1,5 @@
-use mathlib.Core.Logic.{◌⊎◌, inl, inr}
-use Rattle.std.proofs.Common.{rules, ◌≡◌, ◌≤◌, ◌<◌, ℕ, List, Some, length, slice_get, get_or, sym, ap, ◌∙◌, subst, arith}
-use Rattle.zed_types.specs.declared.names.ElemId.{ElemId}
+use mathlib.Core.Logic.{inl, inr}
+use Rattle.std.proofs.Common.{◌≡◌, ◌≤◌, ◌<◌, ℕ, List, length, slice_get, get_or, sym, ap, ◌∙◌, arith}
 use Rattle.zed_code.specs.Halving.{IsNumber}
 use Rattle.zed_code.proofs.Entries.{some-number, some-place}
 use Rattle.zed_code.proofs.hints.keep_hint.Goals as goal

@@ -1,4 +1,3 @@
-use Rattle.std.proofs.Common.{◌≡◌}
 use Rattle.zed_code.proofs.Entries.{last-one}
 use Rattle.zed_code.proofs.hints.nearest.Goals as goal
 

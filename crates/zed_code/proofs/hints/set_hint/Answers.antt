@@ -1,4 +1,4 @@
-use Rattle.std.proofs.Common.{◌≡◌, ℕ, List, subst}
+use Rattle.std.proofs.Common.{ℕ, List, subst}
 use Rattle.zed_types.specs.declared.names.ElemId.{ElemId}
 use Rattle.zed_code.specs.Kept.{IsOne}
 use Rattle.zed_code.proofs.Entries.{adds-one}

@@ -1,5 +1,4 @@
-use Rattle.std.proofs.Common.{rules, ◌≡◌, ◌<◌, length, take, get_or, arith}
-use Rattle.zed_types.specs.declared.stamp.Stamp.{Stamp}
+use Rattle.std.proofs.Common.{rules, ◌≡◌, take, get_or}
 use Rattle.zed_code.specs.Blocks.{lists, joined}
 use Rattle.zed_code.proofs.Entries.{some-place}
 use Rattle.zed_code.proofs.Hinting.{none-later}

@@ -1,11 +1,9 @@
-use Rattle.std.proofs.Common.{rules, ◌≡◌, ◌≤◌, ◌<◌, ◌+◌, ℕ, Option, length, sym, ap, ◌∙◌, subst, arith}
+use Rattle.std.proofs.Common.{◌<◌, ◌+◌, Option, length, ap, ◌∙◌, subst, arith}
 use Rattle.zed_types.specs.declared.names.ElemId.{ElemId}
-use Rattle.zed_code.specs.declared.block.Spot.{Spot}
-use Rattle.zed_code.specs.Blocks.{lists, joined, before_spot, IsIn}
+use Rattle.zed_code.specs.Blocks.{lists, joined}
 use Rattle.zed_code.specs.Visits.{raised}
 use Rattle.zed_code.specs.There.{IsThere}
-use Rattle.zed_code.specs.Runs.{found, sought}
-use Rattle.zed_code.proofs.Joins.{length-lists}
+use Rattle.zed_code.specs.Runs.{found}
 use Rattle.zed_code.proofs.Places.{raised-twice}
 use Rattle.zed_code.proofs.Hinting.{found-sought, found-any, is-inside}
 use Rattle.zed_code.proofs.insertion.aim.Goals as goal

@@ -1,7 +1,7 @@
-use Rattle.std.proofs.Common.{rules, ◌≡◌, ◌≤◌, ◌<◌, ◌+◌, ◌∷◌, List, suc, true, false, length, drop, get_or, sym, ap, ◌∙◌, subst, arith, ltb}
+use Rattle.std.proofs.Common.{◌≡◌, ◌≤◌, ◌<◌, ◌+◌, suc, true, false, drop, get_or, sym, ap, ◌∙◌, subst, arith, ltb}
 use Rattle.zed_code.specs.declared.run.Run.{Run}
-use Rattle.zed_code.specs.Blocks.{lists, joined, list_at, before_spot}
-use Rattle.zed_code.specs.Runs.{has, found, passed, up_to, put_in}
+use Rattle.zed_code.specs.Blocks.{lists, joined, before_spot}
+use Rattle.zed_code.specs.Runs.{found, passed, up_to, put_in}
 use Rattle.zed_code.specs.Kept.{IsSound}
 use Rattle.zed_code.proofs.Places.{all-behind, held-bounds}
 use Rattle.zed_code.proofs.Puts.{put_in-inside, put_in-behind}

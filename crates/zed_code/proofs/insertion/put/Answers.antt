@@ -1,14 +1,12 @@
-use Rattle.std.proofs.Common.{rules, ◌≡◌, ◌≤◌, ◌<◌, ◌+◌, [], ℕ, List, min, length, set, vec_len, sym, ap, ◌∙◌, subst, arith}
+use Rattle.std.proofs.Common.{rules, ◌≡◌, [], ℕ, List, length, sym, ap, ◌∙◌, subst, arith}
 use Rattle.std.proofs.lemmas.List.{nil_from_length}
 use Rattle.zed_types.specs.declared.names.ElemId.{ElemId}
-use Rattle.zed_types.specs.Names.{byte_of}
 use Rattle.zed_code.specs.declared.run.Run.{Run}
 use Rattle.zed_code.specs.declared.block.Block.{Block}
 use Rattle.zed_code.specs.Blocks.{lists, joined, list_at, before_spot, NoneEmpty}
 use Rattle.zed_code.specs.Halving.{AddsHint}
 use Rattle.zed_code.specs.Kept.{AreHints, IsOne, NoneOf}
 use Rattle.zed_code.specs.Runs.{put_in, put_run}
-use Rattle.zed_code.specs.Visits.{LooksAtSome}
 use Rattle.zed_code.proofs.Puts.{put-joined, full-set, some-put_in}
 use Rattle.zed_code.proofs.Hinting.{put-hints, no-hints, cut-inside, hints-of}
 use Rattle.zed_code.proofs.insertion.put.Goals as goal

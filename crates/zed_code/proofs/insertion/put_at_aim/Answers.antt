@@ -1,11 +1,11 @@
-use Rattle.std.proofs.Common.{rules, ◌≡◌, ◌≤◌, ◌<◌, ◌+◌, ◌++◌, ◌∷◌, List, min, length, take, drop, set, sym, ap, ◌∙◌, subst, arith}
+use Rattle.std.proofs.Common.{List, length, drop, set, sym, ap, ◌∙◌, subst, arith}
 use Rattle.std.specs.List.{AllByRecursion}
 use Rattle.zed_code.specs.declared.run.Run.{Run}
-use Rattle.zed_code.specs.Blocks.{lists, joined, list_at, IsIn, before_spot}
+use Rattle.zed_code.specs.Blocks.{lists}
 use Rattle.zed_code.specs.Kept.{IsSound}
 use Rattle.zed_code.specs.Runs.{put_in}
-use Rattle.zed_code.proofs.Joins.{length-lists, list_at-is, joined-at, drop-spot}
-use Rattle.zed_code.proofs.Hinting.{all-left, all-right, list-all, cut-inside}
+use Rattle.zed_code.proofs.Joins.{length-lists, list_at-is}
+use Rattle.zed_code.proofs.Hinting.{each-at, cut-inside}
 use Rattle.zed_code.proofs.Puts.{lists-set}
 use Rattle.zed_code.proofs.Rooms.{room-at}
 use Rattle.zed_code.proofs.insertion.put_at_aim.Goals as goal
@@ -16,7 +16,7 @@ put_in-requires-clause-each c =
     let n = length-lists bs in
     let is = list_at-is bs c.args.aim.at.block c.index_mut.result.now (omega (arith, n, c.requires.aim.within.block)) c.index_mut.ensures.value in
     let P : List Run → Type 0 = λ rs. AllByRecursion IsSound rs in
-    subst P is (list-all IsSound (lists bs) c.args.aim.at.block c.requires.aim.within.block c.requires.each)
+    subst P is (each-at IsSound (lists bs) c.args.aim.at.block c.requires.each)
 
 pub put_in-requires-clause-place : goal.put_in-requires-clause-place
 put_in-requires-clause-place c =

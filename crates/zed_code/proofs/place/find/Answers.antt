@@ -1,8 +1,8 @@
-use Rattle.std.proofs.Common.{rules, ◌≡◌, ◌≤◌, ◌<◌, ◌+◌, ◌-◌, ◌++◌, min, length, take, drop, length-append, arith, sym, ap, ◌∙◌}
-use Rattle.zed_code.specs.Blocks.{lists, joined, list_at}
+use Rattle.std.proofs.Common.{rules, ◌<◌, ◌+◌, ◌-◌, min, length, take, drop, arith, sym, ap, ◌∙◌}
+use Rattle.zed_code.specs.Blocks.{lists, joined}
 use Rattle.zed_code.specs.Runs.{sought}
 use Rattle.zed_code.specs.Visits.{raised}
-use Rattle.zed_code.proofs.Joins.{joined-cut, joined-drop, length-at, length-next, length-lists, sought-from, sought-pass, sought-in}
+use Rattle.zed_code.proofs.Joins.{joined-cut, length-at, length-next, length-lists, sought-from, sought-here, sought-behind}
 use Rattle.zed_code.proofs.Places.{raised-twice}
 use Rattle.zed_code.proofs.place.find.Goals as goal
 
@@ -17,59 +17,40 @@ loop-block-init c =
 
 pub returns-then-place-runs-clause-place : goal.returns-then-place-runs-clause-place
 returns-then-place-runs-clause-place c =
-    let ls = lists c.args.blocks.now in
-    let b = c.loop-block.block in
-    let n = length-lists c.args.blocks.now in
-    let l0 : b < length c.args.blocks.now = search rules in
-    let l : b < length ls = omega (arith, n, l0) in
-    let is : c.runs_at-runs.result.now ≡ list_at b ls = c.runs_at-runs.ensures in
-    let p : c.find_in-place.result ≡ sought c.args.stamp c.args.index (list_at b ls) = c.find_in-place.ensures.place ∙ ap (sought c.args.stamp c.args.index) is in
-    let m : length c.runs_at-runs.result.now ≡ length (list_at b ls) = ap length is in
-    let inside : sought c.args.stamp c.args.index (list_at b ls) < length (list_at b ls) = omega (arith, p, m, c.if-place-runs.true) in
-    let s : sought c.args.stamp c.args.index (joined (drop b ls)) ≡ sought c.args.stamp c.args.index (list_at b ls) = ap (sought c.args.stamp c.args.index) (joined-drop ls b l) ∙ sought-in c.args.stamp c.args.index (list_at b ls) (joined (drop (b + 1) ls)) inside in
-    omega (arith, p, s, c.loop-block.invariant.rest)
+    let l : c.loop-block.block < length c.args.blocks.now = search rules in
+    let here = sought-here c.args.stamp c.args.index (lists c.args.blocks.now) c.loop-block.block c.find_in-place.result c.runs_at-runs.result.now (omega (arith, l, length-lists c.args.blocks.now)) c.runs_at-runs.ensures c.find_in-place.ensures.place c.loop-block.invariant.rest in
+    here c.if-place-runs.true
 
 pub returns-then-place-runs-clause-inside : goal.returns-then-place-runs-clause-inside
 returns-then-place-runs-clause-inside c =
-    let ls = lists c.args.blocks.now in
-    let b = c.loop-block.block in
-    let n = length-lists c.args.blocks.now in
-    let l0 : b < length c.args.blocks.now = search rules in
-    let m : length c.runs_at-runs.result.now ≡ length (list_at b ls) = ap length c.runs_at-runs.ensures in
-    λ there. record { block = omega (arith, n, l0); place = omega (arith, m, c.if-place-runs.true) }
+    let l : c.loop-block.block < length c.args.blocks.now = search rules in
+    let m = ap length c.runs_at-runs.ensures in
+    λ there. record { block = omega (arith, l, length-lists c.args.blocks.now); place = omega (arith, m, c.if-place-runs.true) }
 
 pub returns-then-place-runs-clause-visits : goal.returns-then-place-runs-clause-visits
 returns-then-place-runs-clause-visits c =
     let ls = lists c.args.blocks.now in
-    let b = c.loop-block.block in
-    let n = length-lists c.args.blocks.now in
-    let l0 : b < length c.args.blocks.now = search rules in
-    let m : length c.runs_at-runs.result.now ≡ length (list_at b ls) = ap length c.runs_at-runs.ensures in
-    let seen = length (joined (take b ls)) - length (joined (take c.args.start ls)) in
+    let l : c.loop-block.block < length c.args.blocks.now = search rules in
+    let m = ap length c.runs_at-runs.ensures in
+    let seen = length (joined (take c.loop-block.block ls)) - length (joined (take c.args.start ls)) in
     let k = min (c.find_in-place.result + 1) (length c.runs_at-runs.result.now) in
-    let all = length-at ls b (omega (arith, n, l0)) in
-    let count : seen + k ≡ min (length (joined (take b ls)) + c.find_in-place.result + 1) (length (joined ls)) - length (joined (take c.args.start ls)) = omega (arith, m, all, c.loop-block.invariant.more, c.if-place-runs.true) in
+    let all = length-at ls c.loop-block.block (omega (arith, l, length-lists c.args.blocks.now)) in
     c.find_in-place.ensures.visits ∙ ap (λ v. raised v k) c.loop-block.invariant.looked ∙ raised-twice c.args.visits.now seen k
-    ∙ ap (raised c.args.visits.now) count
+    ∙ ap (raised c.args.visits.now) (omega (arith, m, all, c.loop-block.invariant.more, c.if-place-runs.true))
 
 pub loop-block-preserved : goal.loop-block-preserved
 loop-block-preserved c =
     let ls = lists c.args.blocks.now in
     let b = c.loop-block.block in
-    let n = length-lists c.args.blocks.now in
     let l0 : b < length c.args.blocks.now = search rules in
-    let l : b < length ls = omega (arith, n, l0) in
-    let is : c.runs_at-runs.result.now ≡ list_at b ls = c.runs_at-runs.ensures in
-    let p : c.find_in-place.result ≡ sought c.args.stamp c.args.index (list_at b ls) = c.find_in-place.ensures.place ∙ ap (sought c.args.stamp c.args.index) is in
-    let m : length c.runs_at-runs.result.now ≡ length (list_at b ls) = ap length is in
-    let all : length (list_at b ls) ≤ sought c.args.stamp c.args.index (list_at b ls) = omega (arith, p, m, c.if-place-runs.false) in
-    let s : sought c.args.stamp c.args.index (joined (drop b ls)) ≡ length (list_at b ls) + sought c.args.stamp c.args.index (joined (drop (b + 1) ls)) = ap (sought c.args.stamp c.args.index) (joined-drop ls b l) ∙ sought-pass c.args.stamp c.args.index (list_at b ls) (joined (drop (b + 1) ls)) all in
+    let l : b < length ls = omega (arith, l0, length-lists c.args.blocks.now) in
+    let m = ap length c.runs_at-runs.ensures in
     let next = length-next ls b l in
     let seen = length (joined (take b ls)) - length (joined (take c.args.start ls)) in
     let k = min (c.find_in-place.result + 1) (length c.runs_at-runs.result.now) in
     record {
-      rest = omega (arith, s, next, c.loop-block.invariant.rest);
+      rest = sought-behind c.args.stamp c.args.index ls b c.find_in-place.result c.runs_at-runs.result.now l c.runs_at-runs.ensures c.find_in-place.ensures.place c.loop-block.invariant.rest c.if-place-runs.false;
       more = omega (arith, next, c.loop-block.invariant.more);
       looked = c.find_in-place.ensures.visits ∙ ap (λ v. raised v k) c.loop-block.invariant.looked ∙ raised-twice c.args.visits.now seen k
-          ∙ ap (raised c.args.visits.now) (omega (arith, m, p, all, next, c.loop-block.invariant.more));
+          ∙ ap (raised c.args.visits.now) (omega (arith, m, next, c.if-place-runs.false, c.loop-block.invariant.more));
     }

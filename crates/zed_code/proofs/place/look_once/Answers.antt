@@ -1,4 +1,4 @@
-use Rattle.std.proofs.Common.{rules, ◌≡◌, ◌<◌, length, ap, arith}
+use Rattle.std.proofs.Common.{rules, ◌<◌, length, ap, arith}
 use Rattle.zed_code.specs.Blocks.{lists}
 use Rattle.zed_code.proofs.Joins.{length-lists}
 use Rattle.zed_code.proofs.Hinting.{full-some}

@@ -1,4 +1,4 @@
-use Rattle.std.proofs.Common.{rules, ◌≡◌, ◌≤◌, ◌<◌, ◌+◌, ◌-◌, min, length, take, drop, arith, sym, ap, ◌∙◌}
+use Rattle.std.proofs.Common.{◌≡◌, ◌+◌, ◌-◌, min, length, take, drop, arith, ap, ◌∙◌}
 use Rattle.zed_code.specs.Blocks.{lists, joined, list_at, before_spot}
 use Rattle.zed_code.specs.Runs.{passed}
 use Rattle.zed_code.specs.Visits.{raised}

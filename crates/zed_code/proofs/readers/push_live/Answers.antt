@@ -1,4 +1,4 @@
-use Rattle.std.proofs.Common.{rules, ◌≡◌, ◌+◌, ◌++◌, ◌∷◌, [], ℕ, Vec, Global, false, length, drop, get_or, sym, ap, ◌∙◌, arith, append_assoc, append-nil}
+use Rattle.std.proofs.Common.{rules, ◌≡◌, ◌+◌, ◌++◌, ◌∷◌, [], ℕ, Vec, Global, false, drop, get_or, sym, ap, ◌∙◌, arith, append_assoc, append-nil}
 use Rattle.std.proofs.lemmas.List.{drop_more, drop_all}
 use Rattle.zed_types.specs.Text.{alive_bytes}
 use Rattle.zed_code.specs.declared.run.Run.{Run}

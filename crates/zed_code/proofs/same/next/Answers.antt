@@ -1,7 +1,7 @@
-use Rattle.std.proofs.Common.{◌≡◌, ◌≤◌, ◌<◌, ◌+◌, ◌∷◌, length, get_or, sym, ap, ◌∙◌, subst, arith}
+use Rattle.std.proofs.Common.{◌+◌, ◌∷◌, length, get_or, sym, ap, ◌∙◌, subst, arith}
 use Rattle.zed_code.specs.declared.run.Run.{Run}
 use Rattle.zed_code.specs.declared.same.Cursor.{Cursor}
-use Rattle.zed_code.specs.Blocks.{lists, list_at}
+use Rattle.zed_code.specs.Blocks.{lists}
 use Rattle.zed_code.specs.Cursors.{rest, IsPlace}
 use Rattle.zed_code.proofs.Joins.{length-lists}
 use Rattle.zed_code.proofs.Rests.{none, element, reads, read-is, rest-step, place-step}

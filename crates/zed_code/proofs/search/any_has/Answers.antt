@@ -1,8 +1,7 @@
-use Rattle.std.proofs.Common.{rules, ◌≡◌, ◌≤◌, ◌<◌, ◌+◌, false, length, drop, get_or, sym, ap, ◌∙◌, arith}
-use Rattle.std.specs.List.{list_any}
+use Rattle.std.proofs.Common.{◌≡◌, ◌+◌, false, length, drop, get_or, sym, ap, ◌∙◌, arith}
 use Rattle.zed_code.specs.declared.run.Run.{Run}
-use Rattle.zed_code.specs.Blocks.{lists, joined, list_at, before_spot}
-use Rattle.zed_code.specs.Runs.{has, sought}
+use Rattle.zed_code.specs.Blocks.{lists, joined, list_at}
+use Rattle.zed_code.specs.Runs.{sought}
 use Rattle.zed_code.proofs.Hinting.{any-sought, any-none, spot-read}
 use Rattle.zed_code.proofs.search.any_has.Goals as goal
 

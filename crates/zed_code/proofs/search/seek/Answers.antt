@@ -1,4 +1,4 @@
-use Rattle.std.proofs.Common.{rules, ◌≡◌, ◌≤◌, ◌<◌, ◌+◌, ◌-◌, ℕ, List, length, sym, ap, ◌∙◌, subst, arith}
+use Rattle.std.proofs.Common.{ℕ, List, subst, arith}
 use Rattle.zed_types.specs.declared.names.ElemId.{ElemId}
 use Rattle.zed_code.specs.Blocks.{lists}
 use Rattle.zed_code.specs.Kept.{IsOne}

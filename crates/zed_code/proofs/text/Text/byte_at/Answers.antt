@@ -1,51 +1,30 @@
-use Rattle.std.proofs.Common.{rules, ◌≡◌, Some, None, length, vec_len, slice_get, sym, ap, ◌∙◌, arith}
-use Rattle.zed_types.specs.Text.{alive_bytes}
-use Rattle.zed_code.specs.Blocks.{runs_of}
-use Rattle.zed_code.specs.Cutting.{spelled}
-use Rattle.zed_code.specs.Kept.{IsRun}
-use Rattle.zed_code.specs.Reading.{live_at}
-use Rattle.zed_code.specs.Text.{elements}
-use Rattle.zed_code.proofs.PutBytes.{spelled-cutting}
-use Rattle.zed_code.proofs.Alive.{byte-is, value_at, byte-there, live_at-is}
+use Rattle.std.proofs.Common.{rules, ◌≡◌, Some, length, vec_len, refl, sym, ap, ◌∙◌, arith}
+use Rattle.zed_code.proofs.Alive.{value_at, byte-there}
+use Rattle.zed_code.proofs.LiveBytes.{run-told, byte-told}
 use Rattle.zed_code.proofs.text.Text.byte_at.Goals as goal
 
 pub overflow_add-run : goal.overflow_add-run
 overflow_add-run c =
-    let store = c.self.inside.store.items in
-    let runs = runs_of c.self.inside.blocks.items in
-    let v : elements c.args.self.now ≡ spelled store runs = ap elements (sym c.self.view_is) ∙ spelled-cutting store runs in
-    let d : runs_of c.deref.result.now ≡ runs = ap runs_of c.deref.ensures.value in
-    let o : live_at runs c.args.k ≡ Some (c.in-Some.run', c.in-Some.i) = ap (λ xs. live_at xs c.args.k) (sym d) ∙ sym c.live_at.ensures ∙ c.in-Some.is ∙ search rules in
-    let p = live_at-is (IsRun store) runs c.args.k c.in-Some.run' c.in-Some.i c.self.invariant.kept.each o in
-    let n : length store ≡ vec_len c.self.inside.store = search rules in
-    omega (arith, p.0.within, p.1, c.self.inside.store.ok.0, c.self.inside.store.ok.1, c.self.inside.store.small)
+    let p = run-told c.self.inside.store.items c.self.inside.blocks.items c.deref.result.now _ c.args.self.now c.args.k c.live_at.result c.self.invariant.kept.each refl c.self.view_is c.deref.ensures.value c.live_at.ensures c.in-Some.run' c.in-Some.i (c.in-Some.is ∙ search rules) in
+    let n : length c.self.inside.store.items ≡ vec_len c.self.inside.store = search rules in
+    omega (arith, p.0.within, p.1, n, c.self.inside.store.ok.0, c.self.inside.store.ok.1, c.self.inside.store.small)
 
 pub index-requires : goal.index-requires
 index-requires c =
-    let store = c.self.inside.store.items in
-    let runs = runs_of c.self.inside.blocks.items in
-    let v : elements c.args.self.now ≡ spelled store runs = ap elements (sym c.self.view_is) ∙ spelled-cutting store runs in
-    let d : runs_of c.deref.result.now ≡ runs = ap runs_of c.deref.ensures.value in
-    let o : live_at runs c.args.k ≡ Some (c.in-Some.run', c.in-Some.i) = ap (λ xs. live_at xs c.args.k) (sym d) ∙ sym c.live_at.ensures ∙ c.in-Some.is ∙ search rules in
-    let p = live_at-is (IsRun store) runs c.args.k c.in-Some.run' c.in-Some.i c.self.invariant.kept.each o in
-    let n : length store ≡ vec_len c.self.inside.store = search rules in
+    let p = run-told c.self.inside.store.items c.self.inside.blocks.items c.deref.result.now _ c.args.self.now c.args.k c.live_at.result c.self.invariant.kept.each refl c.self.view_is c.deref.ensures.value c.live_at.ensures c.in-Some.run' c.in-Some.i (c.in-Some.is ∙ search rules) in
+    let n : length c.self.inside.store.items ≡ vec_len c.self.inside.store = search rules in
     omega (arith, p.0.within, p.1, n)
 
 pub returns-in-Some : goal.returns-in-Some
 returns-in-Some c =
     let store = c.self.inside.store.items in
-    let runs = runs_of c.self.inside.blocks.items in
-    let v : elements c.args.self.now ≡ spelled store runs = ap elements (sym c.self.view_is) ∙ spelled-cutting store runs in
-    let d : runs_of c.deref.result.now ≡ runs = ap runs_of c.deref.ensures.value in
-    let o : live_at runs c.args.k ≡ Some (c.in-Some.run', c.in-Some.i) = ap (λ xs. live_at xs c.args.k) (sym d) ∙ sym c.live_at.ensures ∙ c.in-Some.is ∙ search rules in
-    let p = live_at-is (IsRun store) runs c.args.k c.in-Some.run' c.in-Some.i c.self.invariant.kept.each o in
-    sym (ap (λ xs. slice_get (alive_bytes xs) c.args.k) v ∙ byte-is store runs c.self.invariant.kept.each c.args.k ∙ ap (value_at store) o ∙ byte-there store c.in-Some.run' c.in-Some.i c.index.result.now p.0 p.1 c.index.ensures)
+    let found : c.live_at.result ≡ Some (c.in-Some.run', c.in-Some.i) = c.in-Some.is ∙ search rules in
+    let p = run-told store c.self.inside.blocks.items c.deref.result.now _ c.args.self.now c.args.k c.live_at.result c.self.invariant.kept.each refl c.self.view_is c.deref.ensures.value c.live_at.ensures c.in-Some.run' c.in-Some.i found in
+    let told = byte-told store c.self.inside.blocks.items c.deref.result.now _ c.args.self.now c.args.k c.live_at.result c.self.invariant.kept.each refl c.self.view_is c.deref.ensures.value c.live_at.ensures in
+    sym (told ∙ ap (value_at store) found ∙ byte-there store c.in-Some.run' c.in-Some.i c.index.result.now p.0 p.1 c.index.ensures)
 
 pub returns-in-None : goal.returns-in-None
 returns-in-None c =
     let store = c.self.inside.store.items in
-    let runs = runs_of c.self.inside.blocks.items in
-    let v : elements c.args.self.now ≡ spelled store runs = ap elements (sym c.self.view_is) ∙ spelled-cutting store runs in
-    let d : runs_of c.deref.result.now ≡ runs = ap runs_of c.deref.ensures.value in
-    let o : live_at runs c.args.k ≡ None = ap (λ xs. live_at xs c.args.k) (sym d) ∙ sym c.live_at.ensures ∙ c.in-None.is in
-    sym (ap (λ xs. slice_get (alive_bytes xs) c.args.k) v ∙ byte-is store runs c.self.invariant.kept.each c.args.k ∙ ap (value_at store) o)
+    let told = byte-told store c.self.inside.blocks.items c.deref.result.now _ c.args.self.now c.args.k c.live_at.result c.self.invariant.kept.each refl c.self.view_is c.deref.ensures.value c.live_at.ensures in
+    sym (told ∙ ap (value_at store) c.in-None.is)

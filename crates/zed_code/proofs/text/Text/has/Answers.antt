@@ -1,12 +1,10 @@
-use Rattle.std.proofs.Common.{◌≡◌, sym, ap, ◌∙◌}
+use Rattle.std.proofs.Common.{refl, sym, ap, ◌∙◌}
 use Rattle.std.specs.List.{list_any}
 use Rattle.zed_types.specs.Names.{same_element}
 use Rattle.zed_code.specs.Blocks.{runs_of}
-use Rattle.zed_code.specs.Cutting.{spelled}
 use Rattle.zed_code.specs.Runs.{has}
-use Rattle.zed_code.specs.Text.{elements}
 use Rattle.zed_code.proofs.Hinting.{hints-of}
-use Rattle.zed_code.proofs.PutBytes.{spelled-cutting, spelled-has}
+use Rattle.zed_code.proofs.PutBytes.{shown, spelled-has}
 use Rattle.zed_code.proofs.text.Text.has.Goals as goal
 
 pub any_has-requires-clause-hints : goal.any_has-requires-clause-hints
@@ -16,5 +14,5 @@ pub returns : goal.returns
 returns c =
     let store = c.self.inside.store.items in
     let runs = runs_of c.self.inside.blocks.items in
-    let v : elements c.args.self.now ≡ spelled store runs = ap elements (sym c.self.view_is) ∙ spelled-cutting store runs in
-    c.any_has.ensures ∙ ap (λ bs. list_any (has c.args.id) (runs_of bs)) c.deref.ensures.value ∙ sym (spelled-has store c.args.id runs c.self.invariant.kept.each) ∙ ap (list_any (λ x. same_element x.id c.args.id)) (sym v)
+    c.any_has.ensures ∙ ap (λ bs. list_any (has c.args.id) (runs_of bs)) c.deref.ensures.value ∙ sym (spelled-has store c.args.id runs c.self.invariant.kept.each)
+    ∙ ap (list_any (λ x. same_element x.id c.args.id)) (sym (shown store runs _ c.args.self.now refl c.self.view_is))

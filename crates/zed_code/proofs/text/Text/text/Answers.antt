@@ -1,4 +1,4 @@
-use Rattle.std.proofs.Common.{rules, ◌≡◌, ◌<◌, ◌+◌, ◌++◌, [], ℕ, List, length, drop, sym, ap, ◌∙◌, subst, arith, append_assoc, append-nil}
+use Rattle.std.proofs.Common.{◌≡◌, ◌+◌, ◌++◌, [], ℕ, List, length, drop, refl, sym, ap, ◌∙◌, subst, arith, append_assoc, append-nil}
 use Rattle.std.specs.List.{AllByRecursion}
 use Rattle.zed_types.specs.Text.{alive_bytes}
 use Rattle.zed_code.specs.declared.run.Run.{Run}
@@ -6,10 +6,9 @@ use Rattle.zed_code.specs.declared.block.Block.{Block}
 use Rattle.zed_code.specs.Blocks.{lists, joined, list_at, runs_of}
 use Rattle.zed_code.specs.Cutting.{spelled}
 use Rattle.zed_code.specs.Kept.{IsRun}
-use Rattle.zed_code.specs.Text.{elements}
-use Rattle.zed_code.proofs.PutBytes.{spelled-cutting}
+use Rattle.zed_code.proofs.PutBytes.{shown}
 use Rattle.zed_code.proofs.Joins.{length-lists, list_at-is, drop-none}
-use Rattle.zed_code.proofs.Rests.{each-at}
+use Rattle.zed_code.proofs.Hinting.{each-at}
 use Rattle.zed_code.proofs.ReadBlocks.{next-block, alive-append}
 use Rattle.zed_code.proofs.text.Text.text.Goals as goal
 
@@ -34,7 +33,7 @@ loop-block-preserved c =
     let N : List Block → Type 0 = λ cs. joined (drop c.loop-block.block-index (lists cs)) ≡ xs ++ joined (drop (c.loop-block.block-index + 1) (lists cs)) in
     let next : joined (drop c.loop-block.block-index (lists bs)) ≡ xs ++ ys = subst N d (next-block c.deref-block-items.result.now c.loop-block.block-index c.block-item.result c.loop-block-test.true c.block-item.is) in
     let made : c.push_live.new.out.items ≡ c.loop-block.out.items ++ alive_bytes (spelled store xs) =
-        c.in_ok-push_live.ensures.ok ∙ ap (λ s. c.loop-block.out.items ++ alive_bytes (spelled s c.deref-in-loop-block.result.now)) c.deref.ensures.value ∙ ap (λ rs. c.loop-block.out.items ++ alive_bytes (spelled store rs)) c.deref-in-loop-block.ensures.value in
+    c.in_ok-push_live.ensures.ok ∙ ap (λ s. c.loop-block.out.items ++ alive_bytes (spelled s c.deref-in-loop-block.result.now)) c.deref.ensures.value ∙ ap (λ rs. c.loop-block.out.items ++ alive_bytes (spelled store rs)) c.deref-in-loop-block.ensures.value in
     ap (λ zs. zs ++ alive_bytes (spelled store ys)) made
     ∙ append_assoc c.loop-block.out.items (alive_bytes (spelled store xs)) (alive_bytes (spelled store ys))
     ∙ ap (λ zs. c.loop-block.out.items ++ zs) (sym (ap (λ rs. alive_bytes (spelled store rs)) next ∙ alive-append store xs ys))
@@ -46,5 +45,4 @@ returns c =
     let bs = c.self.inside.blocks.items in
     let n = ap length c.deref-block-items.ensures.value in
     let none : joined (drop c.loop-block.block-index (lists bs)) ≡ [] = drop-none (lists bs) c.loop-block.block-index (omega (arith, n, length-lists bs, c.loop-block-test.false)) in
-    let v : elements c.args.self.now ≡ spelled store (runs_of bs) = ap elements (sym c.self.view_is) ∙ spelled-cutting store (runs_of bs) in
-    record { ok = sym (append-nil c.loop-block.out.items) ∙ ap (λ rs. c.loop-block.out.items ++ alive_bytes (spelled store rs)) (sym none) ∙ c.loop-block.invariant ∙ ap alive_bytes (sym v) }
+    record { ok = sym (append-nil c.loop-block.out.items) ∙ ap (λ rs. c.loop-block.out.items ++ alive_bytes (spelled store rs)) (sym none) ∙ c.loop-block.invariant ∙ ap alive_bytes (sym (shown store (runs_of bs) _ c.args.self.now refl c.self.view_is)) }

@@ -1,4 +1,4 @@
-use Rattle.std.proofs.Common.{rules, ◌≡◌, ◌≤◌, ◌<◌, ◌+◌, ℕ, List, length, map, sym, ap, ◌∙◌, subst, arith}
+use Rattle.std.proofs.Common.{rules, ◌≡◌, ◌≤◌, ◌<◌, ◌+◌, List, length, sym, ap, ◌∙◌, subst, arith}
 use Rattle.zed_types.specs.Names.{byte_of}
 use Rattle.zed_code.specs.declared.run.Run.{Run}
 use Rattle.zed_code.specs.declared.block.Block.{Block}
@@ -11,7 +11,7 @@ use Rattle.zed_code.proofs.Joins.{length-lists}
 use Rattle.zed_code.proofs.Hinting.{hints-of}
 use Rattle.zed_code.proofs.Kills.{joined-kill, kill-hints, kill-full}
 use Rattle.zed_code.proofs.Deaths.{place-of, kills-none, none-before}
-use Rattle.zed_code.proofs.cut.kill.Goals as goal
+use Rattle.zed_code.proofs.cut.mark_dead.Goals as goal
 
 pub seek-requires-clause-hints : goal.seek-requires-clause-hints
 seek-requires-clause-hints c = hints-of c.args.hints.now.entries c.args.places.now.items c.deref-2.result.now c.args.blocks.now.items c.deref.result.now (sym c.deref-2.ensures.value) (sym c.deref.ensures.value) c.requires.hints
