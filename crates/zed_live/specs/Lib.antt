@@ -3,6 +3,7 @@ pub mod BoardStats
 pub mod Boards
 pub mod Document
 pub mod Header
+pub mod Listed
 pub mod Properties
 pub mod Shown
 pub mod Shows

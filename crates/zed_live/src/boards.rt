@@ -4,15 +4,18 @@ ghost use Rattle.std.specs.Prelude.{◌≡◌, ◌<◌, ◌≤◌, ◌+◌, [], 
 ghost use Rattle.indexmap.specs.IndexMap.{keys, spare};
 ghost use Rattle.zed_op.specs.Fit.{Fits};
 ghost use Rattle.zed_op.specs.Growth.{may_grow};
+ghost use Rattle.zed_settle.specs.Registers.{changes_stat};
 ghost use Rattle.zed_live.specs.Header.{made_by};
 ghost use Rattle.zed_live.specs.Board.{board_after, stat_changed};
 ghost use Rattle.zed_live.specs.Boards.{board_cmp, board_in, home_in, add as added, add_all as all_added, all_as_made as all_made, change as changed, change_all, boards_after};
 
 use crate::board::LiveBoard;
 use crate::error::LiveError;
+use crate::index::{home_of, list_added, list_made, pass_listed};
 use crate::making::made_by;
 use indexmap::IndexMap;
 use std::alloc::Global;
+use std::collections::BTreeSet;
 use std::marker::Model;
 use zed_edit::{Board, Edit, Op};
 use zed_types::{BoardId, Stamp, StatId};
@@ -21,18 +24,19 @@ use zed_types::{BoardId, Stamp, StatId};
 #[derive(Drop)]
 pub struct LiveBoards {
     entries: IndexMap<BoardId, LiveBoard>,
+    // each stat with each board that it is on, and maybe with others
+    homes: BTreeSet<(StatId, BoardId)>,
 }
 
 impl Model for LiveBoards {
-    ghost use Rattle.std.specs.Prelude.{IsSorted};
-    ghost use Rattle.indexmap.specs.IndexMap.{keys};
-    ghost use Rattle.zed_live.specs.Boards.{Boards, board_cmp};
+    ghost use Rattle.zed_live.specs.Boards.{Boards};
+    ghost use Rattle.zed_live.specs.Listed.{AreKept};
 
     ghost Value = { Boards };
 
     ghost view = { λ b. b.entries.entries };
 
-    ghost invariant = { λ b. IsSorted board_cmp (keys b.entries) };
+    ghost invariant = { λ b. AreKept b.entries.entries b.homes.keys };
 }
 
 /// Adds a board at its place. One of its name that is there stays as it is.
@@ -65,18 +69,26 @@ fn add_each(entries: &mut IndexMap<BoardId, LiveBoard>, boards: Vec<(BoardId, Li
     }
 }
 
-/// Puts an edit of one stat in, on whichever board that stat is.
-fn change_each(entries: &mut IndexMap<BoardId, LiveBoard>, edit: &Edit)
-    requires sorted { IsSorted board_cmp (keys entries.old) }
-    ensures entries { entries.new.entries ≡
-        change_all (stat_changed edit.now.stamp edit.now.op) entries.old.entries }
-    ensures sorted { IsSorted board_cmp (keys entries.new) }
+/// Puts an edit of one board in, if that is there. Memory leaves the boards as they were.
+fn change_board(
+    entries: &mut IndexMap<BoardId, LiveBoard>,
+    id: BoardId,
+    edit: &Edit,
+) -> Result<(), LiveError>
+    requires { Fits edit.now }
+    ensures ok { OnOk result (entries.new.entries
+        ≡ changed id (board_after edit.now.stamp edit.now.op) entries.old.entries) }
+    ensures err { IfErr result (λ e. e ≡ LiveError.Memory) }
+    ensures kept { OnErr result (entries.new.entries ≡ entries.old.entries) }
+    ensures keys { keys entries.new ≡ keys entries.old }
+    ensures memory_only_when { OnErr result (may_grow edit.now.op ≡ true) }
 {
-    for i in 0..entries.len() {
+    if let Some(i) = entries.get_index_of(&id) {
         if let Some(board) = entries.get_index_mut(i) {
-            board.change_stat(edit);
+            return board.take(edit);
         }
     }
+    Ok(())
 }
 
 /// Boards as the edit with this stamp makes them, each under its name.
@@ -105,6 +117,7 @@ impl LiveBoards {
     {
         LiveBoards {
             entries: IndexMap::new(alloc),
+            homes: BTreeSet::new(alloc),
         }
     }
 
@@ -119,12 +132,7 @@ impl LiveBoards {
     pub fn home(&self, stat: StatId) -> Option<BoardId>
         ensures { result ≡ home_in stat self.now }
     {
-        for (id, board) in self.entries.iter() {
-            if board.stats.has(stat) {
-                return Some(*id);
-            }
-        }
-        None
+        home_of(&self.homes, &self.entries, stat)
     }
 
     /// How many boards were made, removed ones too.
@@ -157,8 +165,8 @@ impl LiveBoards {
             Op::SetBoard(id, _) => self.change(*id, edit),
             Op::SetCells(id, _, _) => self.change(*id, edit),
             Op::StatAdd(id, _) => self.change(*id, edit),
-            Op::StatRemove(_) => self.pass_stat(edit),
-            Op::SetStat(_, _) => self.pass_stat(edit),
+            Op::StatRemove(stat) => self.pass_stat(*stat, edit),
+            Op::SetStat(stat, _) => self.pass_stat(*stat, edit),
             Op::Genesis(_) => self.make(alloc, edit),
             Op::BoardAdd(_) => self.make(alloc, edit),
             _ => Ok(()),
@@ -174,21 +182,18 @@ impl LiveBoards {
         ensures kept { OnErr result (self.new ≡ self.old) }
         ensures memory_only_when { OnErr result (may_grow edit.now.op ≡ true) }
     {
-        if let Some(i) = self.entries.get_index_of(&id) {
-            if let Some(board) = self.entries.get_index_mut(i) {
-                return board.take(edit);
-            }
-        }
-        Ok(())
+        list_added(&mut self.homes, id, edit)?;
+        change_board(&mut self.entries, id, edit)
     }
 
     /// Puts an edit of one stat in. It takes no memory.
-    fn pass_stat(&mut self, edit: &Edit) -> Result<(), LiveError>
+    fn pass_stat(&mut self, stat: StatId, edit: &Edit) -> Result<(), LiveError>
+        requires { changes_stat stat edit.now.op ≡ true }
         ensures ok { OnOk result
             (self.new ≡ change_all (stat_changed edit.now.stamp edit.now.op) self.old) }
         ensures never { OnErr result (false ≡ true) }
     {
-        change_each(&mut self.entries, edit);
+        pass_listed(&self.homes, &mut self.entries, stat, edit);
         Ok(())
     }
 
@@ -215,6 +220,7 @@ impl LiveBoards {
         ensures err { IfErr result (λ e. e ≡ LiveError.Memory) }
         ensures kept { OnErr result (self.new ≡ self.old) }
     {
+        list_made(&mut self.homes, boards)?;
         let made = all_as_made(alloc, stamp, boards)?;
         if self.entries.reserve(made.len()).is_err() {
             return Err(LiveError::Memory);

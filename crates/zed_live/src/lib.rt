@@ -7,6 +7,7 @@ mod boards;
 mod document;
 mod error;
 mod header;
+mod index;
 mod laws;
 mod making;
 mod properties;
