@@ -1,4 +1,5 @@
 pub mod Answered
+pub mod Looks
 pub mod TextElements
 pub mod TextNames
 pub mod TextsShown

@@ -1,3 +1,4 @@
 pub mod ByName
+pub mod Looks
 pub mod Shows
 pub mod Texts

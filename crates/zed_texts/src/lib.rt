@@ -5,6 +5,7 @@ mod error;
 mod laws;
 mod made;
 mod texts;
+mod worked;
 
 pub use error::TextsError;
 pub use laws::{texts_are_ready, texts_show_the_replay, texts_show_their_edits};

@@ -9,9 +9,11 @@ ghost use Rattle.zed_settle.specs.Making.{made_texts};
 ghost use Rattle.zed_code.specs.Text.{StandsAfter, IsNewStamp};
 ghost use Rattle.zed_texts.specs.ByName.{text_in, number_of as number_in, add as added, add_all as all_added, change};
 ghost use Rattle.zed_texts.specs.Texts.{elements_of, named, elements_or_none, texts_after, IsReady, is_of_texts, changes_text, AllGrow, IsOpened};
+ghost use Rattle.zed_texts.specs.Looks.{looks_of};
 
 use crate::error::TextsError;
 use crate::made::{add, add_each, all_as_made};
+use crate::worked::{kill_in, put_into};
 use indexmap::IndexMap;
 use std::alloc::Global;
 use std::marker::Model;
@@ -24,19 +26,23 @@ use zed_world::read_is_normal;
 #[derive(Drop)]
 pub struct LiveTexts {
     entries: IndexMap<TextId, Text>,
+    // the counts of all texts together, kept since they are asked for with each edit of a text
+    looks: u64,
 }
 
 impl Model for LiveTexts {
-    ghost use Rattle.std.specs.Prelude.{IsSorted};
+    ghost use Rattle.std.specs.Prelude.{◌≡◌, IsSorted};
     ghost use Rattle.indexmap.specs.IndexMap.{keys};
     ghost use Rattle.zed_texts.specs.ByName.{text_cmp};
+    ghost use Rattle.zed_texts.specs.Looks.{looks_of};
     ghost use Rattle.zed_texts.specs.Texts.{Texts};
 
     ghost Value = { Texts };
 
     ghost view = { λ t. t.entries.entries };
 
-    ghost invariant = { λ t. IsSorted text_cmp (keys t.entries) };
+    ghost invariant = { λ t.
+        IsSorted text_cmp (keys t.entries) × (t.looks ≡ looks_of t.entries.entries) };
 }
 
 impl LiveTexts {
@@ -46,6 +52,7 @@ impl LiveTexts {
     {
         LiveTexts {
             entries: IndexMap::new(alloc),
+            looks: 0,
         }
     }
 
@@ -80,6 +87,13 @@ impl LiveTexts {
         ensures { result ≡ length self.now }
     {
         self.entries.len()
+    }
+
+    /// How many runs of all texts were looked at since each was made, up to the greatest number.
+    pub fn looks(&self) -> u64
+        ensures { result ≡ looks_of self.now }
+    {
+        self.looks
     }
 
     /// The number of a text in the order of names, if it was made.
@@ -143,10 +157,9 @@ impl LiveTexts {
     {
         if let Some(i) = self.entries.get_index_of(&id) {
             if let Some(text) = self.entries.get_index_mut(i) {
-                return match text.insert(after, stamp, bytes) {
-                    Ok(()) => Ok(()),
-                    Err(_) => Err(TextsError::Memory),
-                };
+                let looked = put_into(text, after, stamp, bytes)?;
+                self.looks = self.looks.saturating_add(looked);
+                return Ok(());
             }
         }
         Ok(())
@@ -162,10 +175,9 @@ impl LiveTexts {
     {
         if let Some(i) = self.entries.get_index_of(&id) {
             if let Some(text) = self.entries.get_index_mut(i) {
-                return match text.delete(range.stamp, range.first, range.last) {
-                    Ok(()) => Ok(()),
-                    Err(_) => Err(TextsError::Memory),
-                };
+                let looked = kill_in(text, range)?;
+                self.looks = self.looks.saturating_add(looked);
+                return Ok(());
             }
         }
         Ok(())

@@ -1,50 +1,48 @@
 -- The text of the name is found by its place, and written back there.
-use Rattle.std.proofs.Common.{◌≡◌, ◌∙◌, IsSorted, ap, sym, subst, is_some}
+use Rattle.std.proofs.Common.{◌≡◌, ◌∙◌, ◌+◌, min, IsSorted, ap, sym, subst, is_some}
 use Rattle.indexmap.proofs.CallerLemmas.{keys-with_value_at}
 use Rattle.indexmap.specs.IndexMap.{set_value_at}
 use Rattle.zed_types.specs.Text.{kill}
 use Rattle.zed_types.specs.Names.{same_text}
+use Rattle.zed_code.specs.Visits.{greatest}
+use Rattle.zed_texts.specs.Looks.{looks_of}
 use Rattle.zed_texts.specs.ByName.{text_cmp, text_name, change}
 use Rattle.zed_texts.specs.Texts.{Texts, elements_of, AllGrow}
 use Rattle.zed_names.proofs.Changed.{unchanged}
-use Rattle.zed_texts.proofs.Answered.{any_ok, any_err, none_ok, none_err}
+use Rattle.zed_texts.proofs.Answered.{any_err}
+use Rattle.zed_texts.proofs.Looks.{looks-rise}
 use Rattle.zed_texts.proofs.TextElements.{changed-elements, changed-grow, none-elements, none-grow}
-use Rattle.zed_texts.proofs.texts.LiveTexts.delete.Goals.{in-Ok, in-Err}
 use Rattle.zed_texts.proofs.texts.LiveTexts.delete.Goals as goal
 
 pub invariant_of-self : goal.invariant_of-self
-invariant_of-self c =
-    subst (IsSorted text_cmp) (sym (keys-with_value_at c.self.inside.entries c.in-Some.i c.delete.new.self)) c.self.invariant
+invariant_of-self c = (
+  subst (IsSorted text_cmp) (sym (keys-with_value_at c.self.inside.entries c.in-Some.i c.kill_in.new.text)) c.self.invariant.0,
+  c.self.invariant.1 ∙ ap looks_of (sym (ap (set_value_at c.self.inside.entries.entries c.in-Some.i) c.in_err-looked.ensures.kept ∙ unchanged text_name c.self.inside.entries.entries c.in-Some.i c.in-Some-get_index_mut.text.now (sym c.in-Some-get_index_mut.ensures.value))),
+)
+
+pub invariant_of-self-in-Some-get_index_mut : goal.invariant_of-self-in-Some-get_index_mut
+invariant_of-self-in-Some-get_index_mut c = (
+  subst (IsSorted text_cmp) (sym (keys-with_value_at c.self.inside.entries c.in-Some.i c.kill_in.new.text)) c.self.invariant.0,
+  c.saturating_add-self-inside.ensures
+      ∙ ap (λ n. min (n + c.in_ok-looked.looked) greatest) c.self.invariant.1
+      ∙ looks-rise c.self.inside.entries.entries c.in-Some.i c.in_ok-looked.looked c.in-Some-get_index_mut.text.now c.kill_in.new.text c.in-Some-get_index_mut.ensures.value c.in_ok-looked.ensures.visits,
+)
+
+pub returns-in_err-looked-clause-kept : goal.returns-in_err-looked-clause-kept
+returns-in_err-looked-clause-kept c =
+    any_err c.from_residual.result
+    (ap (set_value_at c.self.inside.entries.entries c.in-Some.i) c.in_err-looked.ensures.kept ∙ unchanged text_name c.self.inside.entries.entries c.in-Some.i c.in-Some-get_index_mut.text.now (sym c.in-Some-get_index_mut.ensures.value) ∙ c.self.view_is)
 
 pub returns-in-Some-get_index_mut-clause-ok : goal.returns-in-Some-get_index_mut-clause-ok
 returns-in-Some-get_index_mut-clause-ok c =
     let f = kill c.args.range in
-    elim c.match-delete.branch [
-      | in-Ok w ↦
-          any_ok c.match-delete.result
-          (changed-elements c.args.id f c.self.inside.entries.entries c.in-Some.i c.in-Some-get_index_mut.text.now c.delete.new.self c.in-Some.ensures.index c.in-Some-get_index_mut.ensures.value w.in-Ok.ensures.ok
-          ∙ ap (λ ys. change c.args.id f (elements_of ys)) c.self.view_is)
-      | in-Err w ↦ none_ok _ c.match-delete.result _ w.result-is
-    ]
-
-pub returns-in-Some-get_index_mut-clause-kept : goal.returns-in-Some-get_index_mut-clause-kept
-returns-in-Some-get_index_mut-clause-kept c =
-    elim c.match-delete.branch [
-      | in-Ok w ↦ none_err _ c.match-delete.result _ w.result-is
-      | in-Err w ↦
-          any_err c.match-delete.result
-          (ap (set_value_at c.self.inside.entries.entries c.in-Some.i) w.in-Err.ensures.kept ∙ unchanged text_name c.self.inside.entries.entries c.in-Some.i c.in-Some-get_index_mut.text.now (sym c.in-Some-get_index_mut.ensures.value) ∙ c.self.view_is)
-    ]
+    changed-elements c.args.id f c.self.inside.entries.entries c.in-Some.i c.in-Some-get_index_mut.text.now c.kill_in.new.text c.in-Some.ensures.index c.in-Some-get_index_mut.ensures.value c.in_ok-looked.ensures.ok
+    ∙ ap (λ ys. change c.args.id f (elements_of ys)) c.self.view_is
 
 pub returns-in-Some-get_index_mut-clause-runs : goal.returns-in-Some-get_index_mut-clause-runs
 returns-in-Some-get_index_mut-clause-runs c =
-    elim c.match-delete.branch [
-      | in-Ok w ↦
-          any_ok c.match-delete.result
-          (subst (λ ys. AllGrow (λ t. same_text c.args.id t) ys (set_value_at c.self.inside.entries.entries c.in-Some.i c.delete.new.self)) c.self.view_is
-          (changed-grow c.args.id c.self.inside.entries.entries c.in-Some.i c.in-Some-get_index_mut.text.now c.delete.new.self c.in-Some.ensures.index c.in-Some-get_index_mut.ensures.value (w.in-Ok.ensures.runs, w.in-Ok.ensures.visits)))
-      | in-Err w ↦ none_ok _ c.match-delete.result _ w.result-is
-    ]
+    subst (λ ys. AllGrow (λ t. same_text c.args.id t) ys (set_value_at c.self.inside.entries.entries c.in-Some.i c.kill_in.new.text)) c.self.view_is
+    (changed-grow c.args.id c.self.inside.entries.entries c.in-Some.i c.in-Some-get_index_mut.text.now c.kill_in.new.text c.in-Some.ensures.index c.in-Some-get_index_mut.ensures.value c.in_ok-looked.ensures.runs)
 
 pub returns-in_default-clause-ok : goal.returns-in_default-clause-ok
 returns-in_default-clause-ok c =

@@ -1,0 +1,49 @@
+//! How one text is changed, and by how many its count of runs looked at rises.
+
+ghost use Rattle.std.specs.Prelude.{◌≡◌, ◌≤◌, ◌+◌, length, IfOk, IfErr, OnOk, OnErr};
+ghost use Rattle.zed_types.specs.Text.{run_from, put_late, kill};
+ghost use Rattle.zed_code.specs.Text.{elements, StandsAfter, IsNewStamp};
+ghost use Rattle.zed_texts.specs.Texts.{IsWorked};
+
+use crate::error::TextsError;
+use zed_code::Text;
+use zed_types::{ByteRange, ElemId, Stamp};
+
+/// Puts bytes into a text. Answers by how many its count of runs looked at rises.
+pub(crate) fn put_into(
+    text: &mut Text,
+    after: Option<ElemId>,
+    stamp: Stamp,
+    bytes: &[u8],
+) -> Result<u64, TextsError>
+    requires there { StandsAfter after stamp (elements text.old) }
+    requires new { IsNewStamp stamp (elements text.old) }
+    requires most { length bytes.now ≤ 32767 }
+    ensures ok { OnOk result (elements text.new
+        ≡ put_late after stamp (run_from stamp 0 bytes.now) (elements text.old)) }
+    ensures err { IfErr result (λ e. e ≡ TextsError.Memory) }
+    ensures kept { OnErr result (text.new ≡ text.old) }
+    ensures runs { OnOk result (IsWorked text.old text.new) }
+    ensures visits { IfOk result (λ n. text.new.visits ≡ text.old.visits + n) }
+{
+    let before = text.visits();
+    match text.insert(after, stamp, bytes) {
+        Ok(()) => Ok(text.visits() - before),
+        Err(_) => Err(TextsError::Memory),
+    }
+}
+
+/// Marks bytes of a text dead. Answers by how many its count of runs looked at rises.
+pub(crate) fn kill_in(text: &mut Text, range: ByteRange) -> Result<u64, TextsError>
+    ensures ok { OnOk result (elements text.new ≡ kill range (elements text.old)) }
+    ensures err { IfErr result (λ e. e ≡ TextsError.Memory) }
+    ensures kept { OnErr result (text.new ≡ text.old) }
+    ensures runs { OnOk result (IsWorked text.old text.new) }
+    ensures visits { IfOk result (λ n. text.new.visits ≡ text.old.visits + n) }
+{
+    let before = text.visits();
+    match text.delete(range.stamp, range.first, range.last) {
+        Ok(()) => Ok(text.visits() - before),
+        Err(_) => Err(TextsError::Memory),
+    }
+}
