@@ -1,5 +1,5 @@
 -- What the counts of texts come to as an edit is taken.
-use Rattle.std.proofs.Common.{◌≡◌, ◌∙◌, ℕ, zero, suc, ◌≤◌, ◌<◌, ◌+◌, ◌-◌, ◌*◌, min, Bool, true, false, cond, List, [], ◌∷◌, length, map, take, slice_get, Option, Some, None, refl, ap, sym, subst, arith, add-one}
+use Rattle.std.proofs.Common.{◌≡◌, ◌∙◌, ℕ, ◌≤◌, ◌<◌, ◌+◌, ◌-◌, ◌*◌, min, Bool, true, false, cond, List, [], ◌∷◌, length, map, Option, Some, None, refl, ap, sym, subst, arith}
 use Rattle.std.specs.List.{AllByRecursion, sum_by}
 use Rattle.std.specs.Option.{option_map}
 use Rattle.std.proofs.lemmas.List.Sums.{sum_by-cons}
@@ -12,6 +12,7 @@ use Rattle.zed_code.specs.Pieces.{Shown}
 use Rattle.zed_code.specs.Visits.{greatest, raised}
 use Rattle.zed_code.specs.Text.{elements}
 use Rattle.zed_texts.specs.ByName.{text_in}
+use Rattle.zed_texts.specs.Looks.{looks_of}
 use Rattle.zed_texts.specs.Texts.{Texts, elements_of, Grows, AllGrow}
 use Rattle.zed_body.specs.Counts.{HasFew, IsNoLess, NoneFalls}
 use Rattle.zed_document.specs.Counts.{Counts, added, capped, count_of, counts_of, or_zero, total, NoCountFalls}
@@ -319,22 +320,15 @@ looked-at t xs mid ys x there some grow less room = go (text_in t mid) (text_in 
         let one = more-than x.visits m.visits z.visits g.1.0 greatest g.1.1 l (omega (arith, below, room)) (g.1.3 some) in
         omega (arith, part, was, one)
 
--- ---- the sum, text by text
+-- ---- the sum that the texts keep
 
-total-more : (ys : Texts) (k : ℕ) (y : TextId × Shown) → slice_get ys k ≡ Some y → total (counts_of (take (suc k) ys)) ≡ total (counts_of (take k ys)) + y.1.visits
-total-more [] k y h = absurd (cc)
-total-more (x ∷ ys) zero y h =
-    let same : x ≡ y = cc in
-    let one : total (counts_of (x ∷ [])) ≡ x.1.visits + 0 = sum_by-cons (λ (z : TextId × ℕ). z.1) (x.0, x.1.visits) [] in
-    let value : x.1.visits ≡ y.1.visits = ap (λ (z : TextId × Shown). z.1.visits) same in
-    omega (arith, one, value)
-total-more (x ∷ ys) (suc k) y h =
-    let more = total-more ys k y h in
-    let now = sum_by-cons (λ (z : TextId × ℕ). z.1) (x.0, x.1.visits) (counts_of (take (suc k) ys)) in
-    let was = sum_by-cons (λ (z : TextId × ℕ). z.1) (x.0, x.1.visits) (counts_of (take k ys)) in
-    omega (arith, more, now, was)
+total-kept : (ys : Texts) → sum_by (λ y. y.1.visits) ys ≡ total (counts_of ys)
+total-kept [] = refl
+total-kept (y ∷ ys) =
+    let kept = sum_by-cons (λ (z : TextId × Shown). z.1.visits) y ys in
+    let all = sum_by-cons (λ (z : TextId × ℕ). z.1) (y.0, y.1.visits) (counts_of ys) in
+    let more = total-kept ys in
+    omega (arith, kept, all, more)
 
-pub capped-more : (ys : Texts) (k v : ℕ) (y : TextId × Shown) → slice_get ys k ≡ Some y → v ≡ capped (counts_of (take k ys)) → min (v + y.1.visits) greatest ≡ capped (counts_of (take (k + 1) ys))
-capped-more ys k v y h is =
-    let more : total (counts_of (take (k + 1) ys)) ≡ total (counts_of (take k ys)) + y.1.visits = ap (λ n. total (counts_of (take n ys))) (add-one k) ∙ total-more ys k y h in
-    omega (arith, more, is)
+pub looks_kept : (ys : Texts) → looks_of ys ≡ capped (counts_of ys)
+looks_kept ys = ap (λ n. min n greatest) (total-kept ys)

@@ -9,15 +9,11 @@ use zed_texts::LiveTexts;
 use zed_types::TextId;
 
 /// The runs that were looked at since the texts were made, up to the greatest number.
+#[tactic(auto, using(crate::proofs::Looks::looks_kept))]
 fn visits_of(texts: &LiveTexts) -> u64
     ensures { result ≡ capped (counts_of texts.now) }
 {
-    let mut visits = 0u64;
-    for k in 0..texts.count() {
-        let (_, text) = texts.at(k);
-        visits = visits.saturating_add(text.visits());
-    }
-    visits
+    texts.looks()
 }
 
 /// The runs of one text that were looked at, none where it isn't there.
