@@ -360,8 +360,7 @@ pub open-latest : SetsHold → (e : Edit) (log : List Edit) (late : Entries) →
     → IsOpen (log ++ e ∷ []) late × (union (log ++ e ∷ []) (values_of late) ≡ with_edit e (union log (values_of late)))
 open-latest laws e log late o new below =
     let last : with_edit e log ≡ log ++ e ∷ [] = ap (with_edit e) (sym (append-nil log)) ∙ with_edit-between e log [] below tt in
-    let none = (new-both laws.rises log late e.stamp o new).1 in
-    (
+    let none = (new-both laws.rises log late e.stamp o new).1 in (
       record {
         rising = subst IsRising last (laws.rises e log o.rising);
         late_rising = o.late_rising;
@@ -378,8 +377,7 @@ pub open-late : SetsHold → (e : Edit) (log : List Edit) (late late' : Entries)
 open-late laws e log late late' o new is =
     let none = new-both laws.rises log late e.stamp o new in
     let under : late' ≡ stamped (with_edit e (values_of late)) = is ∙ ap (λ m. insert_entry stamp_cmp m e.stamp e) o.under ∙ insert_stamped e (values_of late) none.1 in
-    let values : values_of late' ≡ with_edit e (values_of late) = ap values_of under ∙ edits_stamped (with_edit e (values_of late)) in
-    (
+    let values : values_of late' ≡ with_edit e (values_of late) = ap values_of under ∙ edits_stamped (with_edit e (values_of late)) in (
       record {
         rising = o.rising;
         late_rising = subst IsRising (sym values) (laws.rises e (values_of late) o.late_rising);

@@ -47,12 +47,7 @@ fn place_of(stamps: &[Stamp], stamp: Stamp) -> usize
 }
 
 /// Renews the stamps of those held after one more edit: others take their place, or that of the edit joins them, if it waits.
-pub(crate) fn renew(
-    held: &mut Vec<Stamp>,
-    stamp: Stamp,
-    is_held: bool,
-    others: Option<Vec<Stamp>>,
-)
+pub(crate) fn renew(held: &mut Vec<Stamp>, stamp: Stamp, is_held: bool, others: Option<Vec<Stamp>>)
     requires room { vec_len held.old < vec_capacity held.old }
     requires rising { StampsRise held.old.items }
     ensures { MatchOption others

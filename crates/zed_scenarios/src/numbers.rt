@@ -161,7 +161,10 @@ const CELLS: &[Step] = &[
     Step::Same(true),
     Step::SavedAlike,
     Step::Saves(Who::One, Saved::World(1, 713)),
-    Step::Saves(Who::One, Saved::Bytes(565, b"\xf4\0\0\x01\x13\x9f\xff\0\0\xbd\0\0")),
+    Step::Saves(
+        Who::One,
+        Saved::Bytes(565, b"\xf4\0\0\x01\x13\x9f\xff\0\0\xbd\0\0"),
+    ),
 ];
 
 #[test]

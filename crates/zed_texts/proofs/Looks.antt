@@ -1,5 +1,5 @@
 -- What the counts of texts come to, as one rises and as texts are added.
-use Rattle.std.proofs.Common.{◌≡◌, ◌∙◌, ℕ, zero, suc, ◌+◌, ◌≤◌, min, Bool, true, false, cond, [], ◌∷◌, slice_get, Some, is_some, refl, ap, sym, arith}
+use Rattle.std.proofs.Common.{◌≡◌, ◌∙◌, ℕ, zero, suc, ◌+◌, min, Bool, true, false, cond, [], ◌∷◌, slice_get, Some, is_some, refl, ap, sym, arith}
 use Rattle.std.specs.List.{AllByRecursion, sum_by}
 use Rattle.std.specs.Map.{values_of}
 use Rattle.std.proofs.lemmas.List.Sums.{sum_by-cons}

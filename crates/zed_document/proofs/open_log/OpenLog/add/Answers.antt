@@ -17,8 +17,7 @@ invariant_of-self-then-is_latest c =
     let now = open-latest laws c.args.edit c.self.inside.log.items c.self.inside.late.entries c.self.invariant.0 new below in
     let items : c.push_reserved.new.self.items ≡ c.self.inside.log.items ++ c.args.edit ∷ [] = c.push_reserved.ensures.items ∙ ap (λ es. es ++ c.args.edit ∷ []) c.in_ok-make_room.ensures.kept.0 in
     let room = c.in_ok-make_room.ensures.latest c.if-is_latest.true in
-    let count : length c.self.inside.late.entries ≡ c.len.result = search rules in
-    (
+    let count : length c.self.inside.late.entries ≡ c.len.result = search rules in (
       subst (λ (es : List Edit). IsOpen es c.self.inside.late.entries) (sym items) now.0,
       c.in_ok-make_room.ensures.kept.1,
       room-is (length c.make_room.new.log.items + 1) c.len.result (length c.push_reserved.new.self.items) (length c.self.inside.late.entries) (vec_capacity c.make_room.new.log)
@@ -43,8 +42,7 @@ invariant_of-self-2 c =
     let now = open-late laws c.args.edit c.self.inside.log.items c.self.inside.late.entries c.put_late.new.late.entries c.self.invariant.0 new c.in_ok-put_late.ensures.ok in
     let room = c.in_ok-make_room.ensures.late c.if-is_latest.false in
     let count : length c.self.inside.late.entries ≡ c.len.result = search rules in
-    let few : length c.put_late.new.late.entries ≤ c.len.result + 1 = rw (← count) c.in_ok-put_late.ensures.few in
-    (
+    let few : length c.put_late.new.late.entries ≤ c.len.result + 1 = rw (← count) c.in_ok-put_late.ensures.few in (
       subst (λ (es : List Edit). IsOpen es c.put_late.new.late.entries) (sym c.in_ok-make_room.ensures.kept.0) now.0,
       c.in_ok-make_room.ensures.kept.1,
       room-is (length c.make_room.new.log.items) (c.len.result + 1) (length c.make_room.new.log.items) (length c.put_late.new.late.entries) (vec_capacity c.make_room.new.log)

@@ -12,7 +12,7 @@ returns-in-Ok-clause-some c =
     let v : union c.self.inside.log.items (values_of c.self.inside.late.entries) ≡ c.args.self.now = c.self.view_is in
     let there : edit_with c.args.stamp c.self.inside.log.items ≡ Some c.in-Ok.there.now = search rules in
     subst (λ (es : List Edit). edit_with c.args.stamp es ≡ Some c.in-Ok.there.now) v
-        (find-first c.sets_rise.ensures.edit c.self.inside.log.items c.self.inside.late.entries c.args.stamp c.in-Ok.there.now c.self.invariant.0 there)
+    (find-first c.sets_rise.ensures.edit c.self.inside.log.items c.self.inside.late.entries c.args.stamp c.in-Ok.there.now c.self.invariant.0 there)
 
 pub returns-in-Err-clause-some : goal.returns-in-Err-clause-some
 returns-in-Err-clause-some c =
