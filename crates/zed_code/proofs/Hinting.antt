@@ -1,6 +1,6 @@
 -- Hints stay right: runs only move to the right.
 use mathlib.Core.Logic.{◌⊎◌, inl, inr}
-use Rattle.std.proofs.Common.{◌≡◌, ◌≤◌, ◌<◌, ℕ, zero, suc, ◌+◌, ◌-◌, min, Bool, true, false, cond, ◌&&◌, ◌||◌, List, [], ◌∷◌, ◌++◌, length, take, drop, set, get_or, refl, ap, ◌∙◌, sym, subst, arith, ltb, leb}
+use Rattle.std.proofs.Common.{◌≡◌, ◌≤◌, ◌<◌, ℕ, zero, suc, ◌+◌, ◌-◌, min, Bool, true, false, cond, ◌&&◌, ◌||◌, Option, Some, None, List, [], ◌∷◌, ◌++◌, length, take, drop, set, get_or, refl, ap, ◌∙◌, sym, subst, arith, ltb, leb}
 use Rattle.std.specs.List.{AllByRecursion, list_any}
 use Rattle.zed_types.specs.declared.stamp.Stamp.{Stamp}
 use Rattle.zed_types.specs.declared.names.ElemId.{ElemId}
@@ -9,8 +9,9 @@ use Rattle.zed_types.specs.Names.{byte_of}
 use Rattle.zed_code.specs.declared.run.Run.{Run}
 use Rattle.zed_code.specs.declared.block.Block.{Block}
 use Rattle.zed_code.specs.declared.block.Spot.{Spot}
+use Rattle.zed_code.specs.declared.block.Cut.{Cut}
 use Rattle.zed_code.specs.declared.insertion.Target.{Target}
-use Rattle.zed_code.specs.Targets.{IsTarget}
+use Rattle.zed_code.specs.Targets.{IsTarget, IsCut, cut_bytes}
 use Rattle.zed_code.specs.Blocks.{lists, joined, list_at, before_spot, IsIn, NoneEmpty}
 use Rattle.zed_code.specs.Halving.{AddsHint, IsNumber, IsMoved}
 use Rattle.zed_code.specs.Runs.{lasts, sought, put_in, front, back, has, found}
@@ -331,10 +332,27 @@ each-at P (rs ∷ ls) zero h = all-left P rs (joined ls) h
 each-at P (rs ∷ ls) (suc i) h = each-at P ls i (all-right P rs (joined ls) h)
 
 -- a run that is cut is cut within, as its block shows it
-pub cut-inside : (aim : Target) (ls : List (List Run)) (r : Run) (rs : List Run) → IsTarget aim ls → drop aim.at.place (list_at aim.at.block ls) ≡ r ∷ rs → aim.cut < r.len
+pub cut-inside : (aim : Target) (ls : List (List Run)) (r : Run) (rs : List Run) → IsTarget aim ls → drop aim.at.place (list_at aim.at.block ls) ≡ r ∷ rs → cut_bytes aim.cut < r.len
 cut-inside aim ls r rs h e =
     let zero-in : IsIn aim.at 0 ls = record { block = h.within.block; place = omega (arith, h.within.place) } in
     h.cut r (rs ++ joined (drop (aim.at.block + 1) ls)) (drop-spot aim.at ls zero-in ∙ ap (λ xs. xs ++ joined (drop (aim.at.block + 1) ls)) e)
+
+cut-front : (o : Option Cut) (xs ys : List Run) → IsCut o (xs ++ ys) → IsCut o xs
+cut-front None xs ys h = tt
+cut-front (Some c) xs ys h = (h.0, λ r qs e. h.1 r (qs ++ ys) (ap (λ zs. zs ++ ys) e))
+
+-- the run that is cut, as its block shows it
+pub cut-there : (aim : Target) (ls : List (List Run)) → IsTarget aim ls → IsCut aim.cut (drop aim.at.place (list_at aim.at.block ls))
+cut-there aim ls h =
+    let zero-in : IsIn aim.at 0 ls = record { block = h.within.block; place = omega (arith, h.within.place) } in
+    let P : List Run → Type 0 = λ rs. IsCut aim.cut rs in
+    cut-front aim.cut (drop aim.at.place (list_at aim.at.block ls)) (joined (drop (aim.at.block + 1) ls)) (subst P (drop-spot aim.at ls zero-in) h.there)
+
+-- the run that was looked at in a block, among all runs
+pub spot-looked : (at : Spot) (ls : List (List Run)) (rs : List Run) (r : Run) → IsIn at 1 ls → rs ≡ list_at at.block ls → drop at.place rs ≡ r ∷ drop (at.place + 1) rs → drop (before_spot at ls) (joined ls) ≡ r ∷ (drop (at.place + 1) rs ++ joined (drop (at.block + 1) ls))
+spot-looked at ls rs r h e looked =
+    let zero-in : IsIn at 0 ls = record { block = h.block; place = omega (arith, h.place) } in
+    drop-spot at ls zero-in ∙ ap (λ xs. xs ++ joined (drop (at.block + 1) ls)) (ap (drop at.place) (sym e) ∙ looked)
 
 pub spot-read : (at : Spot) (ls : List (List Run)) (rs : List Run) (d : Run) → IsIn at 1 ls → rs ≡ list_at at.block ls → drop (before_spot at ls) (joined ls) ≡ get_or rs at.place d ∷ (drop (at.place + 1) (list_at at.block ls) ++ joined (drop (at.block + 1) ls))
 spot-read at ls rs d h e = spot-run at ls (get_or rs at.place d) h (ap (λ xs. get_or xs at.place d) e ∙ get_or_default (list_at at.block ls) at.place d (get_or rs at.place d) (omega (arith, h.place)))
@@ -362,8 +380,9 @@ first-is r q rs qs e = ap first e
 -- where a run goes, once its place is elsewhere
 pub target-moved : (aim : Target) (old new : List (List Run)) (to : Spot) → IsTarget aim old → IsMoved old new aim.at to → joined new ≡ joined old → IsTarget (record { at = to; cut = aim.cut }) new
 target-moved aim old new to h moves same = record {
-  within = moves.within (min aim.cut 1) (omega arith) h.within;
+  within = moves.within (min (cut_bytes aim.cut) 1) (omega arith) h.within;
   cut = λ r rs e. h.cut r rs (ap (λ n. drop n (joined old)) (sym moves.place) ∙ ap (drop (before_spot to new)) (sym same) ∙ e);
+  there = let P : List Run → Type 0 = λ rs. IsCut aim.cut rs in subst P (ap (λ n. drop n (joined old)) (sym moves.place) ∙ ap (drop (before_spot to new)) (sym same)) h.there;
 }
 
 -- a place before which not all runs stand is in a block

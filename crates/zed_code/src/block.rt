@@ -6,6 +6,7 @@ ghost use Rattle.zed_code.specs.declared.run.Run.{Run as SpecRun};
 ghost use Rattle.zed_code.specs.Runs.{put_in as put_into};
 ghost use Rattle.zed_code.specs.Kept.{IsSound};
 ghost use Rattle.zed_code.specs.Blocks.{lists, list_at, HasRoom};
+ghost use Rattle.zed_code.specs.Targets.{cut_bytes, IsCut};
 
 use crate::error::CodeError;
 use crate::run::Run;
@@ -24,6 +25,13 @@ pub struct Spot {
     pub place: usize,
 }
 
+/// A cut of the run at a place, as it was looked at: behind so many of its bytes.
+#[derive(Clone, Copy, Debug)]
+pub struct Cut {
+    pub there: Run,
+    pub bytes: u32,
+}
+
 /// The runs of the block with a number.
 pub(crate) fn runs_at(blocks: &[Block], block: usize) -> &[Run]
     requires { block < length blocks.now }
@@ -40,21 +48,22 @@ pub(crate) fn reserve(block: &mut Block) -> Result<(), CodeError>
     block.runs.reserve(2).map_err(CodeError::of_growth)
 }
 
-/// Puts a run at a place, or, unless `cut` is 0, behind so many bytes of the run there.
-pub(crate) fn put_in(runs: &mut Vec<Run>, place: usize, cut: u32, run: Run)
+/// Puts a run at a place, or into the run there, where that is cut.
+pub(crate) fn put_in(runs: &mut Vec<Run>, place: usize, cut: Option<Cut>, run: Run)
     requires each { AllByRecursion IsSound runs.old.items }
-    requires place { place + min cut 1 ≤ length runs.old.items }
+    requires place { place + min (cut_bytes cut) 1 ≤ length runs.old.items }
     requires cut { (r : SpecRun) (rs : List SpecRun)
-        → drop place runs.old.items ≡ r ∷ rs → cut < r.len }
+        → drop place runs.old.items ≡ r ∷ rs → cut_bytes cut < r.len }
+    requires there { IsCut cut (drop place runs.old.items) }
     requires room { vec_len runs.old + 2 ≤ vec_capacity runs.old }
-    ensures { runs.new.items ≡ put_into place cut run runs.old.items }
+    ensures { runs.new.items ≡ put_into place (cut_bytes cut) run runs.old.items }
 {
-    if cut == 0 {
-        runs.insert(place, run).unwrap();
-        return;
+    match cut {
+        None => runs.insert(place, run).unwrap(),
+        Some(cut) => {
+            runs[place] = cut.there.front(cut.bytes);
+            runs.insert(place + 1, cut.there.back(cut.bytes)).unwrap();
+            runs.insert(place + 1, run).unwrap();
+        }
     }
-    let there = runs[place];
-    runs[place] = there.front(cut);
-    runs.insert(place + 1, there.back(cut)).unwrap();
-    runs.insert(place + 1, run).unwrap();
 }

@@ -2,7 +2,7 @@
 
 ghost use Rattle.std.specs.Prelude.{◌≡◌, ◌∷◌, ◌<◌, ◌+◌, ◌-◌, [], ℕ, length, drop, take, set, Some, OnOk, OnErr, IfOk};
 ghost use Rattle.std.specs.List.{AllByRecursion};
-ghost use Rattle.zed_code.specs.Targets.{IsTarget};
+ghost use Rattle.zed_code.specs.Targets.{IsTarget, cut_bytes};
 ghost use Rattle.zed_code.specs.Blocks.{lists, list_at, runs_of, before_spot, IsIn, NoneEmpty, HasRoom};
 ghost use Rattle.zed_code.specs.Halving.{IsSameText};
 ghost use Rattle.zed_code.specs.Runs.{put_run, put_at, pass_runs, found, put_in as put_into};
@@ -10,21 +10,21 @@ ghost use Rattle.zed_code.specs.There.{IsThere};
 ghost use Rattle.zed_code.specs.Kept.{IsSound, AllInOrder, NoneOf, AreHints};
 ghost use Rattle.zed_code.specs.Visits.{raised, LooksAtSome};
 
-use crate::block::{Block, Spot, put_in, runs_at};
+use crate::block::{Block, Cut, Spot, put_in, runs_at};
 use crate::blocks::{reserve_at, split_full};
 use crate::error::CodeError;
 use crate::hints::keep_hint;
-use crate::place::pass;
+use crate::place::{look, pass};
 use crate::run::Run;
 use crate::search::seek;
 use std::collections::BTreeMap;
 use zed_types::ElemId;
 
-/// Where a run goes: to a place, or, unless `cut` is 0, behind so many bytes of the run there.
+/// Where a run goes: to a place, or into the run there, where that is cut.
 #[derive(Clone, Copy, Debug)]
 pub struct Target {
     pub at: Spot,
-    pub cut: u32,
+    pub cut: Option<Cut>,
 }
 
 /// Where a run goes that is put at the head, past the runs of later edits.
@@ -32,14 +32,14 @@ fn aim_first(blocks: &[Block], run: Run, visits: &mut u64) -> Target
     requires some { 0 < length blocks.now }
     requires full { NoneEmpty (lists blocks.now) }
     requires each { AllByRecursion IsSound (runs_of blocks.now) }
-    ensures runs { put_into (before_spot result.at (lists blocks.now)) result.cut run (runs_of blocks.now)
+    ensures runs { put_into (before_spot result.at (lists blocks.now)) (cut_bytes result.cut) run (runs_of blocks.now)
         ≡ pass_runs run (runs_of blocks.now) }
     ensures aim { IsTarget result (lists blocks.now) }
     ensures visits { LooksAtSome (length (runs_of blocks.now)) visits.old visits.new }
 {
     let head = Spot { block: 0, place: 0 };
     let at = pass(blocks, head, run.stamp, visits);
-    Target { at, cut: 0 }
+    Target { at, cut: None }
 }
 
 /// Where a run goes that is put behind a byte of the run at a place, past the runs of later edits that follow it.
@@ -48,16 +48,17 @@ fn aim_behind(blocks: &[Block], a: ElemId, at: Spot, run: Run, visits: &mut u64)
     requires each { AllByRecursion IsSound (runs_of blocks.now) }
     requires there { IsThere (Some a) (runs_of blocks.now) }
     requires found { before_spot at (lists blocks.now) ≡ found a (runs_of blocks.now) }
-    ensures runs { put_into (before_spot result.at (lists blocks.now)) result.cut run (runs_of blocks.now)
+    ensures runs { put_into (before_spot result.at (lists blocks.now)) (cut_bytes result.cut) run (runs_of blocks.now)
         ≡ put_at a run (runs_of blocks.now) }
     ensures aim { IsTarget result (lists blocks.now) }
     ensures visits { (k : ℕ) × (visits.new ≡ raised visits.old k)
         × (k + before_spot at (lists blocks.now) < length (runs_of blocks.now) + 1) }
 {
     let _visits = *visits;
-    let there = runs_at(blocks, at.block)[at.place];
-    let cut = there.up_to(a);
-    if cut < there.len {
+    let there = look(runs_at(blocks, at.block), at.place, visits);
+    let bytes = there.up_to(a);
+    if bytes < there.len {
+        let cut = Some(Cut { there, bytes });
         return Target { at, cut };
     }
     let behind = Spot {
@@ -65,7 +66,7 @@ fn aim_behind(blocks: &[Block], a: ElemId, at: Spot, run: Run, visits: &mut u64)
         place: at.place + 1,
     };
     let at = pass(blocks, behind, run.stamp, visits);
-    Target { at, cut: 0 }
+    Target { at, cut: None }
 }
 
 /// Where a run goes that is put behind the byte named, or at the head, past the runs of later edits.
@@ -84,7 +85,7 @@ fn aim(
     requires there { IsThere after (runs_of blocks.now) }
     requires hints { AreHints hints.old.entries places.now (lists blocks.now) }
     ensures runs { IfOk result (λ aim.
-        put_into (before_spot aim.at (lists blocks.now)) aim.cut run (runs_of blocks.now)
+        put_into (before_spot aim.at (lists blocks.now)) (cut_bytes aim.cut) run (runs_of blocks.now)
         ≡ put_run after run (runs_of blocks.now)) }
     ensures aim { IfOk result (λ aim. IsTarget aim (lists blocks.now)) }
     ensures visits { OnOk result
@@ -127,7 +128,7 @@ fn put_at_aim(blocks: &mut Vec<Block>, aim: Target, run: Run)
     requires each { AllByRecursion IsSound (runs_of blocks.old.items) }
     requires room { AllByRecursion HasRoom (take 1 (drop aim.at.block blocks.old.items)) }
     ensures { lists blocks.new.items ≡ set (lists blocks.old.items) aim.at.block
-        (put_into aim.at.place aim.cut run (list_at aim.at.block (lists blocks.old.items))) }
+        (put_into aim.at.place (cut_bytes aim.cut) run (list_at aim.at.block (lists blocks.old.items))) }
 {
     put_in(&mut blocks[aim.at.block].runs, aim.at.place, aim.cut, run);
 }

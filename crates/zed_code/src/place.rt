@@ -10,7 +10,8 @@ use crate::block::{Block, Spot, runs_at};
 use crate::run::Run;
 use zed_types::Stamp;
 
-/// Looks at a run: the one way in which insertions and deletions read it.
+/// Looks at a run: the one way in which insertions and deletions read what it holds. Runs that are only moved, as where
+/// a block is halved, aren't looked at.
 pub(crate) fn look(runs: &[Run], i: usize, visits: &mut u64) -> Run
     requires { i < length runs.now }
     ensures run { drop i runs.now ≡ result ∷ drop (i + 1) runs.now }

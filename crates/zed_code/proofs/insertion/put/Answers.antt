@@ -5,6 +5,7 @@ use Rattle.zed_code.specs.declared.run.Run.{Run}
 use Rattle.zed_code.specs.declared.block.Block.{Block}
 use Rattle.zed_code.specs.Blocks.{lists, joined, list_at, before_spot, NoneEmpty}
 use Rattle.zed_code.specs.Halving.{AddsHint}
+use Rattle.zed_code.specs.Targets.{cut_bytes}
 use Rattle.zed_code.specs.Kept.{AreHints, IsOne, NoneOf}
 use Rattle.zed_code.specs.Runs.{put_in, put_run}
 use Rattle.zed_code.proofs.Puts.{put-joined, full-set, some-put_in}
@@ -34,20 +35,20 @@ returns-clause-ok c =
     let d : joined (lists c.deref.result.now) ≡ joined old = ap (λ bs. joined (lists bs)) c.deref.ensures.value in
     let wanted = c.in_ok-wanted.ensures.runs in
     ap joined c.put_at_aim.ensures
-    ∙ put-joined to.at to.cut c.args.run ls c.in_ok-to.ensures.aim.within
-    ∙ ap (put_in (before_spot to.at ls) to.cut c.args.run) (c.make_room.ensures.same.runs)
-    ∙ ap (λ n. put_in n to.cut c.args.run (joined old)) c.in_ok-to.ensures.moved
-    ∙ ap (λ n. put_in (before_spot c.in_ok-wanted.wanted.at old) n c.args.run (joined old)) c.in_ok-to.ensures.cut
-    ∙ ap (λ bs. put_in (before_spot c.in_ok-wanted.wanted.at (lists bs)) c.in_ok-wanted.wanted.cut c.args.run (joined (lists bs))) (sym c.deref.ensures.value)
+    ∙ put-joined to.at (cut_bytes to.cut) c.args.run ls c.in_ok-to.ensures.aim.within
+    ∙ ap (put_in (before_spot to.at ls) (cut_bytes to.cut) c.args.run) (c.make_room.ensures.same.runs)
+    ∙ ap (λ n. put_in n (cut_bytes to.cut) c.args.run (joined old)) c.in_ok-to.ensures.moved
+    ∙ ap (λ n. put_in (before_spot c.in_ok-wanted.wanted.at old) (cut_bytes n) c.args.run (joined old)) c.in_ok-to.ensures.cut
+    ∙ ap (λ bs. put_in (before_spot c.in_ok-wanted.wanted.at (lists bs)) (cut_bytes c.in_ok-wanted.wanted.cut) c.args.run (joined (lists bs))) (sym c.deref.ensures.value)
     ∙ wanted ∙ ap (put_run c.args.after c.args.run) d
 
 pub returns-clause-full : goal.returns-clause-full
 returns-clause-full c =
     let ls = lists c.make_room.new.blocks.items in
     let to = c.in_ok-to.to in
-    let xs = put_in to.at.place to.cut c.args.run (list_at to.at.block ls) in
+    let xs = put_in to.at.place (cut_bytes to.cut) c.args.run (list_at to.at.block ls) in
     let P : List (List Run) → Type 0 = λ qs. NoneEmpty qs in
-    subst P (sym c.put_at_aim.ensures) (full-set ls to.at.block xs (some-put_in to.at.place to.cut c.args.run (list_at to.at.block ls)) (c.make_room.ensures.same.full c.requires.full))
+    subst P (sym c.put_at_aim.ensures) (full-set ls to.at.block xs (some-put_in to.at.place (cut_bytes to.cut) c.args.run (list_at to.at.block ls)) (c.make_room.ensures.same.full c.requires.full))
 
 pub returns-clause-hints : goal.returns-clause-hints
 returns-clause-hints c =
@@ -64,7 +65,7 @@ returns-clause-hints c =
     let C : List ℕ → Type 0 = λ ps. A ps c.new-first.result in
     let adds = subst B c.new-first.ensures (subst C c.deref-3.ensures.value c.keep_hint.ensures.hints) in
     let P : List (List Run) → Type 0 = λ qs. AreHints more places qs in
-    subst P (sym c.put_at_aim.ensures) (put-hints hs more places ls to.at to.cut c.args.run c.in_ok-to.ensures.aim.within (λ r rs. cut-inside to ls r rs c.in_ok-to.ensures.aim) new are adds)
+    subst P (sym c.put_at_aim.ensures) (put-hints hs more places ls to.at (cut_bytes to.cut) c.args.run c.in_ok-to.ensures.aim.within (λ r rs. cut-inside to ls r rs c.in_ok-to.ensures.aim) new are adds)
 
 pub returns-in_err-put_alone-clause-hints : goal.returns-in_err-put_alone-clause-hints
 returns-in_err-put_alone-clause-hints c =
