@@ -6,7 +6,7 @@ use std::alloc::Global;
 const MARK: usize = 3_141_592;
 
 /// Most growths that a sweep goes through: a delivery meets fewer.
-pub(crate) const MOST_GROWTHS: usize = 64;
+pub(crate) const MOST_GROWTHS: usize = 256;
 
 /// Asks that the growth `nth` from here on is refused.
 pub(crate) fn refuse(alloc: Global, nth: usize) {
