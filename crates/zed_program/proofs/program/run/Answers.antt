@@ -23,7 +23,7 @@ returns-clause-saves g c = λ t out file files spelled plain at calm.
 
 pub returns-clause-saves_sets : goal.returns-clause-saves_sets
 returns-clause-saves_sets g c = λ t out world lists asks at calm.
-    run_of_texts [] (written_is_read c.one_reading.ensures.one c.one_reading.ensures.file) (map string_bytes c.args.words.now) t out world lists c.run_words.result _ asks
+    run_of_texts _ (written_is_read c.one_reading.ensures.one c.one_reading.ensures.file) (map string_bytes c.args.words.now) t out world lists c.run_words.result _ asks
     (returns-clause-ends_calmly g c t (Save out asks.files) asks.asks at calm)
 
 pub returns-clause-reads_back : goal.returns-clause-reads_back
