@@ -9,7 +9,9 @@ use Rattle.zed_op.specs.declared.op.Edit.{Edit}
 use Rattle.zed_program.specs.declared.host.WriteError.{WriteError}
 use Rattle.zed_program.specs.declared.refusal.Refusal.{Refusal}
 use Rattle.zed_program.specs.declared.refusal.Refusal.TheVariants.{File, Memory}
-use Rattle.zed_program.specs.Devices.{Devices}
+use Rattle.zed_play.specs.declared.key.Key.{Key}
+use Rattle.zed_session.specs.Links.{LinkSeen}
+use Rattle.zed_program.specs.Devices.{Devices, devices}
 use Rattle.zed_words.specs.Commands.{Command, Save, Check, New, Edit as EditFile, Merge, Show, Play}
 use Rattle.zed_program.specs.Shown.{IsPlayed, IsShown, OfSet, PlaysFile, words_in}
 use Rattle.zed_program.specs.Edited.{FileEdits, IsEdited}
@@ -279,3 +281,32 @@ pub read_made : (failed : Type 0) (t : HostContents) (file bytes : List ℕ) (na
     → MatchResult result (λ text. IsFirstWorld failed t (Some file) name (Ok text.items)) (λ e. (e ≡ Memory) ⊎ IsFirstWorld failed t (Some file) name (Err e))
 read_made failed t file bytes name (Ok text) held is = (Some bytes, inl (sym held), sym is)
 read_made failed t file bytes name (Err e) held why = elim why [ inl memory ↦ inl memory | inr is ↦ inr (Some bytes, inl (sym held), sym is) ]
+
+-- ---- other links
+
+file_of_links : (links : List LinkSeen) (screen : Bool) (keys : Option (List Key)) (steady : Bool) (read : Option (List ℕ)) (board : ℕ) (Collected : Result (List Edit) Refusal → Type 0)
+    (r : Result (List ℕ) Refusal) → PlaysFile (devices [] screen keys steady) read board Collected r → PlaysFile (devices links screen keys steady) read board Collected r
+file_of_links links screen keys steady None board Collected r is = is
+file_of_links links screen keys steady (Some bytes) board Collected r is = is
+
+-- what comes to the same ends so
+ends_as : (failed : Type 0) (d e : Devices) (command : Command) (t : HostContents) (result : Result ⊤ Refusal) (new : Option HostContents)
+    → ((r : Result Effect Refusal) → ComesTo failed d command t r → ComesTo failed e command t r) → Ends failed d command t result new → Ends failed e command t result new
+ends_as failed d e command t (Ok u) new so ends = (ends.0, so (Ok ends.0) ends.1, ends.2)
+ends_as failed d e command t (Err x) new so ends = (
+  ends.0,
+  elim ends.1 [
+    | inl before ↦ inl (before.0, elim before.1 [ inl memory ↦ inl memory | inr comes ↦ inr (so (Err x) comes) ])
+    | inr half ↦ inr (half.0, half.1, (half.2.0, so (Ok half.2.0) half.2.1, half.2.2))
+  ],
+  ends.2,
+)
+
+-- a playtest takes no link
+pub play_ends : (failed : Type 0) (links : List LinkSeen) (screen : Bool) (keys : Option (List Key)) (steady : Bool) (board : ℕ) (chance : List ℕ) (files : List (List ℕ)) (t : HostContents)
+    (result : Result ⊤ Refusal) (new : Option HostContents) → Ends failed (devices [] screen keys steady) (Play board chance files) t result new
+    → Ends failed (devices links screen keys steady) (Play board chance files) t result new
+play_ends failed links screen keys steady board chance files t result new =
+    ends_as failed (devices [] screen keys steady) (devices links screen keys steady) (Play board chance files) t result new (λ r comes.
+    let is = comes.1 in
+    (comes.0, (is.0, is.1, file_of_links links screen keys steady is.0 board (Collects failed t files) comes.0 is.2), comes.2))

@@ -1,5 +1,5 @@
 -- What a session answers, as a command tells it.
-use Rattle.std.proofs.Common.{◌≡◌, ◌∙◌, ◌≢◌, ℕ, Bool, List, [], ◌∷◌, drop, true, false, Option, Some, None, Result, Ok, Err, MatchResult, ap, refl, slice_get, subst, sym, inl, inr}
+use Rattle.std.proofs.Common.{◌≡◌, ◌∙◌, ◌≢◌, ℕ, Bool, List, [], ◌∷◌, drop, true, false, Option, Some, None, Result, Ok, Err, MatchResult, ap, ap₂, refl, slice_get, subst, sym, inl, inr}
 use Rattle.std.specs.Prelude.{◌⊎◌, is_some, option_map}
 use Rattle.zed_world.specs.declared.board.BoardData.{BoardData}
 use Rattle.zed_world.specs.declared.header.Header.{Header}
@@ -27,6 +27,10 @@ use Rattle.zed_program.specs.declared.refusal.Refusal.TheVariants.{Memory}
 use Rattle.zed_program.specs.Refusals.{export_refusal, session_refusal}
 use Rattle.zed_program.specs.Devices.{Devices}
 use Rattle.zed_program.specs.Shown.{Course, EndsPlay, GoesOn, IsOver, IsPlayed, IsShown, OfBoard, OfSet, OfWorld, Plays}
+
+-- what is told of one thing is told of the same
+pub same_told : {X Y : Type 0} (x y : X) (tell : X → Y) → x ≡ y → tell x ≡ tell y
+same_told x y tell same = ap tell same
 
 -- ---- how a playtest starts
 
@@ -121,9 +125,11 @@ shown_of d e same sound = rw (same, sound) refl
 
 -- ---- what a key comes to
 
--- a record is made of its fields
-playing_of : (now : Playing) → now ≡ record { playtest = now.playtest; kept = now.kept }
-playing_of now = refl
+-- where a playtest goes on and no key is kept, that is all
+playing_is : (now : Playing) (p : Playtest) → now.playtest ≡ Some p → now.kept ≡ None → now ≡ record { playtest = Some p; kept = None }
+playing_is now p played kept =
+    let make : Option Playtest → Option Key → Playing = λ o k. record { playtest = o; kept = k } in
+    ap₂ make played kept
 
 -- where no key is handed over, what is left is as it was
 no_more : (keys left : Option (List Key)) → Takes None keys None left → left ≡ keys
@@ -153,10 +159,10 @@ key_steps used words old new keys left c at same plays =
     let none = kept_none old c.play at.0 in
     let takes : Takes None c.keys (Some key) left = rw (none, at.1) at plays.1 in
     let is : p ≡ c.play = same_play p c.play old.playtest step.2 (ap (λ (o : Playing). o.playtest) at.0) in
-    let steps : Steps (Ok used) key c.play c.words q = rw (is, same) at step.4 in
+    let made : Steps (Ok used) key c.play words q = subst (λ x. Steps (Ok used) key x words q) is step.4 in
+    let steps : Steps (Ok used) key c.play c.words q = subst (λ ws. Steps (Ok used) key c.play ws q) same made in
     let d : Course = record { play = q; words = drop used c.words; keys = left } in
-    let playing : new ≡ record { playtest = Some q; kept = None } = rw (step.3, plays.3) (playing_of new) in
-    (d, (key, used, takes, steps, refl), (playing, refl), ap (λ ws. drop used ws) (sym same))
+    (d, (key, used, takes, steps, refl), (playing_is new q step.3 plays.3, refl), ap (λ ws. drop used ws) (sym same))
 
 -- no key was left
 pub no_key : (words : List ℕ) (old new : Playing) (keys left : Option (List Key)) (c : Course) → IsAt c old keys
@@ -185,8 +191,9 @@ key_refused session.NoWords d n words old new keys left c at same going may fail
     let none = kept_none old c.play at.0 in
     let takes : Takes None c.keys (Some key) left = rw (none, at.1) at plays.1 in
     let is : p ≡ c.play = same_play p c.play old.playtest step.2 (ap (λ (o : Playing). o.playtest) at.0) in
-    let made : Steps (Err step_error.NoWords) key c.play c.words q = rw (is, same) at step.4 in
-    let stays : Steps (Err step_error.NoWords) key c.play c.words c.play = rw made.2 at made in
+    let by_words : Steps (Err step_error.NoWords) key c.play words q = subst (λ x. Steps (Err step_error.NoWords) key x words q) is step.4 in
+    let made : Steps (Err step_error.NoWords) key c.play c.words q = subst (λ ws. Steps (Err step_error.NoWords) key c.play ws q) same by_words in
+    let stays : Steps (Err step_error.NoWords) key c.play c.words c.play = (made.0, (made.1.0, refl)) in
     inr (inr (inl (refl, (key, left, takes, stays))))
 key_refused session.Memory d n words old new keys left c at same going may fails plays = inl refl
 key_refused session.ScreenFault d n words old new keys left c at same going may fails plays = inr (inr (inr (inr (inl (refl, fails refl)))))

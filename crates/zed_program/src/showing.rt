@@ -25,7 +25,8 @@ fn show_board(
     requires { document.is_stale ≡ false }
     ensures { MatchResult result
         (λ _. OfSet (Ok document.edits) board (IsShown (screen_unfailing screen)) (Ok tt))
-        (λ e. (e ≡ Refusal.Memory) ⊎ OfSet (Ok document.edits) board (IsShown (screen_unfailing screen)) (Err e)) }
+        (λ e. (e ≡ Refusal.Memory)
+        ⊎ OfSet (Ok document.edits) board (IsShown (screen_unfailing screen)) (Err e)) }
 {
     let mut session = Session::new(alloc, document, screen, keys);
     session.show(board)?;

@@ -5,45 +5,51 @@ use Rattle.zed_play.specs.Playtest.{Playtest}
 use Rattle.zed_program.specs.declared.refusal.Refusal.TheVariants.{TooManyTurns}
 use Rattle.zed_program.specs.Devices.{Devices, devices}
 use Rattle.zed_program.specs.Lines.{told_of}
-use Rattle.zed_program.specs.Shown.{most_keys}
+use Rattle.zed_program.specs.Shown.{Course, most_keys}
 use Rattle.zed_program.specs.Refusals.{session_refusal}
 use Rattle.zed_session.specs.declared.playing.Playing.{Playing}
-use Rattle.zed_program.proofs.Played.{key_refused, key_steps, lent_is, no_key, not_some, play_begins, shown_of, still_lent}
+use Rattle.zed_program.proofs.Played.{course, key_refused, key_steps, lent_is, no_key, not_some, play_begins, same_told, shown_of, still_lent}
 use Rattle.zed_program.proofs.Stepping.{at_start, none_more, one_more}
 use Rattle.zed_program.proofs.playing.play_board.Goals as goal
 
 -- it doesn't begin
 pub returns-in_err-play : goal.returns-in_err-play
 returns-in_err-play g c =
+    let stage : Devices =
+    devices [] ((goal.Screen-dyn g (c.args.screen.vtable, c.args.screen.value)).screen_unfailing c.args.screen.value)
+    ((goal.Keys-dyn g (c.args.keys.vtable, c.args.keys.value)).left c.args.keys.value)
+    ((goal.Keys-dyn g (c.args.keys.vtable, c.args.keys.value)).keys_unfailing c.args.keys.value) in
     let p = err_from_is_err_and c.from_residual.result c.from_residual.ensures.1 in
     let same : p.0 ≡ session_refusal c.in_err-play.field-0.0 = p.2 in
     let d = c.args.document in
-    rw (p.1, same) (play_begins _ d.edits c.args.board c.args.words.now c.play.new.self.stage.playing (Err c.in_err-play.field-0.0)
+    rw (p.1, same) (play_begins stage d.edits c.args.board c.args.words.now c.play.new.self.stage.playing (Err c.in_err-play.field-0.0)
     (rw (shown_of c.new-session.result.document d c.new-session.ensures.document c.requires) at c.in_err-play.ensures.result))
 
 -- it begins
 pub loop-init : goal.loop-init
 loop-init g c =
-    let steady = λ screen. (goal.Screen-dyn g (screen.vtable, screen.value)).screen_unfailing screen.value in
-    let left = λ keys. (goal.Keys-dyn g (keys.vtable, keys.value)).left keys.value in
-    let calm = λ keys. (goal.Keys-dyn g (keys.vtable, keys.value)).keys_unfailing keys.value in
-    let stage : Devices = devices [] (steady c.args.screen) (left c.args.keys) (calm c.args.keys) in
+    let stage : Devices =
+    devices [] ((goal.Screen-dyn g (c.args.screen.vtable, c.args.screen.value)).screen_unfailing c.args.screen.value)
+    ((goal.Keys-dyn g (c.args.keys.vtable, c.args.keys.value)).left c.args.keys.value)
+    ((goal.Keys-dyn g (c.args.keys.vtable, c.args.keys.value)).keys_unfailing c.args.keys.value) in
     let d = c.args.document in
     let begins = play_begins stage d.edits c.args.board c.args.words.now c.play.new.self.stage.playing (Ok c.in_ok-play.field-0)
     (rw (shown_of c.new-session.result.document d c.new-session.ensures.document c.requires) at c.in_ok-play.ensures.result) in
-    let first = record { play = begins.0; words = c.args.words.now; keys = left c.args.keys } in
+    let first : Course = course stage begins.0 c.args.words.now in
     let screen = c.in_ok-play.ensures.screen ∙ c.new-session.ensures.screen in
     let keys = c.in_ok-play.ensures.keys ∙ c.new-session.ensures.keys in
+    let left = same_told c.play.new.self.stage.keys c.args.keys (λ keys. (goal.Keys-dyn g (keys.vtable, keys.value)).left keys.value) keys in
     record {
+      stage = stage;
       first = first;
       now = first;
-      at = (begins.1, ap left keys);
+      at = (begins.1, left);
       words = refl;
       going = begins.2;
       few = omega arith;
       leads = at_start first;
-      screen = ap steady screen;
-      keys = ap calm keys;
+      screen = same_told c.play.new.self.stage.screen c.args.screen (λ screen. (goal.Screen-dyn g (screen.vtable, screen.value)).screen_unfailing screen.value) screen;
+      keys = same_told c.play.new.self.stage.keys c.args.keys (λ keys. (goal.Keys-dyn g (keys.vtable, keys.value)).keys_unfailing keys.value) keys;
       comes = begins.3;
     }
 
@@ -54,11 +60,12 @@ returns-in_err-used g c =
     let same : p.0 ≡ session_refusal c.in_err-used.field-0.0 = p.2 in
     let old = c.loop.invariant in
     let e = c.in_err-used.field-0.0 in
-    let may = λ fault. sym old.keys ∙ c.in_err-used.ensures.keys_may_fail (ap (λ x. Err x) fault) in
-    let fails = λ fault. sym old.screen ∙ c.in_err-used.ensures.screen_may_fail (ap (λ x. Err x) fault) in
-    rw (p.1, same) (elim (key_refused e _ c.loop.counter c.loop.left.now _ _ _ _ old.now old.at old.words old.going may fails c.in_err-used.ensures.result) [
+    let ends = key_refused e old.stage c.loop.counter c.loop.left.now _ _ _ _ old.now old.at old.words old.going
+    (λ fault. sym old.keys ∙ c.in_err-used.ensures.keys_may_fail (ap (λ x. Err x) fault))
+    (λ fault. sym old.screen ∙ c.in_err-used.ensures.screen_may_fail (ap (λ x. Err x) fault)) c.in_err-used.ensures.result in
+    rw (p.1, same) (elim ends [
       | inl memory ↦ inl memory
-      | inr ends ↦ inr (old.comes (Err (session_refusal e)) (c.loop.counter, old.now, old.few, none_more c.loop.counter old.first old.now old.leads, ends))
+      | inr how ↦ inr (old.comes (Err (session_refusal e)) (c.loop.counter, old.now, old.few, none_more c.loop.counter old.first old.now old.leads, how))
     ])
 
 -- no key is left
@@ -83,9 +90,13 @@ returns-then-is_some g c =
     let leads = one_more c.loop.counter old.first old.now now old.leads step.1 in
     let below = c.loop-test.true in
     let few : c.loop.counter + 1 ≤ most_keys = omega (arith, below) in
-    old.comes (Ok c.in_ok-told-2.field-0.items)
-    (c.loop.counter + 1, now, few, none_more (c.loop.counter + 1) old.first now leads,
-    inl (ap (λ t. Ok t) text, inl (ap is_some (sym ending) ∙ sym c.is_some.ensures ∙ c.if-is_some.true)))
+    old.comes (Ok c.in_ok-told-2.field-0.items) (
+      c.loop.counter + 1,
+      now,
+      few,
+      none_more (c.loop.counter + 1) old.first now leads,
+      inl (ap (λ t. Ok t) text, inl (ap is_some (sym ending) ∙ sym c.is_some.ensures ∙ c.if-is_some.true)),
+    )
 
 -- a step was made, and it goes on
 pub loop-preserved : goal.loop-preserved
@@ -97,6 +108,7 @@ loop-preserved g c =
     let ending : c.ending.result ≡ now.play.ending = c.ending.ensures.result ∙ ap (λ (p : Playtest). p.ending) play in
     let below = c.loop-test.true in
     record {
+      stage = old.stage;
       first = old.first;
       now = now;
       at = step.2;

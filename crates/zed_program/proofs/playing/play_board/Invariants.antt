@@ -6,22 +6,21 @@ use Rattle.zed_program.proofs.Played.{IsAt}
 use Rattle.zed_program.proofs.Stepping.{Leads}
 use Rattle.zed_program.proofs.playing.play_board.Given as goal
 
--- the playtest goes on: its steps follow on those from the first, and the devices fail no more than they did
+-- the playtest goes on: its steps follow on those from the first, and the devices may fail no more than they might
 abbrev pub invariant-loop : goal.invariant-loop
-invariant-loop g l =
-    let steady = λ screen. (goal.Screen-dyn g (screen.vtable, screen.value)).screen_unfailing screen.value in
-    let left = λ keys. (goal.Keys-dyn g (keys.vtable, keys.value)).left keys.value in
-    let calm = λ keys. (goal.Keys-dyn g (keys.vtable, keys.value)).keys_unfailing keys.value in
-    let stage : Devices = devices [] (steady l.fn.screen) (left l.fn.keys) (calm l.fn.keys) in
-    record {
-      first : Course;
-      now : Course;
-      at : IsAt now l.session.stage.playing (left l.session.stage.keys);
-      words : l.left ≡ now.words;
-      going : now.play.ending ≡ None;
-      few : l.counter ≤ most_keys;
-      leads : Leads l.counter first now;
-      screen : steady l.session.stage.screen ≡ steady l.fn.screen;
-      keys : calm l.session.stage.keys ≡ calm l.fn.keys;
-      comes : (r : Result (List ℕ) Refusal) → Plays stage first r → OfSet (Ok l.fn.document.edits) l.fn.board (IsPlayed stage l.words) r;
-    }
+invariant-loop g l = record {
+  stage : Devices;
+  first : Course;
+  now : Course;
+  at : IsAt now l.session.stage.playing ((goal.Keys-dyn g (l.session.stage.keys.vtable, l.session.stage.keys.value)).left l.session.stage.keys.value);
+  words : l.left ≡ now.words;
+  going : now.play.ending ≡ None;
+  few : l.counter ≤ most_keys;
+  leads : Leads l.counter first now;
+  screen : (goal.Screen-dyn g (l.session.stage.screen.vtable, l.session.stage.screen.value)).screen_unfailing l.session.stage.screen.value ≡ stage.screen_unfailing;
+  keys : (goal.Keys-dyn g (l.session.stage.keys.vtable, l.session.stage.keys.value)).keys_unfailing l.session.stage.keys.value ≡ stage.keys_unfailing;
+  comes : (r : Result (List ℕ) Refusal) → Plays stage first r → OfSet (Ok l.fn.document.edits) l.fn.board
+      (IsPlayed (devices [] ((goal.Screen-dyn g (l.fn.screen.vtable, l.fn.screen.value)).screen_unfailing l.fn.screen.value)
+      ((goal.Keys-dyn g (l.fn.keys.vtable, l.fn.keys.value)).left l.fn.keys.value)
+      ((goal.Keys-dyn g (l.fn.keys.vtable, l.fn.keys.value)).keys_unfailing l.fn.keys.value)) l.words) r;
+}

@@ -1,3 +1,6 @@
+use Rattle.zed_session.specs.Links.{seen}
+use Rattle.zed_program.proofs.Endings.{play_ends}
+use Rattle.zed_program.proofs.Joined.{each_of}
 use Rattle.zed_program.proofs.program.act.Goals as goal
 
 pub returns-in-Save-clause-ends : goal.returns-in-Save-clause-ends
@@ -16,4 +19,9 @@ pub returns-in-Show-clause-ends : goal.returns-in-Show-clause-ends
 returns-in-Show-clause-ends g c = λ t at. rw (c.in-Show.is, ← c.as_slice-in-Show.ensures.value) (c.show.ensures.ends t at)
 
 pub returns-in-Play-clause-ends : goal.returns-in-Play-clause-ends
-returns-in-Play-clause-ends g c = λ t at. rw (c.in-Play.is, ← c.as_slice-in-Play.ensures.value) (c.play.ensures.ends t at)
+returns-in-Play-clause-ends g c = λ t at.
+    let links = each_of c.args.links.items (λ link. seen ((goal.Link-dyn g (link.vtable, link.value)).ends link.value) ((goal.Link-dyn g (link.vtable, link.value)).reads link.value)) in
+    rw (c.in-Play.is, ← c.as_slice-in-Play.ensures.value) (play_ends _ links
+    ((goal.Screen-dyn g (c.args.screen.vtable, c.args.screen.value)).screen_unfailing c.args.screen.value)
+    ((goal.Keys-dyn g (c.args.keys.vtable, c.args.keys.value)).left c.args.keys.value)
+    ((goal.Keys-dyn g (c.args.keys.vtable, c.args.keys.value)).keys_unfailing c.args.keys.value) _ _ _ t _ _ (c.play.ensures.ends t at))
