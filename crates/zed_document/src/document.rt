@@ -60,7 +60,7 @@ impl Document {
     ghost use Rattle.zed_op.specs.Sizes.{HaveSizes};
     ghost use Rattle.zed_document.specs.Merge.{Agree, AnswersMerge, below};
     ghost use Rattle.zed_types.specs.declared.stamp.Stamp.{Stamp as TheStamp};
-    ghost use Rattle.zed_document.specs.Counts.{count_of};
+    ghost use Rattle.zed_document.specs.Counts.{NoCountFalls, count_of};
     ghost use Rattle.zed_document.specs.Visits.{TellsVisits};
 
     /// A document of the world with this number, with no edit. It takes no memory.
@@ -280,6 +280,7 @@ impl Document {
             → (s : TheStamp) × (self.new.edits ≡ union self.old.edits (below s other.now.edits)) }
         ensures world { self.new.world ≡ self.old.world }
         ensures sound { OnOk result (self.new.is_stale ≡ false) }
+        ensures falls { OnOk result (NoCountFalls self.old.counts self.new.counts) }
     {
         if self.is_stale {
             return Err(DocumentError::Stale);
@@ -304,6 +305,7 @@ impl Document {
         ensures kept { OnErr result (self.new.edits ≡ self.old.edits) }
         ensures world { self.new.world ≡ self.old.world }
         ensures sound { OnOk result (self.new.is_stale ≡ false) }
+        ensures falls { OnOk result (NoCountFalls self.old.counts self.new.counts) }
     {
         let edits = copies(*self.edits.allocator(), other)?;
         sets_rise();
@@ -322,6 +324,7 @@ impl Document {
         ensures kept { OnErr result (self.new.edits ≡ self.old.edits) }
         ensures world { self.new.world ≡ self.old.world }
         ensures sound { OnOk result (self.new.is_stale ≡ false) }
+        ensures falls { OnOk result (NoCountFalls self.old.counts self.new.counts) }
     {
         let alloc = *self.edits.allocator();
         let Batch { edits, clash } = gather(alloc, &self.edits, edits)?;
@@ -341,6 +344,7 @@ impl Document {
         ensures kept { OnErr result (self.new.edits ≡ self.old.edits) }
         ensures world { self.new.world ≡ self.old.world }
         ensures sound { OnOk result (self.new.is_stale ≡ false) }
+        ensures falls { OnOk result (NoCountFalls self.old.counts self.new.counts) }
     {
         if edits.is_empty() {
             return Ok(());
@@ -376,6 +380,8 @@ impl Document {
         ensures world { self.new.world ≡ self.old.world }
         ensures stale { (result ≢ Err DocumentError.Memory)
             → self.new.is_stale ≡ self.old.is_stale }
+        ensures falls { (result ≢ Err DocumentError.Memory)
+            → NoCountFalls self.old.counts self.new.counts }
         ensures memory_only_when { result ≡ Err DocumentError.Memory
             → (self.old.is_stale ≡ false) × HasNew self.old.edits edits.items }
     {

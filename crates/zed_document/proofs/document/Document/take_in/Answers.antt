@@ -7,3 +7,6 @@ pub returns-clause-edits : goal.returns-clause-edits
 returns-clause-edits c =
     let joins : JoinOn c.args.self.now.edits c.args.other.now c.in_ok-join_all.field-0 c.join_all.new.self.edits = subst (λ es. JoinOn c.args.self.now.edits es c.in_ok-join_all.field-0 c.join_all.new.self.edits) c.in_ok-edits.ensures.ok c.in_ok-join_all.ensures.joins in
     join_agrees c.sets_rise.ensures.edit c.args.self.now.edits c.args.other.now c.in_ok-join_all.field-0 c.join_all.new.self.edits c.requires.rising c.requires.agree joins
+
+pub returns-clause-falls : goal.returns-clause-falls
+returns-clause-falls c = c.in_ok-join_all.ensures.falls
