@@ -134,6 +134,11 @@ joined-each d (e ∷ es) clash left sound fit h =
       | inr other ↦ inr (Clash e.stamp, clash-answer d e sound fit.0 other.0, ap unless_clash other.1, other.2)
     ]
 
+-- where one of them is new, there is one
+pub some-new : (es fs : List Edit) → HasNew es fs → fs ≢ []
+some-new es [] h none = h
+some-new es (f ∷ fs) h none = absurd (let bad : f ∷ fs ≡ [] = none in cc)
+
 -- part of the edits are in the map, and the rest is still to join the log
 pub record IsGoing (log all rest : List Edit) (m : Entries) : Type 0 where
   pub edits : List Edit

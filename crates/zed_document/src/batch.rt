@@ -113,6 +113,7 @@ pub(crate) fn gather(alloc: Global, log: &[Edit], edits: Vec<Edit>) -> Result<Ba
 pub(crate) fn copies(alloc: Global, edits: &[Edit]) -> Result<Vec<Edit>, DocumentError>
     ensures ok { IfOk result (λ copies. copies.items ≡ edits.now) }
     ensures err { IfErr result (λ e. e ≡ DocumentError.Memory) }
+    ensures some { OnErr result (edits.now ≢ []) }
 {
     let mut copies = Vec::new(alloc);
     push_copies(&mut copies, edits)?;

@@ -281,6 +281,7 @@ impl Document {
         ensures world { self.new.world ≡ self.old.world }
         ensures sound { OnOk result (self.new.is_stale ≡ false) }
         ensures falls { OnOk result (NoCountFalls self.old.counts self.new.counts) }
+        ensures memory_only_when { result ≡ Err DocumentError.Memory → other.now.edits ≢ [] }
     {
         if self.is_stale {
             return Err(DocumentError::Stale);
@@ -302,6 +303,7 @@ impl Document {
         requires agree { Agree self.old.edits other.now }
         ensures edits { OnOk result (self.new.edits ≡ union self.old.edits other.now) }
         ensures err { IfErr result (λ e. e ≡ DocumentError.Memory) }
+        ensures some { OnErr result (other.now ≢ []) }
         ensures kept { OnErr result (self.new.edits ≡ self.old.edits) }
         ensures world { self.new.world ≡ self.old.world }
         ensures sound { OnOk result (self.new.is_stale ≡ false) }

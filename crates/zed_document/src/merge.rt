@@ -2,7 +2,7 @@
 
 // The merge of two logs, each walked once.
 
-ghost use Rattle.std.specs.Prelude.{◌≡◌, ◌≢◌, ◌<◌, ◌≤◌, ◌-◌, ◌++◌, ◌∷◌, [], true, false, None, length, take, drop, slice_get, IfSome, IfNone, IfOk, IfErr, IsSomeAnd, OnOk};
+ghost use Rattle.std.specs.Prelude.{◌≡◌, ◌≢◌, ◌<◌, ◌≤◌, ◌-◌, ◌++◌, ◌∷◌, [], true, false, None, length, take, drop, slice_get, IfSome, IfNone, IfOk, IfErr, IsSomeAnd, OnErr, OnOk};
 ghost use Rattle.std.specs.Bool.{OnTrue, OnFalse};
 ghost use Rattle.zed_types.specs.declared.stamp.Stamp.{Stamp as TheStamp};
 ghost use Rattle.zed_types.specs.Stamp.{before, same_stamp};
@@ -45,6 +45,7 @@ fn push_copy(joined: &mut Vec<Edit>, edit: &Edit) -> Result<(), DocumentError>
 pub(crate) fn push_copies(joined: &mut Vec<Edit>, edits: &[Edit]) -> Result<(), DocumentError>
     ensures ok { OnOk result (joined.new.items ≡ joined.old.items ++ edits.now) }
     ensures err { IfErr result (λ e. e ≡ DocumentError.Memory) }
+    ensures some { OnErr result (edits.now ≢ []) }
 {
     for edit in edits {
         push_copy(joined, edit)?;

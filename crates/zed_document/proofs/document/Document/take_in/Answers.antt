@@ -1,6 +1,8 @@
-use Rattle.std.proofs.Common.{subst}
+use Rattle.std.proofs.Common.{List, [], subst}
+use Rattle.std.specs.Prelude.{◌≢◌}
+use Rattle.zed_op.specs.declared.op.Edit.{Edit}
 use Rattle.zed_document.specs.Batch.{JoinOn}
-use Rattle.zed_document.proofs.Batches.{join_agrees}
+use Rattle.zed_document.proofs.Batches.{join_agrees, some-new}
 use Rattle.zed_document.proofs.document.Document.take_in.Goals as goal
 
 pub returns-clause-edits : goal.returns-clause-edits
@@ -10,3 +12,7 @@ returns-clause-edits c =
 
 pub returns-clause-falls : goal.returns-clause-falls
 returns-clause-falls c = c.in_ok-join_all.ensures.falls
+
+pub returns-in_err-join_all-clause-some : goal.returns-in_err-join_all-clause-some
+returns-in_err-join_all-clause-some c =
+    subst (λ (es : List Edit). es ≢ []) c.in_ok-edits.ensures.ok (some-new c.args.self.now.edits c.in_ok-edits.edits.items c.in_err-join_all.ensures.new)
