@@ -66,11 +66,11 @@ fn a_removed_stat_keeps_its_fields_and_stays_removed(rt: HostRuntime) -> Result<
     assert_eq!(rt; id, stat(3));
     assert!(rt; removed.removed);
     assert_eq!(rt;
-        stats.at(1).1.values.value(StatField::Byte(StatByte::X)),
+        stats.field(1, StatField::Byte(StatByte::X)),
         StatSetting::Byte(StatByte::X, 60)
     );
     assert_eq!(rt;
-        stats.at(1).1.values.value(StatField::Byte(StatByte::Y)),
+        stats.field(1, StatField::Byte(StatByte::Y)),
         StatSetting::Byte(StatByte::Y, 3)
     );
     Ok(())
@@ -86,27 +86,19 @@ fn a_field_keeps_the_later_write(rt: HostRuntime) -> Result<(), Fail> {
     stats.remove(stat(2));
     assert_eq!(rt; stats.count(), 4);
     assert_eq!(rt;
-        stats
-            .at(2)
-            .1
-            .values
-            .value(StatField::Number(StatNumber::Cycle)),
+        stats.field(2, StatField::Number(StatNumber::Cycle)),
         StatSetting::Number(StatNumber::Cycle, 3)
     );
     assert_eq!(rt;
-        stats
-            .at(2)
-            .1
-            .values
-            .value(StatField::Number(StatNumber::Position)),
+        stats.field(2, StatField::Number(StatNumber::Position)),
         StatSetting::Number(StatNumber::Position, 5)
     );
     assert_eq!(rt;
-        stats.at(2).1.values.value(StatField::Leader),
+        stats.field(2, StatField::Leader),
         StatSetting::Leader(Some(stat(3)))
     );
     assert_eq!(rt;
-        stats.at(2).1.values.value(StatField::Follower),
+        stats.field(2, StatField::Follower),
         StatSetting::Follower(None)
     );
     assert_eq!(rt; stats.number_of(stat(2)), Some(0));

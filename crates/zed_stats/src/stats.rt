@@ -1,10 +1,11 @@
 //! The stats of a board.
 
-ghost use Rattle.std.specs.Prelude.{◌≡◌, ◌<◌, [], length, false, slice_get, OnOk, OnErr, IfErr, Some};
-ghost use Rattle.zed_stats.specs.Fields.{new_stat, write, remove as removed};
+ghost use Rattle.std.specs.Prelude.{◌≡◌, ◌<◌, [], length, false, slice_get, OnOk, OnErr, IfErr, IfSome, Some};
+ghost use Rattle.zed_stats.specs.Fields.{new_stat, value_of, write, remove as removed};
 ghost use Rattle.zed_stats.specs.Stats.{has as is_there, add as added, change, number_of as number_in};
 
 use crate::error::StatsError;
+use crate::field::StatField;
 use crate::stat::{LiveStat, StatValues};
 use indexmap::IndexMap;
 use std::alloc::Global;
@@ -120,5 +121,14 @@ impl Stats {
     {
         let (id, stat) = self.entries.get_index(j).unwrap();
         (*id, stat)
+    }
+
+    /// The value of a field of stat j in the order of names.
+    pub fn field(&self, j: usize, field: StatField) -> StatSetting
+        requires { j < length self.now }
+        ensures { IfSome (slice_get self.now j) (λ e. result ≡ value_of field (e.1).values) }
+    {
+        let (_, stat) = self.at(j);
+        stat.values.value(field)
     }
 }
