@@ -129,7 +129,7 @@ none-set s m (rs ∷ ls) b zero xs keep none = tt
 none-set s m (rs ∷ ls) zero (suc p) xs keep none = all-both (λ r. lasts s m r ≡ false) xs (joined (take p ls)) (keep (all-left (λ r. lasts s m r ≡ false) rs (joined (take p ls)) none)) (all-right (λ r. lasts s m r ≡ false) rs (joined (take p ls)) none)
 none-set s m (rs ∷ ls) (suc b) (suc p) xs keep none = all-both (λ r. lasts s m r ≡ false) rs (joined (take p (set ls b xs))) (all-left (λ r. lasts s m r ≡ false) rs (joined (take p ls)) none) (none-set s m ls b p xs keep (all-right (λ r. lasts s m r ≡ false) rs (joined (take p ls)) none))
 
-take-set : (ls : List (List Run)) (b p : ℕ) (xs : List Run) → p ≤ b → take p (set ls b xs) ≡ take p ls
+pub take-set : (ls : List (List Run)) (b p : ℕ) (xs : List Run) → p ≤ b → take p (set ls b xs) ≡ take p ls
 take-set [] b p xs l = refl
 take-set (rs ∷ ls) b zero xs l = refl
 take-set (rs ∷ ls) zero (suc p) xs l = absurd (omega (arith, l))

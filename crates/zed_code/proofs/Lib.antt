@@ -1,5 +1,6 @@
 pub mod Alive
 pub mod Entries
+pub mod Finding
 pub mod Halves
 pub mod Hinting
 pub mod Joins

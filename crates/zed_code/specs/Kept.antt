@@ -1,5 +1,5 @@
 -- What has of the runs of a text and their store.
-use Rattle.std.specs.Prelude.{◌≡◌, ◌≤◌, ◌<◌, ℕ, ◌+◌, ◌^◌, Bool, true, false, if◌then◌else◌, nat_lt, min, List, [], ◌∷◌, length, take, slice_get, Some}
+use Rattle.std.specs.Prelude.{◌≡◌, ◌≤◌, ◌<◌, ℕ, ◌+◌, ◌^◌, Bool, true, false, if◌then◌else◌, nat_lt, min, List, [], ◌∷◌, length, take, slice_get, Option, Some}
 use Rattle.std.specs.List.{AllByRecursion, list_any}
 use Rattle.zed_types.specs.declared.stamp.Stamp.{Stamp}
 use Rattle.zed_types.specs.declared.names.ElemId.{ElemId}
@@ -8,6 +8,8 @@ use Rattle.zed_code.specs.declared.run.Run.{Run}
 use Rattle.zed_code.specs.Runs.{lasts}
 use Rattle.zed_code.specs.Blocks.{joined, NoneEmpty}
 use Rattle.zed_code.specs.Visits.{greatest}
+use Rattle.zed_code.specs.declared.search.Found.{Found}
+use Rattle.zed_code.specs.Found.{IsFound}
 
 -- a run has a byte, and its bytes are in the store
 pub record IsRun (store : List ℕ) (r : Run) : Type 0 where
@@ -74,8 +76,9 @@ AreHints hints places ls = (hint : ElemId × ℕ) → IsOne hints hint → IsHin
 abbrev pub moved : ℕ → ℕ → ℕ
 moved b p = if nat_lt b p then min (p + 1) greatest else p
 
--- what is kept of a text: its runs and their store, blocks that have runs, and hints that hold
-pub record IsWhole (store : List ℕ) (ls : List (List Run)) (es : List (ElemId × ℕ)) (places : List ℕ) : Type 0 where
+-- what is kept of a text: its runs and their store, blocks that have runs, hints that hold, and a byte that was found
+pub record IsWhole (store : List ℕ) (ls : List (List Run)) (es : List (ElemId × ℕ)) (places : List ℕ) (last : Option Found) : Type 0 where
   pub kept : AreKept store (joined ls)
   pub full : NoneEmpty ls
   pub hints : AreHints es places ls
+  pub found : IsFound last ls

@@ -2,6 +2,7 @@ pub mod Targets
 pub mod Blocks
 pub mod Cursors
 pub mod Cutting
+pub mod Found
 pub mod Halving
 pub mod Kept
 pub mod Pieces

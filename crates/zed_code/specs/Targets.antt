@@ -10,6 +10,11 @@ abbrev pub cut_bytes : Option Cut → ℕ
 cut_bytes None = 0
 cut_bytes (Some c) = c.bytes
 
+-- how many runs stand between a place and what is put there: the front of the run that is cut, if one is
+abbrev pub fronts : Option Cut → ℕ
+fronts None = 0
+fronts (Some c) = 1
+
 -- the run that is cut, if one is, is the first, and has bytes in front
 abbrev pub IsCut : Option Cut → List Run → Type 0
 IsCut None rs = Unit {0}

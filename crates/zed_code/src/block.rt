@@ -6,7 +6,7 @@ ghost use Rattle.zed_code.specs.declared.run.Run.{Run as SpecRun};
 ghost use Rattle.zed_code.specs.Runs.{put_in as put_into};
 ghost use Rattle.zed_code.specs.Kept.{IsSound};
 ghost use Rattle.zed_code.specs.Blocks.{lists, list_at, HasRoom};
-ghost use Rattle.zed_code.specs.Targets.{cut_bytes, IsCut};
+ghost use Rattle.zed_code.specs.Targets.{cut_bytes, fronts, IsCut};
 
 use crate::error::CodeError;
 use crate::run::Run;
@@ -48,22 +48,27 @@ pub(crate) fn reserve(block: &mut Block) -> Result<(), CodeError>
     block.runs.reserve(2).map_err(CodeError::of_growth)
 }
 
-/// Puts a run at a place, or into the run there, where that is cut.
-pub(crate) fn put_in(runs: &mut Vec<Run>, place: usize, cut: Option<Cut>, run: Run)
+/// Puts a run at a place, or into the run there, where that is cut. Answers its place.
+pub(crate) fn put_in(runs: &mut Vec<Run>, place: usize, cut: Option<Cut>, run: Run) -> usize
     requires each { AllByRecursion IsSound runs.old.items }
     requires place { place + min (cut_bytes cut) 1 ≤ length runs.old.items }
     requires cut { (r : SpecRun) (rs : List SpecRun)
         → drop place runs.old.items ≡ r ∷ rs → cut_bytes cut < r.len }
     requires there { IsCut cut (drop place runs.old.items) }
     requires room { vec_len runs.old + 2 ≤ vec_capacity runs.old }
-    ensures { runs.new.items ≡ put_into place (cut_bytes cut) run runs.old.items }
+    ensures runs { runs.new.items ≡ put_into place (cut_bytes cut) run runs.old.items }
+    ensures place { result ≡ place + fronts cut }
 {
     match cut {
-        None => runs.insert(place, run).unwrap(),
+        None => {
+            runs.insert(place, run).unwrap();
+            place
+        }
         Some(cut) => {
             runs[place] = cut.there.front(cut.bytes);
             runs.insert(place + 1, cut.there.back(cut.bytes)).unwrap();
             runs.insert(place + 1, run).unwrap();
+            place + 1
         }
     }
 }

@@ -5,6 +5,7 @@ ghost use Rattle.std.specs.List.{AllByRecursion, list_any};
 ghost use Rattle.zed_code.specs.Blocks.{lists, list_at, runs_of, before_spot, IsIn, NoneEmpty, HasRoom};
 ghost use Rattle.zed_code.specs.Runs.{pieces, kill_runs, reaches as is_reached};
 ghost use Rattle.zed_code.specs.Kept.{IsSound, AllInOrder, NoneFrom, AreHints};
+ghost use Rattle.zed_code.specs.Found.{IsFound};
 ghost use Rattle.zed_code.specs.Visits.{raised, LooksAtSome};
 
 use crate::block::{Block, Spot};
@@ -12,7 +13,7 @@ use crate::blocks::{reserve_from, split_full};
 use crate::error::CodeError;
 use crate::place::look;
 use crate::run::Run;
-use crate::search::seek;
+use crate::search::{Found, seek};
 use std::collections::BTreeMap;
 use zed_types::{ByteRange, ElemId};
 
@@ -123,6 +124,7 @@ pub(crate) fn mark_dead(
     blocks: &mut Vec<Block>,
     places: &mut Vec<usize>,
     hints: &mut BTreeMap<ElemId, usize>,
+    found: Option<Found>,
     range: ByteRange,
     visits: &mut u64,
 ) -> Result<(), CodeError>
@@ -130,6 +132,7 @@ pub(crate) fn mark_dead(
     requires each { AllByRecursion IsSound (runs_of blocks.old.items) }
     requires ordered { AllInOrder (runs_of blocks.old.items) }
     requires hints { AreHints hints.old.entries places.old.items (lists blocks.old.items) }
+    requires found { IsFound found (lists blocks.old.items) }
     ensures ok { OnOk result
         (runs_of blocks.new.items ≡ kill_runs range (runs_of blocks.old.items)) }
     ensures err { OnErr result (runs_of blocks.new.items ≡ runs_of blocks.old.items) }
@@ -139,7 +142,7 @@ pub(crate) fn mark_dead(
         (LooksAtSome (length (runs_of blocks.old.items)) visits.old visits.new) }
 {
     let first = ElemId::new(range.stamp, range.first);
-    let at = seek(blocks, places, hints, first, visits)?;
+    let at = seek(blocks, places, hints, found, first, visits)?;
     if at.block >= blocks.len() {
         return Ok(());
     }

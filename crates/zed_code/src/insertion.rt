@@ -2,12 +2,13 @@
 
 ghost use Rattle.std.specs.Prelude.{◌≡◌, ◌∷◌, ◌<◌, ◌+◌, ◌-◌, [], ℕ, length, drop, take, set, Some, OnOk, OnErr, IfOk};
 ghost use Rattle.std.specs.List.{AllByRecursion};
-ghost use Rattle.zed_code.specs.Targets.{IsTarget, cut_bytes};
+ghost use Rattle.zed_code.specs.Targets.{IsTarget, cut_bytes, fronts};
 ghost use Rattle.zed_code.specs.Blocks.{lists, list_at, runs_of, before_spot, IsIn, NoneEmpty, HasRoom};
 ghost use Rattle.zed_code.specs.Halving.{IsSameText};
 ghost use Rattle.zed_code.specs.Runs.{put_run, put_at, pass_runs, found, put_in as put_into};
 ghost use Rattle.zed_code.specs.There.{IsThere};
 ghost use Rattle.zed_code.specs.Kept.{IsSound, AllInOrder, NoneOf, AreHints};
+ghost use Rattle.zed_code.specs.Found.{IsFound, StandsAt};
 ghost use Rattle.zed_code.specs.Visits.{raised, LooksAtSome};
 
 use crate::block::{Block, Cut, Spot, put_in, runs_at};
@@ -16,7 +17,7 @@ use crate::error::CodeError;
 use crate::hints::keep_hint;
 use crate::place::{look, pass};
 use crate::run::Run;
-use crate::search::seek;
+use crate::search::{Found, seek};
 use std::collections::BTreeMap;
 use zed_types::ElemId;
 
@@ -74,6 +75,7 @@ fn aim(
     blocks: &[Block],
     places: &[usize],
     hints: &mut BTreeMap<ElemId, usize>,
+    found: Option<Found>,
     after: Option<ElemId>,
     run: Run,
     visits: &mut u64,
@@ -84,6 +86,7 @@ fn aim(
     requires ordered { AllInOrder (runs_of blocks.now) }
     requires there { IsThere after (runs_of blocks.now) }
     requires hints { AreHints hints.old.entries places.now (lists blocks.now) }
+    requires found { IsFound found (lists blocks.now) }
     ensures runs { IfOk result (λ aim.
         put_into (before_spot aim.at (lists blocks.now)) (cut_bytes aim.cut) run (runs_of blocks.now)
         ≡ put_run after run (runs_of blocks.now)) }
@@ -95,7 +98,7 @@ fn aim(
     match after {
         None => Ok(aim_first(blocks, run, visits)),
         Some(a) => {
-            let at = seek(blocks, places, hints, a, visits)?;
+            let at = seek(blocks, places, hints, found, a, visits)?;
             Ok(aim_behind(blocks, a, at, run, visits))
         }
     }
@@ -122,21 +125,27 @@ fn make_room(
     Ok(Target { at, cut: aim.cut })
 }
 
-/// Puts a run where it goes.
-fn put_at_aim(blocks: &mut Vec<Block>, aim: Target, run: Run)
+/// Puts a run where it goes. Answers where it stands then.
+fn put_at_aim(blocks: &mut Vec<Block>, aim: Target, run: Run) -> Spot
     requires aim { IsTarget aim (lists blocks.old.items) }
     requires each { AllByRecursion IsSound (runs_of blocks.old.items) }
     requires room { AllByRecursion HasRoom (take 1 (drop aim.at.block blocks.old.items)) }
-    ensures { lists blocks.new.items ≡ set (lists blocks.old.items) aim.at.block
+    ensures runs { lists blocks.new.items ≡ set (lists blocks.old.items) aim.at.block
         (put_into aim.at.place (cut_bytes aim.cut) run (list_at aim.at.block (lists blocks.old.items))) }
+    ensures spot { result
+        ≡ record { block = aim.at.block; place = aim.at.place + fronts aim.cut } }
 {
-    put_in(&mut blocks[aim.at.block].runs, aim.at.place, aim.cut, run);
+    Spot {
+        block: aim.at.block,
+        place: put_in(&mut blocks[aim.at.block].runs, aim.at.place, aim.cut, run),
+    }
 }
 
-/// The first run of a text.
-fn put_alone(blocks: &mut Vec<Block>, places: &mut Vec<usize>, run: Run) -> Result<(), CodeError>
+/// The first run of a text. Answers where it stands.
+fn put_alone(blocks: &mut Vec<Block>, places: &mut Vec<usize>, run: Run) -> Result<Spot, CodeError>
     requires { blocks.old.items ≡ [] }
     ensures ok { OnOk result (lists blocks.new.items ≡ (run ∷ []) ∷ []) }
+    ensures spot { IfOk result (λ at. at ≡ record { block = 0; place = 0 }) }
     ensures err { OnErr result (blocks.new.items ≡ []) }
 {
     places.reserve(1).map_err(CodeError::of_growth)?;
@@ -149,26 +158,30 @@ fn put_alone(blocks: &mut Vec<Block>, places: &mut Vec<usize>, run: Run) -> Resu
         return Err(CodeError::Memory);
     }
     places.push(0).unwrap();
-    Ok(())
+    Ok(Spot { block: 0, place: 0 })
 }
 
-/// Puts a run behind the byte named, or at the head, past the runs of later edits. Memory leaves all runs as they were.
+/// Puts a run behind the byte named, or at the head, past the runs of later edits. Answers where it stands. Memory leaves
+/// all runs as they were.
 pub(crate) fn put(
     blocks: &mut Vec<Block>,
     places: &mut Vec<usize>,
     hints: &mut BTreeMap<ElemId, usize>,
+    found: Option<Found>,
     after: Option<ElemId>,
     run: Run,
     visits: &mut u64,
-) -> Result<(), CodeError>
+) -> Result<Spot, CodeError>
     requires full { NoneEmpty (lists blocks.old.items) }
     requires each { AllByRecursion IsSound (runs_of blocks.old.items) }
     requires ordered { AllInOrder (runs_of blocks.old.items) }
     requires there { IsThere after (runs_of blocks.old.items) }
     requires new { NoneOf run.stamp (runs_of blocks.old.items) }
     requires hints { AreHints hints.old.entries places.old.items (lists blocks.old.items) }
+    requires found { IsFound found (lists blocks.old.items) }
     ensures ok { OnOk result
         (runs_of blocks.new.items ≡ put_run after run (runs_of blocks.old.items)) }
+    ensures stands { IfOk result (λ at. StandsAt run at (lists blocks.new.items)) }
     ensures err { OnErr result (runs_of blocks.new.items ≡ runs_of blocks.old.items) }
     ensures full { NoneEmpty (lists blocks.new.items) }
     ensures hints { AreHints hints.new.entries places.new.items (lists blocks.new.items) }
@@ -177,13 +190,12 @@ pub(crate) fn put(
 {
     let _visits = *visits;
     if blocks.is_empty() {
-        put_alone(blocks, places, run)?;
-        return Ok(());
+        let at = put_alone(blocks, places, run)?;
+        return Ok(at);
     }
-    let wanted = aim(blocks, places, hints, after, run, visits)?;
+    let wanted = aim(blocks, places, hints, found, after, run, visits)?;
     let to = make_room(blocks, places, wanted)?;
     let first = ElemId::new(run.stamp, 0);
     keep_hint(hints, places, blocks, first, to.at.block)?;
-    put_at_aim(blocks, to, run);
-    Ok(())
+    Ok(put_at_aim(blocks, to, run))
 }

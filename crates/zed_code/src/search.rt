@@ -1,22 +1,71 @@
 //! How the run of a byte is found.
 
-ghost use Rattle.std.specs.Prelude.{◌≡◌, ◌<◌, ◌≤◌, ◌+◌, ℕ, length, IfOk};
+ghost use Rattle.std.specs.Prelude.{◌≡◌, ◌<◌, ◌≤◌, ◌+◌, ℕ, true, length, Some, IfOk, IfSome};
 ghost use Rattle.std.specs.List.{list_any};
 ghost use Rattle.zed_code.specs.Blocks.{lists, runs_of, before_spot, IsIn, NoneEmpty};
 ghost use Rattle.zed_code.specs.Kept.{AreHints, AllInOrder};
+ghost use Rattle.zed_code.specs.Found.{IsFound};
 ghost use Rattle.zed_code.specs.Runs.{sought, has as is_in};
 ghost use Rattle.zed_code.specs.Visits.{raised};
 
 use crate::block::{Block, Spot, runs_at};
 use crate::error::CodeError;
 use crate::hints::{keep_hint, start_of};
-use crate::place::find;
+use crate::place::{find, look};
 use std::collections::BTreeMap;
 use zed_types::ElemId;
 
-/// The first run that has a byte of an insertion or later ones, or the end of all blocks. Where it stands behind the
-/// block that the hints told, its own block is kept.
+/// A byte of a text that was found, and where the run stands that has it or, first, later ones of its insertion.
+#[derive(Clone, Copy, Debug)]
+pub struct Found {
+    pub id: ElemId,
+    pub at: Spot,
+}
+
+/// Where a byte was found, if it was.
+fn spot_of(found: Option<Found>, id: ElemId) -> Option<Spot>
+    ensures { IfSome result (λ at. found ≡ Some (record { id = id; at = at })) }
+{
+    match found {
+        Some(last) => { if last.id == id { Some(last.at) } else { None } }
+        None => None,
+    }
+}
+
+/// The first run that has a byte of an insertion or later ones, or the end of all blocks. It stands where it was found,
+/// or it is sought by the hints.
 pub(crate) fn seek(
+    blocks: &[Block],
+    places: &[usize],
+    hints: &mut BTreeMap<ElemId, usize>,
+    found: Option<Found>,
+    id: ElemId,
+    visits: &mut u64,
+) -> Result<Spot, CodeError>
+    requires full { NoneEmpty (lists blocks.now) }
+    requires hints { AreHints hints.old.entries places.now (lists blocks.now) }
+    requires found { IsFound found (lists blocks.now) }
+    ensures place { IfOk result (λ at. before_spot at (lists blocks.now)
+        ≡ sought id.name.stamp id.name.index (runs_of blocks.now)) }
+    ensures inside { IfOk result (λ at. at.block < length blocks.now → IsIn at 1 (lists blocks.now)) }
+    ensures end { IfOk result (λ at. length blocks.now ≤ at.block
+        → before_spot at (lists blocks.now) ≡ length (runs_of blocks.now)) }
+    ensures visits { IfOk result (λ at. (k : ℕ) × (visits.new ≡ raised visits.old k)
+        × (k ≤ before_spot at (lists blocks.now) + 1) × (k ≤ length (runs_of blocks.now))
+        × (0 < length (runs_of blocks.now) → 0 < k)) }
+    ensures hints { AreHints hints.new.entries places.now (lists blocks.now) }
+{
+    match spot_of(found, id) {
+        Some(at) => {
+            look(runs_at(blocks, at.block), at.place, visits);
+            Ok(at)
+        }
+        None => seek_by_hints(blocks, places, hints, id, visits),
+    }
+}
+
+/// The same by the hints. Where the run stands behind the block that they told, its own block is kept.
+fn seek_by_hints(
     blocks: &[Block],
     places: &[usize],
     hints: &mut BTreeMap<ElemId, usize>,
@@ -43,20 +92,62 @@ pub(crate) fn seek(
     Ok(at)
 }
 
-/// Whether some run has a byte.
-pub(crate) fn any_has(
+/// The same for whoever only asks, which counts no look at a run and keeps nothing.
+pub(crate) fn place_of(
     blocks: &[Block],
     places: &[usize],
     hints: &BTreeMap<ElemId, usize>,
     id: ElemId,
+) -> Spot
+    requires { AreHints hints.now.entries places.now (lists blocks.now) }
+    ensures place { before_spot result (lists blocks.now)
+        ≡ sought id.name.stamp id.name.index (runs_of blocks.now) }
+    ensures inside { result.block < length blocks.now → IsIn result 1 (lists blocks.now) }
+    ensures end { length blocks.now ≤ result.block
+        → before_spot result (lists blocks.now) ≡ length (runs_of blocks.now) }
+{
+    let start = start_of(hints, places, blocks, id);
+    let mut looked = 0;
+    find(blocks, start, id.name.stamp, id.name.index, &mut looked)
+}
+
+/// Whether the run that was found has a byte.
+fn found_has(blocks: &[Block], found: Option<Found>, id: ElemId) -> bool
+    requires { IsFound found (lists blocks.now) }
+    ensures { result ≡ true → list_any (is_in id) (runs_of blocks.now) ≡ true }
+{
+    match found {
+        Some(last) => {
+            let run = runs_at(blocks, last.at.block)[last.at.place];
+            run.has(id)
+        }
+        None => false,
+    }
+}
+
+/// Whether some run has a byte: the one that was found, or that which the hints tell.
+pub(crate) fn any_has(
+    blocks: &[Block],
+    places: &[usize],
+    hints: &BTreeMap<ElemId, usize>,
+    found: Option<Found>,
+    id: ElemId,
 ) -> bool
+    requires ordered { AllInOrder (runs_of blocks.now) }
+    requires hints { AreHints hints.now.entries places.now (lists blocks.now) }
+    requires found { IsFound found (lists blocks.now) }
+    ensures { result ≡ list_any (is_in id) (runs_of blocks.now) }
+{
+    found_has(blocks, found, id) || is_there(blocks, places, hints, id)
+}
+
+/// The same by the hints.
+fn is_there(blocks: &[Block], places: &[usize], hints: &BTreeMap<ElemId, usize>, id: ElemId) -> bool
     requires ordered { AllInOrder (runs_of blocks.now) }
     requires hints { AreHints hints.now.entries places.now (lists blocks.now) }
     ensures { result ≡ list_any (is_in id) (runs_of blocks.now) }
 {
-    let start = start_of(hints, places, blocks, id);
-    let mut looked = 0;
-    let at = find(blocks, start, id.name.stamp, id.name.index, &mut looked);
+    let at = place_of(blocks, places, hints, id);
     if at.block >= blocks.len() {
         return false;
     }

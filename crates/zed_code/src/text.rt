@@ -18,7 +18,7 @@ use crate::place::look_once;
 use crate::readers::{count_live, live_at, push_live};
 use crate::run::Run;
 use crate::same::spell_same;
-use crate::search::any_has;
+use crate::search::{Found, any_has, place_of};
 use std::alloc::Global;
 use std::collections::BTreeMap;
 use std::marker::Model;
@@ -34,6 +34,8 @@ pub struct Text {
     hints: BTreeMap<ElemId, usize>,
     // where the block with a number stands; blocks are halved, and so move, without a change of their hints
     places: Vec<usize>,
+    // the byte that was found or put in last, which the next edit is likely to name
+    found: Option<Found>,
 }
 
 impl Model for Text {
@@ -50,7 +52,7 @@ impl Model for Text {
       visits = t.visits;
     } };
 
-    ghost invariant = { λ t. IsWhole t.store.items (lists t.blocks.items) t.hints.entries t.places.items };
+    ghost invariant = { λ t. IsWhole t.store.items (lists t.blocks.items) t.hints.entries t.places.items t.found };
 }
 
 /// The blocks of a text that is made with so many bytes.
@@ -83,6 +85,7 @@ impl Text {
             visits: 0,
             hints: BTreeMap::new(alloc),
             places: Vec::new(alloc),
+            found: None,
         }
     }
 
@@ -105,6 +108,7 @@ impl Text {
             visits: 0,
             hints: BTreeMap::new(alloc),
             places,
+            found: None,
         })
     }
 
@@ -155,17 +159,22 @@ impl Text {
             .reserve(bytes.len())
             .map_err(CodeError::of_growth)?;
         let run = Run::whole(stamp, self.store.len(), bytes.len() as u32);
+        let last = ElemId::new(stamp, bytes.len() as u32 - 1);
+        let found = self.found;
+        self.found = None;
         let mut visits = self.visits;
-        put(
+        let at = put(
             &mut self.blocks,
             &mut self.places,
             &mut self.hints,
+            found,
             after,
             run,
             &mut visits,
         )?;
         self.store.extend_from_slice(bytes).unwrap();
         self.visits = visits;
+        self.found = Some(Found { id: last, at });
         Ok(())
     }
 
@@ -183,11 +192,14 @@ impl Text {
             first: from,
             last: to,
         };
+        let found = self.found;
+        self.found = None;
         let mut visits = self.visits;
         mark_dead(
             &mut self.blocks,
             &mut self.places,
             &mut self.hints,
+            found,
             range,
             &mut visits,
         )?;
@@ -218,7 +230,17 @@ impl Text {
     pub fn has(&self, id: ElemId) -> bool
         ensures { result ≡ list_any (λ x. same_element x.id id) (elements self.now) }
     {
-        any_has(&self.blocks, &self.places, &self.hints, id)
+        any_has(&self.blocks, &self.places, &self.hints, self.found, id)
+    }
+
+    /// Seeks a byte that the next edit names, so that it is found at once then. Nothing of the text changes.
+    pub fn expect(&mut self, id: ElemId)
+        ensures { self.new ≡ self.old }
+    {
+        let at = place_of(&self.blocks, &self.places, &self.hints, id);
+        if at.block < self.blocks.len() {
+            self.found = Some(Found { id, at });
+        }
     }
 
     /// How many runs were looked at since the text was made.

@@ -7,14 +7,14 @@ use Rattle.zed_code.specs.Runs.{front, put_in}
 use Rattle.zed_code.proofs.Puts.{put_in-whole, put_in-cut}
 use Rattle.zed_code.proofs.block.put_in.Goals as goal
 
-pub returns-in-None : goal.returns-in-None
-returns-in-None c =
+pub returns-in-None-clause-runs : goal.returns-in-None-clause-runs
+returns-in-None-clause-runs c =
     let made : c.insert.new.self.items ≡ insert c.args.runs.now.items c.args.place c.args.run = search rules in
     let none = ap cut_bytes c.in-None.is in
     made ∙ put_in-whole c.args.place (cut_bytes c.args.cut) c.args.run c.args.runs.now.items none (omega (arith, c.requires.place))
 
-pub returns-in-Some : goal.returns-in-Some
-returns-in-Some c =
+pub returns-in-Some-clause-runs : goal.returns-in-Some-clause-runs
+returns-in-Some-clause-runs c =
     let rs = c.args.runs.now.items in
     let cut = c.in-Some.cut in
     let P : Option Cut → Type 0 = λ o. IsCut o (drop c.args.place rs) in

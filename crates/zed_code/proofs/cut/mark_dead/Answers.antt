@@ -11,7 +11,11 @@ use Rattle.zed_code.proofs.Joins.{length-lists}
 use Rattle.zed_code.proofs.Hinting.{hints-of}
 use Rattle.zed_code.proofs.Kills.{joined-kill, kill-hints, kill-full}
 use Rattle.zed_code.proofs.Deaths.{place-of, kills-none, none-before}
+use Rattle.zed_code.proofs.Finding.{found-of}
 use Rattle.zed_code.proofs.cut.mark_dead.Goals as goal
+
+pub seek-requires-clause-found : goal.seek-requires-clause-found
+seek-requires-clause-found c = found-of c.args.found c.args.blocks.now.items c.deref.result.now (sym c.deref.ensures.value) c.requires.found
 
 pub seek-requires-clause-hints : goal.seek-requires-clause-hints
 seek-requires-clause-hints c = hints-of c.args.hints.now.entries c.args.places.now.items c.deref-2.result.now c.args.blocks.now.items c.deref.result.now (sym c.deref-2.ensures.value) (sym c.deref.ensures.value) c.requires.hints

@@ -47,10 +47,10 @@ put_in-requires-clause-room c =
     let n = length-lists bs in
     room-at bs c.args.aim.at.block c.index_mut.result.now (omega (arith, n, c.requires.aim.within.block)) c.index_mut.ensures.value c.requires.room
 
-pub returns : goal.returns
-returns c =
+pub returns-clause-runs : goal.returns-clause-runs
+returns-clause-runs c =
     let bs = c.args.blocks.now.items in
     let n = length-lists bs in
     let is = list_at-is bs c.args.aim.at.block c.index_mut.result.now (omega (arith, n, c.requires.aim.within.block)) c.index_mut.ensures.value in
     lists-set bs c.args.aim.at.block (record { runs = c.put_in.new.runs; id = c.index_mut.result.now.id })
-    ∙ ap (set (lists bs) c.args.aim.at.block) (c.put_in.ensures ∙ ap (put_in c.args.aim.at.place (cut_bytes c.args.aim.cut) c.args.run) (sym is))
+    ∙ ap (set (lists bs) c.args.aim.at.block) (c.put_in.ensures.runs ∙ ap (put_in c.args.aim.at.place (cut_bytes c.args.aim.cut) c.args.run) (sym is))

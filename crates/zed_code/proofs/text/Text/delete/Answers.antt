@@ -18,6 +18,7 @@ invariant_of-self-2 c =
       kept = rw made (kill_runs-keep store (bytes_from c.args.stamp c.args.from c.args.to) runs c.self.invariant.kept);
       full = c.mark_dead.ensures.full;
       hints = c.mark_dead.ensures.hints;
+      found = tt;
     }
 
 pub returns-clause-ok : goal.returns-clause-ok
