@@ -20,15 +20,36 @@ use zed_types::ElemId;
 pub struct Found {
     pub id: ElemId,
     pub at: Spot,
+    /// Whether the hints told an earlier block, so that its own is still to be kept.
+    pub is_far: bool,
 }
 
-/// Where a byte was found, if it was.
-fn spot_of(found: Option<Found>, id: ElemId) -> Option<Spot>
-    ensures { IfSome result (λ at. found ≡ Some (record { id = id; at = at })) }
+/// What was found, if it is this byte.
+fn found_of(found: Option<Found>, id: ElemId) -> Option<Found>
+    ensures found { IfSome result (λ last. found ≡ Some last) }
+    ensures id { IfSome result (λ last. last.id ≡ id) }
 {
     match found {
-        Some(last) => { if last.id == id { Some(last.at) } else { None } }
+        Some(last) => { if last.id == id { Some(last) } else { None } }
         None => None,
+    }
+}
+
+/// Keeps the block of a byte that was found, where the hints told an earlier one.
+fn keep_far(
+    blocks: &[Block],
+    places: &[usize],
+    hints: &mut BTreeMap<ElemId, usize>,
+    last: Found,
+) -> Result<(), CodeError>
+    requires hints { AreHints hints.old.entries places.now (lists blocks.now) }
+    requires found { IsFound (Some last) (lists blocks.now) }
+    ensures { AreHints hints.new.entries places.now (lists blocks.now) }
+{
+    if last.is_far {
+        keep_hint(hints, places, blocks, last.id, last.at.block)
+    } else {
+        Ok(())
     }
 }
 
@@ -55,10 +76,11 @@ pub(crate) fn seek(
         × (0 < length (runs_of blocks.now) → 0 < k)) }
     ensures hints { AreHints hints.new.entries places.now (lists blocks.now) }
 {
-    match spot_of(found, id) {
-        Some(at) => {
-            look(runs_at(blocks, at.block), at.place, visits);
-            Ok(at)
+    match found_of(found, id) {
+        Some(last) => {
+            look(runs_at(blocks, last.at.block), last.at.place, visits);
+            keep_far(blocks, places, hints, last)?;
+            Ok(last.at)
         }
         None => seek_by_hints(blocks, places, hints, id, visits),
     }
@@ -92,23 +114,26 @@ fn seek_by_hints(
     Ok(at)
 }
 
-/// The same for whoever only asks, which counts no look at a run and keeps nothing.
-pub(crate) fn place_of(
+/// The same for whoever only asks: no look at a run is counted, and nothing is kept.
+pub(crate) fn find_asked(
     blocks: &[Block],
     places: &[usize],
     hints: &BTreeMap<ElemId, usize>,
     id: ElemId,
-) -> Spot
+) -> Found
     requires { AreHints hints.now.entries places.now (lists blocks.now) }
-    ensures place { before_spot result (lists blocks.now)
+    ensures id { result.id ≡ id }
+    ensures place { before_spot result.at (lists blocks.now)
         ≡ sought id.name.stamp id.name.index (runs_of blocks.now) }
-    ensures inside { result.block < length blocks.now → IsIn result 1 (lists blocks.now) }
-    ensures end { length blocks.now ≤ result.block
-        → before_spot result (lists blocks.now) ≡ length (runs_of blocks.now) }
+    ensures inside { result.at.block < length blocks.now → IsIn result.at 1 (lists blocks.now) }
+    ensures end { length blocks.now ≤ result.at.block
+        → before_spot result.at (lists blocks.now) ≡ length (runs_of blocks.now) }
 {
     let start = start_of(hints, places, blocks, id);
     let mut looked = 0;
-    find(blocks, start, id.name.stamp, id.name.index, &mut looked)
+    let at = find(blocks, start, id.name.stamp, id.name.index, &mut looked);
+    let is_far = start < at.block;
+    Found { id, at, is_far }
 }
 
 /// Whether the run that was found has a byte.
@@ -147,7 +172,7 @@ fn is_there(blocks: &[Block], places: &[usize], hints: &BTreeMap<ElemId, usize>,
     requires hints { AreHints hints.now.entries places.now (lists blocks.now) }
     ensures { result ≡ list_any (is_in id) (runs_of blocks.now) }
 {
-    let at = place_of(blocks, places, hints, id);
+    let at = find_asked(blocks, places, hints, id).at;
     if at.block >= blocks.len() {
         return false;
     }

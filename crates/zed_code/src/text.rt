@@ -18,7 +18,7 @@ use crate::place::look_once;
 use crate::readers::{count_live, live_at, push_live};
 use crate::run::Run;
 use crate::same::spell_same;
-use crate::search::{Found, any_has, place_of};
+use crate::search::{Found, any_has, find_asked};
 use std::alloc::Global;
 use std::collections::BTreeMap;
 use std::marker::Model;
@@ -174,7 +174,11 @@ impl Text {
         )?;
         self.store.extend_from_slice(bytes).unwrap();
         self.visits = visits;
-        self.found = Some(Found { id: last, at });
+        self.found = Some(Found {
+            id: last,
+            at,
+            is_far: false,
+        });
         Ok(())
     }
 
@@ -237,9 +241,9 @@ impl Text {
     pub fn expect(&mut self, id: ElemId)
         ensures { self.new ≡ self.old }
     {
-        let at = place_of(&self.blocks, &self.places, &self.hints, id);
-        if at.block < self.blocks.len() {
-            self.found = Some(Found { id, at });
+        let asked = find_asked(&self.blocks, &self.places, &self.hints, id);
+        if asked.at.block < self.blocks.len() {
+            self.found = Some(asked);
         }
     }
 

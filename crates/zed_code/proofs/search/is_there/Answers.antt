@@ -8,15 +8,15 @@ use Rattle.zed_code.proofs.search.is_there.Goals as goal
 pub returns : goal.returns
 returns c =
     let ls = lists c.args.blocks.now in
-    let at = c.place_of-at.result in
+    let at = c.find_asked.result.at in
     let none : Run = record { stamp = record { time = 0; replica = 0 }; first = 0; start = 0; len = 0; alive = false } in
-    let inside = c.place_of-at.ensures.inside (omega (arith, c.if-at-blocks.false)) in
+    let inside = c.find_asked.ensures.inside (omega (arith, c.if-at-blocks.false)) in
     let there = spot-read at ls c.runs_at.result.now none inside c.runs_at.ensures in
     let rest = drop (at.place + 1) (list_at at.block ls) in
-    c.has.ensures ∙ sym (any-sought c.args.id (joined ls) (get_or c.runs_at.result.now at.place none) _ c.requires.ordered (ap (λ n. drop n (joined ls)) (sym c.place_of-at.ensures.place) ∙ there))
+    c.has.ensures ∙ sym (any-sought c.args.id (joined ls) (get_or c.runs_at.result.now at.place none) _ c.requires.ordered (ap (λ n. drop n (joined ls)) (sym c.find_asked.ensures.place) ∙ there))
 
 pub returns-then-at-blocks : goal.returns-then-at-blocks
 returns-then-at-blocks c =
     let ls = lists c.args.blocks.now in
-    let all : sought c.args.id.name.stamp c.args.id.name.index (joined ls) ≡ length (joined ls) = sym c.place_of-at.ensures.place ∙ c.place_of-at.ensures.end (omega (arith, c.if-at-blocks.true)) in
+    let all : sought c.args.id.name.stamp c.args.id.name.index (joined ls) ≡ length (joined ls) = sym c.find_asked.ensures.place ∙ c.find_asked.ensures.end (omega (arith, c.if-at-blocks.true)) in
     sym (any-none c.args.id (joined ls) all)

@@ -5,9 +5,9 @@ use Rattle.zed_code.specs.Found.{IsFound}
 use Rattle.zed_code.proofs.Hinting.{inside-runs}
 use Rattle.zed_code.proofs.search.seek.Goals as goal
 
-pub returns-in-Some-clause-visits : goal.returns-in-Some-clause-visits
-returns-in-Some-clause-visits c =
+pub returns-in_ok-keep_far-in-Some-clause-visits : goal.returns-in_ok-keep_far-in-Some-clause-visits
+returns-in_ok-keep_far-in-Some-clause-visits c =
     let ls = lists c.args.blocks.now in
     let P : Option Found → Type 0 = λ f. IsFound f ls in
-    let is = subst P c.in-Some.ensures c.requires.found in
-    (1, c.look.ensures.visits, omega arith, omega (arith, inside-runs c.in-Some.at ls is.0), λ some. omega arith)
+    let is = subst P c.in-Some.ensures.found c.requires.found in
+    (1, c.look.ensures.visits, omega arith, omega (arith, inside-runs c.in-Some.last.at ls is.0), λ some. omega arith)
