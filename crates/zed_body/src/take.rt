@@ -53,6 +53,13 @@ impl Body {
         Ok(())
     }
 
+    /// Seeks the byte that an edit names, so that it is found at once from here on. Nothing changes.
+    fn expect(&mut self, edit: &Edit)
+        ensures { self.new ≡ self.old }
+    {
+        self.texts.expect(edit);
+    }
+
     /// Takes a new edit. Memory may leave a part of it done.
     fn bring(&mut self, alloc: Global, edit: &Edit) -> Result<Taken, BodyError>
         requires fits { Fits edit.now }
@@ -88,6 +95,7 @@ impl Body {
         ensures emptied { OnErr result (IsEmpty self.new) }
         ensures visits { IfOk result (λ t. Works edit.now t self.old.texts self.new.texts) }
     {
+        self.expect(edit);
         match self.bring(alloc, edit) {
             Ok(taken) => Ok(taken),
             Err(error) => {
