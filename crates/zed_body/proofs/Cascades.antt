@@ -17,6 +17,7 @@ use Rattle.zed_edit.specs.declared.plain.Plain.{Plain}
 use Rattle.zed_edit.specs.Document.{empty_document, has}
 use Rattle.zed_edit.specs.Replay.{can, replay, taken, held}
 use Rattle.zed_laws.proofs.SameThings.{can-same}
+use Rattle.zed_laws.proofs.LatestWrites.{taken-rising}
 use Rattle.zed_laws.proofs.TakenAlone.{taken_make_all, late_edit_holds_none}
 use Rattle.zed_settle.specs.Making.{makes}
 use Rattle.zed_settle.specs.Settled.{OthersWait}
@@ -26,7 +27,7 @@ use Rattle.zed_settle.proofs.Making.{late_edit_makes}
 use Rattle.zed_settle.proofs.Settling.{settled_are_taken}
 use Rattle.zed_inbox.specs.Waiting.{same_thing, names, naming, not_naming}
 use Rattle.zed_body.specs.Cascade.{Waits, IsHalfway, CascadesBegin, EditsArrive, EditsAreDone, EditsAreHeld, ThingsAreReleased, CascadesEnd}
-use Rattle.zed_body.proofs.Members.{all-members, never, later, taken-rising, held-rising, either, taken-in, held-in, not-both, HeldAt, held-at, in-filter, to-filter, filter-rising, IsCut, cut, all-behind}
+use Rattle.zed_body.proofs.Members.{all-members, never, later, held-rising, either, taken-in, held-in, not-both, HeldAt, held-at, in-filter, to-filter, filter-rising, IsCut, cut, all-behind}
 
 -- ---- an edit that is held can't be done after all that are taken
 

@@ -13,6 +13,7 @@ use Rattle.zed_edit.specs.declared.plain.Plain.{Plain}
 use Rattle.zed_edit.specs.declared.plain.Text.{Text}
 use Rattle.zed_edit.specs.Document.{empty_document, has, find_text, elements_in}
 use Rattle.zed_edit.specs.Replay.{can, step, replay, taken_on, taken, held_on, held}
+use Rattle.zed_laws.proofs.LatestWrites.{taken-rising}
 use Rattle.zed_laws.proofs.MadeThings.{find-any}
 use Rattle.zed_laws.proofs.TakenAlone.{taken_make_all}
 use Rattle.zed_settle.specs.Making.{makes}
@@ -24,7 +25,6 @@ use Rattle.zed_texts.specs.Texts.{elements_or_none}
 use Rattle.zed_texts.proofs.TextElements.{in-elements}
 use Rattle.zed_body.specs.Shows.{ContentHasAll, ContentTellsCan, BodyHasAll, BodyTellsCan}
 use Rattle.zed_body.proofs.Cascades.{forgetful}
-use Rattle.zed_body.proofs.Members.{taken-rising}
 
 -- where none is held all are taken
 all-taken : (p : Plain) (es : List Edit) → held_on p es ≡ [] → taken_on p es ≡ es

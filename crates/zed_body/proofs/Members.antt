@@ -27,14 +27,6 @@ later f e es a m = Member-all (λ g. before f.stamp g.stamp ≡ true) es a e m
 
 -- ---- those taken and those held
 
-taken-all : (P : Edit → Type 0) (p : Plain) (es : List Edit) → AllByRecursion P es → AllByRecursion P (taken_on p es)
-taken-all P p [] h = tt
-taken-all P p (e ∷ es) h = go (can p e) (taken-all P (step p e) es h.1)
-  where
-    go : (b : Bool) → AllByRecursion P (taken_on (step p e) es) → AllByRecursion P (cond b (e ∷ taken_on (step p e) es) (taken_on (step p e) es))
-    go true more = (h.0, more)
-    go false more = more
-
 held-all : (P : Edit → Type 0) (p : Plain) (es : List Edit) → AllByRecursion P es → AllByRecursion P (held_on p es)
 held-all P p [] h = tt
 held-all P p (e ∷ es) h = go (can p e) (held-all P (step p e) es h.1)
@@ -42,14 +34,6 @@ held-all P p (e ∷ es) h = go (can p e) (held-all P (step p e) es h.1)
     go : (b : Bool) → AllByRecursion P (held_on (step p e) es) → AllByRecursion P (cond b (held_on (step p e) es) (e ∷ held_on (step p e) es))
     go true more = more
     go false more = (h.0, more)
-
-pub taken-rising : (p : Plain) (es : List Edit) → IsRising es → IsRising (taken_on p es)
-taken-rising p [] r = tt
-taken-rising p (e ∷ es) r = go (can p e) (taken-all (λ f. before e.stamp f.stamp ≡ true) (step p e) es r.0) (taken-rising (step p e) es r.1)
-  where
-    go : (b : Bool) → AllByRecursion (λ f. before e.stamp f.stamp ≡ true) (taken_on (step p e) es) → IsRising (taken_on (step p e) es) → IsRising (cond b (e ∷ taken_on (step p e) es) (taken_on (step p e) es))
-    go true a more = (a, more)
-    go false a more = more
 
 pub held-rising : (p : Plain) (es : List Edit) → IsRising es → IsRising (held_on p es)
 held-rising p [] r = tt

@@ -5,10 +5,11 @@ use Rattle.std.proofs.lemmas.List.Folds.{list_any-append}
 use mathlib.Core.Logic.{◌⊎◌, inl, inr}
 use Rattle.zed_op.specs.declared.op.Edit.{Edit}
 use Rattle.zed_op.specs.declared.thing.Thing.{Thing}
+use Rattle.zed_op.proofs.Sets.{Member}
 use Rattle.zed_settle.specs.Making.{makes}
 use Rattle.zed_inbox.specs.Waiting.{same_thing}
 use Rattle.zed_body.specs.declared.body.Body.{Body}
-use Rattle.zed_body.specs.Cascade.{IsHalfway}
+use Rattle.zed_body.specs.Cascade.{Waits, IsHalfway}
 use Rattle.zed_body.specs.Made.{is_among, things_made}
 use Rattle.zed_body.specs.Shows.{IsBodyHalfway}
 use Rattle.zed_body.specs.Steps.{awaited, IsReleased, AreInHand, AreTried}
@@ -16,9 +17,9 @@ use Rattle.zed_body.specs.Waking.{or_among, AreToWake, IsWoken, AreWoken, IsFoll
 use Rattle.zed_body.proofs.Cascades.{or-last}
 use Rattle.zed_body.proofs.MadeThings.{all_made, same_thing-true}
 
--- more things may be to come, and any where none waits
-pub more_to_come : (all done waits hand : List Edit) (before after : Thing → Bool) → ((x : Thing) → before x ≡ true → after x ≡ true) → IsHalfway all done waits hand before → IsHalfway all done waits hand after
-more_to_come all done waits hand before after more h = record {
+-- other things may be to come where all that wait still do
+still_halfway : (all done waits hand : List Edit) (before after : Thing → Bool) → ((e : Edit) → Member e waits → Waits done after e) → IsHalfway all done waits hand before → IsHalfway all done waits hand after
+still_halfway all done waits hand before after wait h = record {
   rising = h.rising;
   fit = h.fit;
   done_rise = h.done_rise;
@@ -32,26 +33,15 @@ more_to_come all done waits hand before after more h = record {
   waits_apart = h.waits_apart;
   hand_apart = h.hand_apart;
   hand_new = h.hand_new;
-  waiting = λ e m. elim (h.waiting e m) [ inl c ↦ inl c | inr a ↦ inr (a.0, a.1, more a.0 a.2) ];
+  waiting = wait;
 }
 
+-- more things may be to come, and any where none waits
+pub more_to_come : (all done waits hand : List Edit) (before after : Thing → Bool) → ((x : Thing) → before x ≡ true → after x ≡ true) → IsHalfway all done waits hand before → IsHalfway all done waits hand after
+more_to_come all done waits hand before after more h = still_halfway all done waits hand before after (λ e m. elim (h.waiting e m) [ inl c ↦ inl c | inr a ↦ inr (a.0, a.1, more a.0 a.2) ]) h
+
 none_waits : (all done hand : List Edit) (before after : Thing → Bool) → IsHalfway all done [] hand before → IsHalfway all done [] hand after
-none_waits all done hand before after h = record {
-  rising = h.rising;
-  fit = h.fit;
-  done_rise = h.done_rise;
-  waits_rise = h.waits_rise;
-  hand_rise = h.hand_rise;
-  none_held = h.none_held;
-  each = h.each;
-  done_in = h.done_in;
-  waits_in = h.waits_in;
-  hand_in = h.hand_in;
-  waits_apart = h.waits_apart;
-  hand_apart = h.hand_apart;
-  hand_new = h.hand_new;
-  waiting = λ e m. absurd m;
-}
+none_waits all done hand before after h = still_halfway all done [] hand before after (λ e m. absurd m) h
 
 pub body_more : (all hand : List Edit) (before after : Thing → Bool) (b : Body) → ((x : Thing) → before x ≡ true → after x ≡ true) → IsBodyHalfway all hand before b → IsBodyHalfway all hand after b
 body_more all hand before after b more h = (h.0, h.1, more_to_come all h.0 b.inbox hand before after more h.2)
