@@ -1,9 +1,13 @@
 -- The body of a document, as edits come to it.
-use Rattle.std.proofs.Common.{◌≡◌, ◌∙◌, Bool, true, false, cond, List, [], ◌∷◌, Some, None, refl, ap, sym, subst}
+use Rattle.std.proofs.Common.{◌≡◌, ◌∙◌, ◌<◌, Bool, true, false, cond, List, [], ◌∷◌, Some, None, filter, refl, ap, sym, subst}
 use mathlib.Core.Logic.{inl, inr}
+use Rattle.std.specs.BTreeMap.{is_at}
+use Rattle.std.specs.BTreeSet.{insert_key}
 use Rattle.std.specs.List.{AllByRecursion}
+use Rattle.std.specs.Prelude.{if◌then◌else◌}
+use Rattle.std.specs.Set.{remove_key}
 use Rattle.zed_types.specs.declared.stamp.Stamp.{Stamp}
-use Rattle.zed_types.specs.Stamp.{same_stamp}
+use Rattle.zed_types.specs.Stamp.{same_stamp, stamp_cmp}
 use Rattle.zed_types.proofs.StampOrder.{same_stamp-true, same_stamp-itself}
 use Rattle.zed_op.specs.declared.op.Edit.{Edit}
 use Rattle.zed_op.specs.Fit.{Fits}
@@ -20,8 +24,8 @@ use Rattle.zed_body.specs.TakingAll.{AllComeTo, AreNewTo, RisingAreApart, ShowsA
 use Rattle.zed_document.specs.declared.delivered.Delivered.{Delivered}
 use Rattle.zed_document.specs.Batch.{AreNew}
 use Rattle.zed_document.specs.Delivery.{TellsNew, edit_with, state_of}
-use Rattle.zed_document.specs.Held.{IsRenewed, held_stamps, with_stamp}
-use Rattle.zed_document.proofs.Taking.{held-more}
+use Rattle.zed_document.specs.Held.{IsRenewed, held_stamps, is_among, waits_in}
+use Rattle.zed_document.proofs.Taking.{held-more, new-among, undone, waking}
 use Rattle.zed_document.specs.Kept.{IsKept}
 
 other_way : (a b : Stamp) → same_stamp a b ≡ false → same_stamp b a ≡ false
@@ -64,9 +68,20 @@ stamps_now remembered calm e es was now b c t k fits old shows tells (inr h) = g
     told : (t.held ≡ is_held (with_edit e es) e.stamp) × (t.woken ≡ woken es (with_edit e es))
     told = tells es k
 
-    go : (b : Bool) → t.held ≡ b → now ≡ cond b (with_stamp e.stamp was) was → now ≡ held_stamps (with_edit e es)
-    go true q is = is ∙ ap (with_stamp e.stamp) old ∙ sym (held-more e es k.rising k.fit fits k.apart (sym told.0 ∙ q))
+    go : (b : Bool) → t.held ≡ b → now ≡ cond b (insert_key stamp_cmp was e.stamp) was → now ≡ held_stamps (with_edit e es)
+    go true q is = is ∙ ap (λ ts. insert_key stamp_cmp ts e.stamp) old ∙ sym (held-more e es k.rising k.fit fits k.apart (sym told.0 ∙ q))
     go false q is = is ∙ old ∙ sym (calm e es k.rising k.fit fits k.apart (sym told.0 ∙ q) (sym told.1 ∙ h.0))
+
+-- where a body that took an edit says that it woke others, those of the stamps kept that wait still are all that wait
+pub rest_waits : HeldAreRemembered → (e : Edit) (es : List Edit) (was now : List Stamp) (b c : Body) (t : Taken)
+    → ComesTo e es b → Fits e → was ≡ held_stamps es → BodyShows (with_edit e es) c → Tells e b t
+    → now ≡ (if t.held then insert_key stamp_cmp was e.stamp else was) → 0 < t.woken → filter (waits_in c.inbox) now ≡ stamps_of c.inbox
+rest_waits remembered e es was now b c t k fits old shows tells is some =
+    let told = tells es k in
+    let rest = waking e es k.rising k.fit fits k.apart (subst (λ n. 0 < n) told.1 some) in
+    let quiet : t.held ≡ false = told.0 ∙ rest.0 in
+    let same : now ≡ held_stamps es = is ∙ ap (λ h. cond h (insert_key stamp_cmp was e.stamp) was) quiet ∙ old in
+    ap (λ ts. filter (waits_in c.inbox) ts) same ∙ ap (λ (w : List Edit). filter (waits_in w) (held_stamps es)) shows.waiting ∙ rest.1 ∙ ap stamps_of (sym shows.waiting)
 
 -- a document that took one edit more is kept
 pub one_more : HeldAreRemembered → CalmEditsHoldTheSame → EditKeepsRising → EditKeepsFit
@@ -83,6 +98,24 @@ one_more remembered calm rises fit e es was now stale b c t k sound new fits siz
       held = stamps_now remembered calm e es was now b c t come fits k.held (shows es come) tells renewed;
       shown = λ _. shows es come;
     }
+
+-- where it isn't taken after all, the stamps kept are those before
+pub not_kept : (e : Edit) (es : List Edit) (was mid now : List Stamp) (stale : Bool) (b c : Body) (t : Taken) → IsKept es was stale b → edit_with e.stamp es ≡ None
+    → mid ≡ (if t.held then insert_key stamp_cmp was e.stamp else was) → now ≡ (if t.held then remove_key (is_at (stamp_cmp e.stamp)) mid else mid) → IsKept es now true c
+not_kept e es was mid now stale b c t k new put out = record {
+  fit = k.fit;
+  sizes = k.sizes;
+  rising = k.rising;
+  held = go t.held put out ∙ k.held;
+  shown = λ bad. absurd (cc);
+}
+  where
+    fresh : is_among was e.stamp ≡ false
+    fresh = ap (λ ts. is_among ts e.stamp) k.held ∙ new-among e es (apart e es new)
+
+    go : (h : Bool) → mid ≡ cond h (insert_key stamp_cmp was e.stamp) was → now ≡ cond h (remove_key (is_at (stamp_cmp e.stamp)) mid) mid → now ≡ was
+    go true q r = r ∙ ap (remove_key (is_at (stamp_cmp e.stamp))) q ∙ undone e.stamp was fresh
+    go false q r = r ∙ q
 
 -- and tells of the edit
 pub tells_new : (e : Edit) (es : List Edit) (b : Body) (t : Taken) (d : Delivered) → ComesTo e es b → Tells e b t → d.state ≡ state_of t.held → d.woken ≡ t.woken → TellsNew es (with_edit e es) e d

@@ -10,6 +10,7 @@ pub mod DeletedParts
 pub mod FirstClash
 pub mod Following
 pub mod Joining
+pub mod Lacking
 pub mod Looks
 pub mod Lookups
 pub mod Merging

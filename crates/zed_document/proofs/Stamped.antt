@@ -19,7 +19,7 @@ same_both_ways : (a b : Stamp) → same_stamp a b ≡ same_stamp b a
 same_both_ways a b = grind (arith)
 
 -- the order of two stamps, by the tests on them
-by_tests : {X : Type 0} (a b : Stamp) (x y z : X) → match_ordering (stamp_cmp a b) x y z ≡ cond (before a b) x (cond (same_stamp a b) y z)
+pub by_tests : {X : Type 0} (a b : Stamp) (x y z : X) → match_ordering (stamp_cmp a b) x y z ≡ cond (before a b) x (cond (same_stamp a b) y z)
 by_tests {X} a b x y z = go (ltb a.time b.time) (eqb a.time b.time) (ltb a.replica b.replica) (eqb a.replica b.replica)
   where
     go : (p q r s : Bool) → match_ordering (ordering_then (cond p Less (cond q Equal Greater)) (cond r Less (cond s Equal Greater))) x y z

@@ -53,7 +53,3 @@ pub record IsBatch (log all edits : List Edit) (clash : Option Stamp) : Type 0 w
   pub apart : AreNew log edits
   pub joins : JoinOn log all clash (union log edits)
   pub new : (edits ≡ []) ⊎ HasNew log all
-
--- the same in a map
-abbrev pub IsGathered : List Edit → List Edit → List (Stamp × Edit) → Option Stamp → Type 0
-IsGathered log all entries clash = (edits : List Edit) × (entries ≡ stamped edits) × IsBatch log all edits clash

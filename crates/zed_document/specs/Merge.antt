@@ -1,11 +1,13 @@
 -- What a merge answers.
 use Rattle.std.specs.Prelude.{◌≡◌, ◌≢◌, ◌==◌, ◌⊎◌, false, List, filter, Contains, Result, Ok, Err, MatchBool}
 use Rattle.std.specs.List.{AllByRecursion}
+use Rattle.std.specs.Option.{is_none}
 use Rattle.zed_types.specs.declared.stamp.Stamp.{Stamp}
 use Rattle.zed_types.specs.Stamp.{before}
 use Rattle.zed_op.specs.declared.op.Edit.{Edit}
 use Rattle.zed_document.specs.declared.error.DocumentError.{DocumentError}
 use Rattle.zed_document.specs.declared.error.DocumentError.TheVariants.{Memory, OtherWorld, Stale, Clash}
+use Rattle.zed_document.specs.Delivery.{edit_with}
 use Rattle.zed_document.specs.Replica.{Replica}
 
 -- two sets have different edits with this stamp
@@ -24,6 +26,10 @@ pub record IsLeastClash (es fs : List Edit) (s : Stamp) : Type 0 where
 -- the edits below a stamp
 abbrev pub below : Stamp → List Edit → List Edit
 below s es = filter (λ e. before e.stamp s) es
+
+-- the edits of a set of whose stamps another has none
+abbrev pub new_to : List Edit → List Edit → List Edit
+new_to es fs = filter (λ f. is_none (edit_with f.stamp es)) fs
 
 -- no edit of a list comes before a stamp
 abbrev pub AllFrom : Stamp → List Edit → Type 0

@@ -1,21 +1,17 @@
 //! Many edits at once: those that join a log, up to the first that clashes.
 
 ghost use Rattle.std.specs.Prelude.{◌≡◌, ◌≢◌, ◌⊎◌, Err, IfErr, IfOk, IsSomeAnd, MatchOption, OnErr, OnOk, [], true};
-ghost use Rattle.std.specs.BTreeMap.{get, insert_entry};
-ghost use Rattle.zed_types.specs.Stamp.{stamp_cmp};
-ghost use Rattle.std.specs.Map.{values_of};
-ghost use Rattle.zed_op.specs.Set.{AllFit, IsRising};
-ghost use Rattle.zed_document.specs.Batch.{HasNew, IsBatch, IsGathered, first_of, unless_clash};
+ghost use Rattle.zed_op.specs.Set.{AllFit, IsRising, with_edit};
+ghost use Rattle.zed_document.specs.Batch.{HasNew, IsBatch, first_of, unless_clash};
 ghost use Rattle.zed_document.specs.Delivery.{edit_with};
 
 use crate::error::DocumentError;
-use crate::merge::push_copies;
+use crate::open_log::OpenLog;
 use crate::place::spot_of;
 use std::alloc::Global;
-use std::collections::BTreeMap;
 use zed_edit::Edit;
 use zed_op::{edit_joins_a_set, rising_lists_are_sets, sets_rise, sets_stay_fit};
-use zed_types::{Stamp, one_order};
+use zed_types::Stamp;
 
 /// New edits in stamp order, and the stamp of the first that clashes, if one does.
 #[derive(Drop)]
@@ -24,45 +20,42 @@ pub(crate) struct Batch {
     pub(crate) clash: Option<Stamp>,
 }
 
-/// Puts an edit under its stamp, unless the log or the map has it. Clash where they have another one of its stamp.
-fn put(log: &[Edit], map: &mut BTreeMap<Stamp, Edit>, edit: Edit) -> Result<(), DocumentError>
+/// Puts an edit among those gathered, unless the log or they have it. Clash where they have another one of its stamp.
+fn put(log: &[Edit], gathered: &mut OpenLog, edit: Edit) -> Result<(), DocumentError>
     requires { IsRising log.now }
     ensures ok { OnOk result (MatchOption
-        (first_of (edit_with edit.stamp log.now) (get stamp_cmp map.old edit.stamp))
-        (map.new.entries ≡ insert_entry stamp_cmp map.old.entries edit.stamp edit)
-        (λ f. (f ≡ edit) × (map.new.entries ≡ map.old.entries))) }
+        (first_of (edit_with edit.stamp log.now) (edit_with edit.stamp gathered.old))
+        (gathered.new ≡ with_edit edit gathered.old)
+        (λ f. (f ≡ edit) × (gathered.new ≡ gathered.old))) }
     ensures err { result ≡ Err DocumentError.Memory
-        → first_of (edit_with edit.stamp log.now) (get stamp_cmp map.old edit.stamp) ≡ None }
+        → first_of (edit_with edit.stamp log.now) (edit_with edit.stamp gathered.old) ≡ None }
     ensures clash { IfErr result (λ e. (e ≡ DocumentError.Memory)
-        ⊎ ((e ≡ DocumentError.Clash edit.stamp) × (map.new.entries ≡ map.old.entries)
-        × IsSomeAnd (first_of (edit_with edit.stamp log.now) (get stamp_cmp map.old edit.stamp))
+        ⊎ ((e ≡ DocumentError.Clash edit.stamp) × (gathered.new ≡ gathered.old)
+        × IsSomeAnd (first_of (edit_with edit.stamp log.now) (edit_with edit.stamp gathered.old))
         (λ f. f ≢ edit))) }
 {
     let stamp = edit.stamp;
     let there = match spot_of(log, stamp) {
         Ok(there) => Some(there),
-        Err(_) => map.get(&stamp),
+        Err(_) => gathered.find(stamp),
     };
     match there {
         Some(there) if there.is_same(&edit) => Ok(()),
         Some(_) => Err(DocumentError::Clash(stamp)),
-        None => match map.insert(stamp, edit) {
-            Ok(_) => Ok(()),
-            Err(_) => Err(DocumentError::Memory),
-        },
+        None => gathered.add(edit),
     }
 }
 
-/// Puts edits into an empty map, up to the first that clashes, whose stamp is told.
+/// Gathers edits in a log that has none, up to the first that clashes, whose stamp is told.
 fn put_all(
     log: &[Edit],
-    map: &mut BTreeMap<Stamp, Edit>,
+    gathered: &mut OpenLog,
     edits: Vec<Edit>,
 ) -> Result<Option<Stamp>, DocumentError>
     requires rising { IsRising log.now }
     requires fit { AllFit edits.items }
-    requires empty { map.old.entries ≡ [] }
-    ensures gathered { IfOk result (λ clash. IsGathered log.now edits.items map.new.entries clash) }
+    requires empty { gathered.old ≡ [] }
+    ensures gathered { IfOk result (λ clash. IsBatch log.now edits.items gathered.new clash) }
     ensures err { IfErr result (λ e. e ≡ DocumentError.Memory) }
     ensures new { OnErr result (HasNew log.now edits.items) }
 {
@@ -71,28 +64,13 @@ fn put_all(
     sets_stay_fit();
     edit_joins_a_set();
     for edit in edits {
-        match put(log, map, edit) {
+        match put(log, gathered, edit) {
             Ok(()) => {}
             Err(DocumentError::Clash(stamp)) => return Ok(Some(stamp)),
             Err(error) => return Err(error),
         }
     }
     Ok(None)
-}
-
-/// The edits of a map, in stamp order.
-fn edits_of(alloc: Global, map: BTreeMap<Stamp, Edit>) -> Result<Vec<Edit>, DocumentError>
-    ensures all { IfOk result (λ edits. edits.items ≡ values_of map.entries) }
-    ensures err { IfErr result (λ e. e ≡ DocumentError.Memory) }
-    ensures some { OnErr result (values_of map.entries ≢ []) }
-{
-    let mut edits = Vec::new(alloc);
-    for edit in map.into_values() {
-        if edits.push(edit).is_err() {
-            return Err(DocumentError::Memory);
-        }
-    }
-    Ok(edits)
 }
 
 /// The edits that join a log, one after the other, up to the first that clashes.
@@ -103,20 +81,12 @@ pub(crate) fn gather(alloc: Global, log: &[Edit], edits: Vec<Edit>) -> Result<Ba
     ensures err { IfErr result (λ e. e ≡ DocumentError.Memory) }
     ensures new { OnErr result (HasNew log.now edits.items) }
 {
-    let mut map = BTreeMap::new(alloc);
-    let clash = put_all(log, &mut map, edits)?;
-    let edits = edits_of(alloc, map)?;
-    Ok(Batch { edits, clash })
-}
-
-/// Copies of edits.
-pub(crate) fn copies(alloc: Global, edits: &[Edit]) -> Result<Vec<Edit>, DocumentError>
-    ensures ok { IfOk result (λ copies. copies.items ≡ edits.now) }
-    ensures err { IfErr result (λ e. e ≡ DocumentError.Memory) }
-{
-    let mut copies = Vec::new(alloc);
-    push_copies(&mut copies, edits)?;
-    Ok(copies)
+    let mut gathered = OpenLog::of(Vec::new(alloc));
+    let clash = put_all(log, &mut gathered, edits)?;
+    Ok(Batch {
+        edits: gathered.close(),
+        clash,
+    })
 }
 
 /// Ok, or the clash.

@@ -1,11 +1,11 @@
 //! A document: the edits that a replica accepted, and what they make.
 ghost use Rattle.std.specs.Prelude.{◌≡◌, ◌≢◌, ◌≤◌, ◌⊎◌, ◌<◌, [], ◌∷◌, if◌then◌else◌, length, insert, is_ok, true, false, None, Ok, Err, OnOk, OnErr, IfOk, IfErr, IsOkAnd, MatchOption, ◌↔◌};
 
-use crate::batch::{Batch, copies, gather, unless_clash};
+use crate::batch::{Batch, gather, unless_clash};
 use crate::delivered::{Delivered, State};
 use crate::error::{DocumentError, of_edit};
-use crate::held::{is_among, renew, renewed};
-use crate::merge::least_clash;
+use crate::held::{HeldStamps, waiting};
+use crate::merge::{copies_new_to, least_clash};
 use crate::moving::join;
 use crate::place::spot_of;
 use crate::visits::{visits_at, visits_before, visits_since};
@@ -24,9 +24,9 @@ use zed_view::{View, parts_show_the_replay};
 pub struct Document {
     pub(crate) world: u64,
     pub(crate) edits: Vec<Edit>,
-    /// The stamps of the edits that are held, rising. It changes at the end of a call alone, so that it is right in a
-    /// stale document too.
-    pub(crate) held: Vec<Stamp>,
+    /// The stamps of the edits that are held. It changes at the end of a call alone, so that it is right in a stale
+    /// document too.
+    pub(crate) held: HeldStamps,
     /// What the edits make, and those that wait; of a stale document anything.
     pub(crate) body: Body,
     pub(crate) is_stale: bool,
@@ -46,7 +46,7 @@ impl Model for Document {
       counts = counts_of d.body.texts;
     } };
 
-    ghost invariant = { λ d. IsKept d.edits.items d.held.items d.is_stale d.body };
+    ghost invariant = { λ d. IsKept d.edits.items d.held d.is_stale d.body };
 }
 
 impl Document {
@@ -58,7 +58,7 @@ impl Document {
     ghost use Rattle.zed_op.specs.Fit.{Fits};
     ghost use Rattle.zed_op.specs.Set.{AllFit, IsRising, union, with_edit};
     ghost use Rattle.zed_op.specs.Sizes.{HaveSizes};
-    ghost use Rattle.zed_document.specs.Merge.{Agree, AnswersMerge, below};
+    ghost use Rattle.zed_document.specs.Merge.{AnswersMerge, below, new_to};
     ghost use Rattle.zed_types.specs.declared.stamp.Stamp.{Stamp as TheStamp};
     ghost use Rattle.zed_document.specs.Counts.{count_of};
     ghost use Rattle.zed_document.specs.Visits.{TellsVisits};
@@ -71,7 +71,7 @@ impl Document {
         Document {
             world,
             edits: Vec::new(alloc),
-            held: Vec::new(alloc),
+            held: HeldStamps::new(alloc),
             body: Body::new(alloc),
             is_stale: false,
         }
@@ -146,7 +146,7 @@ impl Document {
     pub fn is_held(&self, stamp: Stamp) -> bool
         ensures { result ≡ is_one_of (held_stamps self.now.edits) stamp }
     {
-        is_among(&self.held, stamp)
+        self.held.has(stamp)
     }
 
     /// Accepts an edit, in whatever order edits come. In this order: Stale; BadEdit where the edit doesn't fit; Clash where another
@@ -221,7 +221,7 @@ impl Document {
             TellsVisits edit self.old.edits self.old.counts self.new.counts d) }
     {
         let alloc = *self.edits.allocator();
-        if self.edits.reserve(1).is_err() || self.held.reserve(1).is_err() {
+        if self.edits.reserve(1).is_err() {
             return Err(DocumentError::Memory);
         }
         sets_rise();
@@ -235,8 +235,8 @@ impl Document {
         let Ok(taken) = self.body.take(alloc, &edit) else {
             return Err(DocumentError::Memory);
         };
-        let others = renewed(&self.body, taken)?;
-        renew(&mut self.held, edit.stamp, taken.held, others);
+        let found = self.held.follow(alloc, &edit, taken, &self.body)?;
+        self.held.wake(taken.woken, &found, &self.body.inbox);
         self.edits.insert(place, edit).unwrap();
         self.is_stale = false;
         Ok(Delivered {
@@ -270,7 +270,8 @@ impl Document {
 
     /// Takes in all edits of another document, held ones too. In this order: Stale of this document; OtherWorld where their worlds have
     /// different numbers; Clash of the least stamp with which they have different edits; nothing changes on these. On Memory the
-    /// document has its own edits and those of the other below some stamp, and may be stale.
+    /// document has its own edits and those of the other below some stamp, and may be stale. It takes no memory where it has all
+    /// edits of the other.
     pub fn merge(&mut self, other: &Document) -> Result<(), DocumentError>
         ensures result { AnswersMerge self.old other.now result }
         ensures edits { OnOk result (self.new.edits ≡ union self.old.edits other.now.edits) }
@@ -279,6 +280,8 @@ impl Document {
             → (s : TheStamp) × (self.new.edits ≡ union self.old.edits (below s other.now.edits)) }
         ensures world { self.new.world ≡ self.old.world }
         ensures sound { OnOk result (self.new.is_stale ≡ false) }
+        ensures memory_only_when { result ≡ Err DocumentError.Memory
+            → new_to self.old.edits other.now.edits ≢ [] }
     {
         if self.is_stale {
             return Err(DocumentError::Stale);
@@ -292,22 +295,22 @@ impl Document {
         }
     }
 
-    /// Takes in copies of edits with which the own ones agree.
+    /// Takes in copies of the edits of another log that have stamps of their own.
     fn take_in(&mut self, other: &[Edit]) -> Result<(), DocumentError>
         requires sound { self.old.is_stale ≡ false }
         requires fit { AllFit other.now }
         requires rising { IsRising other.now }
-        requires agree { Agree self.old.edits other.now }
         ensures edits { OnOk result (self.new.edits ≡ union self.old.edits other.now) }
         ensures err { IfErr result (λ e. e ≡ DocumentError.Memory) }
+        ensures some { OnErr result (new_to self.old.edits other.now ≢ []) }
         ensures kept { OnErr result (self.new.edits ≡ self.old.edits) }
         ensures world { self.new.world ≡ self.old.world }
         ensures sound { OnOk result (self.new.is_stale ≡ false) }
     {
-        let edits = copies(*self.edits.allocator(), other)?;
+        let edits = copies_new_to(&self.edits, *self.edits.allocator(), other)?;
         sets_rise();
-        let _ = self.join_all(edits)?;
-        Ok(())
+        rising_lists_are_sets();
+        self.take_all(edits)
     }
 
     /// Takes edits that join the own ones, one after the other, up to the first that clashes, and tells its stamp.
@@ -355,11 +358,10 @@ impl Document {
         let Ok(()) = self.body.take_all(alloc, &edits) else {
             return Err(DocumentError::Memory);
         };
-        let Ok(held) = self.body.inbox.stamps() else {
-            return Err(DocumentError::Memory);
-        };
+        self.held.list_all(alloc, &edits, &self.body)?;
+        let stamps = waiting(alloc, &self.body.inbox)?;
         join(&mut self.edits, edits)?;
-        self.held = held;
+        self.held.replace(stamps);
         self.is_stale = false;
         Ok(())
     }

@@ -8,7 +8,7 @@ ghost use Rattle.zed_op.specs.Set.{with_edit};
 use crate::delivered::{Delivered, State};
 use crate::document::Document;
 use crate::error::DocumentError;
-use crate::held::{renew, renewed};
+use crate::held::HeldStamps;
 use crate::open_log::OpenLog;
 use crate::visits::{visits_before, visits_since};
 use std::marker::Model;
@@ -16,7 +16,6 @@ use zed_body::{Body, calm_edits_hold_the_same};
 use zed_edit::Edit;
 use zed_laws::held_edits_are_remembered;
 use zed_op::{edit_has_sizes, edit_joins_a_set, sets_rise, sets_stay_fit};
-use zed_types::Stamp;
 
 /// A document that takes many edits, one after the other in whatever order, with the work of edits that come in stamp order. Contracts
 /// see it as the document that it is when it is closed.
@@ -25,7 +24,7 @@ pub struct Intake {
     world: u64,
     log: OpenLog,
     /// As in a document.
-    held: Vec<Stamp>,
+    held: HeldStamps,
     body: Body,
     is_stale: bool,
 }
@@ -44,7 +43,7 @@ impl Model for Intake {
       counts = counts_of i.body.texts;
     } };
 
-    ghost invariant = { λ i. IsKept i.log i.held.items i.is_stale i.body };
+    ghost invariant = { λ i. IsKept i.log i.held i.is_stale i.body };
 }
 
 impl Intake {
@@ -129,19 +128,19 @@ impl Intake {
         held_edits_are_remembered();
         calm_edits_hold_the_same();
         edit_has_sizes(&edit);
-        if self.held.reserve(1).is_err() {
-            return Err(DocumentError::Memory);
-        }
         let before = visits_before(&self.body, &edit);
         // until all is done; what fails midway leaves it so
         self.is_stale = true;
         let Ok(taken) = self.body.take(alloc, &edit) else {
             return Err(DocumentError::Memory);
         };
-        let others = renewed(&self.body, taken)?;
         let stamp = edit.stamp;
-        self.log.add(edit)?;
-        renew(&mut self.held, stamp, taken.held, others);
+        let found = self.held.follow(alloc, &edit, taken, &self.body)?;
+        let Ok(()) = self.log.add(edit) else {
+            self.held.undo(stamp, taken.held);
+            return Err(DocumentError::Memory);
+        };
+        self.held.wake(taken.woken, &found, &self.body.inbox);
         self.is_stale = false;
         Ok(Delivered {
             state: State::of_new(taken.held),

@@ -1,15 +1,14 @@
-//! Two logs joined into one.
+//! Two logs, each walked once: whether they clash, and what the one has that the other hasn't.
 
-// The merge of two logs, each walked once.
-
-ghost use Rattle.std.specs.Prelude.{◌≡◌, ◌≢◌, ◌<◌, ◌≤◌, ◌-◌, ◌++◌, ◌∷◌, [], true, false, None, length, take, drop, slice_get, IfSome, IfNone, IfOk, IfErr, IsSomeAnd, OnOk};
+ghost use Rattle.std.specs.Prelude.{◌≡◌, ◌≢◌, ◌<◌, ◌≤◌, ◌-◌, ◌++◌, ◌∷◌, [], if◌then◌else◌, true, false, None, length, take, drop, slice_get, IfSome, IfNone, IfOk, IfErr, IsSomeAnd, OnErr, OnOk};
 ghost use Rattle.std.specs.Bool.{OnTrue, OnFalse};
+ghost use Rattle.std.specs.Option.{is_some};
 ghost use Rattle.zed_types.specs.declared.stamp.Stamp.{Stamp as TheStamp};
 ghost use Rattle.zed_types.specs.Stamp.{before, same_stamp};
 ghost use Rattle.zed_op.specs.Set.{IsRising, with_edit, union};
 ghost use Rattle.zed_document.specs.Delivery.{edit_with};
 ghost use Rattle.zed_document.specs.Kept.{AllBelow};
-ghost use Rattle.zed_document.specs.Merge.{Agree, AllFrom, IsLeastClash};
+ghost use Rattle.zed_document.specs.Merge.{Agree, AllFrom, IsLeastClash, new_to};
 
 use crate::error::{DocumentError, of_edit};
 use std::alloc::Global;
@@ -38,16 +37,6 @@ fn push_copy(joined: &mut Vec<Edit>, edit: &Edit) -> Result<(), DocumentError>
     let copy = edit.copy().map_err(of_edit)?;
     if joined.push(copy).is_err() {
         return Err(DocumentError::Memory);
-    }
-    Ok(())
-}
-
-pub(crate) fn push_copies(joined: &mut Vec<Edit>, edits: &[Edit]) -> Result<(), DocumentError>
-    ensures ok { OnOk result (joined.new.items ≡ joined.old.items ++ edits.now) }
-    ensures err { IfErr result (λ e. e ≡ DocumentError.Memory) }
-{
-    for edit in edits {
-        push_copy(joined, edit)?;
     }
     Ok(())
 }
@@ -91,4 +80,50 @@ pub(crate) fn least_clash(own: &[Edit], other: &[Edit]) -> Option<Stamp>
         }
     }
     None
+}
+
+/// Whether a log from a stamp on begins with it.
+fn begins_with(log: &[Edit], stamp: Stamp) -> bool
+    requires rising { IsRising log.now }
+    requires above { AllFrom stamp log.now }
+    ensures { result ≡ is_some (edit_with stamp log.now) }
+{
+    match log.first() {
+        Some(first) => first.stamp == stamp,
+        None => false,
+    }
+}
+
+/// Adds a copy of an edit that isn't there.
+fn push_new(edits: &mut Vec<Edit>, is_there: bool, edit: &Edit) -> Result<(), DocumentError>
+    ensures ok { OnOk result (edits.new.items
+        ≡ (if is_there then edits.old.items else edits.old.items ++ edit.now ∷ [])) }
+    ensures err { IfErr result (λ e. e ≡ DocumentError.Memory) }
+    ensures new { OnErr result (is_there ≡ false) }
+{
+    if is_there {
+        return Ok(());
+    }
+    push_copy(edits, edit)
+}
+
+/// Copies of the edits of another log that have stamps of their own.
+pub(crate) fn copies_new_to(
+    own: &[Edit],
+    alloc: Global,
+    other: &[Edit],
+) -> Result<Vec<Edit>, DocumentError>
+    requires own { IsRising own.now }
+    requires other { IsRising other.now }
+    ensures ok { IfOk result (λ edits. edits.items ≡ new_to own.now other.now) }
+    ensures err { IfErr result (λ e. e ≡ DocumentError.Memory) }
+    ensures some { OnErr result (new_to own.now other.now ≢ []) }
+{
+    let mut edits = Vec::new(alloc);
+    let mut rest = own;
+    for edit in other {
+        rest = from_stamp(rest, edit.stamp);
+        push_new(&mut edits, begins_with(rest, edit.stamp), edit)?;
+    }
+    Ok(edits)
 }

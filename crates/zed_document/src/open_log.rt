@@ -1,6 +1,5 @@
 //! A log to which edits come in any order.
 ghost use Rattle.std.specs.Prelude.{◌≡◌, ◌≤◌, ◌<◌, ◌+◌, ◌++◌, ◌∷◌, ◌^◌, [], true, false, None, Some, length, reverse, vec_len, vec_capacity, IfSome, IfNone, IfErr, OnOk, OnErr};
-ghost use Rattle.std.specs.Bool.{OnTrue, OnFalse};
 ghost use Rattle.std.specs.BTreeMap.{insert_entry};
 ghost use Rattle.std.specs.Map.{values_of};
 ghost use Rattle.zed_types.specs.Stamp.{before, stamp_cmp};
@@ -8,12 +7,11 @@ ghost use Rattle.zed_op.specs.declared.op.Edit.{Edit as TheEdit};
 ghost use Rattle.zed_op.specs.Set.{IsRising, union, with_edit};
 ghost use Rattle.zed_document.specs.Batch.{AreNew, stamped};
 ghost use Rattle.zed_document.specs.Delivery.{edit_with};
-ghost use Rattle.zed_document.specs.Kept.{AllBelow};
 ghost use Rattle.zed_document.specs.Open.{HasRoom, IsOpen, MovesLater};
 
 use crate::error::DocumentError;
 use crate::moving::{move_back, move_later};
-use crate::place::spot_of;
+use crate::place::{is_latest, spot_of};
 use std::alloc::Global;
 use std::collections::BTreeMap;
 use std::marker::Model;
@@ -61,17 +59,6 @@ fn move_joined(log: &mut Vec<Edit>, mut late: BTreeMap<Stamp, Edit>, into: &mut 
     while let Some((stamp, edit)) = late.pop_last() {
         move_later(log, stamp, into);
         into.push_reserved(edit);
-    }
-}
-
-/// Whether a stamp comes after all edits of a log.
-fn is_latest(log: &[Edit], stamp: Stamp) -> bool
-    requires { IsRising log.now }
-    ensures { OnTrue result (AllBelow stamp log.now) }
-{
-    match log.last() {
-        Some(last) => last.stamp.is_before(stamp),
-        None => true,
     }
 }
 

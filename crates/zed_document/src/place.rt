@@ -18,7 +18,19 @@ fn is_up_to(edit: &Edit, stamp: Stamp) -> bool
     !stamp.is_before(edit.stamp)
 }
 
-/// How many edits of a log do not come after a stamp. The stamps of a log rise, so this is sought by halves.
+/// Whether a stamp comes after all edits of a log.
+pub(crate) fn is_latest(log: &[Edit], stamp: Stamp) -> bool
+    requires { IsRising log.now }
+    ensures { OnTrue result (AllBelow stamp log.now) }
+{
+    match log.last() {
+        Some(last) => last.stamp.is_before(stamp),
+        None => true,
+    }
+}
+
+/// How many edits of a log do not come after a stamp. The stamps of a log rise, so this is sought by halves, unless all come
+/// before it.
 fn place_of(edits: &[Edit], stamp: Stamp) -> usize
     requires { IsRising edits.now }
     ensures within { result ≤ length edits.now }
@@ -26,6 +38,9 @@ fn place_of(edits: &[Edit], stamp: Stamp) -> usize
     ensures below { 0 < result
         → IfSome (slice_get edits.now (result - 1)) (λ e. before stamp e.stamp ≡ false) }
 {
+    if is_latest(edits, stamp) {
+        return edits.len();
+    }
     edits.partition_point(|edit| is_up_to(edit, stamp))
 }
 

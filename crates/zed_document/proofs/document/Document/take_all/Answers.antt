@@ -14,7 +14,7 @@ take_all-requires-clause-new c =
     let v : c.self.inside.edits.items ≡ c.args.self.now.edits = ap (λ (r : Replica). r.edits) c.self.view_is in
     let f : c.self.inside.is_stale ≡ false = ap (λ (r : Replica). r.is_stale) c.self.view_is ∙ c.requires.sound in
     let new : AreNew c.self.inside.edits.items c.args.edits.items = subst (λ es. AreNew es c.args.edits.items) (sym v) c.requires.new in
-    let all = are_new c.rising_edits_are_apart.ensures c.args.edits.items c.self.inside.edits.items c.self.inside.held.items c.self.inside.is_stale c.self.inside.body c.self.invariant f c.requires.rising new in
+    let all = are_new c.rising_edits_are_apart.ensures c.args.edits.items c.self.inside.edits.items c.self.inside.held c.self.inside.is_stale c.self.inside.body c.self.invariant f c.requires.rising new in
     subst (λ (es : List Edit). AreNewTo es c.self.inside.body) (sym c.deref-2.ensures.value) all
 
 pub invariant_of-self-2 : goal.invariant_of-self-2
@@ -26,6 +26,6 @@ invariant_of-self-2 c =
     let shows : ShowsAll c.args.edits.items c.self.inside.body c.take_all.new.self = subst (λ es. ShowsAll es c.self.inside.body c.take_all.new.self) c.deref-2.ensures.value c.in-Ok.ensures.ok in
     let joined : c.join.new.log.items ≡ union c.self.inside.edits.items c.args.edits.items = c.in_ok-join.ensures.ok in
     let kept = many_more c.held_edits_are_remembered.ensures c.rising_edits_are_apart.ensures c.sets_rise.ensures.union c.sets_stay_fit.ensures.union
-    c.args.edits.items c.self.inside.edits.items c.self.inside.held.items c.self.inside.is_stale c.self.inside.body c.take_all.new.self c.in-Ok-stamps.held.items
-    c.self.invariant f c.requires.rising c.requires.fit sizes new shows c.in-Ok-stamps.ensures.ok in
-    subst (λ es. IsKept es c.in-Ok-stamps.held.items false c.take_all.new.self) (sym joined) kept
+    c.args.edits.items c.self.inside.edits.items c.self.inside.held c.self.inside.is_stale c.self.inside.body c.take_all.new.self c.replace.new.self
+    c.self.invariant f c.requires.rising c.requires.fit sizes new shows (c.replace.ensures ∙ c.in_ok-stamps.ensures.ok) in
+    subst (λ es. IsKept es c.replace.new.self false c.take_all.new.self) (sym joined) kept

@@ -2,7 +2,7 @@ use Rattle.std.proofs.Common.{◌≡◌, ◌-◌, Some, length, rules}
 use Rattle.std.specs.Prelude.{slice_get}
 use Rattle.zed_types.specs.Stamp.{before}
 use Rattle.zed_document.proofs.Opened.{latest}
-use Rattle.zed_document.proofs.open_log.is_latest.Goals as goal
+use Rattle.zed_document.proofs.place.is_latest.Goals as goal
 
 pub returns-in-Some : goal.returns-in-Some
 returns-in-Some c =
