@@ -254,6 +254,7 @@ impl Document {
         ensures sound { OnOk result (self.new.is_stale ≡ false) }
         ensures err { IfErr result (λ e. e ≡ DocumentError.Memory) }
         ensures kept { OnErr result (self.new ≡ self.old) }
+        ensures nothing { self.old.is_stale ≡ false → self.new ≡ self.old }
         ensures memory_only_when { self.old.is_stale ≡ false → result ≡ Ok tt }
     {
         if self.is_stale {
