@@ -1,6 +1,6 @@
 //! A document that takes many edits as they come.
 ghost use Rattle.std.specs.Prelude.{◌≡◌, ◌≢◌, ◌⊎◌, if◌then◌else◌, is_ok, true, false, None, Err, IfOk, OnErr, OnOk, IsOkAnd};
-ghost use Rattle.zed_document.specs.Delivery.{Answers, MayTakeMemoryFor, TellsNew, edit_with};
+ghost use Rattle.zed_document.specs.Delivery.{Answers, TellsNew, edit_with};
 ghost use Rattle.zed_document.specs.Visits.{TellsVisits};
 ghost use Rattle.zed_op.specs.Fit.{Fits};
 ghost use Rattle.zed_op.specs.Set.{with_edit};
@@ -90,7 +90,7 @@ impl Intake {
         ensures visits { IfOk result (λ d.
             TellsVisits edit self.old.edits self.old.counts self.new.counts d) }
         ensures memory_only_when { result ≡ Err DocumentError.Memory
-            → MayTakeMemoryFor self.old edit }
+            → (self.old.is_stale ≡ false) × (edit_with edit.stamp self.old.edits ≡ None) }
     {
         if self.is_stale {
             return Err(DocumentError::Stale);
