@@ -17,7 +17,7 @@ use Rattle.zed_document.specs.declared.delivered.State.TheVariants.{Known}
 use Rattle.zed_document.specs.declared.error.DocumentError.{DocumentError}
 use Rattle.zed_document.specs.declared.error.DocumentError.TheVariants.{Clash, Memory, Stale}
 use Rattle.zed_document.specs.Batch.{AreNew, HasAnother, HasNew, IsBatch, IsFree, JoinOn, first_of, unless_clash}
-use Rattle.zed_document.specs.Delivery.{Answers, AnswersAt, DeliversEach, MayTakeMemoryForEach, after_edit, edit_with, state_of}
+use Rattle.zed_document.specs.Delivery.{Answers, AnswersAt, DeliversEach, after_edit, edit_with, state_of}
 use Rattle.zed_document.specs.Held.{held_stamps, is_among, woken}
 use Rattle.zed_document.specs.Replica.{Replica}
 use Rattle.zed_document.proofs.Clashing.{edit_with-stands}
@@ -107,15 +107,6 @@ joined-each d (e ∷ es) clash left sound fit h =
     elim h [
       | inl taken ↦ (let one = taken-answer d e sound fit.0 taken.0 in inl (one.0, one.1, joined-each (after_edit e d) es clash left sound fit.1 taken.1))
       | inr other ↦ inr (Clash e.stamp, clash-answer d e sound fit.0 other.0, ap unless_clash other.1, other.2)
-    ]
-
--- a new edit of them takes memory when its turn comes
-pub new-each : (d : Replica) (es : List Edit) → d.is_stale ≡ false → AllFit es → HasNew d.edits es → MayTakeMemoryForEach d es
-new-each d [] sound fit h = absurd h
-new-each d (e ∷ es) sound fit h =
-    elim h [
-      | inl new ↦ inl (sound, inr (fit.0, new))
-      | inr taken ↦ (let one = taken-answer d e sound fit.0 taken.0 in inr (one.0, one.1, new-each (after_edit e d) es sound fit.1 taken.1))
     ]
 
 -- part of the edits are gathered, and the rest is still to join the log

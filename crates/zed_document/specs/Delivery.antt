@@ -62,13 +62,6 @@ DeliversEach d (e ∷ es) r left =
     ((told : Delivered) × Answers d e (Ok told) × DeliversEach (after_edit e d) es r left)
     ⊎ ((refusal : DocumentError) × Answers d e (Err refusal) × (r ≡ Err refusal) × (left ≡ d.edits))
 
--- one of these deliveries may take memory when its turn comes
-abbrev pub MayTakeMemoryForEach : Replica → List Edit → Type 0
-MayTakeMemoryForEach d [] = ⊥
-MayTakeMemoryForEach d (e ∷ es) =
-    MayTakeMemoryFor d e
-    ⊎ ((told : Delivered) × Answers d e (Ok told) × MayTakeMemoryForEach (after_edit e d) es)
-
 -- another edit of the list has the stamp of this one
 abbrev pub ClashesWith : List Edit → Edit → Type 0
 ClashesWith es f = (e : Edit) × Contains es e × (e.stamp ≡ f.stamp) × (e ≢ f)

@@ -53,7 +53,7 @@ impl Document {
     ghost use Rattle.zed_document.specs.Held.{held_stamps, is_among as is_one_of};
     ghost use Rattle.zed_body.specs.Shows.{BodyShows};
     ghost use Rattle.zed_document.specs.Batch.{AreNew, HasNew, JoinOn};
-    ghost use Rattle.zed_document.specs.Delivery.{Answers, AnswersAt, DeliversEach, MayTakeMemoryFor, MayTakeMemoryForEach, TellsNew, edit_with};
+    ghost use Rattle.zed_document.specs.Delivery.{Answers, AnswersAt, DeliversEach, MayTakeMemoryFor, TellsNew, edit_with};
     ghost use Rattle.zed_edit.specs.Replay.{replay};
     ghost use Rattle.zed_op.specs.Fit.{Fits};
     ghost use Rattle.zed_op.specs.Set.{AllFit, IsRising, union, with_edit};
@@ -379,7 +379,7 @@ impl Document {
         ensures stale { (result ≢ Err DocumentError.Memory)
             → self.new.is_stale ≡ self.old.is_stale }
         ensures memory_only_when { result ≡ Err DocumentError.Memory
-            → MayTakeMemoryForEach self.old edits.items }
+            → (self.old.is_stale ≡ false) × HasNew self.old.edits edits.items }
     {
         if edits.is_empty() {
             return Ok(());

@@ -1,7 +1,7 @@
 use Rattle.std.proofs.Common.{◌≡◌, ◌∙◌, ◌<◌, ◌==◌, true, false, length, ap, arith, inr, sym, subst, vec_len}
 use Rattle.zed_document.specs.Delivery.{DeliversEach}
 use Rattle.zed_document.specs.Replica.{Replica}
-use Rattle.zed_document.proofs.Batches.{joined-each, new-each, not_none, stale-each}
+use Rattle.zed_document.proofs.Batches.{joined-each, not_none, stale-each}
 use Rattle.zed_document.proofs.document.Document.deliver_all.Goals as goal
 
 pub returns-then-self-clause-result : goal.returns-then-self-clause-result
@@ -15,7 +15,7 @@ returns-then-self-clause-result c =
 pub returns-in_err-clash-clause-memory_only_when : goal.returns-in_err-clash-clause-memory_only_when
 returns-in_err-clash-clause-memory_only_when c = λ _.
     let sound : c.args.self.now.is_stale ≡ false = sym (ap (λ (r : Replica). r.is_stale) c.self.view_is) ∙ c.if-self.false in
-    new-each c.args.self.now c.args.edits.items sound c.requires c.in_err-clash.ensures.new
+    (sound, c.in_err-clash.ensures.new)
 
 pub returns-clause-result : goal.returns-clause-result
 returns-clause-result c =
