@@ -60,7 +60,7 @@ impl Document {
     ghost use Rattle.zed_op.specs.Sizes.{HaveSizes};
     ghost use Rattle.zed_document.specs.Merge.{AnswersMerge, below, new_to};
     ghost use Rattle.zed_types.specs.declared.stamp.Stamp.{Stamp as TheStamp};
-    ghost use Rattle.zed_document.specs.Counts.{count_of};
+    ghost use Rattle.zed_document.specs.Counts.{NoCountFalls, count_of};
     ghost use Rattle.zed_document.specs.Visits.{TellsVisits};
 
     /// A document of the world with this number, with no edit. It takes no memory.
@@ -281,6 +281,7 @@ impl Document {
             → (s : TheStamp) × (self.new.edits ≡ union self.old.edits (below s other.now.edits)) }
         ensures world { self.new.world ≡ self.old.world }
         ensures sound { OnOk result (self.new.is_stale ≡ false) }
+        ensures falls { OnOk result (NoCountFalls self.old.counts self.new.counts) }
         ensures memory_only_when { result ≡ Err DocumentError.Memory
             → new_to self.old.edits other.now.edits ≢ [] }
     {
@@ -307,6 +308,7 @@ impl Document {
         ensures kept { OnErr result (self.new.edits ≡ self.old.edits) }
         ensures world { self.new.world ≡ self.old.world }
         ensures sound { OnOk result (self.new.is_stale ≡ false) }
+        ensures falls { OnOk result (NoCountFalls self.old.counts self.new.counts) }
     {
         let edits = copies_new_to(&self.edits, *self.edits.allocator(), other)?;
         sets_rise();
@@ -325,6 +327,7 @@ impl Document {
         ensures kept { OnErr result (self.new.edits ≡ self.old.edits) }
         ensures world { self.new.world ≡ self.old.world }
         ensures sound { OnOk result (self.new.is_stale ≡ false) }
+        ensures falls { OnOk result (NoCountFalls self.old.counts self.new.counts) }
     {
         let alloc = *self.edits.allocator();
         let Batch { edits, clash } = gather(alloc, &self.edits, edits)?;
@@ -344,6 +347,7 @@ impl Document {
         ensures kept { OnErr result (self.new.edits ≡ self.old.edits) }
         ensures world { self.new.world ≡ self.old.world }
         ensures sound { OnOk result (self.new.is_stale ≡ false) }
+        ensures falls { OnOk result (NoCountFalls self.old.counts self.new.counts) }
     {
         if edits.is_empty() {
             return Ok(());
@@ -378,6 +382,8 @@ impl Document {
         ensures world { self.new.world ≡ self.old.world }
         ensures stale { (result ≢ Err DocumentError.Memory)
             → self.new.is_stale ≡ self.old.is_stale }
+        ensures falls { (result ≢ Err DocumentError.Memory)
+            → NoCountFalls self.old.counts self.new.counts }
         ensures memory_only_when { result ≡ Err DocumentError.Memory
             → (self.old.is_stale ≡ false) × HasNew self.old.edits edits.items }
     {

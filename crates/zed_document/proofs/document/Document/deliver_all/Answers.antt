@@ -22,3 +22,12 @@ returns-clause-result c =
     let sound : c.args.self.now.is_stale ≡ false = sym (ap (λ (r : Replica). r.is_stale) c.self.view_is) ∙ c.if-self.false in
     let each = joined-each c.args.self.now c.args.edits.items c.in_ok-clash.clash c.join_all.new.self.edits sound c.requires c.in_ok-clash.ensures.joins in
     inr (subst (λ r. DeliversEach c.args.self.now c.args.edits.items r c.join_all.new.self.edits) (sym c.unless_clash.ensures.result) each)
+
+pub returns-then-is_empty-clause-falls : goal.returns-then-is_empty-clause-falls
+returns-then-is_empty-clause-falls c = λ _ t. omega arith
+
+pub returns-then-self-clause-falls : goal.returns-then-self-clause-falls
+returns-then-self-clause-falls c = λ _ t. omega arith
+
+pub returns-clause-falls : goal.returns-clause-falls
+returns-clause-falls c = λ _. c.in_ok-clash.ensures.falls

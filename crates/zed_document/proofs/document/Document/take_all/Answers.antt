@@ -1,12 +1,14 @@
-use Rattle.std.proofs.Common.{◌≡◌, ◌∙◌, List, false, ap, subst, sym}
+use Rattle.std.proofs.Common.{◌≡◌, ◌∙◌, List, false, ap, arith, subst, sym}
 use Rattle.zed_op.specs.declared.op.Edit.{Edit}
 use Rattle.zed_op.specs.Set.{union}
 use Rattle.zed_op.specs.Sizes.{HaveSizes}
 use Rattle.zed_body.specs.TakingAll.{AreNewTo, ShowsAll}
 use Rattle.zed_document.specs.Batch.{AreNew}
+use Rattle.zed_document.specs.Counts.{Counts, NoCountFalls, counts_of}
 use Rattle.zed_document.specs.Kept.{IsKept}
 use Rattle.zed_document.specs.Replica.{Replica}
 use Rattle.zed_document.proofs.Bodies.{are_new, many_more}
+use Rattle.zed_document.proofs.Looks.{counts-fall-not}
 use Rattle.zed_document.proofs.document.Document.take_all.Goals as goal
 
 pub take_all-requires-clause-new : goal.take_all-requires-clause-new
@@ -29,3 +31,11 @@ invariant_of-self-2 c =
     c.args.edits.items c.self.inside.edits.items c.self.inside.held c.self.inside.is_stale c.self.inside.body c.take_all.new.self c.replace.new.self
     c.self.invariant f c.requires.rising c.requires.fit sizes new shows (c.replace.ensures ∙ c.in_ok-stamps.ensures.ok) in
     subst (λ es. IsKept es c.replace.new.self false c.take_all.new.self) (sym joined) kept
+
+pub returns-then-is_empty-clause-falls : goal.returns-then-is_empty-clause-falls
+returns-then-is_empty-clause-falls c = λ t. omega arith
+
+pub returns-clause-falls : goal.returns-clause-falls
+returns-clause-falls c =
+    let k : counts_of c.self.inside.body.texts ≡ c.args.self.now.counts = ap (λ (r : Replica). r.counts) c.self.view_is in
+    subst (λ (n : Counts). NoCountFalls n (counts_of c.take_all.new.self.texts)) k (counts-fall-not c.self.inside.body.texts c.take_all.new.self.texts c.in-Ok.ensures.visits)
