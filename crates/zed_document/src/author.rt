@@ -2,11 +2,12 @@
 
 // What an author makes at a replica: edits later than all that it has.
 
-ghost use Rattle.std.specs.Prelude.{◌≡◌, ◌≢◌, ◌⊎◌, if◌then◌else◌, false, true, is_ok, take, Err, OnOk, MatchBool};
+ghost use Rattle.std.specs.Prelude.{◌≡◌, ◌≢◌, ◌⊎◌, if◌then◌else◌, false, true, is_ok, take, Err, OnErr, OnOk, MatchBool};
 ghost use Rattle.zed_op.specs.Fit.{Fits, fault};
 ghost use Rattle.zed_edit.specs.Replay.{replay, can};
 ghost use Rattle.zed_op.specs.Set.{AllFit, with_edit};
 ghost use Rattle.zed_document.specs.Authoring.{AnswersMade, AnswersToDo, IsLate, MayTakeMemory, AnswersAuthor, authored, is_spent_for};
+ghost use Rattle.zed_document.specs.Counts.{NoCountFalls};
 ghost use Rattle.zed_document.specs.Delivery.{edit_with};
 ghost use Rattle.zed_document.specs.Held.{held_stamps, is_among as is_one_of};
 
@@ -48,6 +49,8 @@ impl Document {
         ensures sound { OnOk result (self.new.is_stale ≡ false) }
         ensures stale { (result ≢ Err DocumentError.Memory)
             → self.new.is_stale ≡ self.old.is_stale }
+        ensures kept { OnErr result ((result ≢ Err DocumentError.Memory) → self.new ≡ self.old) }
+        ensures falls { OnOk result (NoCountFalls self.old.counts self.new.counts) }
         ensures memory_only_when { result ≡ Err DocumentError.Memory
             → (self.old.is_stale ≡ false) × (is_spent_for self.old.edits op ≡ false)
             × MayTakeMemory self.old.edits (authored self.old.edits replica op) }
@@ -82,6 +85,8 @@ impl Document {
         ensures world { self.new.world ≡ self.old.world }
         ensures sound { OnOk result (self.new.is_stale ≡ false) }
         ensures stale { (result ≢ Err DocumentError.Memory) → self.new.is_stale ≡ false }
+        ensures kept { OnErr result ((result ≢ Err DocumentError.Memory) → self.new ≡ self.old) }
+        ensures falls { OnOk result (NoCountFalls self.old.counts self.new.counts) }
         ensures memory_only_when { result ≡ Err DocumentError.Memory
             → MayTakeMemory self.old.edits edit }
     {
@@ -106,6 +111,8 @@ impl Document {
         ensures world { self.new.world ≡ self.old.world }
         ensures sound { OnOk result (self.new.is_stale ≡ false) }
         ensures stale { (result ≢ Err DocumentError.Memory) → self.new.is_stale ≡ false }
+        ensures kept { OnErr result ((result ≢ Err DocumentError.Memory) → self.new ≡ self.old) }
+        ensures falls { OnOk result (NoCountFalls self.old.counts self.new.counts) }
         ensures memory_only_when { result ≡ Err DocumentError.Memory
             → can (replay self.old.edits) edit ≡ true }
     {
@@ -130,6 +137,8 @@ impl Document {
         ensures world { self.new.world ≡ self.old.world }
         ensures sound { OnOk result (self.new.is_stale ≡ false) }
         ensures stale { (result ≢ Err DocumentError.Memory) → self.new.is_stale ≡ false }
+        ensures kept { OnErr result ((result ≢ Err DocumentError.Memory) → self.new ≡ self.old) }
+        ensures falls { OnOk result (NoCountFalls self.old.counts self.new.counts) }
     {
         let copy = match edit.copy() {
             Ok(copy) => copy,

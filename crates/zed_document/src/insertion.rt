@@ -2,10 +2,11 @@
 
 // Bytes that an author puts into a text.
 
-ghost use Rattle.std.specs.Prelude.{◌≡◌, ◌≢◌, ◌⊎◌, ◌++◌, ◌∷◌, ◌-◌, [], if◌then◌else◌, false, is_ok, length, nat_le, Ok, Err, OnOk, MatchBool};
+ghost use Rattle.std.specs.Prelude.{◌≡◌, ◌≢◌, ◌⊎◌, ◌++◌, ◌∷◌, ◌-◌, [], if◌then◌else◌, false, is_ok, length, nat_le, Ok, Err, OnErr, OnOk, MatchBool};
 ghost use Rattle.zed_edit.specs.Document.{text as text_shown, elements};
 ghost use Rattle.zed_edit.specs.Replay.{replay};
 ghost use Rattle.zed_document.specs.Authoring.{AnswersInsertion, MayTakeMemoryAt, authored, insertion_at, with_bytes, byte_before};
+ghost use Rattle.zed_document.specs.Counts.{NoCountFalls};
 ghost use Rattle.zed_document.specs.Reading.{TellsOfText};
 
 use crate::clock::next_stamp;
@@ -65,6 +66,8 @@ impl Document {
         ensures sound { OnOk result (self.new.is_stale ≡ false) }
         ensures stale { (result ≢ Err DocumentError.Memory)
             → self.new.is_stale ≡ self.old.is_stale }
+        ensures kept { OnErr result ((result ≢ Err DocumentError.Memory) → self.new ≡ self.old) }
+        ensures falls { OnOk result (NoCountFalls self.old.counts self.new.counts) }
         ensures memory_only_when { result ≡ Err DocumentError.Memory
             → MayTakeMemoryAt self.old replica text position bytes }
     {
