@@ -71,9 +71,9 @@ AnswersAuthor d replica op r =
 abbrev pub IsLate : List Edit → Edit → Type 0
 IsLate es e = is_genesis e.op ≡ false → AllBelow e.stamp es
 
--- making an edit takes memory where it has no fault and can be done; of the world its bytes may take memory before
+-- making an edit takes memory where it has no fault, can be done and its stamp is new; of the world its bytes may take memory before
 abbrev pub MayTakeMemory : List Edit → Edit → Type 0
-MayTakeMemory es e = HangsOnItsWorld e ⊎ (Fits e × (can (replay es) e ≡ true))
+MayTakeMemory es e = HangsOnItsWorld e ⊎ (Fits e × (can (replay es) e ≡ true) × (edit_with e.stamp es ≡ None))
 
 -- the alive elements of a text
 abbrev pub alive : List TextByte → List TextByte

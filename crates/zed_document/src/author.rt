@@ -2,7 +2,7 @@
 
 // What an author makes at a replica: edits later than all that it has.
 
-ghost use Rattle.std.specs.Prelude.{◌≡◌, ◌≢◌, ◌⊎◌, if◌then◌else◌, false, true, is_ok, take, Err, OnErr, OnOk, MatchBool};
+ghost use Rattle.std.specs.Prelude.{◌≡◌, ◌≢◌, ◌≤◌, ◌⊎◌, if◌then◌else◌, false, true, insert, is_ok, length, take, None, Err, Ok, OnErr, OnOk, MatchBool};
 ghost use Rattle.zed_op.specs.Fit.{Fits, fault};
 ghost use Rattle.zed_edit.specs.Replay.{replay, can};
 ghost use Rattle.zed_op.specs.Set.{AllFit, with_edit};
@@ -14,6 +14,7 @@ ghost use Rattle.zed_document.specs.Held.{held_stamps, is_among as is_one_of};
 use crate::clock::stamp_for;
 use crate::document::Document;
 use crate::error::{DocumentError, of_edit};
+use crate::place::spot_of;
 use zed_body::bodies_have_what_is_made;
 use zed_edit::{Edit, Op, check};
 use zed_laws::replay_goes_edit_by_edit;
@@ -115,6 +116,8 @@ impl Document {
         ensures falls { OnOk result (NoCountFalls self.old.counts self.new.counts) }
         ensures memory_only_when { result ≡ Err DocumentError.Memory
             → can (replay self.old.edits) edit ≡ true }
+        ensures new { result ≡ Err DocumentError.Memory
+            → edit_with edit.stamp self.old.edits ≡ None }
     {
         if self.has_all_of(&edit) {
             self.take(edit)
@@ -139,15 +142,38 @@ impl Document {
         ensures stale { (result ≢ Err DocumentError.Memory) → self.new.is_stale ≡ false }
         ensures kept { OnErr result ((result ≢ Err DocumentError.Memory) → self.new ≡ self.old) }
         ensures falls { OnOk result (NoCountFalls self.old.counts self.new.counts) }
+        ensures memory_only_when { result ≡ Err DocumentError.Memory
+            → edit_with edit.stamp self.old.edits ≡ None }
     {
-        let copy = match edit.copy() {
-            Ok(copy) => copy,
-            Err(error) => return Err(of_edit(error)),
-        };
         are_late_edits_taken(self.edits(), &edit);
-        match self.receive(edit) {
-            Ok(_) => Ok(copy),
-            Err(error) => Err(error),
+        match spot_of(self.edits(), edit.stamp) {
+            Ok(there) => {
+                if there.is_same(&edit) {
+                    Ok(edit)
+                } else {
+                    Err(DocumentError::Clash(edit.stamp))
+                }
+            }
+            Err(place) => self.take_new(place, edit),
         }
+    }
+
+    /// Takes an edit that fits and has a stamp of its own, at its place in the log.
+    fn take_new(&mut self, place: usize, edit: Edit) -> Result<Edit, DocumentError>
+        requires sound { self.old.is_stale ≡ false }
+        requires fits { Fits edit }
+        requires new { edit_with edit.stamp self.old.edits ≡ None }
+        requires within { place ≤ length self.old.edits }
+        requires belongs { with_edit edit self.old.edits ≡ insert self.old.edits place edit }
+        ensures result { (result ≡ Err DocumentError.Memory) ⊎ (result ≡ Ok edit) }
+        ensures edits { self.new.edits
+            ≡ (if is_ok result then with_edit edit self.old.edits else self.old.edits) }
+        ensures world { self.new.world ≡ self.old.world }
+        ensures sound { OnOk result (self.new.is_stale ≡ false) }
+        ensures falls { OnOk result (NoCountFalls self.old.counts self.new.counts) }
+    {
+        let copy = edit.copy().map_err(of_edit)?;
+        let _ = self.accept(place, edit)?;
+        Ok(copy)
     }
 }

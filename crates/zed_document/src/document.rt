@@ -205,7 +205,7 @@ impl Document {
     }
 
     /// Puts in an edit that is new, at its place in the log.
-    fn accept(&mut self, place: usize, edit: Edit) -> Result<Delivered, DocumentError>
+    pub(crate) fn accept(&mut self, place: usize, edit: Edit) -> Result<Delivered, DocumentError>
         requires sound { self.old.is_stale ≡ false }
         requires fits { Fits edit }
         requires new { edit_with edit.stamp self.old.edits ≡ None }
