@@ -9,6 +9,7 @@ ghost use Rattle.zed_op.specs.Set.{AllFit, IsRising};
 ghost use Rattle.zed_edit.specs.Replay.{replay};
 ghost use Rattle.zed_document.specs.Authoring.{AnswersDeletion, MayTakeMemoryToDelete, is_spent, deletions, deletions_of, is_part, part, alive, stretches, stretches_of, without, alone as one_byte};
 ghost use Rattle.zed_document.specs.Stretches.{IsNext, CanFollow, ends_before as goes_behind, stretched, with_last, begun as begun_by};
+ghost use Rattle.zed_document.specs.Counts.{NoCountFalls};
 ghost use Rattle.zed_document.specs.Reading.{has_text};
 
 use crate::clock::{is_spent as are_spent, next_time};
@@ -235,6 +236,7 @@ impl Document {
         ensures err { IfErr result (λ e. e ≡ DocumentError.Memory) }
         ensures world { self.new.world ≡ self.old.world }
         ensures sound { OnOk result (self.new.is_stale ≡ false) }
+        ensures falls { OnOk result (NoCountFalls self.old.counts self.new.counts) }
     {
         for edit in edits {
             let copy = match edit.copy() {
@@ -255,6 +257,7 @@ impl Document {
         ensures err { IfErr result (λ e. e ≡ DocumentError.Memory) }
         ensures world { self.new.world ≡ self.old.world }
         ensures sound { OnOk result (self.new.is_stale ≡ false) }
+        ensures falls { OnOk result (NoCountFalls self.old.counts self.new.counts) }
     {
         self.make(edit)
     }
@@ -286,6 +289,7 @@ impl Document {
             → self.new ≡ self.old }
         ensures world { self.new.world ≡ self.old.world }
         ensures sound { OnOk result (self.new.is_stale ≡ false) }
+        ensures falls { OnOk result (NoCountFalls self.old.counts self.new.counts) }
         ensures memory_only_when { result ≡ Err DocumentError.Memory
             → MayTakeMemoryToDelete self.old text from to }
     {
