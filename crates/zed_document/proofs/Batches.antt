@@ -7,10 +7,6 @@ use Rattle.zed_op.specs.declared.op.Edit.{Edit}
 use Rattle.zed_op.specs.Fit.{Fits}
 use Rattle.zed_op.specs.Set.{AllFit, IsRising, union, with_edit}
 use Rattle.zed_op.proofs.SetLaws.{each-with_edit}
-use Rattle.zed_op.proofs.Sets.{Member-all, Member-from, Member-to, with_edit-members}
-use Rattle.zed_types.specs.Stamp.{before}
-use Rattle.zed_types.proofs.StampOrder.{before_irrefl}
-use Rattle.zed_document.specs.Merge.{Agree}
 use Rattle.zed_op.specs.SetLaws.{EditKeepsFit, EditKeepsRising, EditThereIsNothing, RisingIsItsEdits, UnionKeepsRising}
 use Rattle.zed_document.specs.declared.delivered.Delivered.{Delivered}
 use Rattle.zed_document.specs.declared.delivered.State.TheVariants.{Known}

@@ -1,7 +1,7 @@
-use Rattle.std.proofs.Common.{rules, ◌≡◌, ◌∙◌, ◌++◌, ◌∷◌, ap, subst, sym}
+use Rattle.std.proofs.Common.{rules, ◌≡◌, ◌∙◌, ◌++◌, ◌∷◌, ap}
 use Rattle.std.specs.BTreeSet.{insert_key}
 use Rattle.zed_types.specs.Stamp.{stamp_cmp}
-use Rattle.zed_op.specs.Set.{StampsRise, stamps_of}
+use Rattle.zed_op.specs.Set.{stamps_of}
 use Rattle.zed_document.proofs.Taking.{insert-next, stamps-rise}
 use Rattle.zed_document.proofs.held.waiting.Goals as goal
 

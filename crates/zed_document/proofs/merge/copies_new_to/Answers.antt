@@ -1,7 +1,6 @@
 use Rattle.std.proofs.Common.{◌≡◌, ◌∷◌, ◌++◌, [], suc, drop, take, length, arith, add-one}
 use Rattle.std.proofs.Math.Seq.{take-length}
 use Rattle.std.proofs.lemmas.Result.{err_from_is_err_and}
-use Rattle.zed_document.specs.Merge.{new_to}
 use Rattle.zed_document.proofs.Walks.{drop-item, take-item}
 use Rattle.zed_document.proofs.Clashing.{serve-step}
 use Rattle.zed_document.proofs.Lacking.{new-item, some-new}

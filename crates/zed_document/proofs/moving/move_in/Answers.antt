@@ -1,9 +1,9 @@
-use Rattle.std.proofs.Common.{◌≡◌, ◌∙◌, ◌++◌, ◌∷◌, ◌+◌, [], refl, arith, ap, rules, length}
+use Rattle.std.proofs.Common.{◌≡◌, ◌++◌, ◌∷◌, [], arith, ap, rules, length}
 use Rattle.std.proofs.lemmas.List.{length-append, length-reverse}
 use Rattle.std.specs.Prelude.{reverse}
 use Rattle.zed_op.specs.Set.{union}
 use Rattle.zed_document.specs.Batch.{stamped}
-use Rattle.zed_document.proofs.Opened.{last_is_new, moving-ends, moving-on, stamped-begins, stamped-cut}
+use Rattle.zed_document.proofs.Opened.{last_is_new, moving-on, stamped-begins, stamped-cut}
 use Rattle.zed_document.proofs.moving.move_in.Goals as goal
 
 pub loop-edit-init : goal.loop-edit-init

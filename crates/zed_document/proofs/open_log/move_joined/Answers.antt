@@ -1,9 +1,9 @@
-use Rattle.std.proofs.Common.{◌≡◌, ◌∙◌, ◌++◌, ◌∷◌, ◌+◌, [], arith, ap, rules, length}
+use Rattle.std.proofs.Common.{◌≡◌, ◌∙◌, ◌++◌, ◌∷◌, [], arith, ap, rules, length}
 use Rattle.std.proofs.lemmas.List.{length-append, length-reverse}
 use Rattle.std.specs.Prelude.{reverse}
 use Rattle.std.specs.Map.{values_of}
 use Rattle.zed_op.specs.Set.{union}
-use Rattle.zed_document.proofs.Opened.{last_is_new, moving-ends, moving-on}
+use Rattle.zed_document.proofs.Opened.{last_is_new, moving-on}
 use Rattle.zed_document.proofs.open_log.move_joined.Goals as goal
 
 pub move_later-requires-clause-new : goal.move_later-requires-clause-new

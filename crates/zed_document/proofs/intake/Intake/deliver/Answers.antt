@@ -1,7 +1,6 @@
-use Rattle.std.proofs.Common.{◌≡◌, ◌∙◌, false, Some, List, ap, refl, sym, subst, rules}
+use Rattle.std.proofs.Common.{◌≡◌, false, Some, ap, refl, sym, subst, rules}
 use Rattle.std.specs.Prelude.{Contains}
-use Rattle.zed_op.specs.declared.op.Edit.{Edit}
-use Rattle.zed_op.specs.Set.{IsRising, with_edit}
+use Rattle.zed_op.specs.Set.{IsRising}
 use Rattle.zed_document.specs.Delivery.{edit_with}
 use Rattle.zed_document.specs.Replica.{Replica}
 use Rattle.zed_document.specs.declared.delivered.Delivered.{Delivered}

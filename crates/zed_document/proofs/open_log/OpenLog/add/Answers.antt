@@ -1,11 +1,11 @@
-use Rattle.std.proofs.Common.{◌≡◌, ◌∙◌, ◌++◌, ◌∷◌, ◌+◌, ◌≤◌, [], refl, ap, sym, subst, rules, None, List, arith, true, false, length, vec_capacity}
+use Rattle.std.proofs.Common.{◌≡◌, ◌∙◌, ◌++◌, ◌∷◌, ◌+◌, ◌≤◌, [], refl, ap, sym, subst, rules, List, arith, length, vec_capacity}
 use Rattle.std.specs.Map.{values_of}
 use Rattle.zed_op.specs.declared.op.Edit.{Edit}
 use Rattle.zed_op.specs.Set.{union, with_edit}
 use Rattle.zed_document.specs.Delivery.{edit_with}
 use Rattle.zed_document.specs.Kept.{AllBelow}
-use Rattle.zed_document.specs.Open.{HasRoom, IsOpen}
-use Rattle.zed_document.proofs.Opened.{SetsHold, open-latest, open-late, room-is, room-more}
+use Rattle.zed_document.specs.Open.{IsOpen}
+use Rattle.zed_document.proofs.Opened.{SetsHold, open-latest, open-late, room-is}
 use Rattle.zed_document.proofs.open_log.OpenLog.add.Goals as goal
 
 pub invariant_of-self-then-is_latest : goal.invariant_of-self-then-is_latest

@@ -1,4 +1,4 @@
-use Rattle.std.proofs.Common.{◌≡◌, arith, rules, length}
+use Rattle.std.proofs.Common.{arith}
 use Rattle.zed_document.proofs.open_log.OpenLog.close.Goals as goal
 
 pub move_back-requires : goal.move_back-requires

@@ -1,5 +1,4 @@
 use Rattle.std.proofs.Common.{◌≡◌, ◌∙◌, ap, sym, subst, rules, Some, None, List}
-use Rattle.std.specs.Prelude.{IfSome, IfNone, Option}
 use Rattle.std.specs.Map.{values_of}
 use Rattle.zed_op.specs.declared.op.Edit.{Edit}
 use Rattle.zed_op.specs.Set.{union}
