@@ -1,2 +1,3 @@
 mod FieldWrites
+mod Known
 mod Numbers

@@ -43,6 +43,7 @@ impl Stats {
     }
 
     /// Adds a stat at its place. One that was added before stays as it is, removed or not.
+    #[tactic(auto, using(crate::proofs::Known::known_stays))]
     pub fn add(&mut self, id: StatId, is_player: bool, values: StatValues) -> Result<(), StatsError>
         ensures ok { OnOk result
             (self.new ≡ added id (new_stat is_player id.name.stamp values) self.old) }
@@ -50,7 +51,7 @@ impl Stats {
         ensures kept { OnErr result (self.new ≡ self.old) }
         ensures memory_only_when { OnErr result (is_there id self.old ≡ false) }
     {
-        if self.entries.contains_key(&id) {
+        if self.has(id) {
             return Ok(());
         }
         match self

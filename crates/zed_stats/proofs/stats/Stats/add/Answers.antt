@@ -2,21 +2,15 @@ use Rattle.std.proofs.Common.{◌≡◌, ◌∙◌, false, ap, sym, subst, OnOk,
 use Rattle.std.specs.Map.{keys_of}
 use Rattle.zed_stats.specs.Fields.{new_stat}
 use Rattle.zed_stats.specs.Stats.{has, add, stat_name, stat_cmp}
-use Rattle.zed_names.proofs.Changed.{add-there}
 use Rattle.zed_names.proofs.Sorting.{sorted_insertion}
 use Rattle.zed_stats.proofs.stats.Stats.add.Goals as goal
 use Rattle.zed_stats.proofs.stats.Stats.add.Goals.{in-Ok, in-Err}
-
-pub returns-then-contains_key-clause-ok : goal.returns-then-contains_key-clause-ok
-returns-then-contains_key-clause-ok c =
-    let stat = new_stat c.args.is_player c.args.id.name.stamp c.args.values in
-    subst (λ es. es ≡ add c.args.id stat es) c.self.view_is (add-there stat_name c.args.id stat c.self.inside.entries.entries (sym c.contains_key.ensures ∙ c.if-contains_key.true))
 
 pub returns-clause-ok : goal.returns-clause-ok
 returns-clause-ok c =
     let stat = new_stat c.args.is_player c.args.id.name.stamp c.args.values in
     let es = c.self.inside.entries.entries in
-    let none = sym c.contains_key.ensures ∙ c.if-contains_key.false in
+    let none = ap (has c.args.id) c.self.view_is ∙ sym c.has.ensures ∙ c.if-has.false in
     elim c.match-insert_sorted.branch [
       | in-Ok w ↦
           let e = w.in-Ok.ensures.entries in
@@ -30,8 +24,7 @@ returns-clause-ok c =
 
 pub returns-clause-memory_only_when : goal.returns-clause-memory_only_when
 returns-clause-memory_only_when c =
-    let new : has c.args.id c.args.self.now ≡ false =
-    ap (has c.args.id) (sym c.self.view_is) ∙ sym c.contains_key.ensures ∙ c.if-contains_key.false in
+    let new : has c.args.id c.args.self.now ≡ false = sym c.has.ensures ∙ c.if-has.false in
     elim c.match-insert_sorted.branch [
       | in-Ok w ↦ subst (λ r. OnErr r (has c.args.id c.args.self.now ≡ false)) (sym w.result-is) tt
       | in-Err w ↦ subst (λ r. OnErr r (has c.args.id c.args.self.now ≡ false)) (sym w.result-is) new
