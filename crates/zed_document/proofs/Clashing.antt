@@ -2,7 +2,7 @@
 use Rattle.std.proofs.Common.{◌≡◌, ℕ, zero, suc, ◌<◌, Bool, true, false, List, [], ◌∷◌, ◌++◌, Option, Some, None, take, drop, length, get_or, refl, ap, sym, subst, ◌∙◌, arith, inl, inr}
 use Rattle.std.specs.List.{AllByRecursion, Contains}
 use Rattle.std.specs.Option.{is_some}
-use Rattle.std.specs.Prelude.{◌≢◌, slice_get, IfSome, IsSomeAnd}
+use Rattle.std.specs.Prelude.{◌≢◌, slice_get, slice_index_or, IfSome, IsSomeAnd}
 use Rattle.zed_types.specs.declared.stamp.Stamp.{Stamp}
 use Rattle.zed_types.specs.Stamp.{before, same_stamp}
 use Rattle.zed_op.specs.declared.op.Edit.{Edit}
@@ -14,7 +14,7 @@ use Rattle.std.proofs.lemmas.List.{take-append-drop}
 use Rattle.std.proofs.lemmas.List.Elements.{Contains-append_right, Contains-append_cases}
 use Rattle.zed_document.specs.Kept.{AllBelow}
 use Rattle.zed_document.proofs.Spots.{edit_with-none, edit_with-past}
-use Rattle.zed_document.proofs.Walks.{above-rising, rising-drop}
+use Rattle.zed_document.proofs.Walks.{above-rising, drop-item, rising-drop, take-item}
 
 -- a log has no other edit with the stamp of this one
 abbrev pub IsFine : List Edit → Edit → Type 0
@@ -139,10 +139,19 @@ first-clash own other left f i r s d q fine h = record { clashes = clash (edit_w
     least : (t : Stamp) → ClashesAt own other t → before t f.stamp ≡ false
     least t (e, g, m, n, u, v, k) = at t e g m n u v k
 
--- the loop goes on
-pub serve-step : (own other rest left : List Edit) (f : Edit) (i : ℕ) → IsRising other → drop i other ≡ f ∷ drop (suc i) other → AllByRecursion (λ g. edit_with g.stamp rest ≡ edit_with g.stamp own) (drop i other) → ((t : Stamp) → before t f.stamp ≡ false → edit_with t left ≡ edit_with t rest) → AllByRecursion (λ g. edit_with g.stamp left ≡ edit_with g.stamp own) (f ∷ drop (suc i) other)
-serve-step own other rest left f i r d a h =
-    serve-on own rest left f.stamp (f ∷ drop (suc i) other) (subst (AllByRecursion (λ g. edit_with g.stamp rest ≡ edit_with g.stamp own)) d a) h (from-itself f (drop (suc i) other) (subst IsRising d (rising-drop other i r)))
+-- the next edit of a log, and what is left of the other log for it and for those behind it
+pub record IsNextOf (own other left : List Edit) (f : Edit) (i : ℕ) : Type 0 where
+  pub cut : drop i other ≡ f ∷ drop (suc i) other
+  pub seen : take (suc i) other ≡ take i other ++ f ∷ []
+  pub here : edit_with f.stamp left ≡ edit_with f.stamp own
+  pub serves : AllByRecursion (λ g. edit_with g.stamp left ≡ edit_with g.stamp own) (drop (suc i) other)
+
+pub serve-step : (own other rest left : List Edit) (f : Edit) (i : ℕ) → IsRising other → i < length other → f ≡ slice_index_or other i f
+    → AllByRecursion (λ g. edit_with g.stamp rest ≡ edit_with g.stamp own) (drop i other) → ((t : Stamp) → before t f.stamp ≡ false → edit_with t left ≡ edit_with t rest) → IsNextOf own other left f i
+serve-step own other rest left f i r l at a h =
+    let d = drop-item other i f l at in
+    let all = serve-on own rest left f.stamp (f ∷ drop (suc i) other) (subst (AllByRecursion (λ g. edit_with g.stamp rest ≡ edit_with g.stamp own)) d a) h (from-itself f (drop (suc i) other) (subst IsRising d (rising-drop other i r))) in
+    record { cut = d; seen = take-item other i f l at; here = all.0; serves = all.1 }
 
 pub fine-step : (own other left : List Edit) (f : Edit) (i : ℕ) → take (suc i) other ≡ take i other ++ f ∷ [] → AllByRecursion (IsFine own) (take i other) → edit_with f.stamp left ≡ edit_with f.stamp own → IfSome (edit_with f.stamp left) (λ e. e ≡ f) → AllByRecursion (IsFine own) (take (suc i) other)
 fine-step own other left f i t a q h = rw t (All-push own (take i other) f a (fine-from own left f q h))

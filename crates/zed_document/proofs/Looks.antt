@@ -72,23 +72,27 @@ each-found (x ∷ xs) r = (
       (λ y e f. rw (earlier-differs x.0 y.0 e) f) r.0 (each-found xs r.1),
 )
 
+-- a text whose name comes later is another
+other-name : (t u v : TextId) → same_text t u ≡ true → is_earlier u.name v.name ≡ true → same_text t v ≡ false
+other-name t u v s later = subst (λ w. same_text w v ≡ false) (sym (same_text-true t u s)) (go (same_text u v) refl)
+  where
+    go : (b : Bool) → same_text u v ≡ b → b ≡ false
+    go false q = refl
+    go true q =
+        let same : u ≡ v = same_text-true u v q in
+        let bad : is_earlier u.name u.name ≡ true = subst (λ (w : TextId). is_earlier u.name w.name ≡ true) (sym same) later in
+        let none = earlier-irrefl u.name in
+        absurd (cc)
+
 -- what stands under one name in a sum, where no other has the name
 none-named : {X : Type 0} (t : TextId) (n : ℕ) (x : TextId × X) (xs : List (TextId × X)) → same_text t x.0 ≡ true → AllByRecursion (λ y. is_earlier (x.0).name (y.0).name ≡ true) xs → sum_by (λ y. cond (same_text t y.0) n 0) xs ≡ 0
 none-named t n x [] s a = refl
 none-named t n x (y ∷ xs) s a =
-    let here : same_text t y.0 ≡ false = subst (λ u. same_text u y.0 ≡ false) (sym (same_text-true t x.0 s)) (go (same_text x.0 y.0) refl) in
+    let here = other-name t x.0 y.0 s a.0 in
     let first : cond (same_text t y.0) n 0 ≡ 0 = ap (λ b. cond b n 0) here in
     let all = sum_by-cons (λ z. cond (same_text t z.0) n 0) y xs in
     let more = none-named t n x xs s a.1 in
     omega (arith, first, all, more)
-  where
-    go : (b : Bool) → same_text x.0 y.0 ≡ b → b ≡ false
-    go false q = refl
-    go true q =
-        let same : x.0 ≡ y.0 = same_text-true x.0 y.0 q in
-        let bad : is_earlier (x.0).name (x.0).name ≡ true = subst (λ (u : TextId). is_earlier (x.0).name u.name ≡ true) (sym same) a.0 in
-        let none = earlier-irrefl (x.0).name in
-        absurd (cc)
 
 one-named : {X : Type 0} (t : TextId) (n : ℕ) (xs : List (TextId × X)) → Rise xs → sum_by (λ y. cond (same_text t y.0) n 0) xs ≤ n
 one-named t n [] r = omega arith
@@ -144,16 +148,8 @@ zeros (x ∷ xs) = let all = sum_by-cons (λ y. 0) x xs in let more = zeros xs i
 not-behind : (t : TextId) (x : TextId × ℕ) (xs : Counts) → same_text t x.0 ≡ true → AllByRecursion (λ y. is_earlier (x.0).name (y.0).name ≡ true) xs → text_in t xs ≡ None
 not-behind t x [] s a = refl
 not-behind t x (y ∷ xs) s a =
-    let here : same_text t y.0 ≡ false = subst (λ u. same_text u y.0 ≡ false) (sym (same_text-true t x.0 s)) (go (same_text x.0 y.0) refl) in
+    let here = other-name t x.0 y.0 s a.0 in
     rw here (not-behind t x xs s a.1)
-  where
-    go : (b : Bool) → same_text x.0 y.0 ≡ b → b ≡ false
-    go false q = refl
-    go true q =
-        let same : x.0 ≡ y.0 = same_text-true x.0 y.0 q in
-        let bad : is_earlier (x.0).name (x.0).name ≡ true = subst (λ (u : TextId). is_earlier (x.0).name u.name ≡ true) (sym same) a.0 in
-        let none = earlier-irrefl (x.0).name in
-        absurd (cc)
 
 first-or-behind : (t : TextId) (x : TextId × ℕ) (xs : Counts) → AllByRecursion (λ y. is_earlier (x.0).name (y.0).name ≡ true) xs → cond (same_text x.0 t) x.1 0 + count_of t xs ≡ count_of t (x ∷ xs)
 first-or-behind t x xs a = go (same_text t x.0) refl

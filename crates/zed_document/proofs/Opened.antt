@@ -20,7 +20,8 @@ use Rattle.zed_document.specs.Delivery.{edit_with}
 use Rattle.zed_document.specs.Kept.{AllBelow}
 use Rattle.zed_document.specs.Open.{AllAbove, HasRoom, IsOpen, MovesLater}
 use Rattle.zed_document.proofs.Lookups.{found-union, found-with_edit, rising-found, union-with_edit}
-use Rattle.zed_document.proofs.Stamped.{edits_stamped, insert_stamped, looked_up}
+use Rattle.zed_inbox.proofs.Stamped.{edits_stamped, insert_stamped}
+use Rattle.zed_document.proofs.Stamped.{looked_up}
 use Rattle.zed_document.proofs.Spots.{with_edit-between}
 use Rattle.zed_document.proofs.Walks.{below-take}
 

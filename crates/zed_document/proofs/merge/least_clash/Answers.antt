@@ -1,25 +1,21 @@
-use Rattle.std.proofs.Common.{◌≡◌, [], ◌∷◌, ◌++◌, suc, drop, take, length, arith, add-one}
+use Rattle.std.proofs.Common.{◌≡◌, length, arith, add-one}
 use Rattle.std.proofs.Math.Seq.{take-length}
 use Rattle.std.specs.List.{AllByRecursion}
-use Rattle.zed_document.proofs.Walks.{drop-item, take-item}
 use Rattle.zed_document.proofs.Clashing.{IsFine, first-clash, serve-step, fine-step, all-fine}
 use Rattle.zed_document.proofs.merge.least_clash.Goals as goal
 
 pub returns-then-has_other-clause-clash : goal.returns-then-has_other-clause-clash
 returns-then-has_other-clause-clash c =
-    let d : drop c.loop-edit.edit-index c.args.other.now ≡ c.edit-item.result ∷ drop (suc c.loop-edit.edit-index) c.args.other.now = drop-item c.args.other.now c.loop-edit.edit-index c.edit-item.result (omega arith) c.edit-item.is in
-    let more = serve-step c.args.own.now c.args.other.now c.loop-edit.rest.now c.from_stamp-rest.result.now c.edit-item.result c.loop-edit.edit-index c.requires.other d c.loop-edit.invariant.1 c.from_stamp-rest.ensures.there in
-    first-clash c.args.own.now c.args.other.now c.from_stamp-rest.result.now c.edit-item.result c.loop-edit.edit-index c.requires.own c.requires.other d more.0 c.loop-edit.invariant.2 c.if-has_other.ensures.yes
+    let more = serve-step c.args.own.now c.args.other.now c.loop-edit.rest.now c.from_stamp-rest.result.now c.edit-item.result c.loop-edit.edit-index c.requires.other (omega arith) c.edit-item.is c.loop-edit.invariant.1 c.from_stamp-rest.ensures.there in
+    first-clash c.args.own.now c.args.other.now c.from_stamp-rest.result.now c.edit-item.result c.loop-edit.edit-index c.requires.own c.requires.other more.cut more.here c.loop-edit.invariant.2 c.if-has_other.ensures.yes
 
 pub loop-edit-preserved : goal.loop-edit-preserved
 loop-edit-preserved c =
-    let d : drop c.loop-edit.edit-index c.args.other.now ≡ c.edit-item.result ∷ drop (suc c.loop-edit.edit-index) c.args.other.now = drop-item c.args.other.now c.loop-edit.edit-index c.edit-item.result (omega arith) c.edit-item.is in
-    let t : take (suc c.loop-edit.edit-index) c.args.other.now ≡ take c.loop-edit.edit-index c.args.other.now ++ c.edit-item.result ∷ [] = take-item c.args.other.now c.loop-edit.edit-index c.edit-item.result (omega arith) c.edit-item.is in
-    let more = serve-step c.args.own.now c.args.other.now c.loop-edit.rest.now c.from_stamp-rest.result.now c.edit-item.result c.loop-edit.edit-index c.requires.other d c.loop-edit.invariant.1 c.from_stamp-rest.ensures.there in
+    let more = serve-step c.args.own.now c.args.other.now c.loop-edit.rest.now c.from_stamp-rest.result.now c.edit-item.result c.loop-edit.edit-index c.requires.other (omega arith) c.edit-item.is c.loop-edit.invariant.1 c.from_stamp-rest.ensures.there in
     rw add-one (
       c.from_stamp-rest.ensures.rising,
-      more.1,
-      fine-step c.args.own.now c.args.other.now c.from_stamp-rest.result.now c.edit-item.result c.loop-edit.edit-index t c.loop-edit.invariant.2 more.0 c.if-has_other.ensures.no,
+      more.serves,
+      fine-step c.args.own.now c.args.other.now c.from_stamp-rest.result.now c.edit-item.result c.loop-edit.edit-index more.seen c.loop-edit.invariant.2 more.here c.if-has_other.ensures.no,
     )
 
 pub returns-clause-agree : goal.returns-clause-agree
