@@ -236,7 +236,7 @@ impl Document {
         ensures err { IfErr result (λ e. e ≡ DocumentError.Memory) }
         ensures world { self.new.world ≡ self.old.world }
         ensures sound { OnOk result (self.new.is_stale ≡ false) }
-        ensures falls { OnOk result (NoCountFalls self.old.counts self.new.counts) }
+        ensures visits { OnOk result (NoCountFalls self.old.counts self.new.counts) }
     {
         for edit in edits {
             let copy = match edit.copy() {
@@ -257,7 +257,7 @@ impl Document {
         ensures err { IfErr result (λ e. e ≡ DocumentError.Memory) }
         ensures world { self.new.world ≡ self.old.world }
         ensures sound { OnOk result (self.new.is_stale ≡ false) }
-        ensures falls { OnOk result (NoCountFalls self.old.counts self.new.counts) }
+        ensures visits { OnOk result (NoCountFalls self.old.counts self.new.counts) }
     {
         self.make(edit)
     }
@@ -289,7 +289,7 @@ impl Document {
             → self.new ≡ self.old }
         ensures world { self.new.world ≡ self.old.world }
         ensures sound { OnOk result (self.new.is_stale ≡ false) }
-        ensures falls { OnOk result (NoCountFalls self.old.counts self.new.counts) }
+        ensures visits { OnOk result (NoCountFalls self.old.counts self.new.counts) }
         ensures memory_only_when { result ≡ Err DocumentError.Memory
             → MayTakeMemoryToDelete self.old text from to }
     {

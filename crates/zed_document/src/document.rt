@@ -281,7 +281,7 @@ impl Document {
             → (s : TheStamp) × (self.new.edits ≡ union self.old.edits (below s other.now.edits)) }
         ensures world { self.new.world ≡ self.old.world }
         ensures sound { OnOk result (self.new.is_stale ≡ false) }
-        ensures falls { OnOk result (NoCountFalls self.old.counts self.new.counts) }
+        ensures visits { OnOk result (NoCountFalls self.old.counts self.new.counts) }
         ensures memory_only_when { result ≡ Err DocumentError.Memory
             → new_to self.old.edits other.now.edits ≢ [] }
     {
@@ -308,7 +308,7 @@ impl Document {
         ensures kept { OnErr result (self.new.edits ≡ self.old.edits) }
         ensures world { self.new.world ≡ self.old.world }
         ensures sound { OnOk result (self.new.is_stale ≡ false) }
-        ensures falls { OnOk result (NoCountFalls self.old.counts self.new.counts) }
+        ensures visits { OnOk result (NoCountFalls self.old.counts self.new.counts) }
     {
         let edits = copies_new_to(&self.edits, *self.edits.allocator(), other)?;
         sets_rise();
@@ -327,7 +327,7 @@ impl Document {
         ensures kept { OnErr result (self.new.edits ≡ self.old.edits) }
         ensures world { self.new.world ≡ self.old.world }
         ensures sound { OnOk result (self.new.is_stale ≡ false) }
-        ensures falls { OnOk result (NoCountFalls self.old.counts self.new.counts) }
+        ensures visits { OnOk result (NoCountFalls self.old.counts self.new.counts) }
     {
         let alloc = *self.edits.allocator();
         let Batch { edits, clash } = gather(alloc, &self.edits, edits)?;
@@ -347,7 +347,7 @@ impl Document {
         ensures kept { OnErr result (self.new.edits ≡ self.old.edits) }
         ensures world { self.new.world ≡ self.old.world }
         ensures sound { OnOk result (self.new.is_stale ≡ false) }
-        ensures falls { OnOk result (NoCountFalls self.old.counts self.new.counts) }
+        ensures visits { OnOk result (NoCountFalls self.old.counts self.new.counts) }
     {
         if edits.is_empty() {
             return Ok(());
@@ -382,7 +382,7 @@ impl Document {
         ensures world { self.new.world ≡ self.old.world }
         ensures stale { (result ≢ Err DocumentError.Memory)
             → self.new.is_stale ≡ self.old.is_stale }
-        ensures falls { (result ≢ Err DocumentError.Memory)
+        ensures visits { (result ≢ Err DocumentError.Memory)
             → NoCountFalls self.old.counts self.new.counts }
         ensures memory_only_when { result ≡ Err DocumentError.Memory
             → (self.old.is_stale ≡ false) × HasNew self.old.edits edits.items }

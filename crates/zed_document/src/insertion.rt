@@ -67,7 +67,7 @@ impl Document {
         ensures stale { (result ≢ Err DocumentError.Memory)
             → self.new.is_stale ≡ self.old.is_stale }
         ensures kept { OnErr result ((result ≢ Err DocumentError.Memory) → self.new ≡ self.old) }
-        ensures falls { OnOk result (NoCountFalls self.old.counts self.new.counts) }
+        ensures visits { OnOk result (NoCountFalls self.old.counts self.new.counts) }
         ensures memory_only_when { result ≡ Err DocumentError.Memory
             → MayTakeMemoryAt self.old replica text position bytes }
     {

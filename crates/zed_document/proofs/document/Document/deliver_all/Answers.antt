@@ -23,11 +23,11 @@ returns-clause-result c =
     let each = joined-each c.args.self.now c.args.edits.items c.in_ok-clash.clash c.join_all.new.self.edits sound c.requires c.in_ok-clash.ensures.joins in
     inr (subst (λ r. DeliversEach c.args.self.now c.args.edits.items r c.join_all.new.self.edits) (sym c.unless_clash.ensures.result) each)
 
-pub returns-then-is_empty-clause-falls : goal.returns-then-is_empty-clause-falls
-returns-then-is_empty-clause-falls c = λ _ t. omega arith
+pub returns-then-is_empty-clause-visits : goal.returns-then-is_empty-clause-visits
+returns-then-is_empty-clause-visits c = λ _ t. omega arith
 
-pub returns-then-self-clause-falls : goal.returns-then-self-clause-falls
-returns-then-self-clause-falls c = λ _ t. omega arith
+pub returns-then-self-clause-visits : goal.returns-then-self-clause-visits
+returns-then-self-clause-visits c = λ _ t. omega arith
 
-pub returns-clause-falls : goal.returns-clause-falls
-returns-clause-falls c = λ _. c.in_ok-clash.ensures.falls
+pub returns-clause-visits : goal.returns-clause-visits
+returns-clause-visits c = λ _. c.in_ok-clash.ensures.visits

@@ -8,5 +8,5 @@ returns-in-None-clause-err c = λ m.
     let edits : c.take_in.new.self.edits ≡ c.args.self.now.edits = rw m at c.take_in.ensures.kept in
     (first_stamp, edits ∙ ap (union c.args.self.now.edits) (sym (below-first_stamp c.args.other.now.edits)))
 
-pub returns-in-None-clause-falls : goal.returns-in-None-clause-falls
-returns-in-None-clause-falls c = c.take_in.ensures.falls
+pub returns-in-None-clause-visits : goal.returns-in-None-clause-visits
+returns-in-None-clause-visits c = c.take_in.ensures.visits

@@ -32,10 +32,10 @@ invariant_of-self-2 c =
     c.self.invariant f c.requires.rising c.requires.fit sizes new shows (c.replace.ensures ∙ c.in_ok-stamps.ensures.ok) in
     subst (λ es. IsKept es c.replace.new.self false c.take_all.new.self) (sym joined) kept
 
-pub returns-then-is_empty-clause-falls : goal.returns-then-is_empty-clause-falls
-returns-then-is_empty-clause-falls c = λ t. omega arith
+pub returns-then-is_empty-clause-visits : goal.returns-then-is_empty-clause-visits
+returns-then-is_empty-clause-visits c = λ t. omega arith
 
-pub returns-clause-falls : goal.returns-clause-falls
-returns-clause-falls c =
+pub returns-clause-visits : goal.returns-clause-visits
+returns-clause-visits c =
     let k : counts_of c.self.inside.body.texts ≡ c.args.self.now.counts = ap (λ (r : Replica). r.counts) c.self.view_is in
     subst (λ (n : Counts). NoCountFalls n (counts_of c.take_all.new.self.texts)) k (counts-fall-not c.self.inside.body.texts c.take_all.new.self.texts c.in-Ok.ensures.visits)
