@@ -57,10 +57,10 @@ fn first_under(waits: &BTreeSet<(Stamp, Stamp)>, maker: Stamp) -> Option<(Stamp,
         time: 0,
         replica: 0,
     };
-    for wait in waits.range((maker, first)..) {
-        return if wait.0 == maker { Some(*wait) } else { None };
+    match waits.range((maker, first)..).next() {
+        Some(wait) if wait.0 == maker => Some(*wait),
+        _ => None,
     }
-    None
 }
 
 /// Takes a stamp off that is listed under another.
