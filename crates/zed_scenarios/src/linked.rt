@@ -5,64 +5,14 @@ use crate::growths::{MOST, refuse, was_refused};
 use crate::hosts::{Output, edit_file, has_written, words_of};
 use crate::refusals::{Turn, told_of};
 use crate::rows::{Does, Row};
+use crate::session::devices::Traces;
+use crate::session::wires::{put_long_record, wire_over};
 use crate::worlds::EMPTY;
-use std::alloc::{AllocError, Global};
-use std::cell::Cell;
-use std::rc::Rc;
+use std::alloc::Global;
 use std::test::Fail;
-use zed_link::{Failed, Link, MemoryLink};
+use zed_link::Link;
 use zed_program::{MemoryHost, run};
 use zed_types::Side;
-
-/// What links leave where a test sees it.
-#[derive(Drop)]
-struct Traces {
-    ends: Rc<Cell<u32>>,
-    /// How many of these were not read.
-    unread: Rc<Cell<u32>>,
-}
-
-/// A link over memory that tells of its end.
-struct Line {
-    link: MemoryLink,
-    ends: Rc<Cell<u32>>,
-    unread: Rc<Cell<u32>>,
-}
-
-impl Drop for Line {
-    fn drop(self) {
-        let Line { link, ends, unread } = self;
-        ends.set(ends.get().saturating_add(1));
-        if link.reads() == 0 {
-            unread.set(unread.get().saturating_add(1));
-        }
-        drop(link);
-    }
-}
-
-impl Link for Line {
-    ghost ends = { λ line. ⟦<MemoryLink as Link>⟧.ends line.link };
-
-    ghost reads = { λ line. ⟦<MemoryLink as Link>⟧.reads line.link };
-
-    ghost failed = { λ line. ⟦<MemoryLink as Link>⟧.failed line.link };
-
-    ghost stalls = { λ line. ⟦<MemoryLink as Link>⟧.stalls line.link };
-
-    ghost accepts = { λ line. ⟦<MemoryLink as Link>⟧.accepts line.link };
-
-    fn read(&mut self, into: &mut [u8]) -> Result<usize, Failed> {
-        self.link.read(into)
-    }
-
-    fn write(&mut self, bytes: &[u8]) -> Result<usize, Failed> {
-        self.link.write(bytes)
-    }
-
-    fn failures(&self) -> u64 {
-        self.link.failures()
-    }
-}
 
 /// What a link hands over.
 #[derive(Clone, Copy)]
@@ -90,15 +40,6 @@ struct Merge {
     unread: u32,
 }
 
-/// The greatest length of a record, and as many zeros as reads may be made.
-fn put_long_record(out: &mut Vec<u8>) -> Result<(), AllocError> {
-    out.extend_from_slice(&[0, 0, 64, 0])?;
-    for _ in 0..1_048_576u32 {
-        out.push(0)?;
-    }
-    Ok(())
-}
-
 fn long_file(alloc: Global) -> Option<Vec<u8>> {
     let Some(mut out) = edit_file(alloc, &[]) else {
         return None;
@@ -116,23 +57,10 @@ fn bytes_of(alloc: Global, handed: Handed) -> Option<Vec<u8>> {
     }
 }
 
-fn boxed(
-    alloc: Global,
-    bytes: Vec<u8>,
-    wired: Wired,
-    traces: &Traces,
-) -> Result<Box<dyn Link>, AllocError> {
-    let ends = Rc::clone(&traces.ends)?;
-    let unread = Rc::clone(&traces.unread)?;
-    let link = MemoryLink::new(alloc, bytes, wired.1, wired.2);
-    let line = Line { link, ends, unread };
-    Ok(Box::new(alloc, line)?)
-}
-
 /// Appends one link.
 fn put_link(alloc: Global, out: &mut Vec<Box<dyn Link>>, wired: Wired, traces: &Traces) -> bool {
     match bytes_of(alloc, wired.0) {
-        Some(bytes) => match boxed(alloc, bytes, wired, traces) {
+        Some(bytes) => match wire_over(alloc, bytes, wired.1, wired.2, traces) {
             Ok(link) => out.push(link).is_ok(),
             Err(_) => false,
         },
@@ -182,16 +110,9 @@ fn comes_out(alloc: Global, host: &mut MemoryHost, traces: &Traces, wanted: Merg
         && traces.unread.get() == wanted.unread
 }
 
-fn traces_of(alloc: Global) -> Result<Traces, AllocError> {
-    Ok(Traces {
-        ends: Rc::new(alloc, Cell::new(0))?,
-        unread: Rc::new(alloc, Cell::new(0))?,
-    })
-}
-
 fn comes_out_anew(alloc: Global, wanted: Merge) -> bool {
     let mut host = MemoryHost::new(alloc, u64::MAX);
-    match traces_of(alloc) {
+    match Traces::new(alloc) {
         Ok(traces) => comes_out(alloc, &mut host, &traces, wanted),
         Err(_) => false,
     }
@@ -346,7 +267,7 @@ fn take_turn(alloc: Global, host: &mut MemoryHost, traces: &Traces, nth: usize) 
 
 fn take_turn_anew(alloc: Global, nth: usize) -> Turn {
     let mut host = MemoryHost::new(alloc, u64::MAX);
-    match traces_of(alloc) {
+    match Traces::new(alloc) {
         Ok(traces) => take_turn(alloc, &mut host, &traces, nth),
         Err(_) => Turn::Wrong,
     }

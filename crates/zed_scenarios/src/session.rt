@@ -4,34 +4,28 @@ use std::test::Fail;
 use zed_document::Document;
 use zed_session::SessionError;
 
+mod cuts;
 mod desk;
-mod devices;
+pub(crate) mod devices;
 mod growths;
 mod links;
 mod stages;
-mod wires;
+pub(crate) mod wires;
 mod worlds;
 
-use desk::{Case, Desk, Told, attach, desk_of, outcome_of, wanted_of};
+use desk::{CALM, Case, Desk, Told, attach, desk_of, outcome_of, wanted_of};
 use devices::Fails;
 use links::{LINKS, NO_END, NOTHING_PUSHED};
 use stages::STAGES;
-use wires::{Wired, wire_over};
+use wires::wire_over;
 use worlds::GEM_WORLD;
-
-/// A link that never fails.
-const WIRED: Wired = Wired {
-    handed: b"",
-    piece: 100,
-    passing: None,
-};
 
 /// How many shows of a screen are tried.
 const SHOWS: u32 = 4;
 
 /// What a link took to which a document with three edits was pushed, if it comes out as it should.
 fn sent(alloc: Global, desk: &mut Desk) -> Result<Option<Vec<u8>>, Fail> {
-    let link = wire_over(alloc, Vec::new(alloc), WIRED, &desk.traces)?;
+    let link = wire_over(alloc, Vec::new(alloc), 100, None, &desk.traces)?;
     if attach(desk, Ok(link)) != Told::Number(0)
         || desk.session.push(0) != Ok(3)
         || desk.session.detach(0) != Ok(())
@@ -44,7 +38,7 @@ fn sent(alloc: Global, desk: &mut Desk) -> Result<Option<Vec<u8>>, Fail> {
 /// Whether an empty document comes to be the same as another, whose file this is.
 fn becomes_the_same(alloc: Global, file: Vec<u8>, document: &Document) -> Result<bool, Fail> {
     let mut desk = desk_of(alloc, &[], &[], (Fails::Never, Fails::Never))?;
-    let link = wire_over(alloc, file, WIRED, &desk.traces)?;
+    let link = wire_over(alloc, file, 100, None, &desk.traces)?;
     let is_there = attach(&mut desk, Ok(link)) == Told::Number(0);
     Ok(
         is_there
@@ -117,14 +111,7 @@ fn a_million_reads_of_a_session_are_too_many(rt: HostRuntime) -> Result<(), Fail
 #[test]
 fn edits_go_over_links(rt: HostRuntime) -> Result<(), Fail> {
     for (name, acts) in LINKS {
-        let case = Case {
-            name,
-            edits: GEM_WORLD,
-            keys: &[],
-            screen: Fails::Never,
-            source: Fails::Never,
-            acts,
-        };
+        let case = Case { name, acts, ..CALM };
         let outcome = outcome_of(rt.alloc(), &case)?;
         assert_eq!(rt; outcome, wanted_of(&case), "{}", name);
     }

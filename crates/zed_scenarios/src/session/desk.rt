@@ -1,7 +1,7 @@
 //! A session whose devices and links are over memory, what is done with it, and what is seen then.
 use super::devices::{Fails, MemoryKeys, MemoryScreen, Traces};
 use super::wires::{Wired, endless_of, sink_of, wire_of};
-use super::worlds::{Does, document_of};
+use super::worlds::{Does, GEM_WORLD, document_of};
 use std::alloc::{AllocError, Global};
 use std::collections::VecDeque;
 use std::test::Fail;
@@ -16,6 +16,8 @@ pub enum Act {
     Play(usize),
     Press(&'static [u16]),
     Wire(Wired),
+    /// Attaches links, each behind those before it, and tells the place of the last.
+    Wires(&'static [Wired]),
     /// Attaches a link that takes all that it is given, and hands over a file.
     Sink,
     /// Attaches a link without an end.
@@ -34,7 +36,8 @@ pub enum Told {
     /// The place of a link, the edits that were pushed, or the words that a step used.
     Number(usize),
     NoKey,
-    Edits(Pulled),
+    /// How many edits of a pull were taken, held and known.
+    Edits(usize, usize, usize),
     Refused(SessionError),
     /// What it should never do.
     Wrong,
@@ -52,11 +55,16 @@ pub enum Sees {
     Failed,
     /// So many links, and at least and at most so many edits.
     Links(usize, usize, usize),
+    /// How many links came to their end, where no device did.
+    Ended(u32),
     /// The bytes that the link took that was let go last.
     Left(&'static [u8]),
     /// How many bytes sinks took.
     Sunk(u64),
 }
+
+/// An act, what it answers, and what is seen then.
+pub type Step = (Act, Told, Sees);
 
 /// A document and devices, and what is done with them, act by act.
 #[derive(Clone, Copy)]
@@ -66,8 +74,18 @@ pub struct Case {
     pub keys: &'static [Key],
     pub screen: Fails,
     pub source: Fails,
-    pub acts: &'static [(Act, Told, Sees)],
+    pub acts: &'static [Step],
 }
+
+/// A document of three edits, and devices that never fail.
+pub const CALM: Case = Case {
+    name: "",
+    edits: GEM_WORLD,
+    keys: &[],
+    screen: Fails::Never,
+    source: Fails::Never,
+    acts: &[],
+};
 
 /// A session, and what its devices and links leave.
 #[derive(Drop)]
@@ -139,7 +157,7 @@ fn used(answer: Result<Option<usize>, SessionError>) -> Told {
 
 fn pulled(answer: Result<Pulled, SessionError>) -> Told {
     match answer {
-        Ok(edits) => Told::Edits(edits),
+        Ok(edits) => Told::Edits(edits.taken, edits.held, edits.known),
         Err(error) => Told::Refused(error),
     }
 }
@@ -164,6 +182,23 @@ pub fn attach(desk: &mut Desk, link: Result<Box<dyn Link>, AllocError>) -> Told 
     }
 }
 
+fn wire(desk: &mut Desk, wired: Wired) -> Told {
+    let link = wire_of(desk.alloc, wired, &desk.traces);
+    attach(desk, link)
+}
+
+fn wire_each(desk: &mut Desk, wires: &[Wired]) -> Told {
+    let mut told = Told::Wrong;
+    for wired in wires {
+        let place = desk.session.links();
+        told = wire(desk, *wired);
+        if told != Told::Number(place) {
+            return Told::Wrong;
+        }
+    }
+    told
+}
+
 fn mended(session: &mut Session, i: usize) -> Told {
     let links = session.links();
     if session.document().view().is_err()
@@ -182,10 +217,8 @@ pub fn told_by(desk: &mut Desk, act: Act) -> Told {
         Act::Show(board) => done(desk.session.show(board)),
         Act::Play(board) => done(desk.session.play(board)),
         Act::Press(words) => used(desk.session.play_key(words)),
-        Act::Wire(wired) => {
-            let link = wire_of(desk.alloc, wired, &desk.traces);
-            attach(desk, link)
-        }
+        Act::Wire(wired) => wire(desk, wired),
+        Act::Wires(wires) => wire_each(desk, wires),
         Act::Sink => {
             let link = sink_of(desk.alloc, &desk.traces);
             attach(desk, link)
@@ -238,6 +271,7 @@ pub fn is_seen(desk: &Desk, sees: Sees) -> bool {
             let edits = session.document().edits().len();
             session.links() == links && least <= edits && edits <= most
         }
+        Sees::Ended(links) => desk.traces.ends.get() == links,
         Sees::Left(bytes) => has_left(&desk.traces, bytes),
         Sees::Sunk(bytes) => desk.traces.sunk.get() == bytes,
     }
@@ -253,7 +287,7 @@ fn faults_of(session: &Session) -> u64 {
 }
 
 /// How many acts come out as they should.
-fn acts_that_hold(desk: &mut Desk, acts: &[(Act, Told, Sees)]) -> usize {
+pub fn acts_that_hold(desk: &mut Desk, acts: &[Step]) -> usize {
     let mut held = 0_usize;
     for (act, told, sees) in acts {
         if told_by(desk, *act) == *told && is_seen(desk, *sees) {
@@ -272,6 +306,23 @@ pub struct Outcome {
     ends: u32,
 }
 
+fn count_of(wires: &[Wired]) -> u32 {
+    let mut count = 0_u32;
+    for _ in wires {
+        count = count.saturating_add(1);
+    }
+    count
+}
+
+/// How many links an act attaches.
+fn links_of(act: Act) -> u32 {
+    match act {
+        Act::Wire(_) | Act::Sink | Act::Endless => 1,
+        Act::Wires(wires) => count_of(wires),
+        _ => 0,
+    }
+}
+
 /// What a case should come to.
 pub fn wanted_of(case: &Case) -> Outcome {
     let mut faults = 0_u64;
@@ -283,9 +334,7 @@ pub fn wanted_of(case: &Case) -> Outcome {
         ) {
             faults = faults.saturating_add(1);
         }
-        if matches!(act, Act::Wire(_) | Act::Sink | Act::Endless) {
-            ends = ends.saturating_add(1);
-        }
+        ends = ends.saturating_add(links_of(*act));
     }
     Outcome {
         held: case.acts.len(),
@@ -294,16 +343,21 @@ pub fn wanted_of(case: &Case) -> Outcome {
     }
 }
 
-pub fn outcome_of(alloc: Global, case: &Case) -> Result<Outcome, Fail> {
-    let mut desk = desk_of(alloc, case.edits, case.keys, (case.screen, case.source))?;
-    let held = acts_that_hold(&mut desk, case.acts);
-    let faults = faults_of(&desk.session);
+/// How many devices and links come to their end with a session.
+pub fn ends_of(desk: Desk) -> u32 {
     let Desk {
         session,
         traces,
         ..
     } = desk;
     drop(session);
-    let ends = traces.ends.get();
+    traces.ends.get()
+}
+
+pub fn outcome_of(alloc: Global, case: &Case) -> Result<Outcome, Fail> {
+    let mut desk = desk_of(alloc, case.edits, case.keys, (case.screen, case.source))?;
+    let held = acts_that_hold(&mut desk, case.acts);
+    let faults = faults_of(&desk.session);
+    let ends = ends_of(desk);
     Ok(Outcome { held, faults, ends })
 }

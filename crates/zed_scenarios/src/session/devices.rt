@@ -37,6 +37,8 @@ pub struct Traces {
     pub ends: Rc<Cell<u32>>,
     /// What the link took that was let go last.
     pub left: Rc<Cell<Option<Vec<u8>>>>,
+    /// How many links over memory came to their end unread.
+    pub unread: Rc<Cell<u32>>,
     /// How many bytes sinks took.
     pub sunk: Rc<Cell<u64>>,
 }
@@ -47,6 +49,7 @@ impl Traces {
             frame: Rc::new(alloc, Cell::new(None))?,
             ends: Rc::new(alloc, Cell::new(0))?,
             left: Rc::new(alloc, Cell::new(None))?,
+            unread: Rc::new(alloc, Cell::new(0))?,
             sunk: Rc::new(alloc, Cell::new(0))?,
         })
     }

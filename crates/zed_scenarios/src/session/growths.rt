@@ -1,18 +1,13 @@
-//! Each growth of a call refused in turn. scripts/growths loads an allocator that hears which one; under any other allocator these tests
-//! pass in their first turn.
+//! Each growth of a call of a session refused in turn.
 use super::desk::{Act, Desk, Sees, Told, desk_of, is_seen, told_by};
 use super::devices::Fails;
 use super::worlds::{Does, GEM_WORLD, TWO_BOARDS};
+use crate::growths::{MOST, refuse, was_refused};
+use crate::refusals::Turn;
 use std::alloc::Global;
 use std::test::Fail;
 use zed_play::Key;
 use zed_session::SessionError;
-
-/// The size that the allocator listens to.
-const MARK: usize = 3_141_592;
-
-/// Most growths that a test goes through.
-const MOST: usize = 1024;
 
 /// What is tested of a call, on a new desk with two keys.
 #[derive(Clone, Copy)]
@@ -26,24 +21,6 @@ struct Scene {
     then: &'static [(Act, Told)],
     /// What is seen after the call with ample memory.
     after: &'static [Sees],
-}
-
-/// How one turn came out.
-#[derive(Clone, Copy, Debug, PartialEq, Eq)]
-enum Turn {
-    Refused,
-    NoneRefused,
-    Wrong,
-}
-
-/// Asks that the growth `nth` from here on is refused.
-fn refuse(alloc: Global, nth: usize) {
-    let _ = Vec::<u8>::with_capacity(alloc, MARK.saturating_add(nth));
-}
-
-/// Ends what `refuse` asked for, and says whether a growth was refused.
-fn was_refused(alloc: Global) -> bool {
-    Vec::<u8>::with_capacity(alloc, MARK).is_err()
 }
 
 fn all_told(desk: &mut Desk, acts: &[(Act, Told)]) -> bool {

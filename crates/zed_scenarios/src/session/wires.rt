@@ -14,18 +14,14 @@ pub const FILE: &[u8] = &[
 ];
 
 /// What makes a link over memory: the bytes that it hands over, how many by a call, and how many calls pass before one fails.
-#[derive(Clone, Copy)]
-pub struct Wired {
-    pub handed: &'static [u8],
-    pub piece: usize,
-    pub passing: Option<u64>,
-}
+pub type Wired = (&'static [u8], usize, Option<u64>);
 
-/// A link over memory that leaves what it took when it is let go.
+/// A link over memory that leaves what it took when it is let go, and then tells whether it was read.
 pub struct Wire {
     link: MemoryLink,
     alloc: Global,
     left: Rc<Cell<Option<Vec<u8>>>>,
+    unread: Rc<Cell<u32>>,
     end: End,
 }
 
@@ -35,9 +31,13 @@ impl Drop for Wire {
             link,
             alloc,
             left,
+            unread,
             end,
         } = self;
         left.set(Vec::from_slice(alloc, link.taken()).ok());
+        if link.reads() == 0 {
+            unread.set(unread.get().saturating_add(1));
+        }
         drop(end);
     }
 }
@@ -116,42 +116,53 @@ fn end_in(traces: &Traces) -> Result<End, AllocError> {
     })
 }
 
-/// A link over memory that hands over these bytes.
+/// A link over memory that hands over these bytes, so many by a call, and of which so many calls pass before one fails.
 pub fn wire_over(
     alloc: Global,
     handed: Vec<u8>,
-    wired: Wired,
+    piece: usize,
+    passing: Option<u64>,
     traces: &Traces,
 ) -> Result<Box<dyn Link>, AllocError> {
     let left = Rc::clone(&traces.left)?;
+    let unread = Rc::clone(&traces.unread)?;
     let end = end_in(traces)?;
-    let link = MemoryLink::new(alloc, handed, wired.piece, wired.passing);
+    let link = MemoryLink::new(alloc, handed, piece, passing);
     let wire = Wire {
         link,
         alloc,
         left,
+        unread,
         end,
     };
     Ok(Box::new(alloc, wire)?)
 }
 
 pub fn wire_of(alloc: Global, wired: Wired, traces: &Traces) -> Result<Box<dyn Link>, AllocError> {
-    let handed = Vec::from_slice(alloc, wired.handed)?;
-    wire_over(alloc, handed, wired, traces)
+    let (handed, piece, passing) = wired;
+    wire_over(
+        alloc,
+        Vec::from_slice(alloc, handed)?,
+        piece,
+        passing,
+        traces,
+    )
+}
+
+/// The front of a record of the greatest length, and as many zeros as reads may be made.
+pub fn put_long_record(out: &mut Vec<u8>) -> Result<(), AllocError> {
+    out.extend_from_slice(&[0, 0, 64, 0])?;
+    for _ in 0..1_048_576u32 {
+        out.push(0)?;
+    }
+    Ok(())
 }
 
 /// A link that hands over a head and the front of one long record, byte by byte, and has no end within a million reads.
 pub fn endless_of(alloc: Global, traces: &Traces) -> Result<Box<dyn Link>, AllocError> {
-    let wired = Wired {
-        handed: b"ZED\x01\x07\0\0\0\0\0\0\0\0\0\x40\0",
-        piece: 1,
-        passing: None,
-    };
-    let mut handed = Vec::from_slice(alloc, wired.handed)?;
-    for _ in 0..1_048_576u32 {
-        handed.push(0)?;
-    }
-    wire_over(alloc, handed, wired, traces)
+    let mut handed = Vec::from_slice(alloc, b"ZED\x01\x07\0\0\0\0\0\0\0")?;
+    put_long_record(&mut handed)?;
+    wire_over(alloc, handed, 1, None, traces)
 }
 
 pub fn sink_of(alloc: Global, traces: &Traces) -> Result<Box<dyn Link>, AllocError> {
