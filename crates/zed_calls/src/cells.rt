@@ -1,5 +1,5 @@
 //! Registers and cells by example, and growths refused.
-use crate::growths::{TURNS, Turn, is_last, refuse, turn_of, was_refused};
+use crate::growths::{Turn, refuse, refuse_each, turn_of, was_refused};
 use std::alloc::Global;
 use std::test::Fail;
 use zed_cells::{Cells, CellsError, Registers};
@@ -87,12 +87,7 @@ fn cells_once(alloc: Global, nth: usize) -> Turn {
 
 #[test]
 fn each_growth_of_cells_refused(rt: HostRuntime) -> Result<(), Fail> {
-    for nth in 1..=TURNS {
-        if is_last(cells_once(rt.alloc(), nth))? {
-            return Ok(());
-        }
-    }
-    Err(Fail::new("more growths than expected"))
+    refuse_each!(nth => cells_once(rt.alloc(), nth))
 }
 
 /// Makes registers with a growth refused.
@@ -107,12 +102,7 @@ fn registers_once(alloc: Global, nth: usize) -> Turn {
 
 #[test]
 fn each_growth_of_registers_refused(rt: HostRuntime) -> Result<(), Fail> {
-    for nth in 1..=TURNS {
-        if is_last(registers_once(rt.alloc(), nth))? {
-            return Ok(());
-        }
-    }
-    Err(Fail::new("more growths than expected"))
+    refuse_each!(nth => registers_once(rt.alloc(), nth))
 }
 
 #[test]

@@ -1,5 +1,5 @@
 //! Edit files are fed and written with each growth refused. What is read of other edit files is in the tables of `zed_readings`.
-use crate::growths::{TURNS, Turn, is_last, refuse, turn_of};
+use crate::growths::{Turn, refuse, refuse_each, turn_of};
 use std::alloc::Global;
 use std::test::Fail;
 use zed_editfile::{EditFileError, EditReader, write_edit, write_head};
@@ -59,12 +59,7 @@ fn feed_once(alloc: Global, nth: usize) -> Turn {
 
 #[test]
 fn each_growth_of_feed_refused(rt: HostRuntime) -> Result<(), Fail> {
-    for nth in 1..=TURNS {
-        if is_last(feed_once(rt.alloc(), nth))? {
-            return Ok(());
-        }
-    }
-    Err(Fail::new("more growths than expected"))
+    refuse_each!(nth => feed_once(rt.alloc(), nth))
 }
 
 /// How a call came out that answered so and left these bytes, of which those are wanted.
@@ -82,12 +77,7 @@ fn write_head_once(alloc: Global, nth: usize) -> Turn {
 
 #[test]
 fn each_growth_of_write_head_refused(rt: HostRuntime) -> Result<(), Fail> {
-    for nth in 1..=TURNS {
-        if is_last(write_head_once(rt.alloc(), nth))? {
-            return Ok(());
-        }
-    }
-    Err(Fail::new("more growths than expected"))
+    refuse_each!(nth => write_head_once(rt.alloc(), nth))
 }
 
 fn write_edit_once(alloc: Global, nth: usize) -> Turn {
@@ -100,10 +90,5 @@ fn write_edit_once(alloc: Global, nth: usize) -> Turn {
 
 #[test]
 fn each_growth_of_write_edit_refused(rt: HostRuntime) -> Result<(), Fail> {
-    for nth in 1..=TURNS {
-        if is_last(write_edit_once(rt.alloc(), nth))? {
-            return Ok(());
-        }
-    }
-    Err(Fail::new("more growths than expected"))
+    refuse_each!(nth => write_edit_once(rt.alloc(), nth))
 }

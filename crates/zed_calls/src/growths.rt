@@ -50,3 +50,17 @@ pub(crate) fn is_last(turn: Turn) -> Result<bool, Fail> {
         Turn::Wrong => Err(Fail::new("a refused growth is told otherwise")),
     }
 }
+
+/// Makes a call with the growth of each number refused in turn, up to the one that meets none.
+macro_rules! refuse_each {
+    ($nth:ident => $turn:expr) => {{
+        for $nth in 1..=crate::growths::TURNS {
+            if crate::growths::is_last($turn)? {
+                return Ok(());
+            }
+        }
+        Err(Fail::new("more growths than expected"))
+    }};
+}
+
+pub(crate) use refuse_each;

@@ -5,6 +5,8 @@
 #[cfg(test)]
 mod cells;
 #[cfg(test)]
+mod chains;
+#[cfg(test)]
 mod edits;
 #[cfg(test)]
 mod growths;
@@ -18,6 +20,8 @@ mod programs;
 mod runs;
 #[cfg(test)]
 mod stats;
+#[cfg(test)]
+mod typed;
 #[cfg(test)]
 mod types;
 #[cfg(test)]

@@ -1,10 +1,8 @@
 //! Links over memory, as tables.
-ghost use Rattle.std.specs.Prelude.{None, true};
-
-use crate::growths::{TURNS, Turn, is_last, refuse, turn_of};
+use crate::growths::{Turn, refuse, refuse_each, turn_of};
 use std::test::Fail;
 use zed_document::Document;
-use zed_link::{Failed, Link, LinkError, MemoryLink, Pulled, receive, send};
+use zed_link::{Link, LinkError, MemoryLink, Pulled, receive, send};
 use zed_op::Cause;
 use zed_types::Stamp;
 
@@ -111,12 +109,7 @@ fn pull_once(rt: &HostRuntime, nth: usize) -> Result<Turn, Fail> {
 
 #[test]
 fn each_growth_of_receive_refused(rt: HostRuntime) -> Result<(), Fail> {
-    for nth in 1..=TURNS {
-        if is_last(pull_once(&rt, nth)?)? {
-            return Ok(());
-        }
-    }
-    Err(Fail::new("more growths than expected"))
+    refuse_each!(nth => pull_once(&rt, nth)?)
 }
 
 #[test]
@@ -271,50 +264,23 @@ fn a_cut_file_is_cut_short(rt: HostRuntime) -> Result<(), Fail> {
     Ok(())
 }
 
-/// A link that hands over a head, and then one record for ever, a byte by a read.
-#[derive(Drop)]
-struct Endless {
-    at: usize,
-    reads: u64,
-}
-
-impl Link for Endless {
-    ghost ends = { λ _. None };
-
-    ghost reads = { λ link. link.reads };
-
-    ghost failed = { λ _. 0 };
-
-    ghost stalls = { λ _. 0 };
-
-    ghost accepts = { λ _. true };
-
-    fn read(&mut self, into: &mut [u8]) -> Result<usize, Failed> {
-        self.reads = self.reads.saturating_add(1);
-        if into.is_empty() {
-            return Ok(0);
-        }
-        into[0] = *CELLS.get(self.at).unwrap_or(&0);
-        self.at = if self.at >= 42 { 12 } else { self.at + 1 };
-        Ok(1)
+/// A head, and one record again and again: more bytes than may be read one by one.
+fn long_file(rt: &HostRuntime) -> Result<Vec<u8>, Fail> {
+    let mut bytes = file(rt, &[])?;
+    let (_, record) = CELLS.split_at(12);
+    for _ in 0..33_825 {
+        bytes.extend_from_slice(record)?;
     }
-
-    fn write(&mut self, bytes: &[u8]) -> Result<usize, Failed> {
-        Ok(bytes.len())
-    }
-
-    fn failures(&self) -> u64 {
-        0
-    }
+    Ok(bytes)
 }
 
 #[test]
 fn a_link_without_an_end_takes_too_many_turns(rt: HostRuntime) -> Result<(), Fail> {
     let mut document = Document::new(rt.alloc(), 7);
-    let mut link = Endless { at: 0, reads: 0 };
+    let mut link = MemoryLink::new(rt.alloc(), long_file(&rt)?, 1, None);
     let pulled = receive(rt.alloc(), &mut link, &mut document);
     assert_eq!(rt; pulled, Err(LinkError::TooManyTurns));
-    assert_eq!(rt; link.reads, 1_048_576);
+    assert_eq!(rt; link.reads(), 1_048_576);
     assert_eq!(rt; document.edits().len(), 1);
     assert_eq!(rt;
         document

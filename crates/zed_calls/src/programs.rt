@@ -1,6 +1,6 @@
 //! Programs of objects are read with each growth refused, and kinds of tiles are matched. What is read of other programs is in the tables
 //! of `zed_readings`.
-use crate::growths::{TURNS, Turn, is_last, refuse, turn_of};
+use crate::growths::{Turn, refuse, refuse_each, turn_of};
 use std::alloc::Global;
 use std::test::Fail;
 use zed_script::{Program, TileKind, next_command, standing_at};
@@ -41,12 +41,7 @@ fn parse_once(alloc: Global, nth: usize) -> Turn {
 
 #[test]
 fn parsing_refused(rt: HostRuntime) -> Result<(), Fail> {
-    for nth in 1..=TURNS {
-        if is_last(parse_once(rt.alloc(), nth))? {
-            return Ok(());
-        }
-    }
-    Err(Fail::new("more growths than expected"))
+    refuse_each!(nth => parse_once(rt.alloc(), nth))
 }
 
 fn read_command_once(alloc: Global, nth: usize) -> Turn {
@@ -59,12 +54,7 @@ fn read_command_once(alloc: Global, nth: usize) -> Turn {
 
 #[test]
 fn reading_a_command_refused(rt: HostRuntime) -> Result<(), Fail> {
-    for nth in 1..=TURNS {
-        if is_last(read_command_once(rt.alloc(), nth))? {
-            return Ok(());
-        }
-    }
-    Err(Fail::new("more growths than expected"))
+    refuse_each!(nth => read_command_once(rt.alloc(), nth))
 }
 
 /// Where the instruction at the front of a program ends.
@@ -85,10 +75,5 @@ fn read_instructions_once(alloc: Global, nth: usize) -> Turn {
 
 #[test]
 fn reading_an_instruction_refused(rt: HostRuntime) -> Result<(), Fail> {
-    for nth in 1..=TURNS {
-        if is_last(read_instructions_once(rt.alloc(), nth))? {
-            return Ok(());
-        }
-    }
-    Err(Fail::new("more growths than expected"))
+    refuse_each!(nth => read_instructions_once(rt.alloc(), nth))
 }

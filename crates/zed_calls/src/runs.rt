@@ -1,5 +1,5 @@
 //! Runs at their bounds, and each growth refused.
-use crate::growths::{TURNS, Turn, is_last, refuse, turn_of, was_refused};
+use crate::growths::{Turn, refuse, refuse_each, turn_of, was_refused};
 use std::alloc::Global;
 use std::test::Fail;
 use zed_runs::{RunsError, read_runs, write_runs};
@@ -90,12 +90,7 @@ fn writing_refused(rt: HostRuntime) -> Result<(), Fail> {
     for place in 0..TILES {
         tiles[place].colour = (place % 2) as u8;
     }
-    for nth in 1..=TURNS {
-        if is_last(write_once(rt.alloc(), &tiles, nth)?)? {
-            return Ok(());
-        }
-    }
-    Err(Fail::new("more growths than expected"))
+    refuse_each!(nth => write_once(rt.alloc(), &tiles, nth)?)
 }
 
 #[test]

@@ -1,6 +1,6 @@
 //! World files are read, written and tested with each growth refused, and the time that the largest one takes is told. What is read of
 //! other world files is in the tables of `zed_readings`.
-use crate::growths::{TURNS, Turn, is_last, refuse, turn_of};
+use crate::growths::{Turn, refuse, refuse_each, turn_of};
 use std::alloc::{AllocError, Global};
 use std::test::Fail;
 use std::time::Instant;
@@ -64,12 +64,7 @@ fn read_once(alloc: Global, bytes: &[u8], nth: usize) -> Turn {
 #[test]
 fn reading_a_world_refused(rt: HostRuntime) -> Result<(), Fail> {
     let bytes = full(rt.alloc())?;
-    for nth in 1..=TURNS {
-        if is_last(read_once(rt.alloc(), &bytes, nth))? {
-            return Ok(());
-        }
-    }
-    Err(Fail::new("more growths than expected"))
+    refuse_each!(nth => read_once(rt.alloc(), &bytes, nth))
 }
 
 /// Writes the world of these bytes.
@@ -85,12 +80,7 @@ fn write_once(alloc: Global, world: &World, bytes: &[u8], nth: usize) -> Turn {
 fn writing_a_world_refused(rt: HostRuntime) -> Result<(), Fail> {
     let bytes = full(rt.alloc())?;
     let world = read_world(rt.alloc(), &bytes)?;
-    for nth in 1..=TURNS {
-        if is_last(write_once(rt.alloc(), &world, &bytes, nth))? {
-            return Ok(());
-        }
-    }
-    Err(Fail::new("more growths than expected"))
+    refuse_each!(nth => write_once(rt.alloc(), &world, &bytes, nth))
 }
 
 fn rewrite_once(alloc: Global, bytes: &[u8], nth: usize) -> Turn {
@@ -102,12 +92,7 @@ fn rewrite_once(alloc: Global, bytes: &[u8], nth: usize) -> Turn {
 #[test]
 fn rewriting_a_world_refused(rt: HostRuntime) -> Result<(), Fail> {
     let bytes = full(rt.alloc())?;
-    for nth in 1..=TURNS {
-        if is_last(rewrite_once(rt.alloc(), &bytes, nth))? {
-            return Ok(());
-        }
-    }
-    Err(Fail::new("more growths than expected"))
+    refuse_each!(nth => rewrite_once(rt.alloc(), &bytes, nth))
 }
 
 /// The largest file that there can be: 101 boards of 32,767 bytes, most of them the player's program.
