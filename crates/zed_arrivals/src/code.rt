@@ -1,42 +1,23 @@
 //! Texts that came by edits in several orders, and how many runs were looked at.
-ghost use Rattle.std.specs.Prelude.{◌≡◌, ◌∷◌, [], IfOk, Some};
-ghost use Rattle.zed_types.specs.Names.{byte_of as byte_at};
+ghost use Rattle.std.specs.Prelude.{◌≡◌, ◌∷◌, [], IfOk};
 ghost use Rattle.zed_types.specs.Text.{run_from};
 ghost use Rattle.zed_code.specs.Text.{elements, genesis};
 
 use crate::growths::{MOST_GROWTHS, refuse, was_refused};
+use crate::stamps::{first_of, stamp};
 use std::alloc::Global;
 use std::test::Fail;
 use zed_code::{CodeError, Text};
 use zed_types::{ElemId, Stamp};
 
 /// The stamps of the edits that put in x, y, w and z.
-const X: Stamp = Stamp {
-    time: 2,
-    replica: 1,
-};
+const X: Stamp = stamp!(2, 1);
 
-const Y: Stamp = Stamp {
-    time: 2,
-    replica: 2,
-};
+const Y: Stamp = stamp!(2, 2);
 
-const W: Stamp = Stamp {
-    time: 3,
-    replica: 2,
-};
+const W: Stamp = stamp!(3, 2);
 
-const Z: Stamp = Stamp {
-    time: 3,
-    replica: 3,
-};
-
-/// The first byte of an edit.
-fn first_of(stamp: Stamp) -> Option<ElemId>
-    ensures { result ≡ Some (byte_at stamp 0) }
-{
-    Some(ElemId::new(stamp, 0))
-}
+const Z: Stamp = stamp!(3, 3);
 
 /// The text `AB` of the edit that makes the world.
 fn letters(alloc: Global) -> Result<Text, CodeError>

@@ -7,6 +7,8 @@ mod code;
 #[cfg(test)]
 mod growths;
 #[cfg(test)]
+mod stamps;
+#[cfg(test)]
 mod texts;
 #[cfg(test)]
 mod world;

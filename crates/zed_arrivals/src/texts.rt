@@ -1,11 +1,11 @@
 //! Texts that came by edits of three authors in several orders, and growths refused.
-ghost use Rattle.std.specs.Prelude.{◌≡◌, ◌∷◌, [], IfOk, None, Some};
-ghost use Rattle.zed_types.specs.Names.{byte_of as byte_at};
+ghost use Rattle.std.specs.Prelude.{◌≡◌, ◌∷◌, [], IfOk};
 ghost use Rattle.zed_types.specs.Text.{run_from};
 ghost use Rattle.zed_op.specs.declared.op.Op.TheVariants.{TextInsert, TextDelete};
 ghost use Rattle.zed_texts.specs.Texts.{elements_of, texts_after, IsReady};
 
 use crate::growths::{MOST_GROWTHS, refuse, was_refused};
+use crate::stamps::{first_of, stamp};
 use crate::world::world;
 use std::alloc::{AllocError, Global};
 use std::test::Fail;
@@ -14,25 +14,13 @@ use zed_texts::{LiveTexts, TextsError};
 use zed_types::{ByteRange, Bytes, ElemId, Name, Stamp, TextId};
 
 /// The stamps of the edits that add the text and put its first bytes, and of those of the two other authors.
-const MADE: Stamp = Stamp {
-    time: 2,
-    replica: 1,
-};
+const MADE: Stamp = stamp!(2, 1);
 
-const FIRST: Stamp = Stamp {
-    time: 3,
-    replica: 1,
-};
+const FIRST: Stamp = stamp!(3, 1);
 
-const SECOND: Stamp = Stamp {
-    time: 4,
-    replica: 2,
-};
+const SECOND: Stamp = stamp!(4, 2);
 
-const THIRD: Stamp = Stamp {
-    time: 4,
-    replica: 3,
-};
+const THIRD: Stamp = stamp!(4, 3);
 
 const CODE: TextId = TextId {
     name: Name {
@@ -40,13 +28,6 @@ const CODE: TextId = TextId {
         index: 0,
     },
 };
-
-/// The first byte of an edit.
-fn first_of(stamp: Stamp) -> Option<ElemId>
-    ensures { result ≡ Some (byte_at stamp 0) }
-{
-    Some(ElemId::new(stamp, 0))
-}
 
 /// Puts bytes into the text.
 fn insert(
@@ -126,10 +107,7 @@ fn first_byte() -> ByteRange
     }
 }
 
-const LAST: Stamp = Stamp {
-    time: 5,
-    replica: 3,
-};
+const LAST: Stamp = stamp!(5, 3);
 
 #[test]
 fn texts_and_bytes_are_found(rt: HostRuntime) -> Result<(), Fail> {
@@ -206,46 +184,28 @@ fn a_world_comes_late(rt: HostRuntime) -> Result<(), Fail> {
     Ok(())
 }
 
-/// Whether each growth of a world, refused in turn, leaves the texts, up to the call that met none and took it.
-fn sweep_world(alloc: Global) -> Result<bool, Fail> {
-    for nth in 1..=MOST_GROWTHS {
-        let mut texts = begun(alloc)?;
-        let edit = Edit {
-            stamp: Stamp::GENESIS,
-            op: Op::Genesis(world(alloc)?),
-        };
-        check(alloc, &edit)?;
-        refuse(alloc, nth);
-        let answer = texts.take(alloc, &edit);
-        if !was_refused(alloc) {
-            return Ok(answer.is_ok());
+/// Takes an edit with each growth refused in turn, up to the call that meets none. Whether that one takes it, and each other answers
+/// Memory and leaves the texts.
+macro_rules! sweep {
+    ($alloc:ident, $texts:ident = $begun:expr, $stamp:expr, $op:expr, $whole:expr, $kept:expr) => {{
+        for nth in 1..=MOST_GROWTHS {
+            let mut $texts = $begun;
+            let edit = Edit {
+                stamp: $stamp,
+                op: $op,
+            };
+            check($alloc, &edit)?;
+            refuse($alloc, nth);
+            let answer = $texts.take($alloc, &edit);
+            if !was_refused($alloc) {
+                return Ok(answer.is_ok() && $whole);
+            }
+            if answer != Err(TextsError::Memory) || !$kept {
+                return Ok(false);
+            }
         }
-        if answer != Err(TextsError::Memory) || texts.count() != 1 {
-            return Ok(false);
-        }
-    }
-    Ok(false)
-}
-
-/// Whether each growth of a first text does.
-fn sweep_addition(alloc: Global) -> Result<bool, Fail> {
-    for nth in 1..=MOST_GROWTHS {
-        let mut texts = LiveTexts::new(alloc);
-        let edit = Edit {
-            stamp: MADE,
-            op: Op::TextAdd,
-        };
-        check(alloc, &edit)?;
-        refuse(alloc, nth);
-        let answer = texts.take(alloc, &edit);
-        if !was_refused(alloc) {
-            return Ok(answer.is_ok());
-        }
-        if answer != Err(TextsError::Memory) || texts.count() != 0 {
-            return Ok(false);
-        }
-    }
-    Ok(false)
+        Ok(false)
+    }};
 }
 
 /// How many live bytes the text has.
@@ -256,46 +216,51 @@ fn length_of(texts: &LiveTexts) -> usize {
     }
 }
 
-/// Whether each growth of a first insertion does.
-fn sweep_insertion(alloc: Global) -> Result<bool, Fail> {
-    for nth in 1..=MOST_GROWTHS {
-        let mut texts = begun(alloc)?;
-        let edit = Edit {
-            stamp: SECOND,
-            op: Op::TextInsert(CODE, None, Bytes::new(b"x".to_vec(alloc)?)),
-        };
-        check(alloc, &edit)?;
-        refuse(alloc, nth);
-        let answer = texts.take(alloc, &edit);
-        if !was_refused(alloc) {
-            return Ok(answer.is_ok() && length_of(&texts) == 1);
-        }
-        if answer != Err(TextsError::Memory) || length_of(&texts) != 0 {
-            return Ok(false);
-        }
-    }
-    Ok(false)
+fn sweep_world(alloc: Global) -> Result<bool, Fail> {
+    sweep!(
+        alloc,
+        texts = begun(alloc)?,
+        Stamp::GENESIS,
+        Op::Genesis(world(alloc)?),
+        texts.count() == 2,
+        (texts.count() == 1)
+    )
 }
 
-/// Whether each growth of a deletion in a text without a run does.
+/// A first text.
+fn sweep_addition(alloc: Global) -> Result<bool, Fail> {
+    sweep!(
+        alloc,
+        texts = LiveTexts::new(alloc),
+        MADE,
+        Op::TextAdd,
+        texts.count() == 1,
+        (texts.count() == 0)
+    )
+}
+
+/// A first insertion.
+fn sweep_insertion(alloc: Global) -> Result<bool, Fail> {
+    sweep!(
+        alloc,
+        texts = begun(alloc)?,
+        SECOND,
+        Op::TextInsert(CODE, None, Bytes::new(b"x".to_vec(alloc)?)),
+        length_of(&texts) == 1,
+        (length_of(&texts) == 0)
+    )
+}
+
+/// A deletion in a text without a run.
 fn sweep_deletion(alloc: Global) -> Result<bool, Fail> {
-    for nth in 1..=MOST_GROWTHS {
-        let mut texts = begun(alloc)?;
-        let edit = Edit {
-            stamp: LAST,
-            op: Op::TextDelete(CODE, first_byte()),
-        };
-        check(alloc, &edit)?;
-        refuse(alloc, nth);
-        let answer = texts.take(alloc, &edit);
-        if !was_refused(alloc) {
-            return Ok(answer.is_ok());
-        }
-        if answer != Err(TextsError::Memory) || texts.count() != 1 {
-            return Ok(false);
-        }
-    }
-    Ok(false)
+    sweep!(
+        alloc,
+        texts = begun(alloc)?,
+        LAST,
+        Op::TextDelete(CODE, first_byte()),
+        texts.count() == 1,
+        (texts.count() == 1)
+    )
 }
 
 #[test]
