@@ -2,19 +2,14 @@
 use crate::hosts::{
     Complaint, Contents, File, Output, Run, come_out, edit_file, is_no_command, is_refused,
 };
-use crate::rows::{Does, Row};
+use crate::rows::{Does, Row, WALL};
 use crate::worlds::{EMPTY, LONGEST, ONE_CELL, TOO_LONG};
 use std::test::Fail;
 use zed_types::Tile;
 
 const TITLE: Row = (1, 0, Does::World(EMPTY));
 
-const CELL: Row = (2, 1, Does::Cell(5, 5, SOLID));
-
-const SOLID: Tile = Tile {
-    element: 21,
-    colour: 0x0e,
-};
+const CELL: Row = (2, 1, Does::Cell(5, 5, WALL));
 
 #[test]
 fn an_edit_file_of_a_world(rt: HostRuntime) -> Result<(), Fail> {
@@ -158,10 +153,10 @@ const OTHER_CELL: Row = (
     ),
 );
 
-const LATE_CELL: Row = (3, 1, Does::Cell(6, 5, SOLID));
+const LATE_CELL: Row = (3, 1, Does::Cell(6, 5, WALL));
 
 /// The cell of that stamp, but elsewhere.
-const OTHER_LATE_CELL: Row = (3, 1, Does::Cell(7, 5, SOLID));
+const OTHER_LATE_CELL: Row = (3, 1, Does::Cell(7, 5, WALL));
 
 const CLASHING: &[File] = &[
     ("a", Contents::Edits(&[CELL])),

@@ -2,22 +2,16 @@
 use crate::devices::{DarkScreen, NoKeys};
 use crate::growths::{MOST, refuse, was_refused};
 use crate::hosts::{Contents, File, Output, has_written, put_files, words_of};
-use crate::rows::{Does, Row};
+use crate::rows::{Does, Row, WALL};
 use crate::worlds::{EMPTY, ONE_CELL};
 use std::alloc::Global;
 use std::test::Fail;
 use zed_program::{Host, MemoryHost, run};
 use zed_session::{Keys, Screen};
-use zed_types::Tile;
 
 pub(crate) const TITLE: Row = (1, 0, Does::World(EMPTY));
 
-pub(crate) const CELL: Row = (2, 1, Does::Cell(5, 5, SOLID));
-
-const SOLID: Tile = Tile {
-    element: 21,
-    colour: 0x0e,
-};
+pub(crate) const CELL: Row = (2, 1, Does::Cell(5, 5, WALL));
 
 const FILES: &[File] = &[
     ("a", Contents::Edits(&[TITLE])),

@@ -6,6 +6,8 @@ mod authoring;
 #[cfg(test)]
 mod calls;
 #[cfg(test)]
+mod chain;
+#[cfg(test)]
 mod checking;
 #[cfg(test)]
 mod commands;

@@ -1,7 +1,7 @@
 //! What a world file and later edits make, by their names and by their numbers.
 use crate::desk::{Fact, Registers, Told};
 use crate::files::Saved;
-use crate::rows::{Does, FIRST, Row};
+use crate::rows::{Does, FIRST, Row, WALL, WATER};
 use crate::steps::{Step, Who, plays};
 use crate::worlds::{EMPTY, TWO_BOARDS, WITH_PROGRAM};
 use std::test::Fail;
@@ -137,25 +137,15 @@ fn the_title_stays_and_the_last_time_is_taken(rt: HostRuntime) -> Result<(), Fai
     plays(rt.alloc(), ODD)
 }
 
-const WALL: Row = (2, 1, Does::Cell(5, 5, SOLID));
+const EARLY: Row = (2, 1, Does::Cell(5, 5, WALL));
 
-const WATER: Row = (2, 2, Does::Cell(5, 5, DEEP));
-
-const SOLID: Tile = Tile {
-    element: 21,
-    colour: 0x0e,
-};
-
-const DEEP: Tile = Tile {
-    element: 19,
-    colour: 0x9f,
-};
+const LATE: Row = (2, 2, Does::Cell(5, 5, WATER));
 
 const CELLS: &[Step] = &[
-    Step::Takes(Who::One, &[(1, 0, Does::World(EMPTY)), WALL, WATER]),
-    Step::Takes(Who::Other, &[(1, 0, Does::World(EMPTY)), WATER, WALL]),
-    Step::Finds(Who::One, Fact::Cell(0, 244, DEEP)),
-    Step::Finds(Who::Other, Fact::Cell(0, 244, DEEP)),
+    Step::Takes(Who::One, &[(1, 0, Does::World(EMPTY)), EARLY, LATE]),
+    Step::Takes(Who::Other, &[(1, 0, Does::World(EMPTY)), LATE, EARLY]),
+    Step::Finds(Who::One, Fact::Cell(0, 244, WATER)),
+    Step::Finds(Who::Other, Fact::Cell(0, 244, WATER)),
     Step::Finds(Who::One, Fact::Cell(0, 243, Tile::EMPTY)),
     Step::Finds(Who::One, Fact::Cell(0, 245, Tile::EMPTY)),
     Step::Same(true),

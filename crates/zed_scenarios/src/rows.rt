@@ -15,6 +15,16 @@ pub(crate) type Name = (u64, u16, u32);
 /// byte of that.
 pub(crate) const FIRST: Name = (1, 0, 0);
 
+pub(crate) const WALL: Tile = Tile {
+    element: 21,
+    colour: 14,
+};
+
+pub(crate) const WATER: Tile = Tile {
+    element: 19,
+    colour: 159,
+};
+
 /// What an edit does.
 #[derive(Clone, Copy)]
 pub(crate) enum Does {

@@ -1,6 +1,7 @@
 //! The file of a document.
+use crate::desk::{Fact, Told};
 use crate::files::Saved;
-use crate::rows::{Does, FIRST, Name, Row};
+use crate::rows::{Does, FIRST, Name, Row, WATER};
 use crate::steps::{Step, Who, plays};
 use crate::worlds::{EMPTY, TWO_BOARDS, WITH_PROGRAM};
 use std::test::Fail;
@@ -55,18 +56,7 @@ fn a_board_before_its_world(rt: HostRuntime) -> Result<(), Fail> {
     plays(rt.alloc(), WORLD_LAST)
 }
 
-const CELL: Row = (
-    2,
-    1,
-    Does::Cell(
-        5,
-        5,
-        Tile {
-            element: 19,
-            colour: 0x9f,
-        },
-    ),
-);
+const CELL: Row = (2, 1, Does::Cell(5, 5, WATER));
 
 const ONE_CELL: &[Step] = &[
     Step::Takes(Who::One, &[TITLE, CELL]),
@@ -155,4 +145,48 @@ const ODD: &[Step] = &[
 #[test]
 fn odd_places(rt: HostRuntime) -> Result<(), Fail> {
     plays(rt.alloc(), ODD)
+}
+
+/// A board, a text, and two bytes of it, beside a world with a text of its own.
+const THINGS: &[Row] = &[
+    (1, 0, Does::World(WITH_PROGRAM)),
+    (2, 1, Does::AddBoard("One")),
+    (3, 1, Does::AddText),
+    (4, 1, Does::Insert(U, None, "ab")),
+];
+
+const U: Name = (3, 1, 0);
+
+/// Edits that name a second board of an edit, a stat of an edit that made a text, more bytes than were put, and a byte of another text.
+const FORGED: &[Step] = &[
+    Step::Takes(Who::One, THINGS),
+    Step::Takes(Who::Other, THINGS),
+    Step::Gives(
+        Who::One,
+        (5, 2, Does::Fill((2, 1, 1), [5, 5, 5, 5], WATER)),
+        Told::Held,
+    ),
+    Step::Gives(Who::One, (6, 2, Does::SetText(U, None)), Told::Held),
+    Step::Gives(
+        Who::One,
+        (7, 2, Does::DeleteTo(U, (4, 1, 0), 5)),
+        Told::Held,
+    ),
+    Step::Gives(
+        Who::One,
+        (8, 2, Does::Insert(FIRST, Some((4, 1, 0)), "x")),
+        Told::Held,
+    ),
+    Step::Finds(Who::One, Fact::Edits(8, 4)),
+    Step::Finds(Who::One, Fact::Text(FIRST, "AB")),
+    Step::Finds(Who::One, Fact::Text(U, "ab")),
+    Step::SavedAlike,
+    Step::Merges(Who::Other, Ok(())),
+    Step::Finds(Who::Other, Fact::Edits(8, 4)),
+    Step::SavedAlike,
+];
+
+#[test]
+fn what_names_nothing_waits_for_good(rt: HostRuntime) -> Result<(), Fail> {
+    plays(rt.alloc(), FORGED)
 }

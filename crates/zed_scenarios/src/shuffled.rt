@@ -1,7 +1,7 @@
 //! Tables of edits of three authors, in many orders and with repeats: each delivery against a replay of the edits that came so far.
 use crate::desk::{Desk, Fact};
 use crate::files::{Saved, saves};
-use crate::rows::{Does, FIRST, Name, Row, edit_of, stamp_of};
+use crate::rows::{Does, FIRST, Name, Row, WALL, WATER, edit_of, stamp_of};
 use crate::worlds::TWO_BOARDS;
 use std::alloc::{AllocError, Global};
 use std::test::Fail;
@@ -26,16 +26,6 @@ pub(crate) struct Sheet {
     pub(crate) shown: &'static [Fact],
     pub(crate) files: &'static [Saved],
 }
-
-const WALL: Tile = Tile {
-    element: 21,
-    colour: 14,
-};
-
-const WATER: Tile = Tile {
-    element: 19,
-    colour: 159,
-};
 
 /// What the edits make: texts, boards and stats. The last three are of a chain, in which one edit waits for the next.
 const T: Name = (2, 1, 0);

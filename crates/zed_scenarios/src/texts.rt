@@ -4,6 +4,7 @@ use crate::files::Saved;
 use crate::rows::{Does, FIRST, Name, Row};
 use crate::steps::{Step, Who, plays};
 use crate::worlds::WITH_PROGRAM;
+use std::alloc::Global;
 use std::test::Fail;
 
 pub(crate) const WORLD: Row = (1, 0, Does::World(WITH_PROGRAM));
@@ -78,66 +79,45 @@ fn waiting_edits_wake_together(rt: HostRuntime) -> Result<(), Fail> {
 
 const BEGIN: Step = Step::Takes(Who::One, &[WORLD]);
 
-const READS: Step = Step::Finds(Who::One, Fact::Text(FIRST, "AxB"));
-
-const WHOLE: Step = Step::Finds(Who::One, Fact::Edits(4, 0));
+/// An edit that arrives, and what is answered.
+type Arrival = (Row, Told);
 
 /// The orders in which the three edits may arrive.
-const ORDERS: [&[Step]; 6] = [
-    &[
-        BEGIN,
-        Step::Gives(Who::One, X, Told::Taken(0)),
-        Step::Gives(Who::One, Z, Told::Taken(0)),
-        Step::Gives(Who::One, NO_Z, Told::Taken(0)),
-        READS,
-        WHOLE,
+const ORDERS: [[Arrival; 3]; 6] = [
+    [
+        (X, Told::Taken(0)),
+        (Z, Told::Taken(0)),
+        (NO_Z, Told::Taken(0)),
     ],
-    &[
-        BEGIN,
-        Step::Gives(Who::One, X, Told::Taken(0)),
-        Step::Gives(Who::One, NO_Z, Told::Held),
-        Step::Gives(Who::One, Z, Told::Taken(1)),
-        READS,
-        WHOLE,
-    ],
-    &[
-        BEGIN,
-        Step::Gives(Who::One, Z, Told::Held),
-        Step::Gives(Who::One, X, Told::Taken(1)),
-        Step::Gives(Who::One, NO_Z, Told::Taken(0)),
-        READS,
-        WHOLE,
-    ],
-    &[
-        BEGIN,
-        Step::Gives(Who::One, Z, Told::Held),
-        Step::Gives(Who::One, NO_Z, Told::Held),
-        Step::Gives(Who::One, X, Told::Taken(2)),
-        READS,
-        WHOLE,
-    ],
-    &[
-        BEGIN,
-        Step::Gives(Who::One, NO_Z, Told::Held),
-        Step::Gives(Who::One, X, Told::Taken(0)),
-        Step::Gives(Who::One, Z, Told::Taken(1)),
-        READS,
-        WHOLE,
-    ],
-    &[
-        BEGIN,
-        Step::Gives(Who::One, NO_Z, Told::Held),
-        Step::Gives(Who::One, Z, Told::Held),
-        Step::Gives(Who::One, X, Told::Taken(2)),
-        READS,
-        WHOLE,
-    ],
+    [(X, Told::Taken(0)), (NO_Z, Told::Held), (Z, Told::Taken(1))],
+    [(Z, Told::Held), (X, Told::Taken(1)), (NO_Z, Told::Taken(0))],
+    [(Z, Told::Held), (NO_Z, Told::Held), (X, Told::Taken(2))],
+    [(NO_Z, Told::Held), (X, Told::Taken(0)), (Z, Told::Taken(1))],
+    [(NO_Z, Told::Held), (Z, Told::Held), (X, Told::Taken(2))],
 ];
+
+fn gives(arrival: Arrival) -> Step {
+    Step::Gives(Who::One, arrival.0, arrival.1)
+}
+
+/// Whether three edits arrive so after their world, and the text reads as it should in the end.
+fn arrive(alloc: Global, order: [Arrival; 3]) -> Result<(), Fail> {
+    let [first, second, third] = order;
+    let steps = [
+        BEGIN,
+        gives(first),
+        gives(second),
+        gives(third),
+        Step::Finds(Who::One, Fact::Text(FIRST, "AxB")),
+        Step::Finds(Who::One, Fact::Edits(4, 0)),
+    ];
+    plays(alloc, &steps)
+}
 
 #[test]
 fn no_order_counts(rt: HostRuntime) -> Result<(), Fail> {
-    for steps in ORDERS {
-        plays(rt.alloc(), steps)?;
+    for order in ORDERS {
+        arrive(rt.alloc(), order)?;
     }
     Ok(())
 }

@@ -2,23 +2,13 @@
 use crate::desk::Fact;
 use crate::files::Saved;
 use crate::registers::{Field, Header, Property};
-use crate::rows::{Does, FIRST, Name, Row};
+use crate::rows::{Does, FIRST, Name, Row, WALL, WATER};
 use crate::shuffled::{HALF, ORDERS, Sheet, agree};
 use crate::worlds::EMPTY;
 use std::test::Fail;
 use zed_types::{
     BoardByte, BoardFlag, BoardText, FlagSlot, HeaderNumber, KeyColour, Side, StatByte, StatNumber,
     Tile,
-};
-
-const WALL: Tile = Tile {
-    element: 21,
-    colour: 14,
-};
-
-const WATER: Tile = Tile {
-    element: 19,
-    colour: 159,
 };
 
 const PASSAGE: Tile = Tile {
@@ -42,6 +32,20 @@ const S4: Name = (18, 2, 0);
 
 const S5: Name = (21, 2, 0);
 
+/// A register of the title.
+macro_rules! title {
+    ($property:expr) => {
+        Does::Board(FIRST, $property)
+    };
+}
+
+/// A register of the first stat that is added.
+macro_rules! first {
+    ($field:expr) => {
+        Does::Stat(S1, $field)
+    };
+}
+
 /// The edits, in rising stamp order.
 const ROWS: &[Row] = &[
     (1, 0, Does::World(EMPTY)),
@@ -63,76 +67,36 @@ const ROWS: &[Row] = &[
     (7, 1, Does::Header(Header::Saved(false))),
     (7, 2, Does::Header(Header::CurrentBoard(FIRST))),
     (7, 3, Does::Header(Header::CurrentBoard(CAVE))),
-    (
-        8,
-        1,
-        Does::Board(FIRST, Property::Byte(BoardByte::MaxShots, 5)),
-    ),
-    (
-        8,
-        2,
-        Does::Board(FIRST, Property::Byte(BoardByte::MaxShots, 7)),
-    ),
-    (
-        8,
-        3,
-        Does::Board(FIRST, Property::Flag(BoardFlag::Dark, true)),
-    ),
-    (9, 1, Does::Board(FIRST, Property::TimeLimit(100))),
-    (9, 2, Does::Board(FIRST, Property::TimeLimit(200))),
-    (
-        9,
-        3,
-        Does::Board(FIRST, Property::Flag(BoardFlag::Dark, false)),
-    ),
-    (
-        10,
-        1,
-        Does::Board(FIRST, Property::Text(BoardText::Name, "Old")),
-    ),
-    (
-        10,
-        2,
-        Does::Board(FIRST, Property::Text(BoardText::Name, "New title")),
-    ),
-    (
-        10,
-        3,
-        Does::Board(FIRST, Property::Text(BoardText::Message, "Hi")),
-    ),
+    (8, 1, title!(Property::Byte(BoardByte::MaxShots, 5))),
+    (8, 2, title!(Property::Byte(BoardByte::MaxShots, 7))),
+    (8, 3, title!(Property::Flag(BoardFlag::Dark, true))),
+    (9, 1, title!(Property::TimeLimit(100))),
+    (9, 2, title!(Property::TimeLimit(200))),
+    (9, 3, title!(Property::Flag(BoardFlag::Dark, false))),
+    (10, 1, title!(Property::Text(BoardText::Name, "Old"))),
+    (10, 2, title!(Property::Text(BoardText::Name, "New title"))),
+    (10, 3, title!(Property::Text(BoardText::Message, "Hi"))),
     (11, 1, Does::Exit(Side::North, CAVE)),
-    (11, 2, Does::Board(FIRST, Property::NoExit(Side::North))),
+    (11, 2, title!(Property::NoExit(Side::North))),
     (11, 3, Does::Exit(Side::East, CAVE)),
-    (
-        12,
-        1,
-        Does::Board(FIRST, Property::Flag(BoardFlag::ReEnter, true)),
-    ),
-    (
-        12,
-        2,
-        Does::Board(FIRST, Property::Byte(BoardByte::StartX, 9)),
-    ),
-    (
-        12,
-        3,
-        Does::Board(FIRST, Property::Byte(BoardByte::StartX, 8)),
-    ),
-    (13, 1, Does::Stat(S1, Field::Byte(StatByte::X, 7))),
-    (13, 2, Does::Stat(S1, Field::Byte(StatByte::X, 8))),
-    (13, 3, Does::Stat(S1, Field::Byte(StatByte::Y, 9))),
-    (14, 1, Does::Stat(S1, Field::Byte(StatByte::P1, 40))),
-    (14, 2, Does::Stat(S1, Field::Byte(StatByte::P1, 50))),
+    (12, 1, title!(Property::Flag(BoardFlag::ReEnter, true))),
+    (12, 2, title!(Property::Byte(BoardByte::StartX, 9))),
+    (12, 3, title!(Property::Byte(BoardByte::StartX, 8))),
+    (13, 1, first!(Field::Byte(StatByte::X, 7))),
+    (13, 2, first!(Field::Byte(StatByte::X, 8))),
+    (13, 3, first!(Field::Byte(StatByte::Y, 9))),
+    (14, 1, first!(Field::Byte(StatByte::P1, 40))),
+    (14, 2, first!(Field::Byte(StatByte::P1, 50))),
     (14, 3, Does::Stat(S2, Field::Byte(StatByte::P2, 60))),
-    (15, 1, Does::Stat(S1, Field::Number(StatNumber::Cycle, 3))),
-    (15, 2, Does::Stat(S1, Field::Number(StatNumber::Cycle, 4))),
+    (15, 1, first!(Field::Number(StatNumber::Cycle, 3))),
+    (15, 2, first!(Field::Number(StatNumber::Cycle, 4))),
     (15, 3, Does::Stat(S2, Field::Number(StatNumber::StepX, -1))),
-    (16, 1, Does::Stat(S1, Field::Follower(Some(S2)))),
-    (16, 2, Does::Stat(S1, Field::Follower(None))),
+    (16, 1, first!(Field::Follower(Some(S2)))),
+    (16, 2, first!(Field::Follower(None))),
     (16, 3, Does::Stat(S2, Field::Leader(Some(S1)))),
     (17, 1, Does::Stat(S2, Field::P3(9))),
     (17, 2, Does::Stat(S2, Field::To(CAVE))),
-    (17, 3, Does::Stat(S1, Field::P3(7))),
+    (17, 3, first!(Field::P3(7))),
     (18, 1, Does::AddStat(10, 10, None)),
     (18, 2, Does::AddStat(11, 11, None)),
     (18, 3, Does::RemoveStat(S3)),
@@ -144,16 +108,8 @@ const ROWS: &[Row] = &[
     (20, 3, Does::Fill(FIRST, [21, 21, 23, 23], WATER)),
     (21, 1, Does::AddBoard("Gone")),
     (21, 2, Does::AddStat(13, 13, None)),
-    (
-        21,
-        3,
-        Does::Stat(S1, Field::Byte(StatByte::UnderElement, 22)),
-    ),
-    (
-        22,
-        1,
-        Does::Stat(S1, Field::Byte(StatByte::UnderColour, 14)),
-    ),
+    (21, 3, first!(Field::Byte(StatByte::UnderElement, 22))),
+    (22, 1, first!(Field::Byte(StatByte::UnderColour, 14))),
     (22, 2, Does::Exit(Side::South, GONE)),
     (22, 3, Does::RemoveBoard(GONE)),
     (
@@ -163,11 +119,7 @@ const ROWS: &[Row] = &[
     ),
     (23, 2, Does::Stat(S5, Field::Leader(Some(S3)))),
     (23, 3, Does::Stat(S5, Field::Follower(Some(S4)))),
-    (
-        24,
-        1,
-        Does::Stat(S1, Field::Number(StatNumber::Position, -1)),
-    ),
+    (24, 1, first!(Field::Number(StatNumber::Position, -1))),
     (24, 2, Does::StatOn(GONE, None)),
     (24, 3, Does::ExitOf(GONE, Side::West, FIRST)),
 ];
