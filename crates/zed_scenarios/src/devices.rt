@@ -1,5 +1,5 @@
 //! Devices for commands that use none.
-ghost use Rattle.std.specs.Prelude.{None, false, true};
+ghost use Rattle.std.specs.Prelude.{None, Some, []};
 
 use zed_play::Key;
 use zed_screen::Frame;
@@ -16,7 +16,7 @@ impl Screen for DarkScreen {
 
     ghost screen_failures = { λ s. s.failures };
 
-    ghost screen_unfailing = { λ _. false };
+    ghost screen_foretells = { λ _. None };
 
     fn show(&mut self, _frame: &Frame) -> Result<(), Failed> {
         self.failures = self.failures.saturating_add(1);
@@ -37,7 +37,7 @@ impl Keys for NoKeys {
 
     ghost key_failures = { λ _. 0 };
 
-    ghost keys_unfailing = { λ _. true };
+    ghost keys_foretell = { λ _. Some [] };
 
     fn next(&mut self) -> Result<Option<Key>, Failed> {
         Ok(None)

@@ -12,7 +12,7 @@ use Rattle.zed_session.specs.declared.error.SessionError.{SessionError}
 use Rattle.zed_session.specs.declared.error.SessionError.TheVariants.{Memory, NoWords, Over, ScreenFault, KeyFault}
 use Rattle.zed_session.specs.declared.playing.Playing.{Playing}
 use Rattle.zed_session.specs.Devices.{first_of, showing, without_first}
-use Rattle.zed_session.specs.Refusals.{ShownAfter}
+use Rattle.zed_session.specs.Refusals.{ShownAfter, ShowsOnce}
 
 -- whether a playtest goes on: it was started, and it has not ended
 abbrev pub goes_on : Option Playtest → Bool
@@ -65,3 +65,9 @@ abbrev pub ShowsKey : Result (Option ℕ) SessionError → Option Playtest → O
 ShowsKey (Ok (Some used)) playtest old new = ShowsPlay playtest old new
 ShowsKey (Ok None) playtest old new = new ≡ old
 ShowsKey (Err e) playtest old new = ShownAfter e old new
+
+-- a screen shows one frame after a step: none where no step was made
+abbrev pub ShowsStep : Result (Option ℕ) SessionError → Option (List Bool) → Option (List Bool) → Type 0
+ShowsStep (Ok (Some used)) old new = ShowsOnce {X = Option ℕ} (Ok (Some used)) old new
+ShowsStep (Ok None) old new = new ≡ old
+ShowsStep (Err e) old new = ShowsOnce {X = Option ℕ} (Err e) old new

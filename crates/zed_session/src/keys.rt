@@ -1,7 +1,7 @@
 //! Sources of keys, as boxed objects that are handed in.
-ghost use Rattle.std.specs.Prelude.{◌≡◌, ℕ, Bool, false, List, Option, IfErr, IfOk, IfSome, OnErr, OnOk, is_err};
+ghost use Rattle.std.specs.Prelude.{◌≡◌, ℕ, Bool, List, Option, IfErr, IfOk, IfSome, OnErr, OnOk, is_err};
 ghost use Rattle.zed_link.specs.Counting.{Counts};
-ghost use Rattle.zed_session.specs.Devices.{first_of, without_first};
+ghost use Rattle.zed_session.specs.Devices.{Foretold, first_of, without_first};
 
 use crate::error::SessionError;
 use crate::screen::Failed;
@@ -17,8 +17,8 @@ pub trait Keys: Drop {
     /// How many calls of `next` failed.
     ghost key_failures: { Self → ℕ };
 
-    /// Whether no call of `next` ever fails.
-    ghost keys_unfailing: { Self → Bool };
+    /// Which of the calls of `next` to come fail, one after the other, and none behind these; or that this isn't told.
+    ghost keys_foretell: { Self → Option (List Bool) };
 
     /// The next key, or None where no more come. Where that fails, no key is taken.
     fn next(&mut self) -> Result<Option<Key>, Failed>
@@ -26,8 +26,8 @@ pub trait Keys: Drop {
         ensures ok { OnOk result (left self.new ≡ without_first (left self.old)) }
         ensures err { OnErr result (left self.new ≡ left self.old) }
         ensures failures { Counts (is_err result) (key_failures self.old) (key_failures self.new) }
-        ensures unfailing { keys_unfailing self.new ≡ keys_unfailing self.old }
-        ensures may_fail { OnErr result (keys_unfailing self.old ≡ false) };
+        ensures foretold { Foretold (is_err result)
+            (keys_foretell self.old) (keys_foretell self.new) };
 
     /// How many calls of `next` failed, up to the greatest `u64`.
     fn failures(&self) -> u64
@@ -41,8 +41,7 @@ pub(crate) fn next_of(keys: &mut Box<dyn Keys>) -> Result<Option<Key>, SessionEr
     ensures kept { OnErr result (left keys.new ≡ left keys.old) }
     ensures err { IfErr result (λ e. e ≡ SessionError.KeyFault) }
     ensures failures { Counts (is_err result) (key_failures keys.old) (key_failures keys.new) }
-    ensures unfailing { keys_unfailing keys.new ≡ keys_unfailing keys.old }
-    ensures may_fail { OnErr result (keys_unfailing keys.old ≡ false) }
+    ensures foretold { Foretold (is_err result) (keys_foretell keys.old) (keys_foretell keys.new) }
 {
     match keys.next() {
         Ok(key) => Ok(key),

@@ -5,6 +5,7 @@
 mod boards;
 mod error;
 mod file;
+mod holding;
 mod keys;
 mod over;
 mod playing;
@@ -13,6 +14,7 @@ mod session;
 mod stage;
 
 pub use error::SessionError;
+pub use holding::HoldsDocument;
 pub use keys::Keys;
 pub use playing::Playing;
 pub use screen::{Failed, Screen};

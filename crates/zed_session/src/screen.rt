@@ -1,7 +1,7 @@
 //! Screens, as boxed objects that are handed in.
-ghost use Rattle.std.specs.Prelude.{◌≡◌, ℕ, Bool, false, Option, IfErr, OnErr, OnOk, is_err, is_some};
+ghost use Rattle.std.specs.Prelude.{◌≡◌, ℕ, Bool, List, Option, IfErr, OnErr, OnOk, is_err, is_some};
 ghost use Rattle.zed_link.specs.Counting.{Counts};
-ghost use Rattle.zed_session.specs.Devices.{showing};
+ghost use Rattle.zed_session.specs.Devices.{Foretold, showing};
 
 use crate::error::SessionError;
 use zed_screen::Frame;
@@ -20,8 +20,8 @@ pub trait Screen: Drop {
     /// How many calls of `show` failed.
     ghost screen_failures: { Self → ℕ };
 
-    /// Whether no call of `show` ever fails.
-    ghost screen_unfailing: { Self → Bool };
+    /// Which of the calls of `show` to come fail, one after the other, and none behind these; or that this isn't told.
+    ghost screen_foretells: { Self → Option (List Bool) };
 
     /// Shows a frame in place of the one before. Where that fails, what it shows may be anything.
     fn show(&mut self, frame: &Frame) -> Result<(), Failed>
@@ -29,8 +29,8 @@ pub trait Screen: Drop {
         ensures err { OnErr result (is_some (shown self.new) ≡ is_some (shown self.old)) }
         ensures failures { Counts (is_err result)
             (screen_failures self.old) (screen_failures self.new) }
-        ensures unfailing { screen_unfailing self.new ≡ screen_unfailing self.old }
-        ensures may_fail { OnErr result (screen_unfailing self.old ≡ false) };
+        ensures foretold { Foretold (is_err result)
+            (screen_foretells self.old) (screen_foretells self.new) };
 
     /// How many calls of `show` failed, up to the greatest `u64`.
     fn failures(&self) -> u64
@@ -44,8 +44,8 @@ pub(crate) fn show_on(screen: &mut Box<dyn Screen>, frame: &Frame) -> Result<(),
     ensures err { IfErr result (λ e. e ≡ SessionError.ScreenFault) }
     ensures failures { Counts (is_err result)
         (screen_failures screen.old) (screen_failures screen.new) }
-    ensures unfailing { screen_unfailing screen.new ≡ screen_unfailing screen.old }
-    ensures may_fail { OnErr result (screen_unfailing screen.old ≡ false) }
+    ensures foretold { Foretold (is_err result)
+        (screen_foretells screen.old) (screen_foretells screen.new) }
 {
     match screen.show(frame) {
         Ok(()) => Ok(()),

@@ -4,12 +4,14 @@ ghost use Rattle.zed_editfile.specs.Spelling.{file_text};
 ghost use Rattle.zed_link.specs.Ends.{Changed, Took};
 ghost use Rattle.zed_session.specs.Boards.{Answers, ShowsBoard, Starts, world_shown};
 ghost use Rattle.zed_link.specs.Counting.{Counts};
-ghost use Rattle.zed_session.specs.Play.{PlaysKey, ShowsKey};
-ghost use Rattle.zed_session.specs.Refusals.{ShownAfter, is_key_fault, is_screen_fault};
+ghost use Rattle.zed_session.specs.Devices.{AsksOnce};
+ghost use Rattle.zed_session.specs.Play.{PlaysKey, ShowsKey, ShowsStep, goes_on};
+ghost use Rattle.zed_session.specs.Refusals.{ShownAfter, ShowsOnce, is_key_fault, is_screen_fault};
 ghost use Rattle.zed_session.specs.Links.{PullsOver, RefusesPull, ends_at, seen, seen_at};
 
 use crate::error::SessionError;
 use crate::file::file_of;
+use crate::holding::HoldsDocument;
 use crate::keys::Keys;
 use crate::over::{receive_over, send_over};
 use crate::screen::Screen;
@@ -96,13 +98,6 @@ impl Session {
         &self.document
     }
 
-    /// The document, to be changed.
-    pub fn document_mut(&mut self) -> &mut Document
-        ensures result { result.now ≡ self.old.document }
-    {
-        &mut self.document
-    }
-
     /// The playtest that was started last, if one was.
     pub fn playtest(&self) -> Option<&Play>
         ensures result { option_map (λ play. play.now) result ≡ self.now.stage.playing.playtest }
@@ -119,10 +114,8 @@ impl Session {
             ShownAfter e (shown self.old.stage.screen) (shown self.new.stage.screen)) }
         ensures screen_faults { Counts (is_screen_fault result)
             (screen_failures self.old.stage.screen) (screen_failures self.new.stage.screen) }
-        ensures may_fail { result ≡ Err SessionError.ScreenFault
-            → screen_unfailing self.old.stage.screen ≡ false }
-        ensures unfailing { screen_unfailing self.new.stage.screen
-            ≡ screen_unfailing self.old.stage.screen }
+        ensures foretold { ShowsOnce result
+            (screen_foretells self.old.stage.screen) (screen_foretells self.new.stage.screen) }
         ensures keys { self.new.stage.keys ≡ self.old.stage.keys }
         ensures playing { self.new.stage.playing ≡ self.old.stage.playing }
         ensures document { self.new.document ≡ self.old.document }
@@ -160,14 +153,13 @@ impl Session {
             (key_failures self.old.stage.keys) (key_failures self.new.stage.keys) }
         ensures screen_faults { Counts (is_screen_fault result)
             (screen_failures self.old.stage.screen) (screen_failures self.new.stage.screen) }
-        ensures keys_may_fail { result ≡ Err SessionError.KeyFault
-            → keys_unfailing self.old.stage.keys ≡ false }
-        ensures keys_unfailing { keys_unfailing self.new.stage.keys
-            ≡ keys_unfailing self.old.stage.keys }
-        ensures screen_may_fail { result ≡ Err SessionError.ScreenFault
-            → screen_unfailing self.old.stage.screen ≡ false }
-        ensures screen_unfailing { screen_unfailing self.new.stage.screen
-            ≡ screen_unfailing self.old.stage.screen }
+        ensures idle { goes_on self.old.stage.playing.playtest ≡ false
+            → self.new.stage ≡ self.old.stage }
+        ensures key_foretold { goes_on self.old.stage.playing.playtest ≡ true
+            → AsksOnce self.old.stage.playing.kept (is_key_fault result)
+            (keys_foretell self.old.stage.keys) (keys_foretell self.new.stage.keys) }
+        ensures screen_foretold { ShowsStep result
+            (screen_foretells self.old.stage.screen) (screen_foretells self.new.stage.screen) }
         ensures document { self.new.document ≡ self.old.document }
         ensures links { self.new.links ≡ self.old.links }
     {
@@ -189,6 +181,8 @@ impl Session {
             → slice_get self.new.links.items j ≡ slice_get self.old.links.items j) }
         ensures calm { OnOk result (map (λ link. failed link) self.new.links.items
             ≡ map (λ link. failed link) self.old.links.items) }
+        ensures stalls { OnOk result (map (λ link. stalls link) self.new.links.items
+            ≡ map (λ link. stalls link) self.old.links.items) }
         ensures err { IfErr result (λ e. (e ≡ SessionError.NoLink)
             ⊎ (e ≡ SessionError.Memory) ⊎ (e ≡ SessionError.LinkFault)) }
         ensures kept { OnErr result ((result ≢ Err SessionError.LinkFault)
@@ -235,6 +229,8 @@ impl Session {
             → slice_get self.new.links.items j ≡ slice_get self.old.links.items j) }
         ensures calm { OnOk result (map (λ link. failed link) self.new.links.items
             ≡ map (λ link. failed link) self.old.links.items) }
+        ensures stalls { OnOk result (map (λ link. stalls link) self.new.links.items
+            ≡ map (λ link. stalls link) self.old.links.items) }
         ensures kept { (result ≡ Err SessionError.NoLink) ⊎ (result ≡ Err SessionError.Stale)
             → (self.new.links.items ≡ self.old.links.items)
             × (self.new.document ≡ self.old.document) }
@@ -259,5 +255,15 @@ impl Session {
                 Err(SessionError::from(error))
             }
         }
+    }
+}
+
+impl HoldsDocument for Session {
+    ghost held = { λ session. session.document };
+
+    ghost holding = { λ session d. record session { document = d } };
+
+    fn document_mut(&mut self) -> &mut Document {
+        &mut self.document
     }
 }

@@ -1,9 +1,10 @@
 //! The stage: a screen, a source of keys, and a playtest.
-ghost use Rattle.std.specs.Prelude.{◌≡◌, ◌⊎◌, None, IfErr, IfOk, IfSome, MatchResult, OnErr, OnOk, Err, false, is_some, option_map, true};
+ghost use Rattle.std.specs.Prelude.{◌≡◌, ◌⊎◌, None, IfErr, IfOk, IfSome, MatchResult, OnErr, OnOk, Err, false, is_err, is_some, option_map, true};
 ghost use Rattle.zed_link.specs.Counting.{Counts};
-ghost use Rattle.zed_session.specs.Refusals.{ShownAfter, is_key_fault, is_screen_fault};
+ghost use Rattle.zed_session.specs.Devices.{AsksOnce, Foretold};
+ghost use Rattle.zed_session.specs.Refusals.{ShownAfter, ShowsOnce, is_key_fault, is_screen_fault};
 ghost use Rattle.zed_session.specs.Boards.{Answers, ShowsBoard, Starts, world_shown};
-ghost use Rattle.zed_session.specs.Play.{PlaysKey, ShowsKey, ShowsPlay, Takes};
+ghost use Rattle.zed_session.specs.Play.{PlaysKey, ShowsKey, ShowsPlay, ShowsStep, Takes, goes_on};
 
 use crate::boards::{picture_of, playtest_of};
 use crate::error::SessionError;
@@ -55,9 +56,8 @@ impl Stage {
             ShownAfter e (shown self.old.screen) (shown self.new.screen)) }
         ensures screen_faults { Counts (is_screen_fault result)
             (screen_failures self.old.screen) (screen_failures self.new.screen) }
-        ensures may_fail { result ≡ Err SessionError.ScreenFault
-            → screen_unfailing self.old.screen ≡ false }
-        ensures unfailing { screen_unfailing self.new.screen ≡ screen_unfailing self.old.screen }
+        ensures foretold { ShowsOnce result
+            (screen_foretells self.old.screen) (screen_foretells self.new.screen) }
         ensures keys { self.new.keys ≡ self.old.keys }
         ensures playing { self.new.playing ≡ self.old.playing }
     {
@@ -92,8 +92,8 @@ impl Stage {
         ensures left { OnErr result (left self.new.keys ≡ left self.old.keys) }
         ensures failures { Counts (is_key_fault result)
             (key_failures self.old.keys) (key_failures self.new.keys) }
-        ensures may_fail { OnErr result (keys_unfailing self.old.keys ≡ false) }
-        ensures unfailing { keys_unfailing self.new.keys ≡ keys_unfailing self.old.keys }
+        ensures foretold { AsksOnce self.old.playing.kept (is_key_fault result)
+            (keys_foretell self.old.keys) (keys_foretell self.new.keys) }
         ensures screen { self.new.screen ≡ self.old.screen }
     {
         match self.playing.kept.take() {
@@ -102,8 +102,9 @@ impl Stage {
         }
     }
 
-    /// Shows the playtest as it stands.
+    /// Shows the playtest that was started, as it stands.
     fn show_playtest(&mut self) -> Result<(), SessionError>
+        requires { is_some self.old.playing.playtest ≡ true }
         ensures ok { OnOk result (ShowsPlay
             self.old.playing.playtest (shown self.old.screen) (shown self.new.screen)) }
         ensures told { OnErr result
@@ -111,8 +112,8 @@ impl Stage {
         ensures err { IfErr result (λ e. e ≡ SessionError.ScreenFault) }
         ensures failures { Counts (is_screen_fault result)
             (screen_failures self.old.screen) (screen_failures self.new.screen) }
-        ensures may_fail { OnErr result (screen_unfailing self.old.screen ≡ false) }
-        ensures unfailing { screen_unfailing self.new.screen ≡ screen_unfailing self.old.screen }
+        ensures foretold { Foretold (is_err result)
+            (screen_foretells self.old.screen) (screen_foretells self.new.screen) }
         ensures keys { self.new.keys ≡ self.old.keys }
         ensures playing { self.new.playing ≡ self.old.playing }
     {
@@ -135,13 +136,12 @@ impl Stage {
             (key_failures self.old.keys) (key_failures self.new.keys) }
         ensures screen_faults { Counts (is_screen_fault result)
             (screen_failures self.old.screen) (screen_failures self.new.screen) }
-        ensures keys_may_fail { result ≡ Err SessionError.KeyFault
-            → keys_unfailing self.old.keys ≡ false }
-        ensures keys_unfailing { keys_unfailing self.new.keys ≡ keys_unfailing self.old.keys }
-        ensures screen_may_fail { result ≡ Err SessionError.ScreenFault
-            → screen_unfailing self.old.screen ≡ false }
-        ensures screen_unfailing { screen_unfailing self.new.screen
-            ≡ screen_unfailing self.old.screen }
+        ensures idle { goes_on self.old.playing.playtest ≡ false → self.new ≡ self.old }
+        ensures key_foretold { goes_on self.old.playing.playtest ≡ true
+            → AsksOnce self.old.playing.kept (is_key_fault result)
+            (keys_foretell self.old.keys) (keys_foretell self.new.keys) }
+        ensures screen_foretold { ShowsStep result
+            (screen_foretells self.old.screen) (screen_foretells self.new.screen) }
     {
         if !self.playing.goes_on() {
             return Err(SessionError::Over);

@@ -138,7 +138,7 @@ impl Screen for Printer {
 
     ghost screen_failures = { λ s. s.failures };
 
-    ghost screen_unfailing = { λ _. false };
+    ghost screen_foretells = { λ _. None };
 
     fn show(&mut self, frame: &Frame) -> Result<(), Failed> {
         if self.print(frame).is_ok() {
@@ -213,7 +213,7 @@ impl Keys for Typed {
 
     ghost key_failures = { λ k. k.failures };
 
-    ghost keys_unfailing = { λ _. false };
+    ghost keys_foretell = { λ _. None };
 
     fn next(&mut self) -> Result<Option<Key>, Failed> {
         match self.next_key() {

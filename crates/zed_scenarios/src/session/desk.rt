@@ -7,7 +7,7 @@ use std::collections::VecDeque;
 use std::test::Fail;
 use zed_link::{Link, Pulled};
 use zed_play::{Ending, Key};
-use zed_session::{Session, SessionError};
+use zed_session::{HoldsDocument, Session, SessionError};
 
 /// What is done with a session.
 #[derive(Clone, Copy)]

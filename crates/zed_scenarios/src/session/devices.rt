@@ -1,5 +1,5 @@
 //! A screen and a source of keys over memory, which fail when a test wants it, and leave what they came to where it sees that.
-ghost use Rattle.std.specs.Prelude.{Some, false};
+ghost use Rattle.std.specs.Prelude.{None, Some};
 
 use std::alloc::{AllocError, Global};
 use std::cell::Cell;
@@ -98,7 +98,7 @@ impl Screen for MemoryScreen {
 
     ghost screen_failures = { λ s. s.failed };
 
-    ghost screen_unfailing = { λ _. false };
+    ghost screen_foretells = { λ _. None };
 
     fn show(&mut self, frame: &Frame) -> Result<(), Failed> {
         self.calls = self.calls.saturating_add(1);
@@ -149,7 +149,7 @@ impl Keys for MemoryKeys {
 
     ghost key_failures = { λ k. k.failed };
 
-    ghost keys_unfailing = { λ _. false };
+    ghost keys_foretell = { λ _. None };
 
     fn next(&mut self) -> Result<Option<Key>, Failed> {
         self.calls = self.calls.saturating_add(1);

@@ -33,6 +33,7 @@ returns-in-Err g c =
       err = λ not_link not_stale. refused_at _ _ _ _ _ _ _ _ _ within c.index_mut.ensures.value told (c.in-Err.ensures.pull sound);
       others = tt;
       calm = tt;
+      stalls = tt;
       kept = λ which. absurd (elim which [
         | inl same ↦ there cc
         | inr same ↦ fresh cc
