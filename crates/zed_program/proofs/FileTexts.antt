@@ -18,18 +18,13 @@ use Rattle.zed_program.specs.Collected.{IsCollected}
 use Rattle.zed_program.specs.Files.{IsFile, IsStream, Stream, edits_then, end_by, joined, stream_after, texts_of_lists}
 use Rattle.zed_program.specs.Outcome.{ComesTo, Effect, EndsCalmly, HasStatus, file_of, made_of, unless_over, writes_world, written_to}
 use Rattle.zed_program.specs.HostContents.{HostContents, file_in}
-use Rattle.zed_session.specs.Links.{LinkSeen}
+use Rattle.zed_program.specs.Devices.{Devices}
 use Rattle.zed_words.specs.Commands.{Save}
 use Rattle.zed_program.specs.Lines.{bytes_line}
 use Rattle.zed_program.proofs.Endings.{reads_are}
 use Rattle.zed_program.specs.Saving.{AsksToSave, SavedReadsBack, SavesSet}
-use Rattle.zed_types.specs.declared.header.HeaderSetting.TheVariants as header
-use Rattle.zed_types.specs.declared.property.BoardSetting.TheVariants as board
-use Rattle.zed_types.specs.declared.stat_field.StatSetting.TheVariants as stat
 use Rattle.zed_world.specs.Reading.{world_at}
 use Rattle.zed_world.specs.Writing.{world_text}
-use Rattle.zed_op.specs.declared.op.Op.{Op}
-use Rattle.zed_op.specs.declared.op.Op.TheVariants.{Genesis, SetHeader, BoardAdd, BoardRemove, SetBoard, SetCells, StatAdd, StatRemove, SetStat, TextAdd, TextInsert, TextDelete}
 use Rattle.zed_edit.specs.Replay.{replay}
 use Rattle.zed_op.specs.Sizes.{HaveSizes}
 use Rattle.zed_export.specs.declared.error.ExportError.{ExportError}
@@ -121,17 +116,17 @@ none_made : file_of (set_of []) ≡ Err NoWorld
 none_made = refl
 
 -- so the world file of their set is what `save` writes, or its first limit is told
-saved_set : (links : List LinkSeen) → WrittenIsRead → (t : HostContents) (out : List ℕ) (names : List (List ℕ)) (n : ℕ) (lists : List (List Edit)) (r : Result Effect Refusal)
+saved_set : (devices : Devices) → WrittenIsRead → (t : HostContents) (out : List ℕ) (names : List (List ℕ)) (n : ℕ) (lists : List (List Edit)) (r : Result Effect Refusal)
     → map (file_in t) names ≡ texts_of_lists n lists → n < 2 ^ 64 → AreRecords (joined lists) → Agrees (joined lists)
-    → ComesTo ⊥ links (Save out names) t r → r ≡ writes_world out (file_of (set_of (joined lists)))
-saved_set links law t out names n [] r texts small good agrees comes =
+    → ComesTo ⊥ devices (Save out names) t r → r ≡ writes_world out (file_of (set_of (joined lists)))
+saved_set devices law t out names n [] r texts small good agrees comes =
     let made = comes.1 in
     let collects = made.1 in
     let stream = collects.1 in
     let reads = reads_are t names stream.0 stream.1 ∙ texts in
     let set = none_saved collects.0 made.0 (subst (λ files. IsStream None files collects.0) reads stream.2) collects.2 in
     comes.2 ∙ ap (writes_world out) (made.2 ∙ ap (made_of file_of) set ∙ sym none_made)
-saved_set links law t out names n (es ∷ lists) r texts small good agrees comes =
+saved_set devices law t out names n (es ∷ lists) r texts small good agrees comes =
     let made = comes.1 in
     let collects = made.1 in
     let stream = collects.1 in
@@ -141,12 +136,12 @@ saved_set links law t out names n (es ∷ lists) r texts small good agrees comes
     comes.2 ∙ ap (writes_world out) (made.2 ∙ ap (made_of file_of) set)
 
 -- and `run` ends so
-pub run_of_texts : (links : List LinkSeen) → WrittenIsRead → (words : List (List ℕ)) (t : HostContents) (out : List ℕ) (n : ℕ) (lists : List (List Edit)) (status : ℕ) (new : Option HostContents)
-    → (asks : AsksToSave words t out n lists) → EndsCalmly links (Save out asks.files) t status new → SavesSet out t (joined lists) status new
-run_of_texts links law words t out n lists status new asks ended =
+pub run_of_texts : (devices : Devices) → WrittenIsRead → (words : List (List ℕ)) (t : HostContents) (out : List ℕ) (n : ℕ) (lists : List (List Edit)) (status : ℕ) (new : Option HostContents)
+    → (asks : AsksToSave words t out n lists) → EndsCalmly devices (Save out asks.files) t status new → SavesSet out t (joined lists) status new
+run_of_texts devices law words t out n lists status new asks ended =
     elim ended [
       | inl done ↦ (
-          let is = saved_set links law t out asks.files n lists done.0 asks.spelled asks.is_number asks.records asks.agree done.1 in
+          let is = saved_set devices law t out asks.files n lists done.0 asks.spelled asks.is_number asks.records asks.agree done.1 in
           inl (subst (λ r. HasStatus r t status new) is done.2))
       | inr memory ↦ inr memory
     ]

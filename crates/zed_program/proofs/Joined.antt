@@ -22,6 +22,7 @@ use Rattle.zed_link.specs.Laws.{DeliveriesGoOn, FilesArePulled, HoldsFile, Pulls
 use Rattle.zed_link.specs.Pull.{AllDelivered}
 use Rattle.zed_link.specs.declared.pulled.Pulled.{Pulled}
 use Rattle.zed_session.specs.Links.{LinkSeen, PullsOver}
+use Rattle.zed_program.specs.Devices.{Devices}
 use Rattle.zed_program.specs.declared.refusal.Refusal.{Refusal}
 use Rattle.zed_program.specs.declared.refusal.Refusal.TheVariants.{Memory, NoLink}
 use Rattle.zed_words.specs.Commands.{Merge}
@@ -213,14 +214,14 @@ has_status out world count links lists m r t status new many is made has =
     ]
 
 -- `run` ends so
-pub run_of_links : FilesArePulled → DeliveriesGoOn → DeliveriesComeToSets → (words : List (List ℕ)) (links : List LinkSeen) (t : HostContents) (out : List ℕ) (world : ℕ) (lists : List (List Edit)) (status : ℕ) (new : Option HostContents)
-    → (asks : AsksToMerge words links out world lists) → EndsCalmly links (Merge out world asks.files) t status new → MergesSet out t world links lists status new
-run_of_links files more sets words links t out world lists status new asks ended =
+pub run_of_links : FilesArePulled → DeliveriesGoOn → DeliveriesComeToSets → (words : List (List ℕ)) (devices : Devices) (t : HostContents) (out : List ℕ) (world : ℕ) (lists : List (List Edit)) (status : ℕ) (new : Option HostContents)
+    → (asks : AsksToMerge words devices.links out world lists) → EndsCalmly devices (Merge out world asks.files) t status new → MergesSet out t world devices.links lists status new
+run_of_links files more sets words devices t out world lists status new asks ended =
     elim ended [
       | inl done ↦ (
           let comes = done.1 in
-          has_status out world (length asks.files) links lists comes.0 done.0 t status new (as_many_lists (length asks.files) world links lists asks.enough asks.held)
-          (merged_are files more sets world (length asks.files) links lists comes.0 asks.is_number asks.enough asks.held asks.records asks.agree comes.1) comes.2 done.2)
+          has_status out world (length asks.files) devices.links lists comes.0 done.0 t status new (as_many_lists (length asks.files) world devices.links lists asks.enough asks.held)
+          (merged_are files more sets world (length asks.files) devices.links lists comes.0 asks.is_number asks.enough asks.held asks.records asks.agree comes.1) comes.2 done.2)
       | inr memory ↦ inr (Memory, inl refl, memory)
     ]
 
@@ -231,13 +232,13 @@ pub as_many : {X Y : Type 0} (f : X → Y) (xs : List X) → length xs ≡ lengt
 as_many f xs = sym (length-map xs f)
 
 -- the edits of the links are written
-pub merge_comes : (failed : Type 0) (links : List LinkSeen) (out : List ℕ) (world count : ℕ) (names : List (List ℕ)) (t : HostContents) (es : List Edit) (bytes line : List ℕ)
-    → count ≡ length names → IsMerged world count links (Ok es) → bytes ≡ file_text world es → line ≡ joined_line es
-    → ComesTo failed links (Merge out world names) t (Ok (Writes out bytes line))
-merge_comes failed links out world count names t es bytes line many merged text told =
-    (Ok es, subst (λ n. IsMerged world n links (Ok es)) many merged, rw (text, told) refl)
+pub merge_comes : (failed : Type 0) (devices : Devices) (out : List ℕ) (world count : ℕ) (names : List (List ℕ)) (t : HostContents) (es : List Edit) (bytes line : List ℕ)
+    → count ≡ length names → IsMerged world count devices.links (Ok es) → bytes ≡ file_text world es → line ≡ joined_line es
+    → ComesTo failed devices (Merge out world names) t (Ok (Writes out bytes line))
+merge_comes failed devices out world count names t es bytes line many merged text told =
+    (Ok es, subst (λ n. IsMerged world n devices.links (Ok es)) many merged, rw (text, told) refl)
 
 -- or none
-pub not_merged : (failed : Type 0) (links : List LinkSeen) (out : List ℕ) (world count : ℕ) (names : List (List ℕ)) (t : HostContents) (e : Refusal)
-    → count ≡ length names → IsMerged world count links (Err e) → (e ≡ Memory) ⊎ ComesTo failed links (Merge out world names) t (Err e)
-not_merged failed links out world count names t e many is = inr (Err e, subst (λ n. IsMerged world n links (Err e)) many is, refl)
+pub not_merged : (failed : Type 0) (devices : Devices) (out : List ℕ) (world count : ℕ) (names : List (List ℕ)) (t : HostContents) (e : Refusal)
+    → count ≡ length names → IsMerged world count devices.links (Err e) → (e ≡ Memory) ⊎ ComesTo failed devices (Merge out world names) t (Err e)
+not_merged failed devices out world count names t e many is = inr (Err e, subst (λ n. IsMerged world n devices.links (Err e)) many is, refl)

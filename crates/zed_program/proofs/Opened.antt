@@ -1,5 +1,5 @@
 -- What an edit file comes to when it is opened for an action.
-use Rattle.std.proofs.Common.{[], ◌≡◌, ◌∙◌, ◌≢◌, ℕ, zero, suc, false, List, Some, None, Result, Ok, Err, refl, ap, sym}
+use Rattle.std.proofs.Common.{◌≡◌, ◌∙◌, ◌≢◌, ℕ, zero, suc, false, List, Some, None, Result, Ok, Err, refl, ap, sym}
 use Rattle.std.specs.Prelude.{MatchResult}
 use mathlib.Core.Logic.{◌⊎◌, inl, inr}
 use Rattle.zed_types.specs.declared.stamp.Stamp.{Stamp}
@@ -10,6 +10,7 @@ use Rattle.zed_document.specs.Replica.{Replica}
 use Rattle.zed_action.specs.declared.error.ActionError.{ActionError}
 use Rattle.zed_action.specs.Refusals.{memory as no_memory}
 use Rattle.zed_action.specs.Deeds.{Acts}
+use Rattle.zed_program.specs.Devices.{no_devices}
 use Rattle.zed_program.specs.declared.refusal.Refusal.{Refusal}
 use Rattle.zed_program.specs.declared.refusal.Refusal.TheVariants.{Memory, Clash, File}
 use Rattle.zed_document.specs.Delivery.{IsFirstClash}
@@ -97,5 +98,5 @@ edited_not_opened failed t file replica words e some why =
 
 -- where there are no edits, none are written
 pub not_edited : (failed : Type 0) (t : HostContents) (file : List ℕ) (replica : ℕ) (words : List (List ℕ)) (e : Refusal) → (e ≡ Memory) ⊎ IsEdited failed t file replica words (Err e)
-    → (e ≡ Memory) ⊎ ComesTo failed [] (EditFile file replica words) t (Err e)
+    → (e ≡ Memory) ⊎ ComesTo failed no_devices (EditFile file replica words) t (Err e)
 not_edited failed t file replica words e why = elim why [ inl memory ↦ inl memory | inr is ↦ inr (Err e, is, refl) ]

@@ -1,7 +1,7 @@
 -- The world of a new edit file.
 use Rattle.std.specs.Prelude.{ℕ, pos, false, List, [], ◌∷◌, codes, replicate, take, Option, Some, None, Result, Ok, Err}
 use Rattle.zed_types.specs.declared.tile.Tile.{Tile}
-use Rattle.zed_edit.specs.Board.{empty_tile, new_table}
+use Rattle.zed_edit.specs.Board.{new_table}
 use Rattle.zed_op.specs.Fit.{genesis_stamp}
 use Rattle.zed_op.specs.declared.op.Op.TheVariants.{Genesis}
 use Rattle.zed_op.specs.declared.op.Edit.{Edit}

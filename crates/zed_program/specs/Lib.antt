@@ -1,4 +1,5 @@
 pub mod Collected
+pub mod Devices
 pub mod Edited
 pub mod Faults
 pub mod Files

@@ -14,6 +14,7 @@ use Rattle.zed_program.specs.declared.program.Product.TheVariants.{WorldFile, Re
 use Rattle.zed_program.specs.declared.refusal.Refusal.{Refusal}
 use Rattle.zed_program.specs.declared.refusal.Refusal.TheVariants.{File, Memory}
 use Rattle.zed_program.specs.Collected.{IsCollected}
+use Rattle.zed_program.specs.Devices.{Devices}
 use Rattle.zed_program.specs.Edited.{FileEdits, IsEdited}
 use Rattle.zed_program.specs.Files.{IsStream, Stream}
 use Rattle.zed_program.specs.Fresh.{genesis_of, made_by, taken_from}
@@ -21,7 +22,6 @@ use Rattle.zed_program.specs.Lines.{bytes_line, edits_line, has_numbers, joined_
 use Rattle.zed_program.specs.Refusals.{export_refusal}
 use Rattle.zed_link.specs.Counting.{Rose}
 use Rattle.zed_program.specs.HostContents.{AreRead, HalfComplained, HalfPrinted, HalfWritten, HostContents, IsRead, StillTells, with_complaint, with_file, with_printed}
-use Rattle.zed_session.specs.Links.{LinkSeen}
 use Rattle.zed_words.specs.Commands.{Command, Save, Check, New, Edit as EditFile, Merge, Show, Play}
 use Rattle.zed_program.specs.Merged.{IsMerged}
 use Rattle.zed_program.specs.Shown.{IsShown, OfSet, PlaysFile}
@@ -140,46 +140,46 @@ leaves_all (Ok u) = Ok Leaves
 leaves_all (Err e) = Err e
 
 -- what is told of a playtest of a board of the world of these files, by the words of the first file
-abbrev pub IsPlayedOf : Type 0 → HostContents → ℕ → List ℕ → List (List ℕ) → Result (List ℕ) Refusal → Type 0
-IsPlayedOf failed t board chance files told =
-    (read : Option (List ℕ)) × IsRead failed t chance read × PlaysFile read board (Collects failed t files) told
+abbrev pub IsPlayedOf : Type 0 → Devices → HostContents → ℕ → List ℕ → List (List ℕ) → Result (List ℕ) Refusal → Type 0
+IsPlayedOf failed devices t board chance files told =
+    (read : Option (List ℕ)) × IsRead failed t chance read × PlaysFile devices read board (Collects failed t files) told
 
--- what a command comes to, by what its links hold: its effect, or the first refusal
-abbrev pub ComesTo : Type 0 → List LinkSeen → Command → HostContents → Result Effect Refusal → Type 0
-ComesTo failed links (Save out files) t r =
+-- what a command comes to, by what its devices tell: its effect, or the first refusal
+abbrev pub ComesTo : Type 0 → Devices → Command → HostContents → Result Effect Refusal → Type 0
+ComesTo failed devices (Save out files) t r =
     (m : Result (List ℕ) Refusal) × IsMade failed t files file_of m × (r ≡ writes_world out m)
-ComesTo failed links (Check files) t r =
+ComesTo failed devices (Check files) t r =
     (m : Result (List ℕ) Refusal) × IsMade failed t files report_on m × (r ≡ prints_report m)
-ComesTo failed links (New out world from name) t r =
+ComesTo failed devices (New out world from name) t r =
     (m : Result (List ℕ) Refusal) × IsFirstWorld failed t from name m × (r ≡ writes_genesis out world m)
-ComesTo failed links (EditFile file replica words) t r =
+ComesTo failed devices (EditFile file replica words) t r =
     (m : Result FileEdits Refusal) × IsEdited failed t file replica words m × (r ≡ writes_edits file m)
-ComesTo failed links (Merge out world files) t r =
-    (m : Result (List Edit) Refusal) × IsMerged world (length files) links m × (r ≡ writes_joined out world m)
-ComesTo failed links (Show board files) t r =
+ComesTo failed devices (Merge out world files) t r =
+    (m : Result (List Edit) Refusal) × IsMerged world (length files) devices.links m × (r ≡ writes_joined out world m)
+ComesTo failed devices (Show board files) t r =
     (set : Result (List Edit) Refusal) × (done : Result (Unit {0}) Refusal) × Collects failed t files set
-    × OfSet set board IsShown done × (r ≡ leaves_all done)
-ComesTo failed links (Play board chance files) t r =
-    (told : Result (List ℕ) Refusal) × IsPlayedOf failed t board chance files told × (r ≡ prints_report told)
+    × OfSet set board (IsShown devices.screen) done × (r ≡ leaves_all done)
+ComesTo failed devices (Play board chance files) t r =
+    (told : Result (List ℕ) Refusal) × IsPlayedOf failed devices t board chance files told × (r ≡ prints_report told)
 
 -- a command is refused before its effect, which leaves all as it was
-abbrev pub RefusedBefore : Type 0 → List LinkSeen → Command → HostContents → Refusal → HostContents → Type 0
-RefusedBefore failed links command t e u = (u ≡ t) × ((e ≡ Memory) ⊎ ComesTo failed links command t (Err e))
+abbrev pub RefusedBefore : Type 0 → Devices → Command → HostContents → Refusal → HostContents → Type 0
+RefusedBefore failed devices command t e u = (u ≡ t) × ((e ≡ Memory) ⊎ ComesTo failed devices command t (Err e))
 
 -- the host fails at its effect
-abbrev pub FailedAt : Type 0 → List LinkSeen → Command → HostContents → Refusal → HostContents → Type 0
-FailedAt failed links command t e u =
-    failed × (e ≡ File) × ((x : Effect) × ComesTo failed links command t (Ok x) × HalfDone x t u)
+abbrev pub FailedAt : Type 0 → Devices → Command → HostContents → Refusal → HostContents → Type 0
+FailedAt failed devices command t e u =
+    failed × (e ≡ File) × ((x : Effect) × ComesTo failed devices command t (Ok x) × HalfDone x t u)
 
 -- either of them
-abbrev pub IsRefused : Type 0 → List LinkSeen → Command → HostContents → Refusal → HostContents → Type 0
-IsRefused failed links command t e u = RefusedBefore failed links command t e u ⊎ FailedAt failed links command t e u
+abbrev pub IsRefused : Type 0 → Devices → Command → HostContents → Refusal → HostContents → Type 0
+IsRefused failed devices command t e u = RefusedBefore failed devices command t e u ⊎ FailedAt failed devices command t e u
 
 -- a command ends so
-abbrev pub Ends : Type 0 → List LinkSeen → Command → HostContents → Result ⊤ Refusal → Option HostContents → Type 0
-Ends failed links command t result new = MatchResult result
-    (λ _. (x : Effect) × ComesTo failed links command t (Ok x) × (new ≡ Some (after x t)))
-    (λ e. StillTells (IsRefused failed links command t e) new)
+abbrev pub Ends : Type 0 → Devices → Command → HostContents → Result ⊤ Refusal → Option HostContents → Type 0
+Ends failed devices command t result new = MatchResult result
+    (λ _. (x : Effect) × ComesTo failed devices command t (Ok x) × (new ≡ Some (after x t)))
+    (λ e. StillTells (IsRefused failed devices command t e) new)
 
 -- a text is on the standard error, or the host failed at it
 abbrev pub IsComplained : Type 0 → List ℕ → HostContents → Option HostContents → Type 0
@@ -196,21 +196,21 @@ IsTold failed e t new = (line : List ℕ) × IsLineOf e line × IsComplained fai
 
 -- a command is refused and the user is told; the faults are counted from `old`, to `middle` before the
 -- user is told, and to `now`
-pub record RefusedRun (links : List LinkSeen) (command : Command) (t : HostContents) (old now : ℕ) (new : Option HostContents) : Type 0 where
+pub record RefusedRun (devices : Devices) (command : Command) (t : HostContents) (old now : ℕ) (new : Option HostContents) : Type 0 where
   pub refusal : Refusal
   pub left : HostContents
   pub middle : ℕ
-  pub refused : IsRefused (Rose old middle) links command t refusal left
+  pub refused : IsRefused (Rose old middle) devices command t refusal left
   pub told : IsTold (Rose middle now) refusal left new
   pub rises : (old ≤ middle) × (middle ≤ now)
 
 -- a command is carried out with status 0, or refused with status 1. Words that are refused change no
 -- file; the status is 2, or 1 where memory ran out
-abbrev pub EndsRun : List LinkSeen → Option Command → HostContents → ℕ → ℕ → ℕ → Option HostContents → Type 0
-EndsRun links (Some command) t old now status new =
-    ((x : Effect) × ComesTo (Rose old now) links command t (Ok x) × (status ≡ 0) × (new ≡ Some (after x t)))
-    ⊎ ((status ≡ 1) × RefusedRun links command t old now new)
-EndsRun links None t old now status new =
+abbrev pub EndsRun : Devices → Option Command → HostContents → ℕ → ℕ → ℕ → Option HostContents → Type 0
+EndsRun devices (Some command) t old now status new =
+    ((x : Effect) × ComesTo (Rose old now) devices command t (Ok x) × (status ≡ 0) × (new ≡ Some (after x t)))
+    ⊎ ((status ≡ 1) × RefusedRun devices command t old now new)
+EndsRun devices None t old now status new =
     ((status ≡ 2) × ((text : List ℕ) × IsComplained (Rose old now) text t new))
     ⊎ ((status ≡ 1) × IsComplained (Rose old now) (line_of Memory) t new)
 
@@ -220,7 +220,7 @@ HasStatus (Ok x) t status new = (status ≡ 0) × (new ≡ Some (after x t))
 HasStatus (Err e) t status new = (status ≡ 1) × (new ≡ Some (with_complaint (line_of e) t))
 
 -- a command ends so where the host didn't fail
-abbrev pub EndsCalmly : List LinkSeen → Command → HostContents → ℕ → Option HostContents → Type 0
-EndsCalmly links command t status new =
-    ((r : Result Effect Refusal) × ComesTo ⊥ links command t r × HasStatus r t status new)
+abbrev pub EndsCalmly : Devices → Command → HostContents → ℕ → Option HostContents → Type 0
+EndsCalmly devices command t status new =
+    ((r : Result Effect Refusal) × ComesTo ⊥ devices command t r × HasStatus r t status new)
     ⊎ HasStatus (Err Memory) t status new

@@ -9,11 +9,11 @@ use Rattle.zed_action.specs.declared.error.ActionError.TheVariants as action
 use Rattle.zed_document.specs.declared.error.DocumentError.{DocumentError}
 use Rattle.zed_document.specs.declared.error.DocumentError.TheVariants as document
 use Rattle.zed_export.specs.declared.error.ExportError.{ExportError}
-use Rattle.zed_export.specs.declared.error.ExportError.TheVariants as export
 use Rattle.zed_link.specs.declared.error.LinkError.{LinkError}
-use Rattle.zed_link.specs.declared.error.LinkError.TheVariants as link
 use Rattle.zed_session.specs.declared.error.SessionError.{SessionError}
 use Rattle.zed_session.specs.declared.error.SessionError.TheVariants as session
+use Rattle.zed_session.specs.Refusals as told
+use Rattle.zed_session.specs.Told as linked
 use Rattle.zed_program.specs.declared.refusal.Refusal.{Refusal}
 use Rattle.zed_program.specs.declared.refusal.Refusal.TheVariants.{Memory, NotZzt, TooManyBoards, Truncated, BadBoardSize, TooManyStats, BadShare, Magic, NewVersion, OtherWorld, RecordLength, BadEdit, CutShort, Clash, Stale, NoSuch}
 use Rattle.zed_program.specs.declared.refusal.Refusal.TheVariants.{ClockSpent, OutOfRange, BadAction, NoWorld, BoardsOver, StatsOver, BoardOver, File, NoBoard, NoWords, Over, LinkFault, ScreenFault, KeyFault, TooManyTurns, NoLink}
@@ -55,29 +55,6 @@ abbrev pub action_refusal : ActionError → Refusal
 action_refusal action.BadAction = BadAction
 action_refusal (action.Document e) = document_refusal e
 
--- the refusal of a command for one of an export
-abbrev pub export_refusal : ExportError → Refusal
-export_refusal export.Memory = Memory
-export_refusal export.Stale = Stale
-export_refusal export.NoWorld = NoWorld
-export_refusal (export.BoardsOver n) = BoardsOver n
-export_refusal (export.StatsOver b n) = StatsOver b n
-export_refusal (export.BoardOver b n) = BoardOver b n
-
--- the refusal of a command for one of a link
-abbrev pub link_refusal : LinkError → Refusal
-link_refusal link.Memory = Memory
-link_refusal link.Magic = Magic
-link_refusal link.NewVersion = NewVersion
-link_refusal link.OtherWorld = OtherWorld
-link_refusal link.RecordLength = RecordLength
-link_refusal (link.BadEdit c) = BadEdit c
-link_refusal link.CutShort = CutShort
-link_refusal (link.Clash s) = Clash s
-link_refusal link.Stale = Stale
-link_refusal link.LinkFault = LinkFault
-link_refusal link.TooManyTurns = TooManyTurns
-
 -- the refusal of a command for one of a session
 abbrev pub session_refusal : SessionError → Refusal
 session_refusal session.Memory = Memory
@@ -101,6 +78,14 @@ session_refusal session.ScreenFault = ScreenFault
 session_refusal session.KeyFault = KeyFault
 session_refusal session.TooManyTurns = TooManyTurns
 session_refusal session.NoLink = NoLink
+
+-- the refusal of a command for one of an export, as a session tells it
+abbrev pub export_refusal : ExportError → Refusal
+export_refusal e = session_refusal (told.export_refusal e)
+
+-- the refusal of a command for one of a link, as a session tells it
+abbrev pub link_refusal : LinkError → Refusal
+link_refusal e = session_refusal (linked.link_refusal e)
 
 -- whether an answer tells of a host that failed
 abbrev pub is_file_refusal : {X : Type 0} → Result X Refusal → Bool

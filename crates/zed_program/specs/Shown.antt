@@ -1,5 +1,5 @@
 -- What comes of a board that is shown or played.
-use Rattle.std.specs.Prelude.{◌≡◌, ◌⊎◌, ◌≤◌, ◌+◌, ◌*◌, ℕ, zero, suc, List, [], ◌∷◌, drop, Option, Some, None, slice_get, Result, Ok, Err}
+use Rattle.std.specs.Prelude.{◌≡◌, ◌⊎◌, ◌≤◌, ◌+◌, ◌*◌, ℕ, zero, suc, Bool, true, false, List, [], ◌∷◌, drop, Option, Some, None, is_some, slice_get, Result, Ok, Err}
 use Rattle.zed_world.specs.declared.board.BoardData.{BoardData}
 use Rattle.zed_world.specs.declared.header.Header.{Header}
 use Rattle.zed_world.specs.Contents.{Contents}
@@ -7,12 +7,16 @@ use Rattle.zed_op.specs.declared.op.Edit.{Edit}
 use Rattle.zed_edit.specs.Replay.{replay}
 use Rattle.zed_export.specs.declared.error.ExportError.{ExportError}
 use Rattle.zed_export.specs.Limits.{exported}
+use Rattle.zed_play.specs.declared.error.PlayError.TheVariants as step
 use Rattle.zed_play.specs.declared.key.Key.{Key}
 use Rattle.zed_play.specs.Opening.{play_of}
 use Rattle.zed_play.specs.Playtest.{Playtest}
 use Rattle.zed_play.specs.Step.{Steps}
+use Rattle.zed_session.specs.Devices.{ComesAs, Foretold}
+use Rattle.zed_session.specs.Play.{Takes}
 use Rattle.zed_program.specs.declared.refusal.Refusal.{Refusal}
 use Rattle.zed_program.specs.declared.refusal.Refusal.TheVariants.{File, NoBoard, NoWords, KeyFault, ScreenFault, TooManyTurns}
+use Rattle.zed_program.specs.Devices.{Devices}
 use Rattle.zed_program.specs.Lines.{told_of}
 use Rattle.zed_program.specs.Refusals.{export_refusal}
 
@@ -35,9 +39,9 @@ abbrev pub OfSet : {X : Type 0} → Result (List Edit) Refusal → ℕ → OnBoa
 OfSet (Err e) n Does r = r ≡ Err e
 OfSet (Ok es) n Does r = OfWorld (exported 20000 (replay es)) n Does r
 
--- a board is shown, or the screen fails
-abbrev pub IsShown : OnBoard (Unit {0})
-IsShown header board r = (r ≡ Ok tt) ⊎ (r ≡ Err ScreenFault)
+-- a board is shown, or the screen fails, as it foretold of its first call
+abbrev pub IsShown : Option (List Bool) → OnBoard (Unit {0})
+IsShown screen header board r = ((r ≡ Ok tt) × ComesAs false screen) ⊎ ((r ≡ Err ScreenFault) × ComesAs true screen)
 
 -- numbers of two bytes each, the low one first; an odd last byte is dropped
 abbrev pub words_in : List ℕ → List ℕ
@@ -49,29 +53,64 @@ words_in (low ∷ high ∷ bytes) = (low + 256 * high) ∷ words_in bytes
 abbrev pub most_keys : ℕ
 most_keys = 1048576
 
--- a playtest makes so many steps by these words, each by some key, and comes to another
-abbrev pub StepsTo : ℕ → Playtest → List ℕ → Playtest → Type 0
-StepsTo zero p words q = q ≡ p
-StepsTo (suc n) p words q =
-    (key : Key) × (used : ℕ) × (next : Playtest)
-    × Steps (Ok used) key p words next × StepsTo n next (drop used words) q
+-- where a playtest has come to, with the words that are left, and what its devices tell of keys and calls to come
+pub record Course : Type 0 where
+  pub play : Playtest
+  pub words : List ℕ
+  pub keys : Option (List Key)
+  pub source : Option (List Bool)
+  pub screen : Option (List Bool)
 
--- how play ends after so many steps: with what is told of the playtest; for want of words; by a fault of a device; or since no more keys may be played
-abbrev pub EndsPlay : ℕ → Playtest → Result (List ℕ) Refusal → Type 0
-EndsPlay n q r =
-    (r ≡ Ok (told_of q)) ⊎ (r ≡ Err NoWords) ⊎ (r ≡ Err KeyFault) ⊎ (r ≡ Err ScreenFault)
-    ⊎ ((r ≡ Err TooManyTurns) × (n ≡ most_keys) × (q.ending ≡ None))
+-- the next key is asked for, and this one or none is handed over
+abbrev pub TakesKey : Course → Option Key → Option (List Key) → Option (List Bool) → Type 0
+TakesKey c key keys source = Takes None c.keys key keys × Foretold false c.source source
 
--- a playtest is played by these words
-abbrev pub Plays : List ℕ → Playtest → Result (List ℕ) Refusal → Type 0
-Plays words p r = (n : ℕ) × (q : Playtest) × (n ≤ most_keys) × StepsTo n p words q × EndsPlay n q r
+-- a playtest makes a step, by the next key and the words that are left; and that is shown, or the screen fails
+abbrev pub Advances : Bool → Course → Course → Type 0
+Advances failing c d =
+    (key : Key) × (used : ℕ)
+    × TakesKey c (Some key) d.keys d.source × Steps (Ok used) key c.play c.words d.play × (d.words ≡ drop used c.words)
+    × Foretold failing c.screen d.screen
+
+-- it makes so many, and each is shown
+abbrev pub StepsTo : ℕ → Course → Course → Type 0
+StepsTo zero c d = d ≡ c
+StepsTo (suc n) c d = (next : Course) × Advances false c next × StepsTo n next d
+
+-- a playtest is at its end, or no key is left
+abbrev pub IsOver : Course → Type 0
+IsOver c = (is_some c.play.ending ≡ true) ⊎ ((source : Option (List Bool)) × TakesKey c None c.keys source)
+
+-- the step by the next key lacks words
+abbrev pub LacksWords : Course → Type 0
+LacksWords c =
+    (key : Key) × (keys : Option (List Key)) × (source : Option (List Bool))
+    × TakesKey c (Some key) keys source × Steps (Err step.NoWords) key c.play c.words c.play
+
+-- how play ends after so many steps: with what is told of the playtest, once that is over; for want of words; by a fault of the source of keys,
+-- or of the screen at one step more, where these foretold it if they did; or since no more keys may be played
+abbrev pub EndsPlay : ℕ → Course → Result (List ℕ) Refusal → Type 0
+EndsPlay n c r =
+    ((r ≡ Ok (told_of c.play)) × IsOver c)
+    ⊎ ((r ≡ Err NoWords) × LacksWords c)
+    ⊎ ((r ≡ Err KeyFault) × ComesAs true c.source × (c.play.ending ≡ None))
+    ⊎ ((r ≡ Err ScreenFault) × ((next : Course) × Advances true c next))
+    ⊎ ((r ≡ Err TooManyTurns) × (n ≡ most_keys) × (c.play.ending ≡ None))
+
+-- a playtest is played on, by the words and keys that are left
+abbrev pub Plays : Course → Result (List ℕ) Refusal → Type 0
+Plays first r = (n : ℕ) × (c : Course) × (n ≤ most_keys) × StepsTo n first c × EndsPlay n c r
+
+-- a playtest with these words, and with the keys and the screen of these devices
+abbrev pub course : Devices → Playtest → List ℕ → Course
+course d p words = record { play = p; words = words; keys = d.keys; source = d.source; screen = d.screen }
 
 -- a board is played by these words, from tick 1 on
-abbrev pub IsPlayed : List ℕ → OnBoard (List ℕ)
-IsPlayed words header board r = Plays words (play_of header board 1) r
+abbrev pub IsPlayed : Devices → List ℕ → OnBoard (List ℕ)
+IsPlayed d words header board r = Plays (course d (play_of header board 1) words) r
 
 -- the same by the words of a file, which is read before all others
-abbrev pub PlaysFile : Option (List ℕ) → ℕ → (Result (List Edit) Refusal → Type 0) → Result (List ℕ) Refusal → Type 0
-PlaysFile None board Collected r = r ≡ Err File
-PlaysFile (Some bytes) board Collected r =
-    (set : Result (List Edit) Refusal) × Collected set × OfSet set board (IsPlayed (words_in bytes)) r
+abbrev pub PlaysFile : Devices → Option (List ℕ) → ℕ → (Result (List Edit) Refusal → Type 0) → Result (List ℕ) Refusal → Type 0
+PlaysFile d None board Collected r = r ≡ Err File
+PlaysFile d (Some bytes) board Collected r =
+    (set : Result (List Edit) Refusal) × Collected set × OfSet set board (IsPlayed d (words_in bytes)) r

@@ -5,6 +5,7 @@ ghost use Rattle.zed_types.specs.declared.stamp.Stamp.{Stamp as TheStamp};
 ghost use Rattle.zed_document.specs.Delivery.{IsFirstClash};
 ghost use Rattle.zed_editfile.specs.Spelling.{file_text};
 ghost use Rattle.zed_program.specs.Edited.{HasEdits, IsEdited, IsOpened, OpensAs};
+ghost use Rattle.zed_program.specs.Devices.{no_devices};
 ghost use Rattle.zed_program.specs.Outcome.{Ends, texts_of};
 ghost use Rattle.zed_link.specs.Counting.{Rose};
 ghost use Rattle.zed_program.specs.HostContents.{HostContents};
@@ -109,7 +110,7 @@ pub(crate) fn edit<H: Host>(
 ) -> Result<(), Refusal>
     ensures ends { (t : HostContents) → H.contents host.old ≡ Some t
         → let failed = Rose (H.faults host.old) (H.faults host.new) in
-        Ends failed [] (EditFile file.now replica (texts_of words.now)) t
+        Ends failed no_devices (EditFile file.now replica (texts_of words.now)) t
         result (H.contents host.new) }
     ensures rises { H.faults host.old ≤ H.faults host.new }
 {

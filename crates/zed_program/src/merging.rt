@@ -5,6 +5,7 @@ ghost use Rattle.zed_words.specs.Commands.{Merge};
 ghost use Rattle.zed_link.specs.Counting.{Rose};
 ghost use Rattle.zed_program.specs.HostContents.{HostContents};
 ghost use Rattle.zed_program.specs.Merged.{IsMerged};
+ghost use Rattle.zed_program.specs.Devices.{links_alone};
 ghost use Rattle.zed_program.specs.Outcome.{Ends, texts_of};
 ghost use Rattle.zed_program.specs.Refusals.{link_refusal};
 
@@ -71,7 +72,7 @@ pub(crate) fn merge<H: Host>(
 ) -> Result<(), Refusal>
     ensures ends { (t : HostContents) → H.contents host.old ≡ Some t
         → let failed = Rose (H.faults host.old) (H.faults host.new) in
-        Ends failed (map (λ link. seen (ends link) (reads link)) links.items)
+        Ends failed (links_alone (map (λ link. seen (ends link) (reads link)) links.items))
         (Merge out.now world (texts_of files.now)) t result (H.contents host.new) }
     ensures no_link { length links.items < length files.now → result ≡ Err Refusal.NoLink }
     ensures rises { H.faults host.old ≤ H.faults host.new }

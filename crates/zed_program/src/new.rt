@@ -6,6 +6,7 @@ ghost use Rattle.zed_world.specs.Canonical.{IsCanonical};
 ghost use Rattle.zed_program.specs.Fresh.{fresh_header, fresh_properties, fresh_world, genesis_of, made_by, name_or_none, refused_as, rewritten, taken_from, title_of};
 ghost use Rattle.zed_world.specs.Writing.{written};
 ghost use Rattle.zed_world.specs.Reading.{world_at};
+ghost use Rattle.zed_program.specs.Devices.{no_devices};
 ghost use Rattle.zed_program.specs.Outcome.{Ends, IsFirstWorld, text_in};
 ghost use Rattle.zed_link.specs.Counting.{Rose};
 ghost use Rattle.zed_program.specs.HostContents.{HostContents};
@@ -203,7 +204,7 @@ pub(crate) fn make_new<H: Host>(
 ) -> Result<(), Refusal>
     ensures ends { (t : HostContents) → H.contents host.old ≡ Some t
         → let failed = Rose (H.faults host.old) (H.faults host.new) in
-        Ends failed [] (New out.now world (text_in from.entry) (text_in name.entry)) t
+        Ends failed no_devices (New out.now world (text_in from.entry) (text_in name.entry)) t
         result (H.contents host.new) }
     ensures rises { H.faults host.old ≤ H.faults host.new }
 {

@@ -5,6 +5,7 @@ ghost use Rattle.zed_words.specs.Commands.{Play as PlayBoard};
 ghost use Rattle.zed_link.specs.Counting.{Rose};
 ghost use Rattle.zed_program.specs.HostContents.{HostContents};
 ghost use Rattle.zed_program.specs.Lines.{message_line, standing_line, told_of};
+ghost use Rattle.zed_program.specs.Devices.{devices};
 ghost use Rattle.zed_program.specs.Outcome.{Ends, IsPlayedOf, texts_of};
 ghost use Rattle.zed_program.specs.Shown.{IsPlayed, OfSet, words_in};
 
@@ -97,10 +98,11 @@ fn play_board(
     keys: Box<dyn Keys>,
 ) -> Result<Vec<u8>, Refusal>
     requires { document.is_stale ≡ false }
-    ensures { MatchResult result
-        (λ text. OfSet (Ok document.edits) board (IsPlayed words.now) (Ok text.items))
+    ensures { let stage = devices [] (screen_foretells screen) (left keys) (keys_foretell keys) in
+        MatchResult result
+        (λ text. OfSet (Ok document.edits) board (IsPlayed stage words.now) (Ok text.items))
         (λ e. (e ≡ Refusal.Memory)
-        ⊎ OfSet (Ok document.edits) board (IsPlayed words.now) (Err e)) }
+        ⊎ OfSet (Ok document.edits) board (IsPlayed stage words.now) (Err e)) }
 {
     let mut session = Session::new(alloc, document, screen, keys);
     session.play(board)?;
@@ -132,10 +134,12 @@ fn played<H: Host>(
     keys: Box<dyn Keys>,
 ) -> Result<Vec<u8>, Refusal>
     ensures played { (t : HostContents) → H.contents host.old ≡ Some t
-        → let failed = Rose (H.faults host.old) (H.faults host.new) in MatchResult result
-        (λ text. IsPlayedOf failed t board chance.now (texts_of files.now) (Ok text.items))
+        → let failed = Rose (H.faults host.old) (H.faults host.new) in
+        let stage = devices [] (screen_foretells screen) (left keys) (keys_foretell keys) in
+        MatchResult result
+        (λ text. IsPlayedOf failed stage t board chance.now (texts_of files.now) (Ok text.items))
         (λ e. (e ≡ Refusal.Memory)
-        ⊎ IsPlayedOf failed t board chance.now (texts_of files.now) (Err e)) }
+        ⊎ IsPlayedOf failed stage t board chance.now (texts_of files.now) (Err e)) }
     ensures kept { H.contents host.new ≡ H.contents host.old }
     ensures rises { H.faults host.old ≤ H.faults host.new }
 {
@@ -164,8 +168,8 @@ pub(crate) fn play<H: Host>(
 ) -> Result<(), Refusal>
     ensures ends { (t : HostContents) → H.contents host.old ≡ Some t
         → let failed = Rose (H.faults host.old) (H.faults host.new) in
-        Ends failed [] (PlayBoard board chance.now (texts_of files.now)) t
-        result (H.contents host.new) }
+        Ends failed (devices [] (screen_foretells screen) (left keys) (keys_foretell keys))
+        (PlayBoard board chance.now (texts_of files.now)) t result (H.contents host.new) }
     ensures rises { H.faults host.old ≤ H.faults host.new }
 {
     let text = played(alloc, host, board, chance, files, screen, keys)?;

@@ -5,6 +5,7 @@ ghost use Rattle.zed_op.specs.declared.op.Edit.{Edit as TheEdit};
 ghost use Rattle.zed_session.specs.Links.{seen};
 ghost use Rattle.zed_program.specs.Files.{joined};
 ghost use Rattle.zed_program.specs.Joining.{AsksToMerge, MergesSet};
+ghost use Rattle.zed_program.specs.Devices.{devices, no_devices};
 ghost use Rattle.zed_program.specs.Outcome.{Ends, EndsCalmly, EndsRun, IsMade, IsTold, product_of, texts_of};
 ghost use Rattle.zed_program.specs.Saving.{AsksToSave, SavedReadsBack, SavesSet};
 ghost use Rattle.zed_link.specs.Counting.{Rose};
@@ -73,7 +74,7 @@ fn made_from<H: Host>(
 fn save<H: Host>(alloc: Global, host: &mut H, out: &str, files: &[&str]) -> Result<(), Refusal>
     ensures ends { (t : HostContents) → H.contents host.old ≡ Some t
         → let failed = Rose (H.faults host.old) (H.faults host.new) in
-        Ends failed [] (Save out.now (texts_of files.now)) t result (H.contents host.new) }
+        Ends failed no_devices (Save out.now (texts_of files.now)) t result (H.contents host.new) }
     ensures rises { H.faults host.old ≤ H.faults host.new }
 {
     let bytes = made_from(alloc, host, Product::WorldFile, files)?;
@@ -85,7 +86,7 @@ fn save<H: Host>(alloc: Global, host: &mut H, out: &str, files: &[&str]) -> Resu
 fn check<H: Host>(alloc: Global, host: &mut H, files: &[&str]) -> Result<(), Refusal>
     ensures ends { (t : HostContents) → H.contents host.old ≡ Some t
         → let failed = Rose (H.faults host.old) (H.faults host.new) in
-        Ends failed [] (Check (texts_of files.now)) t result (H.contents host.new) }
+        Ends failed no_devices (Check (texts_of files.now)) t result (H.contents host.new) }
     ensures rises { H.faults host.old ≤ H.faults host.new }
 {
     let text = made_from(alloc, host, Product::Report, files)?;
@@ -120,7 +121,8 @@ fn act<H: Host>(
 ) -> Result<(), Refusal>
     ensures ends { (t : HostContents) → H.contents host.old ≡ Some t
         → let failed = Rose (H.faults host.old) (H.faults host.new) in
-        Ends failed (map (λ link. seen (ends link) (reads link)) links.items)
+        Ends failed (devices (map (λ link. seen (ends link) (reads link)) links.items)
+        (screen_foretells screen) (left keys) (keys_foretell keys))
         (meaning_of command.now) t result (H.contents host.new) }
     ensures rises { H.faults host.old ≤ H.faults host.new }
 {
@@ -165,7 +167,9 @@ fn run_words<H: Host>(
     keys: Box<dyn Keys>,
 ) -> u8
     ensures ends { (t : HostContents) → H.contents host.old ≡ Some t
-        → EndsRun (map (λ link. seen (ends link) (reads link)) links.items) (command_of (map string_bytes words.now)) t
+        → EndsRun (devices (map (λ link. seen (ends link) (reads link)) links.items)
+        (screen_foretells screen) (left keys) (keys_foretell keys))
+        (command_of (map string_bytes words.now)) t
         (H.faults host.old) (H.faults host.new) result (H.contents host.new) }
     ensures accepted { IsSome (command_of (map string_bytes words.now))
         → (result ≡ 0) ⊎ (result ≡ 1) }
@@ -214,7 +218,8 @@ pub fn run<H: Host>(
 ) -> u8
     // What is left in a host that tells what it holds, whatever of it fails.
     ensures ends { (t : HostContents) → H.contents host.old ≡ Some t
-        → EndsRun (map (λ link. seen (ends link) (reads link)) links.items)
+        → EndsRun (devices (map (λ link. seen (ends link) (reads link)) links.items)
+        (screen_foretells screen) (left keys) (keys_foretell keys))
         (command_of (map string_bytes words.now)) t
         (H.faults host.old) (H.faults host.new) result (H.contents host.new) }
 
@@ -222,7 +227,8 @@ pub fn run<H: Host>(
     ensures ends_calmly { (t : HostContents) (command : Asked)
         → command_of (map string_bytes words.now) ≡ Some command
         → H.contents host.old ≡ Some t → NothingFailed (H.faults host.old) (H.faults host.new)
-        → EndsCalmly (map (λ link. seen (ends link) (reads link)) links.items)
+        → EndsCalmly (devices (map (λ link. seen (ends link) (reads link)) links.items)
+        (screen_foretells screen) (left keys) (keys_foretell keys))
         command t result (H.contents host.new) }
 
     // The same for `save OUT FILES...`, where no word begins with a hyphen.
@@ -230,7 +236,8 @@ pub fn run<H: Host>(
         → map string_bytes words.now ≡ codes "save" ∷ out ∷ file ∷ files
         → list_all is_plain (out ∷ file ∷ files) ≡ true
         → H.contents host.old ≡ Some t → NothingFailed (H.faults host.old) (H.faults host.new)
-        → EndsCalmly (map (λ link. seen (ends link) (reads link)) links.items)
+        → EndsCalmly (devices (map (λ link. seen (ends link) (reads link)) links.items)
+        (screen_foretells screen) (left keys) (keys_foretell keys))
         (Save out (file ∷ files)) t result (H.contents host.new) }
 
     // However the words ask to save: where the files spell lists of edits of one world that agree, the

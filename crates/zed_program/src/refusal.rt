@@ -152,14 +152,7 @@ impl From<ExportError> for Refusal {
     ghost from_gives = { λ error refusal. refusal ≡ export_refusal error };
 
     fn from(error: ExportError) -> Refusal {
-        match error {
-            ExportError::Memory => Refusal::Memory,
-            ExportError::Stale => Refusal::Stale,
-            ExportError::NoWorld => Refusal::NoWorld,
-            ExportError::BoardsOver(boards) => Refusal::BoardsOver(boards),
-            ExportError::StatsOver { board, stats } => Refusal::StatsOver { board, stats },
-            ExportError::BoardOver { board, bytes } => Refusal::BoardOver { board, bytes },
-        }
+        Refusal::from(SessionError::from(error))
     }
 }
 
@@ -167,19 +160,7 @@ impl From<LinkError> for Refusal {
     ghost from_gives = { λ error refusal. refusal ≡ link_refusal error };
 
     fn from(error: LinkError) -> Refusal {
-        match error {
-            LinkError::Memory => Refusal::Memory,
-            LinkError::Magic => Refusal::Magic,
-            LinkError::NewVersion => Refusal::NewVersion,
-            LinkError::OtherWorld => Refusal::OtherWorld,
-            LinkError::RecordLength => Refusal::RecordLength,
-            LinkError::BadEdit(cause) => Refusal::BadEdit(cause),
-            LinkError::CutShort => Refusal::CutShort,
-            LinkError::Clash(stamp) => Refusal::Clash(stamp),
-            LinkError::Stale => Refusal::Stale,
-            LinkError::LinkFault => Refusal::LinkFault,
-            LinkError::TooManyTurns => Refusal::TooManyTurns,
-        }
+        Refusal::from(SessionError::from(error))
     }
 }
 

@@ -3,6 +3,7 @@ ghost use Rattle.std.specs.Prelude.{[], ◌≡◌, ◌≤◌, ◌⊎◌, Err, Ma
 ghost use Rattle.zed_words.specs.Commands.{Show};
 ghost use Rattle.zed_link.specs.Counting.{Rose};
 ghost use Rattle.zed_program.specs.HostContents.{HostContents};
+ghost use Rattle.zed_program.specs.Devices.{devices};
 ghost use Rattle.zed_program.specs.Outcome.{Ends, texts_of};
 ghost use Rattle.zed_program.specs.Shown.{IsShown, OfSet};
 
@@ -23,8 +24,9 @@ fn show_board(
 ) -> Result<(), Refusal>
     requires { document.is_stale ≡ false }
     ensures { MatchResult result
-        (λ _. OfSet (Ok document.edits) board IsShown (Ok tt))
-        (λ e. (e ≡ Refusal.Memory) ⊎ OfSet (Ok document.edits) board IsShown (Err e)) }
+        (λ _. OfSet (Ok document.edits) board (IsShown (screen_foretells screen)) (Ok tt))
+        (λ e. (e ≡ Refusal.Memory)
+        ⊎ OfSet (Ok document.edits) board (IsShown (screen_foretells screen)) (Err e)) }
 {
     let mut session = Session::new(alloc, document, screen, keys);
     session.show(board)?;
@@ -42,7 +44,8 @@ pub(crate) fn show<H: Host>(
 ) -> Result<(), Refusal>
     ensures ends { (t : HostContents) → H.contents host.old ≡ Some t
         → let failed = Rose (H.faults host.old) (H.faults host.new) in
-        Ends failed [] (Show board (texts_of files.now)) t result (H.contents host.new) }
+        Ends failed (devices [] (screen_foretells screen) (left keys) (keys_foretell keys))
+        (Show board (texts_of files.now)) t result (H.contents host.new) }
     ensures rises { H.faults host.old ≤ H.faults host.new }
 {
     let document = load(alloc, host, files)?;

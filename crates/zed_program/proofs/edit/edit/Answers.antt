@@ -1,6 +1,7 @@
-use Rattle.std.proofs.Common.{[], ◌≡◌, ◌∙◌, inl, Ok, ap, length, refl}
+use Rattle.std.proofs.Common.{◌≡◌, ◌∙◌, inl, Ok, ap, length, refl}
 use Rattle.zed_editfile.specs.Spelling.{file_text}
 use Rattle.zed_program.specs.Lines.{edits_line}
+use Rattle.zed_program.specs.Devices.{no_devices}
 use Rattle.zed_program.specs.Outcome.{ComesTo, Writes, texts_of}
 use Rattle.zed_words.specs.Commands.{Edit}
 use Rattle.zed_program.proofs.Endings.{counted_up, effect_ends, refused_ends}
@@ -14,24 +15,24 @@ returns-clause-ends g c = λ t at.
     let here = c.in_ok-document.ensures.kept ∙ at in
     let line : c.as_str.result.now ≡ edits_line (length d.edits) = c.as_str.ensures.value ∙ c.in_ok-line.ensures ∙ ap (λ es. edits_line (length es)) c.edits.ensures.all in
     let text : c.as_slice.result.now ≡ file_text d.world d.edits = c.as_slice.ensures.value ∙ c.in_ok-text.ensures.ok in
-    let comes : ComesTo _ [] (Edit c.args.file.now c.args.replica (texts_of c.args.words.now)) t (Ok (Writes c.args.file.now c.as_slice.result.now c.as_str.result.now)) =
+    let comes : ComesTo _ no_devices (Edit c.args.file.now c.args.replica (texts_of c.args.words.now)) t (Ok (Writes c.args.file.now c.as_slice.result.now c.as_str.result.now)) =
     (Ok (d.world, d.edits), c.in_ok-document.ensures.edited t at, rw (line, text) refl) in
-    effect_ends [] c.write_out.result _ _ _ (Edit c.args.file.now c.args.replica (texts_of c.args.words.now)) t (Writes c.args.file.now c.as_slice.result.now c.as_str.result.now) _
+    effect_ends no_devices c.write_out.result _ _ _ (Edit c.args.file.now c.args.replica (texts_of c.args.words.now)) t (Writes c.args.file.now c.as_slice.result.now c.as_str.result.now) _
     c.in_ok-document.ensures.rises (counted_up _ _ _ c.write_out.ensures.faults) comes (c.write_out.ensures.ok t here) (c.write_out.ensures.half t here) c.write_out.ensures.err c.write_out.ensures.faults
 
 pub returns-in_err-document-clause-ends : goal.returns-in_err-document-clause-ends
 returns-in_err-document-clause-ends g c = λ t at.
     let p = err_from_is_err_and c.from_residual.result c.from_residual.ensures.1 in
     let same : p.0 ≡ c.in_err-document.field-0.0 = p.2 in
-    rw (p.1, same) (refused_ends [] _ (Edit c.args.file.now c.args.replica (texts_of c.args.words.now)) t c.in_err-document.field-0.0 _ (c.in_err-document.ensures.kept ∙ at)
+    rw (p.1, same) (refused_ends no_devices _ (Edit c.args.file.now c.args.replica (texts_of c.args.words.now)) t c.in_err-document.field-0.0 _ (c.in_err-document.ensures.kept ∙ at)
     (not_edited _ t c.args.file.now c.args.replica (texts_of c.args.words.now) c.in_err-document.field-0.0 (c.in_err-document.ensures.edited t at)))
 
 pub returns-in_err-text-clause-ends : goal.returns-in_err-text-clause-ends
 returns-in_err-text-clause-ends g c = λ t at.
     let p = err_from_is_err_and c.from_residual-in_err-text.result c.from_residual-in_err-text.ensures.1 in
-    rw p.1 (refused_ends [] _ (Edit c.args.file.now c.args.replica (texts_of c.args.words.now)) t p.0 _ (c.in_ok-document.ensures.kept ∙ at) (inl (p.2 ∙ c.in_err-text.ensures.err)))
+    rw p.1 (refused_ends no_devices _ (Edit c.args.file.now c.args.replica (texts_of c.args.words.now)) t p.0 _ (c.in_ok-document.ensures.kept ∙ at) (inl (p.2 ∙ c.in_err-text.ensures.err)))
 
 pub returns-in_err-line-clause-ends : goal.returns-in_err-line-clause-ends
 returns-in_err-line-clause-ends g c = λ t at.
     let p = err_from_is_err_and c.from_residual-in_err-line.result c.from_residual-in_err-line.ensures.1 in
-    rw p.1 (refused_ends [] _ (Edit c.args.file.now c.args.replica (texts_of c.args.words.now)) t p.0 _ (c.in_ok-document.ensures.kept ∙ at) (inl (p.2)))
+    rw p.1 (refused_ends no_devices _ (Edit c.args.file.now c.args.replica (texts_of c.args.words.now)) t p.0 _ (c.in_ok-document.ensures.kept ∙ at) (inl (p.2)))

@@ -1,6 +1,7 @@
 use Rattle.std.proofs.Common.{◌≡◌, ◌≤◌, ◌∙◌, inl, arith, ap, ap₂, length}
 use Rattle.std.proofs.lemmas.Result.{err_from_is_err_and}
 use Rattle.zed_editfile.specs.Spelling.{file_text}
+use Rattle.zed_program.specs.Devices.{links_alone}
 use Rattle.zed_program.specs.Lines.{held_line, joined_line}
 use Rattle.zed_program.specs.Outcome.{Writes, texts_of}
 use Rattle.zed_session.specs.Links.{seen}
@@ -11,7 +12,7 @@ use Rattle.zed_program.proofs.merging.merge.Goals as goal
 
 pub returns-clause-ends : goal.returns-clause-ends
 returns-clause-ends g c = λ t at.
-    let links = each_of c.args.links.items (λ link. seen ((goal.Link-dyn g (link.vtable, link.value)).ends link.value) ((goal.Link-dyn g (link.vtable, link.value)).reads link.value)) in
+    let links = links_alone (each_of c.args.links.items (λ link. seen ((goal.Link-dyn g (link.vtable, link.value)).ends link.value) ((goal.Link-dyn g (link.vtable, link.value)).reads link.value))) in
     let d = c.in_ok-document.document in
     let line : c.as_str.result.now ≡ joined_line d.edits =
     c.as_str.ensures.value ∙ c.in_ok-line.ensures ∙ ap₂ held_line (ap length c.edits.ensures.all) c.held.ensures in
@@ -25,7 +26,7 @@ returns-clause-ends g c = λ t at.
 
 pub returns-in_err-document-clause-ends : goal.returns-in_err-document-clause-ends
 returns-in_err-document-clause-ends g c = λ t at.
-    let links = each_of c.args.links.items (λ link. seen ((goal.Link-dyn g (link.vtable, link.value)).ends link.value) ((goal.Link-dyn g (link.vtable, link.value)).reads link.value)) in
+    let links = links_alone (each_of c.args.links.items (λ link. seen ((goal.Link-dyn g (link.vtable, link.value)).ends link.value) ((goal.Link-dyn g (link.vtable, link.value)).reads link.value))) in
     let p = err_from_is_err_and c.from_residual.result c.from_residual.ensures.1 in
     let same : p.0 ≡ c.in_err-document.field-0.0 = p.2 in
     rw (p.1, same) (refused_ends links _ (Merge c.args.out.now c.args.world (texts_of c.args.files.now)) t c.in_err-document.field-0.0 _ at
@@ -33,10 +34,12 @@ returns-in_err-document-clause-ends g c = λ t at.
 
 pub returns-in_err-text-clause-ends : goal.returns-in_err-text-clause-ends
 returns-in_err-text-clause-ends g c = λ t at.
+    let links = links_alone (each_of c.args.links.items (λ link. seen ((goal.Link-dyn g (link.vtable, link.value)).ends link.value) ((goal.Link-dyn g (link.vtable, link.value)).reads link.value))) in
     let p = err_from_is_err_and c.from_residual-in_err-text.result c.from_residual-in_err-text.ensures.1 in
-    rw p.1 (refused_ends _ _ (Merge c.args.out.now c.args.world (texts_of c.args.files.now)) t p.0 _ at (inl (p.2 ∙ c.in_err-text.ensures.err)))
+    rw p.1 (refused_ends links _ (Merge c.args.out.now c.args.world (texts_of c.args.files.now)) t p.0 _ at (inl (p.2 ∙ c.in_err-text.ensures.err)))
 
 pub returns-in_err-line-clause-ends : goal.returns-in_err-line-clause-ends
 returns-in_err-line-clause-ends g c = λ t at.
+    let links = links_alone (each_of c.args.links.items (λ link. seen ((goal.Link-dyn g (link.vtable, link.value)).ends link.value) ((goal.Link-dyn g (link.vtable, link.value)).reads link.value))) in
     let p = err_from_is_err_and c.from_residual-in_err-line.result c.from_residual-in_err-line.ensures.1 in
-    rw p.1 (refused_ends _ _ (Merge c.args.out.now c.args.world (texts_of c.args.files.now)) t p.0 _ at (inl p.2))
+    rw p.1 (refused_ends links _ (Merge c.args.out.now c.args.world (texts_of c.args.files.now)) t p.0 _ at (inl p.2))

@@ -3,6 +3,7 @@ use Rattle.std.proofs.lemmas.Result.{err_from_is_err_and}
 use Rattle.zed_editfile.specs.Spelling.{file_text}
 use Rattle.zed_program.specs.Fresh.{genesis_of}
 use Rattle.zed_program.specs.Lines.{edits_line}
+use Rattle.zed_program.specs.Devices.{no_devices}
 use Rattle.zed_program.specs.Outcome.{ComesTo, Writes, text_in}
 use Rattle.zed_words.specs.Commands.{New}
 use Rattle.zed_program.proofs.Endings.{counted_up, effect_ends, not_begun, refused_ends}
@@ -13,24 +14,24 @@ returns-clause-ends g c = λ t at.
     let here = c.in_ok-bytes.ensures.kept ∙ at in
     let line : c.as_str.result.now ≡ edits_line 1 = c.as_str.ensures.value ∙ c.in_ok-line.ensures in
     let text : c.as_slice.result.now ≡ file_text c.args.world (genesis_of c.in_ok-bytes.bytes.items ∷ []) = c.as_slice.ensures.value ∙ c.in_ok-file.ensures.ok in
-    let comes : ComesTo _ [] (New c.args.out.now c.args.world (text_in c.args.from) (text_in c.args.name)) t (Ok (Writes c.args.out.now c.as_slice.result.now c.as_str.result.now)) =
+    let comes : ComesTo _ no_devices (New c.args.out.now c.args.world (text_in c.args.from) (text_in c.args.name)) t (Ok (Writes c.args.out.now c.as_slice.result.now c.as_str.result.now)) =
     (Ok c.in_ok-bytes.bytes.items, c.in_ok-bytes.ensures.result t at, rw (line, text) refl) in
-    effect_ends [] c.write_out.result _ _ _ (New c.args.out.now c.args.world (text_in c.args.from) (text_in c.args.name)) t (Writes c.args.out.now c.as_slice.result.now c.as_str.result.now) _
+    effect_ends no_devices c.write_out.result _ _ _ (New c.args.out.now c.args.world (text_in c.args.from) (text_in c.args.name)) t (Writes c.args.out.now c.as_slice.result.now c.as_str.result.now) _
     c.in_ok-bytes.ensures.rises (counted_up _ _ _ c.write_out.ensures.faults) comes (c.write_out.ensures.ok t here) (c.write_out.ensures.half t here) c.write_out.ensures.err c.write_out.ensures.faults
 
 pub returns-in_err-bytes-clause-ends : goal.returns-in_err-bytes-clause-ends
 returns-in_err-bytes-clause-ends g c = λ t at.
     let p = err_from_is_err_and c.from_residual.result c.from_residual.ensures.1 in
     let same : p.0 ≡ c.in_err-bytes.field-0.0 = p.2 in
-    rw (p.1, same) (refused_ends [] _ (New c.args.out.now c.args.world (text_in c.args.from) (text_in c.args.name)) t c.in_err-bytes.field-0.0 _ (c.in_err-bytes.ensures.kept ∙ at)
-    (not_begun [] _ c.args.out.now c.args.world (text_in c.args.from) (text_in c.args.name) t c.in_err-bytes.field-0.0 (c.in_err-bytes.ensures.result t at)))
+    rw (p.1, same) (refused_ends no_devices _ (New c.args.out.now c.args.world (text_in c.args.from) (text_in c.args.name)) t c.in_err-bytes.field-0.0 _ (c.in_err-bytes.ensures.kept ∙ at)
+    (not_begun no_devices _ c.args.out.now c.args.world (text_in c.args.from) (text_in c.args.name) t c.in_err-bytes.field-0.0 (c.in_err-bytes.ensures.result t at)))
 
 pub returns-in_err-file-clause-ends : goal.returns-in_err-file-clause-ends
 returns-in_err-file-clause-ends g c = λ t at.
     let p = err_from_is_err_and c.from_residual-in_err-file.result c.from_residual-in_err-file.ensures.1 in
-    rw p.1 (refused_ends [] _ (New c.args.out.now c.args.world (text_in c.args.from) (text_in c.args.name)) t p.0 _ (c.in_ok-bytes.ensures.kept ∙ at) (inl (p.2 ∙ c.in_err-file.ensures.err)))
+    rw p.1 (refused_ends no_devices _ (New c.args.out.now c.args.world (text_in c.args.from) (text_in c.args.name)) t p.0 _ (c.in_ok-bytes.ensures.kept ∙ at) (inl (p.2 ∙ c.in_err-file.ensures.err)))
 
 pub returns-in_err-line-clause-ends : goal.returns-in_err-line-clause-ends
 returns-in_err-line-clause-ends g c = λ t at.
     let p = err_from_is_err_and c.from_residual-in_err-line.result c.from_residual-in_err-line.ensures.1 in
-    rw p.1 (refused_ends [] _ (New c.args.out.now c.args.world (text_in c.args.from) (text_in c.args.name)) t p.0 _ (c.in_ok-bytes.ensures.kept ∙ at) (inl (p.2)))
+    rw p.1 (refused_ends no_devices _ (New c.args.out.now c.args.world (text_in c.args.from) (text_in c.args.name)) t p.0 _ (c.in_ok-bytes.ensures.kept ∙ at) (inl (p.2)))

@@ -1,4 +1,4 @@
-use Rattle.std.proofs.Common.{◌≡◌, ◌∙◌, ap}
+use Rattle.std.proofs.Common.{◌∙◌}
 use Rattle.zed_program.proofs.Chances.{told_more}
 use Rattle.zed_program.proofs.playing.messages_told.Goals as goal
 

@@ -1,5 +1,6 @@
 use Rattle.std.proofs.Common.{[], ◌≡◌, ◌∙◌, Ok, refl}
 use Rattle.std.proofs.lemmas.Result.{err_from_is_err_and}
+use Rattle.zed_program.specs.Devices.{Devices, devices}
 use Rattle.zed_program.specs.Outcome.{ComesTo, Prints, texts_of}
 use Rattle.zed_words.specs.Commands.{Play}
 use Rattle.zed_program.proofs.Endings.{counted_up, effect_ends, not_played, refused_ends}
@@ -7,15 +8,23 @@ use Rattle.zed_program.proofs.playing.play.Goals as goal
 
 pub returns-clause-ends : goal.returns-clause-ends
 returns-clause-ends g c = λ t at.
+    let stage : Devices =
+    devices [] ((goal.Screen-dyn g (c.args.screen.vtable, c.args.screen.value)).screen_foretells c.args.screen.value)
+    ((goal.Keys-dyn g (c.args.keys.vtable, c.args.keys.value)).left c.args.keys.value)
+    ((goal.Keys-dyn g (c.args.keys.vtable, c.args.keys.value)).keys_foretell c.args.keys.value) in
     let here = c.in_ok-text.ensures.kept ∙ at in
-    let comes : ComesTo _ [] (Play c.args.board c.args.chance.now (texts_of c.args.files.now)) t (Ok (Prints c.as_slice.result.now)) =
+    let comes : ComesTo _ stage (Play c.args.board c.args.chance.now (texts_of c.args.files.now)) t (Ok (Prints c.as_slice.result.now)) =
     (Ok c.in_ok-text.text.items, c.in_ok-text.ensures.played t at, rw c.as_slice.ensures.value refl) in
-    effect_ends [] c.print_out.result _ _ _ (Play c.args.board c.args.chance.now (texts_of c.args.files.now)) t (Prints c.as_slice.result.now) _
+    effect_ends stage c.print_out.result _ _ _ (Play c.args.board c.args.chance.now (texts_of c.args.files.now)) t (Prints c.as_slice.result.now) _
     c.in_ok-text.ensures.rises (counted_up _ _ _ c.print_out.ensures.faults) comes (c.print_out.ensures.ok t here) (c.print_out.ensures.half t here) c.print_out.ensures.err c.print_out.ensures.faults
 
 pub returns-in_err-text-clause-ends : goal.returns-in_err-text-clause-ends
 returns-in_err-text-clause-ends g c = λ t at.
+    let stage : Devices =
+    devices [] ((goal.Screen-dyn g (c.args.screen.vtable, c.args.screen.value)).screen_foretells c.args.screen.value)
+    ((goal.Keys-dyn g (c.args.keys.vtable, c.args.keys.value)).left c.args.keys.value)
+    ((goal.Keys-dyn g (c.args.keys.vtable, c.args.keys.value)).keys_foretell c.args.keys.value) in
     let p = err_from_is_err_and c.from_residual.result c.from_residual.ensures.1 in
     let same : p.0 ≡ c.in_err-text.field-0.0 = p.2 in
-    rw (p.1, same) (refused_ends [] _ (Play c.args.board c.args.chance.now (texts_of c.args.files.now)) t c.in_err-text.field-0.0 _ (c.in_err-text.ensures.kept ∙ at)
-    (not_played _ c.args.board c.args.chance.now (texts_of c.args.files.now) t c.in_err-text.field-0.0 (c.in_err-text.ensures.played t at)))
+    rw (p.1, same) (refused_ends stage _ (Play c.args.board c.args.chance.now (texts_of c.args.files.now)) t c.in_err-text.field-0.0 _ (c.in_err-text.ensures.kept ∙ at)
+    (not_played _ stage c.args.board c.args.chance.now (texts_of c.args.files.now) t c.in_err-text.field-0.0 (c.in_err-text.ensures.played t at)))

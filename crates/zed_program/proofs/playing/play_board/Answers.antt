@@ -1,36 +1,54 @@
-use Rattle.std.proofs.Common.{◌≡◌, ◌+◌, ◌≤◌, ◌∙◌, ap, arith, Err, List, None, Ok, Some, ℕ, inl, inr, refl, sym}
+use Rattle.std.proofs.Common.{◌≡◌, ◌+◌, ◌≤◌, ◌∙◌, ap, arith, Err, Ok, [], inl, inr, refl, sym}
 use Rattle.std.proofs.lemmas.Result.{err_from_is_err_and}
+use Rattle.std.specs.Prelude.{is_some}
 use Rattle.zed_play.specs.Playtest.{Playtest}
 use Rattle.zed_program.specs.declared.refusal.Refusal.TheVariants.{TooManyTurns}
+use Rattle.zed_program.specs.Devices.{Devices, devices}
 use Rattle.zed_program.specs.Lines.{told_of}
-use Rattle.zed_program.specs.Shown.{IsPlayed, OfSet, StepsTo, most_keys}
+use Rattle.zed_program.specs.Shown.{Course, course, most_keys}
 use Rattle.zed_program.specs.Refusals.{session_refusal}
-use Rattle.zed_program.proofs.Played.{key_refused, key_steps, lent_is, no_key, not_some, play_begins, shown_of, still_lent}
-use Rattle.zed_program.proofs.Stepping.{at_start, none_more, one_more, uses_few}
+use Rattle.zed_session.specs.declared.playing.Playing.{Playing}
+use Rattle.zed_program.proofs.Played.{key_refused, key_steps, lent_is, no_key, not_some, play_begins, same_told, shown_of, still_lent}
+use Rattle.zed_program.proofs.Stepping.{at_start, none_more, one_more}
 use Rattle.zed_program.proofs.playing.play_board.Goals as goal
 
 -- it doesn't begin
 pub returns-in_err-play : goal.returns-in_err-play
 returns-in_err-play g c =
+    let stage : Devices =
+    devices [] ((goal.Screen-dyn g (c.args.screen.vtable, c.args.screen.value)).screen_foretells c.args.screen.value)
+    ((goal.Keys-dyn g (c.args.keys.vtable, c.args.keys.value)).left c.args.keys.value)
+    ((goal.Keys-dyn g (c.args.keys.vtable, c.args.keys.value)).keys_foretell c.args.keys.value) in
     let p = err_from_is_err_and c.from_residual.result c.from_residual.ensures.1 in
     let same : p.0 ≡ session_refusal c.in_err-play.field-0.0 = p.2 in
     let d = c.args.document in
-    rw (p.1, same) (play_begins d.edits c.args.board c.args.words.now c.play.new.self.stage.playing (Err c.in_err-play.field-0.0)
+    rw (p.1, same) (play_begins stage d.edits c.args.board c.args.words.now c.play.new.self.stage.playing (Err c.in_err-play.field-0.0)
     (rw (shown_of c.new-session.result.document d c.new-session.ensures.document c.requires) at c.in_err-play.ensures.result))
 
 -- it begins
 pub loop-init : goal.loop-init
 loop-init g c =
+    let stage : Devices =
+    devices [] ((goal.Screen-dyn g (c.args.screen.vtable, c.args.screen.value)).screen_foretells c.args.screen.value)
+    ((goal.Keys-dyn g (c.args.keys.vtable, c.args.keys.value)).left c.args.keys.value)
+    ((goal.Keys-dyn g (c.args.keys.vtable, c.args.keys.value)).keys_foretell c.args.keys.value) in
     let d = c.args.document in
-    let begins = play_begins d.edits c.args.board c.args.words.now c.play.new.self.stage.playing (Ok c.in_ok-play.field-0)
+    let begins = play_begins stage d.edits c.args.board c.args.words.now c.play.new.self.stage.playing (Ok c.in_ok-play.field-0)
     (rw (shown_of c.new-session.result.document d c.new-session.ensures.document c.requires) at c.in_ok-play.ensures.result) in
+    let first : Course = course stage begins.0 c.args.words.now in
+    let screen = c.in_ok-play.ensures.screen ∙ c.new-session.ensures.screen in
+    let keys = c.in_ok-play.ensures.keys ∙ c.new-session.ensures.keys in
+    let left = same_told c.play.new.self.stage.keys c.args.keys (λ keys. (goal.Keys-dyn g (keys.vtable, keys.value)).left keys.value) keys in
+    let source = same_told c.play.new.self.stage.keys c.args.keys (λ keys. (goal.Keys-dyn g (keys.vtable, keys.value)).keys_foretell keys.value) keys in
+    let shows = same_told c.play.new.self.stage.screen c.args.screen (λ screen. (goal.Screen-dyn g (screen.vtable, screen.value)).screen_foretells screen.value) screen in
     record {
-      first = begins.0;
-      play = begins.0;
-      now = begins.1;
+      first = first;
+      now = first;
+      at = (begins.1, left, source, shows);
+      words = refl;
       going = begins.2;
       few = omega arith;
-      goes = at_start begins.0 c.args.words.now;
+      leads = at_start first;
       comes = begins.3;
     }
 
@@ -40,49 +58,63 @@ returns-in_err-used g c =
     let p = err_from_is_err_and c.from_residual-in_err-used.result c.from_residual-in_err-used.ensures.1 in
     let same : p.0 ≡ session_refusal c.in_err-used.field-0.0 = p.2 in
     let old = c.loop.invariant in
-    rw (p.1, same) (elim (key_refused c.in_err-used.field-0.0 c.loop.counter c.loop.left.now _ _ _ _ old.play old.now old.going c.in_err-used.ensures.result) [
+    let e = c.in_err-used.field-0.0 in
+    let ends = key_refused e c.loop.counter c.loop.left.now _ _ _ _ _ _ _ _ old.now old.at old.words old.going
+    c.in_err-used.ensures.result c.in_err-used.ensures.key_foretold c.in_err-used.ensures.screen_foretold in
+    rw (p.1, same) (elim ends [
       | inl memory ↦ inl memory
-      | inr ends ↦ inr (old.comes (Err (session_refusal c.in_err-used.field-0.0)) (c.loop.counter, old.play, old.few, none_more c.loop.counter old.first old.play c.args.words.now c.loop.left.now old.goes, ends))
+      | inr how ↦ inr (old.comes (Err (session_refusal e)) (c.loop.counter, old.now, old.few, none_more c.loop.counter old.first old.now old.leads, how))
     ])
 
 -- no key is left
 pub returns-in_default-used : goal.returns-in_default-used
 returns-in_default-used g c =
     let old = c.loop.invariant in
-    let stays = no_key c.loop.left.now _ _ _ _ old.play old.now (rw c.in_default-used.is at c.in_ok-used.ensures.result) in
-    let play : c.in-Some.play.now ≡ old.play = lent_is (λ p. p.now) c.in-Some.play c.playtest.result _ old.play c.playtest.ensures.result c.in-Some.is stays in
-    let text : c.in_ok-told.field-0.items ≡ told_of old.play = c.in_ok-told.ensures ∙ ap told_of play in
+    let stays = no_key c.loop.left.now _ _ _ _ _ _ _ old.now old.at old.going (rw c.in_default-used.is at c.in_ok-used.ensures.result) c.in_ok-used.ensures.key_foretold in
+    let play : c.in-Some.play.now ≡ old.now.play = lent_is (λ p. p.now) c.in-Some.play c.playtest.result _ old.now.play c.playtest.ensures.result c.in-Some.is stays.0 in
+    let text : c.in_ok-told.field-0.items ≡ told_of old.now.play = c.in_ok-told.ensures ∙ ap told_of play in
     old.comes (Ok c.in_ok-told.field-0.items)
-    (c.loop.counter, old.play, old.few, none_more c.loop.counter old.first old.play c.args.words.now c.loop.left.now old.goes, inl (ap (λ t. Ok t) text))
+    (c.loop.counter, old.now, old.few, none_more c.loop.counter old.first old.now old.leads, inl (ap (λ t. Ok t) text, stays.1))
 
 -- the playtest has ended
 pub returns-then-is_some : goal.returns-then-is_some
 returns-then-is_some g c =
     let old = c.loop.invariant in
-    let step = key_steps c.in-Some-used.used c.loop.left.now _ _ _ _ old.play old.now (rw c.in-Some-used.is at c.in_ok-used.ensures.result) in
-    let play : c.in-Some.play.now ≡ step.1 = lent_is (λ p. p.now) c.in-Some.play c.playtest.result _ step.1 c.playtest.ensures.result c.in-Some.is step.2 in
-    let text : c.in_ok-told-2.field-0.items ≡ told_of step.1 = c.in_ok-told-2.ensures ∙ ap told_of play in
-    let goes = one_more c.loop.counter c.in-Some-used.used old.first old.play step.1 c.args.words.now c.loop.left.now step.0 old.goes step.3 in
+    let step = key_steps c.in-Some-used.used c.loop.left.now _ _ _ _ _ _ _ _ old.now old.at old.words old.going (rw c.in-Some-used.is at c.in_ok-used.ensures.result)
+    c.in_ok-used.ensures.key_foretold (rw c.in-Some-used.is at c.in_ok-used.ensures.screen_foretold) in
+    let now = step.0 in
+    let play : c.in-Some.play.now ≡ now.play = lent_is (λ p. p.now) c.in-Some.play c.playtest.result _ now.play c.playtest.ensures.result c.in-Some.is (ap (λ (p : Playing). p.playtest) step.2.0) in
+    let text : c.in_ok-told-2.field-0.items ≡ told_of now.play = c.in_ok-told-2.ensures ∙ ap told_of play in
+    let ending : c.ending.result ≡ now.play.ending = c.ending.ensures.result ∙ ap (λ (p : Playtest). p.ending) play in
+    let leads = one_more c.loop.counter old.first old.now now old.leads step.1 in
     let below = c.loop-test.true in
     let few : c.loop.counter + 1 ≤ most_keys = omega (arith, below) in
-    old.comes (Ok c.in_ok-told-2.field-0.items)
-    (c.loop.counter + 1, step.1, few, none_more (c.loop.counter + 1) old.first step.1 c.args.words.now _ goes, inl (ap (λ t. Ok t) text))
+    old.comes (Ok c.in_ok-told-2.field-0.items) (
+      c.loop.counter + 1,
+      now,
+      few,
+      none_more (c.loop.counter + 1) old.first now leads,
+      inl (ap (λ t. Ok t) text, inl (ap is_some (sym ending) ∙ sym c.is_some.ensures ∙ c.if-is_some.true)),
+    )
 
 -- a step was made, and it goes on
 pub loop-preserved : goal.loop-preserved
 loop-preserved g c =
     let old = c.loop.invariant in
-    let step = key_steps c.in-Some-used.used c.loop.left.now _ _ _ _ old.play old.now (rw c.in-Some-used.is at c.in_ok-used.ensures.result) in
-    let play : c.in-Some.play.now ≡ step.1 = lent_is (λ p. p.now) c.in-Some.play c.playtest.result _ step.1 c.playtest.ensures.result c.in-Some.is step.2 in
-    let ending : c.ending.result ≡ step.1.ending = c.ending.ensures.result ∙ ap (λ (p : Playtest). p.ending) play in
+    let step = key_steps c.in-Some-used.used c.loop.left.now _ _ _ _ _ _ _ _ old.now old.at old.words old.going (rw c.in-Some-used.is at c.in_ok-used.ensures.result)
+    c.in_ok-used.ensures.key_foretold (rw c.in-Some-used.is at c.in_ok-used.ensures.screen_foretold) in
+    let now = step.0 in
+    let play : c.in-Some.play.now ≡ now.play = lent_is (λ p. p.now) c.in-Some.play c.playtest.result _ now.play c.playtest.ensures.result c.in-Some.is (ap (λ (p : Playing). p.playtest) step.2.0) in
+    let ending : c.ending.result ≡ now.play.ending = c.ending.ensures.result ∙ ap (λ (p : Playtest). p.ending) play in
     let below = c.loop-test.true in
     record {
       first = old.first;
-      play = step.1;
-      now = step.2;
+      now = now;
+      at = step.2;
+      words = c.split_at.ensures.back ∙ sym step.3;
       going = sym ending ∙ not_some c.ending.result (sym c.is_some.ensures ∙ c.if-is_some.false);
       few = omega (arith, below);
-      goes = rw c.split_at.ensures.back (one_more c.loop.counter c.in-Some-used.used old.first old.play step.1 c.args.words.now c.loop.left.now step.0 old.goes step.3);
+      leads = one_more c.loop.counter old.first old.now now old.leads step.1;
       comes = old.comes;
     }
 
@@ -93,13 +125,13 @@ returns g c =
     let few = old.few in
     let past = c.loop-test.false in
     let all : c.loop.counter ≡ most_keys = omega (arith, few, past) in
-    inr (old.comes (Err TooManyTurns) (c.loop.counter, old.play, old.few, none_more c.loop.counter old.first old.play c.args.words.now c.loop.left.now old.goes, inr (inr (inr (inr (refl, all, old.going))))))
+    inr (old.comes (Err TooManyTurns) (c.loop.counter, old.now, old.few, none_more c.loop.counter old.first old.now old.leads, inr (inr (inr (inr (refl, all, old.going))))))
 
 -- a playtest that was started goes on
 pub returns-in_default : goal.returns-in_default
 returns-in_default g c =
     let old = c.loop.invariant in
-    absurd (still_lent (λ p. p.now) c.playtest.result c.in_ok-used.used c.loop.left.now _ _ _ _ old.play old.now c.in_ok-used.ensures.result c.playtest.ensures.result c.in_default.is)
+    absurd (still_lent (λ p. p.now) c.playtest.result c.in_ok-used.used c.loop.left.now _ _ _ _ old.now.play old.at.0 c.in_ok-used.ensures.result c.playtest.ensures.result c.in_default.is)
 
 -- memory is lacking for what is told
 pub returns-in_err-told : goal.returns-in_err-told

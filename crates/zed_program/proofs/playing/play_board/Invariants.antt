@@ -1,18 +1,25 @@
-use Rattle.std.proofs.Common.{◌≡◌, ◌≤◌, List, None, Ok, Result, Some, ℕ}
-use Rattle.zed_play.specs.Playtest.{Playtest}
+use Rattle.std.proofs.Common.{◌≡◌, ◌≤◌, List, None, Ok, Result, ℕ, []}
 use Rattle.zed_program.specs.declared.refusal.Refusal.{Refusal}
-use Rattle.zed_program.specs.Shown.{IsPlayed, OfSet, Plays, most_keys}
-use Rattle.zed_program.proofs.Stepping.{GoesOn}
+use Rattle.zed_program.specs.Devices.{devices}
+use Rattle.zed_program.specs.Shown.{Course, IsPlayed, OfSet, Plays, most_keys}
+use Rattle.zed_program.proofs.Played.{IsAt}
+use Rattle.zed_program.proofs.Stepping.{Leads}
 use Rattle.zed_program.proofs.playing.play_board.Given as goal
 
 -- the playtest goes on: its steps follow on those from the first
 abbrev pub invariant-loop : goal.invariant-loop
 invariant-loop g l = record {
-  first : Playtest;
-  play : Playtest;
-  now : l.session.stage.playing.playtest ≡ Some play;
-  going : play.ending ≡ None;
+  first : Course;
+  now : Course;
+  at : IsAt now l.session.stage.playing ((goal.Keys-dyn g (l.session.stage.keys.vtable, l.session.stage.keys.value)).left l.session.stage.keys.value)
+      ((goal.Keys-dyn g (l.session.stage.keys.vtable, l.session.stage.keys.value)).keys_foretell l.session.stage.keys.value)
+      ((goal.Screen-dyn g (l.session.stage.screen.vtable, l.session.stage.screen.value)).screen_foretells l.session.stage.screen.value);
+  words : l.left ≡ now.words;
+  going : now.play.ending ≡ None;
   few : l.counter ≤ most_keys;
-  goes : GoesOn l.counter first l.words play l.left;
-  comes : (r : Result (List ℕ) Refusal) → Plays l.words first r → OfSet (Ok l.fn.document.edits) l.fn.board (IsPlayed l.words) r;
+  leads : Leads l.counter first now;
+  comes : (r : Result (List ℕ) Refusal) → Plays first r → OfSet (Ok l.fn.document.edits) l.fn.board
+      (IsPlayed (devices [] ((goal.Screen-dyn g (l.fn.screen.vtable, l.fn.screen.value)).screen_foretells l.fn.screen.value)
+      ((goal.Keys-dyn g (l.fn.keys.vtable, l.fn.keys.value)).left l.fn.keys.value)
+      ((goal.Keys-dyn g (l.fn.keys.vtable, l.fn.keys.value)).keys_foretell l.fn.keys.value)) l.words) r;
 }

@@ -1,8 +1,10 @@
-use Rattle.std.proofs.Common.{[], ◌≡◌, ◌≤◌, ◌∙◌, ap, arith, length, map, ◌∷◌, Some, string_bytes}
+use Rattle.std.proofs.Common.{◌≡◌, ◌≤◌, ◌∙◌, ap, arith, length, map, ◌∷◌, Some, string_bytes}
 use Rattle.std.proofs.lemmas.List.{length-map}
 use Rattle.zed_words.specs.Commands.{Merge, Save, command_of}
+use Rattle.zed_session.specs.Links.{seen}
+use Rattle.zed_program.specs.Devices.{links_alone, no_devices}
 use Rattle.zed_program.proofs.Endings.{run_calmly}
-use Rattle.zed_program.proofs.Joined.{run_of_links}
+use Rattle.zed_program.proofs.Joined.{each_of, run_of_links}
 use Rattle.zed_program.proofs.FileTexts.{run_of_texts, reads_back, written_is_read}
 use Rattle.zed_program.proofs.program.run.Goals as goal
 
@@ -23,7 +25,7 @@ returns-clause-saves g c = λ t out file files spelled plain at calm.
 
 pub returns-clause-saves_sets : goal.returns-clause-saves_sets
 returns-clause-saves_sets g c = λ t out world lists asks at calm.
-    run_of_texts [] (written_is_read c.one_reading.ensures.one c.one_reading.ensures.file) (map string_bytes c.args.words.now) t out world lists c.run_words.result _ asks
+    run_of_texts no_devices (written_is_read c.one_reading.ensures.one c.one_reading.ensures.file) (map string_bytes c.args.words.now) t out world lists c.run_words.result _ asks
     (returns-clause-ends_calmly g c t (Save out asks.files) asks.asks at calm)
 
 pub returns-clause-reads_back : goal.returns-clause-reads_back
@@ -33,5 +35,6 @@ returns-clause-reads_back g c = λ t out world lists asks at calm.
 
 pub returns-clause-merges_sets : goal.returns-clause-merges_sets
 returns-clause-merges_sets g c = λ t out world lists asks at calm.
-    run_of_links c.files_are_pulled.ensures c.deliveries_go_on.ensures c.deliveries_come_to_sets.ensures (map string_bytes c.args.words.now) _ t out world lists c.run_words.result _ asks
+    let links = links_alone (each_of c.args.links.items (λ link. seen ((goal.Link-dyn g (link.vtable, link.value)).ends link.value) ((goal.Link-dyn g (link.vtable, link.value)).reads link.value))) in
+    run_of_links c.files_are_pulled.ensures c.deliveries_go_on.ensures c.deliveries_come_to_sets.ensures (map string_bytes c.args.words.now) links t out world lists c.run_words.result _ asks
     (returns-clause-ends_calmly g c t (Merge out world asks.files) asks.asks at calm)

@@ -1,5 +1,6 @@
-use Rattle.std.proofs.Common.{[], ◌≡◌, ◌∙◌, inl, Ok, ap, sym, length, refl}
+use Rattle.std.proofs.Common.{◌≡◌, ◌∙◌, inl, Ok, ap, sym, length, refl}
 use Rattle.zed_program.specs.Lines.{bytes_line}
+use Rattle.zed_program.specs.Devices.{no_devices}
 use Rattle.zed_program.specs.Outcome.{ComesTo, Writes, texts_of}
 use Rattle.zed_words.specs.Commands.{Save}
 use Rattle.std.proofs.lemmas.Result.{err_from_is_err_and}
@@ -11,19 +12,19 @@ returns-clause-ends g c = λ t at.
     let here = c.in_ok-bytes.ensures.kept ∙ at in
     let line : c.as_str.result.now ≡ bytes_line (length c.as_slice.result.now) =
     c.as_str.ensures.value ∙ c.in_ok-line.ensures ∙ ap bytes_line (c.len.ensures ∙ sym c.as_slice.ensures.len) in
-    let comes : ComesTo _ [] (Save c.args.out.now (texts_of c.args.files.now)) t (Ok (Writes c.args.out.now c.as_slice.result.now c.as_str.result.now)) =
+    let comes : ComesTo _ no_devices (Save c.args.out.now (texts_of c.args.files.now)) t (Ok (Writes c.args.out.now c.as_slice.result.now c.as_str.result.now)) =
     (Ok c.in_ok-bytes.bytes.items, c.in_ok-bytes.ensures.made t at, rw (line, c.as_slice.ensures.value) refl) in
-    effect_ends [] c.write_out.result _ _ _ (Save c.args.out.now (texts_of c.args.files.now)) t (Writes c.args.out.now c.as_slice.result.now c.as_str.result.now) _
+    effect_ends no_devices c.write_out.result _ _ _ (Save c.args.out.now (texts_of c.args.files.now)) t (Writes c.args.out.now c.as_slice.result.now c.as_str.result.now) _
     c.in_ok-bytes.ensures.rises (counted_up _ _ _ c.write_out.ensures.faults) comes (c.write_out.ensures.ok t here) (c.write_out.ensures.half t here) c.write_out.ensures.err c.write_out.ensures.faults
 
 pub returns-in_err-bytes-clause-ends : goal.returns-in_err-bytes-clause-ends
 returns-in_err-bytes-clause-ends g c = λ t at.
     let p = err_from_is_err_and c.from_residual.result c.from_residual.ensures.1 in
     let same : p.0 ≡ c.in_err-bytes.field-0.0 = p.2 in
-    rw (p.1, same) (refused_ends [] _ (Save c.args.out.now (texts_of c.args.files.now)) t c.in_err-bytes.field-0.0 _ (c.in_err-bytes.ensures.kept ∙ at)
-    (not_saved [] _ (texts_of c.args.files.now) c.args.out.now t c.in_err-bytes.field-0.0 (c.in_err-bytes.ensures.made t at)))
+    rw (p.1, same) (refused_ends no_devices _ (Save c.args.out.now (texts_of c.args.files.now)) t c.in_err-bytes.field-0.0 _ (c.in_err-bytes.ensures.kept ∙ at)
+    (not_saved no_devices _ (texts_of c.args.files.now) c.args.out.now t c.in_err-bytes.field-0.0 (c.in_err-bytes.ensures.made t at)))
 
 pub returns-in_err-line-clause-ends : goal.returns-in_err-line-clause-ends
 returns-in_err-line-clause-ends g c = λ t at.
     let p = err_from_is_err_and c.from_residual-in_err-line.result c.from_residual-in_err-line.ensures.1 in
-    rw p.1 (refused_ends [] _ (Save c.args.out.now (texts_of c.args.files.now)) t p.0 _ (c.in_ok-bytes.ensures.kept ∙ at) (inl p.2))
+    rw p.1 (refused_ends no_devices _ (Save c.args.out.now (texts_of c.args.files.now)) t p.0 _ (c.in_ok-bytes.ensures.kept ∙ at) (inl p.2))
