@@ -1,6 +1,7 @@
 -- Each step of a cascade in a body.
 use Rattle.std.proofs.Common.{◌≡◌, ◌∙◌, Bool, true, false, ◌||◌, List, [], ◌∷◌, ◌++◌, refl, ap, sym, subst}
 use Rattle.std.specs.List.{list_any}
+use Rattle.zed_types.proofs.Facts.{or_more}
 use mathlib.Core.Logic.{inl}
 use Rattle.zed_op.specs.declared.op.Edit.{Edit}
 use Rattle.zed_op.specs.declared.thing.Thing.{Thing}
@@ -127,14 +128,10 @@ any-last : (q : Edit → Bool) (es : List Edit) (e : Edit) → q e ≡ true → 
 any-last q [] e h = ap (λ b. b || false) h
 any-last q (f ∷ es) e h = ap (λ b. q f || b) (any-last q es e h) ∙ or-last (q f)
 
-or-rest : (a b c : Bool) → (b ≡ true → c ≡ true) → (a || b) ≡ true → (a || c) ≡ true
-or-rest true b c k h = refl
-or-rest false b c k h = k h
-
 pub tried_done : (e : Edit) (b c : Body) (old : List Edit) → IsDone e b c → IsTried e b old c (old ++ e ∷ [])
 tried_done e b c old d all hand others h =
     d all hand (awaited others old) (awaited others (old ++ e ∷ [])) h
-    (λ x k. or-rest (others x) (list_any (λ f. makes f x) old) (list_any (λ f. makes f x) (old ++ e ∷ [])) (any-more (λ f. makes f x) old (e ∷ [])) k)
+    (λ x k. or_more (others x) (list_any (λ f. makes f x) old) (list_any (λ f. makes f x) (old ++ e ∷ [])) (any-more (λ f. makes f x) old (e ∷ [])) k)
     (λ x k. ap (λ v. others x || v) (any-last (λ f. makes f x) old e k) ∙ or-last (others x))
 
 pub tried_held : (e : Edit) (b c : Body) (old : List Edit) → IsHeldBack e b c → IsTried e b old c old

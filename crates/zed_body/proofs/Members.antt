@@ -9,6 +9,7 @@ use Rattle.zed_op.specs.Set.{IsRising, with_edit}
 use Rattle.zed_op.proofs.Sets.{Member, Member-all}
 use Rattle.zed_edit.specs.declared.plain.Plain.{Plain}
 use Rattle.zed_edit.specs.Replay.{can, step, replay_on, taken_on, held_on}
+use Rattle.zed_settle.proofs.HeldAlone.{held-all}
 
 -- what holds of each member holds of all
 pub all-members : (P : Edit → Type 0) (es : List Edit) → ((e : Edit) → Member e es → P e) → AllByRecursion P es
@@ -26,14 +27,6 @@ pub later : (f e : Edit) (es : List Edit) → AllByRecursion (λ g. before f.sta
 later f e es a m = Member-all (λ g. before f.stamp g.stamp ≡ true) es a e m
 
 -- ---- those taken and those held
-
-held-all : (P : Edit → Type 0) (p : Plain) (es : List Edit) → AllByRecursion P es → AllByRecursion P (held_on p es)
-held-all P p [] h = tt
-held-all P p (e ∷ es) h = go (can p e) (held-all P (step p e) es h.1)
-  where
-    go : (b : Bool) → AllByRecursion P (held_on (step p e) es) → AllByRecursion P (cond b (held_on (step p e) es) (e ∷ held_on (step p e) es))
-    go true more = more
-    go false more = (h.0, more)
 
 pub held-rising : (p : Plain) (es : List Edit) → IsRising es → IsRising (held_on p es)
 held-rising p [] r = tt

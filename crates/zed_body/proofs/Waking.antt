@@ -1,7 +1,8 @@
 -- What waits for things is tried.
-use Rattle.std.proofs.Common.{◌≡◌, ◌∙◌, Bool, true, false, ◌||◌, List, [], ◌∷◌, ◌++◌, length, refl, ap, sym, subst, arith}
+use Rattle.std.proofs.Common.{◌≡◌, ◌∙◌, Bool, true, false, ◌||◌, List, [], ◌∷◌, ◌++◌, length, refl, ap, sym, subst}
 use Rattle.std.specs.List.{list_any}
 use Rattle.std.proofs.lemmas.List.Folds.{list_any-append}
+use Rattle.zed_types.proofs.Facts.{none_of_length}
 use mathlib.Core.Logic.{◌⊎◌, inl, inr}
 use Rattle.zed_op.specs.declared.op.Edit.{Edit}
 use Rattle.zed_op.specs.declared.thing.Thing.{Thing}
@@ -103,13 +104,9 @@ is_followed e old new b c w all others h =
     (λ x k. none_left (others x) (list_any (λ f. makes f x) new) k)
     (w all others (body_more all [] (awaited others (old ++ e ∷ [])) (awaited (or_among others things) old) b (made_now e old others) h))
 
-no_edits : (es : List Edit) → length es ≡ 0 → es ≡ []
-no_edits [] h = refl
-no_edits (e ∷ es) h = absurd (omega (arith, h))
-
 pub none_follows : (e : Edit) (old : List Edit) (b : Body) → length b.inbox ≡ 0 → IsFollowed e b old b old
 none_follows e old b none all others h =
-    let empty = no_edits b.inbox none in
+    let empty = none_of_length b.inbox none in
     let P : List Edit → Type 0 = λ w. IsHalfway all h.0 w [] (awaited others (old ++ e ∷ [])) in
     let Q : List Edit → Type 0 = λ w. IsHalfway all h.0 w [] (awaited others old) in
     (h.0, h.1, subst Q (sym empty) (none_waits all h.0 [] (awaited others (old ++ e ∷ [])) (awaited others old) (subst P empty h.2)))

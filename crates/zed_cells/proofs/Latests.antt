@@ -9,6 +9,7 @@ use Rattle.zed_types.specs.Stamp.{before}
 use Rattle.zed_types.specs.Register.{keep_later, latest_of}
 use Rattle.zed_types.specs.Table.{is_inside, place_at, map_from}
 use Rattle.zed_types.proofs.StampOrder.{before_irrefl, before_total, same_stamp-true}
+use Rattle.zed_types.proofs.Facts.{length-map_from}
 use Rattle.zed_cells.specs.Writes.{later}
 use Rattle.zed_cells.specs.Latest.{IsLatest, StampsAgree, HasAll}
 use Rattle.zed_cells.specs.Cells.{set_cells, writes_into, CellsHoldTheLatest}
@@ -125,10 +126,6 @@ kept_at test w zero j n (x ∷ cells) e l =
     go true = sym (keep_later-later x w)
     go false = refl
 kept_at test w (suc i) j n (x ∷ cells) e l = kept_at test w i j (n + 1) cells (omega arith) (omega arith)
-
-length-map_from : {X Y : Type 0} (f : ℕ → X → Y) (n : ℕ) (xs : List X) → length (map_from f n xs) ≡ length xs
-length-map_from f n [] = refl
-length-map_from f n (x ∷ xs) = ap suc (length-map_from f (n + 1) xs)
 
 reached : (b : Bool) (w : Written Tile) (o : Option (Written Tile)) (ws : List (Written Tile)) (i : ℕ) (ds : List (Rectangle × Written Tile)) (r : Rectangle)
     → latest_of (cond b (keep_later o w) o) (writes_into i ds) ≡ latest_of o (map (λ d. d.1) (cond b ((r, w) ∷ filter (λ d. is_inside d.0 (place_at i)) ds) (filter (λ d. is_inside d.0 (place_at i)) ds)))

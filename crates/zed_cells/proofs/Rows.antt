@@ -1,12 +1,12 @@
 -- Which cells of a rectangle stand in its first rows, and what setting one row more does.
-use Rattle.std.proofs.Common.{◌≡◌, ℕ, ◌+◌, ◌-◌, ◌*◌, ◌/◌, ◌%◌, ◌<◌, ◌≤◌, Bool, true, false, ◌&&◌, ◌||◌, nat_le, nat_lt, eqb, List, refl, arith, rules, IsTrue}
+use Rattle.std.proofs.Common.{◌≡◌, ℕ, ◌+◌, ◌-◌, ◌*◌, ◌≤◌, Bool, true, false, ◌&&◌, ◌||◌, nat_le, nat_lt, eqb, List, refl, arith}
 use Rattle.std.proofs.lemmas.Bool.{ltb-true, ltb-false}
-use Rattle.std.proofs.Math.Bool.{and-false}
 use Rattle.std.proofs.lemmas.Bool.Decides.{nat_tests}
 use Rattle.zed_types.specs.declared.tile.Tile.{Tile}
 use Rattle.zed_types.specs.declared.tile.Rectangle.{Rectangle}
 use Rattle.zed_types.specs.declared.written.Written.{Written}
-use Rattle.zed_cells.specs.Cells.{keep_where, set_cells, is_in_table}
+use Rattle.zed_types.proofs.TableRows.{inside, inside-none, inside-row, inside-before, inside-behind}
+use Rattle.zed_cells.specs.Cells.{keep_where, set_cells}
 use Rattle.zed_cells.proofs.Stamped.{keep_where-none, keep_where-twice}
 
 -- whether a number is at least one and below another
@@ -26,54 +26,6 @@ row-none from w cells = keep_where-none (between from from) w cells (λ k m. bet
 -- one cell more of a row
 pub row-more : (from i : ℕ) (w : Written Tile) (cells : List (Written Tile)) → from ≤ i → keep_where (λ k. eqb k i) w (keep_where (between from i) w cells) ≡ keep_where (between from (i + 1)) w cells
 row-more from i w cells h = keep_where-twice (λ k. eqb k i) (between from i) (between from (i + 1)) w cells (λ k m. between-more from i k h)
-
-abbrev inside : ℕ → ℕ → ℕ → ℕ → ℕ → Bool
-inside left right top bottom k = (nat_le left (k % 60 + 1) && nat_le (k % 60 + 1) right) && (nat_le top (k / 60 + 1) && nat_le (k / 60 + 1) bottom)
-
-inside-none : (left right top bottom k : ℕ) → bottom + 1 ≤ top → inside left right top bottom k ≡ false
-inside-none left right top bottom k h = grind (arith, nat_tests)
-
-inside-row : (left right top bottom k : ℕ) → 1 ≤ left → left ≤ right → right ≤ 60 → top ≤ bottom + 1 → bottom * 60 + (left - 1) ≤ k → k < bottom * 60 + right → inside left right top (bottom + 1) k ≡ true
-inside-row left right top bottom k a b c d e f =
-    let quotient : k / 60 ≡ bottom = omega arith in
-    let rest : k ≡ bottom * 60 + k % 60 = omega arith in
-    grind (arith, nat_tests)
-
-inside-low : (left right top bottom k : ℕ) → k / 60 < bottom → inside left right top (bottom + 1) k ≡ inside left right top bottom k
-inside-low left right top bottom k h =
-    let a : nat_le (k / 60 + 1) (bottom + 1) ≡ true = grind (arith, nat_tests) in
-    let b : nat_le (k / 60 + 1) bottom ≡ true = grind (arith, nat_tests) in
-    rw (a, b)
-
-inside-high : (left right top bottom k : ℕ) → bottom < k / 60 → inside left right top (bottom + 1) k ≡ inside left right top bottom k
-inside-high left right top bottom k h =
-    let a : nat_le (k / 60 + 1) (bottom + 1) ≡ false = grind (arith, nat_tests) in
-    let b : nat_le (k / 60 + 1) bottom ≡ false = grind (arith, nat_tests) in
-    rw (a, b)
-
-inside-left : (left right top bottom k : ℕ) → k % 60 + 1 < left → inside left right top (bottom + 1) k ≡ inside left right top bottom k
-inside-left left right top bottom k h =
-    let a : nat_le left (k % 60 + 1) ≡ false = grind (arith, nat_tests) in
-    rw a
-
-inside-right : (left right top bottom k : ℕ) → right < k % 60 + 1 → inside left right top (bottom + 1) k ≡ inside left right top bottom k
-inside-right left right top bottom k h =
-    let a : nat_le (k % 60 + 1) right ≡ false = grind (arith, nat_tests) in
-    rw (a, and-false)
-
-inside-before : (left right top bottom k : ℕ) → 1 ≤ left → left ≤ right → right ≤ 60 → k < bottom * 60 + (left - 1) → inside left right top (bottom + 1) k ≡ inside left right top bottom k
-inside-before left right top bottom k a b c e = go (nat_lt (k / 60) bottom) refl
-  where
-    go : (v : Bool) → nat_lt (k / 60) bottom ≡ v → inside left right top (bottom + 1) k ≡ inside left right top bottom k
-    go true v = inside-low left right top bottom k (ltb-true (k / 60) bottom v)
-    go false v = let h = ltb-false (k / 60) bottom v in inside-left left right top bottom k (omega arith)
-
-inside-behind : (left right top bottom k : ℕ) → 1 ≤ left → left ≤ right → right ≤ 60 → bottom * 60 + right ≤ k → inside left right top (bottom + 1) k ≡ inside left right top bottom k
-inside-behind left right top bottom k a b c e = go (nat_lt bottom (k / 60)) refl
-  where
-    go : (v : Bool) → nat_lt bottom (k / 60) ≡ v → inside left right top (bottom + 1) k ≡ inside left right top bottom k
-    go true v = inside-high left right top bottom k (ltb-true bottom (k / 60) v)
-    go false v = let h = ltb-false bottom (k / 60) v in inside-right left right top bottom k (omega arith)
 
 inside-step : (left right top bottom from to k : ℕ) → 1 ≤ left → left ≤ right → right ≤ 60 → top ≤ bottom + 1 → from ≡ bottom * 60 + (left - 1) → to ≡ bottom * 60 + right
     → inside left right top (bottom + 1) k ≡ (between from to k || inside left right top bottom k)
@@ -106,7 +58,3 @@ pub set_cells-more : (r : Rectangle) (row from to : ℕ) (w : Written Tile) (cel
     → keep_where (between from to) w (set_cells (record r { bottom = row }) w cells) ≡ set_cells (record r { bottom = row + 1 }) w cells
 set_cells-more r row from to w cells a b c d f t =
     keep_where-twice (between from to) (inside r.left r.right r.top row) (inside r.left r.right r.top (row + 1)) w cells (λ k m. inside-step r.left r.right r.top row from to k a b c d f t)
-
--- where a rectangle of the table is
-pub in_table : (r : Rectangle) → IsTrue (is_in_table r) → ((1 ≤ r.left) × (r.left ≤ r.right) × (r.right ≤ 60)) × ((1 ≤ r.top) × (r.top ≤ r.bottom) × (r.bottom ≤ 25))
-in_table r h = search rules

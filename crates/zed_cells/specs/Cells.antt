@@ -1,5 +1,5 @@
 -- The cells of a board, each a register with its stamp.
-use Rattle.std.specs.Prelude.{◌≡◌, ◌<◌, ℕ, Bool, ◌&&◌, nat_le, if◌then◌else◌, List, [], ◌∷◌, length, map, slice_get}
+use Rattle.std.specs.Prelude.{◌≡◌, ◌<◌, ℕ, Bool, if◌then◌else◌, List, [], ◌∷◌, length, map, slice_get}
 use Rattle.std.specs.List.{filter}
 use Rattle.zed_types.specs.declared.stamp.Stamp.{Stamp}
 use Rattle.zed_types.specs.declared.tile.Tile.{Tile}
@@ -26,10 +26,6 @@ keep_where test w cells = map_from (λ i kept. if test i then later kept w else 
 -- each cell of a rectangle keeps the later of what it has and a new write
 abbrev pub set_cells : Rectangle → Written Tile → List (Written Tile) → List (Written Tile)
 set_cells r w cells = keep_where (λ i. is_inside r (place_at i)) w cells
-
--- a rectangle of at least one cell, inside the table
-abbrev pub is_in_table : Rectangle → Bool
-is_in_table r = (nat_le 1 r.left && nat_le r.left r.right && nat_le r.right 60) && (nat_le 1 r.top && nat_le r.top r.bottom && nat_le r.bottom 25)
 
 -- rectangles, each with its write, in the order in which they come
 abbrev pub draw : List (Rectangle × Written Tile) → List (Written Tile) → List (Written Tile)

@@ -4,7 +4,8 @@ ghost use Rattle.std.specs.Prelude.{◌≡◌, ◌≤◌, ◌<◌, ◌+◌, ◌&
 ghost use Rattle.zed_types.specs.Table.{index_of};
 ghost use Rattle.zed_types.specs.declared.tile.TheConstants.{TILES};
 ghost use Rattle.zed_cells.specs.Writes.{written_at};
-ghost use Rattle.zed_cells.specs.Cells.{with_stamps, tiles_of, keep_where, set_cells, is_in_table};
+ghost use Rattle.zed_types.specs.Table.{is_in_table};
+ghost use Rattle.zed_cells.specs.Cells.{with_stamps, tiles_of, keep_where, set_cells};
 
 use crate::error::CellsError;
 use crate::keep::keep_later;

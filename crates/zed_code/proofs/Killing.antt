@@ -7,17 +7,14 @@ use Rattle.zed_types.specs.declared.stamp.Stamp.{Stamp}
 use Rattle.zed_types.specs.declared.text.TextByte.{TextByte}
 use Rattle.zed_types.specs.declared.text.ByteRange.{ByteRange}
 use Rattle.zed_types.specs.Stamp.{same_stamp}
-use Rattle.zed_types.specs.Text.{kill, kill_within}
+use Rattle.zed_types.specs.Text.{kill}
+use Rattle.zed_types.proofs.Passing.{kill-append}
 use Rattle.zed_code.specs.declared.run.Run.{Run}
 use Rattle.zed_code.specs.Runs.{low, high, touches, part, killed, if_any, pieces, kill_runs, back}
 use Rattle.zed_code.specs.Pieces.{run_of}
 use Rattle.zed_code.specs.Cutting.{bytes_in, elements_in, spelled}
 use Rattle.zed_code.specs.Kept.{IsRun, InOrder, AllInOrder, total, AreKept}
 use Rattle.zed_code.proofs.Spelling.{bytes-count, bytes-front, bytes-back}
-
-kill-append : (x : ByteRange) (xs ys : List TextByte) → kill x (xs ++ ys) ≡ kill x xs ++ kill x ys
-kill-append x [] ys = refl
-kill-append x (e ∷ xs) ys = ap (λ rest. kill_within x e ∷ rest) (kill-append x xs ys)
 
 run_of-append : (s : Stamp) (alive : Bool) (n : ℕ) (xs ys : List ℕ) → run_of s alive n (xs ++ ys) ≡ run_of s alive n xs ++ run_of s alive (n + length xs) ys
 run_of-append s alive n [] ys = let same : n + 0 ≡ n = omega arith in rw same refl

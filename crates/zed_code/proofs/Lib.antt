@@ -11,7 +11,6 @@ pub mod Kills
 pub mod Places
 pub mod PutBytes
 pub mod Puts
-pub mod RisingEdits
 pub mod Rooms
 pub mod Spelling
 pub mod ReadBlocks

@@ -24,8 +24,8 @@ use Rattle.zed_body.specs.TakingAll.{AllComeTo, AreNewTo, RisingAreApart, ShowsA
 use Rattle.zed_document.specs.declared.delivered.Delivered.{Delivered}
 use Rattle.zed_document.specs.Batch.{AreNew}
 use Rattle.zed_document.specs.Delivery.{TellsNew, edit_with, state_of}
-use Rattle.zed_document.specs.Held.{IsRenewed, held_stamps, is_among, waits_in}
-use Rattle.zed_document.proofs.Taking.{held-more, new-among, undone, waking}
+use Rattle.zed_document.specs.Held.{held_stamps, is_among, waits_in}
+use Rattle.zed_document.proofs.Taking.{IsRenewed, held-more, new-among, undone, waking}
 use Rattle.zed_document.specs.Kept.{IsKept}
 
 other_way : (a b : Stamp) → same_stamp a b ≡ false → same_stamp b a ≡ false

@@ -9,7 +9,7 @@ use Rattle.zed_op.specs.declared.op.Edit.{Edit}
 use Rattle.zed_op.specs.Set.{IsRising}
 use Rattle.zed_document.specs.Delivery.{edit_with}
 use Rattle.zed_document.specs.Merge.{Agree, ClashesAt, IsLeastClash, AllFrom}
-use Rattle.zed_types.proofs.StampOrder.{same_stamp-itself, same_stamp-true, before_irrefl, before_asym, before_differs}
+use Rattle.zed_types.proofs.StampOrder.{same_stamp-itself, same_stamp-true, before_irrefl, before_asym, before_differs, same_stamp-sym}
 use Rattle.std.proofs.lemmas.List.{take-append-drop}
 use Rattle.std.proofs.lemmas.List.Elements.{Contains-append_right, Contains-append_cases}
 use Rattle.zed_document.specs.Kept.{AllBelow}
@@ -44,9 +44,9 @@ pub edit_with-there : (es : List Edit) (e : Edit) → IsRising es → Contains e
 edit_with-there es e r h = there_at es h.0 e r h.1 h.2
 
 -- and the edit with a stamp is one of the log
-stands : (s : Stamp) (es : List Edit) (e : Edit) → edit_with s es ≡ Some e → Contains es e × (e.stamp ≡ s)
-stands s [] e h = absurd (cc)
-stands s (x ∷ xs) e h = go (same_stamp x.stamp s) refl (λ k. stands s xs e k)
+pub edit_with-stands : (s : Stamp) (es : List Edit) (e : Edit) → edit_with s es ≡ Some e → Contains es e × (e.stamp ≡ s)
+edit_with-stands s [] e h = absurd (cc)
+edit_with-stands s (x ∷ xs) e h = go (same_stamp x.stamp s) refl (λ k. edit_with-stands s xs e k)
   where
     go : (b : Bool) → same_stamp x.stamp s ≡ b → (edit_with s xs ≡ Some e → Contains xs e × (e.stamp ≡ s)) → Contains (x ∷ xs) e × (e.stamp ≡ s)
     go true b more =
@@ -55,9 +55,6 @@ stands s (x ∷ xs) e h = go (same_stamp x.stamp s) refl (λ k. stands s xs e k)
     go false b more =
         let m = more (rw b at h) in
         ((suc m.0.0, omega (arith, m.0.1), m.0.2), m.1)
-
-pub edit_with-stands : (s : Stamp) (es : List Edit) (e : Edit) → edit_with s es ≡ Some e → Contains es e × (e.stamp ≡ s)
-edit_with-stands s es e h = stands s es e h
 
 -- what is left of a log serves for what is left of the other
 pub serve-on : (own rest left : List Edit) (s : Stamp) (fs : List Edit) → AllByRecursion (λ f. edit_with f.stamp rest ≡ edit_with f.stamp own) fs → ((t : Stamp) → before t s ≡ false → edit_with t left ≡ edit_with t rest) → AllFrom s fs → AllByRecursion (λ f. edit_with f.stamp left ≡ edit_with f.stamp own) fs
@@ -155,9 +152,6 @@ serve-step own other rest left f i r l at a h =
 
 pub fine-step : (own other left : List Edit) (f : Edit) (i : ℕ) → take (suc i) other ≡ take i other ++ f ∷ [] → AllByRecursion (IsFine own) (take i other) → edit_with f.stamp left ≡ edit_with f.stamp own → IfSome (edit_with f.stamp left) (λ e. e ≡ f) → AllByRecursion (IsFine own) (take (suc i) other)
 fine-step own other left f i t a q h = rw t (All-push own (take i other) f a (fine-from own left f q h))
-
-same_stamp-sym : (a b : Stamp) → same_stamp a b ≡ same_stamp b a
-same_stamp-sym a b = grind (arith)
 
 pub none-begun-by : (s : Stamp) (es : List Edit) (f : Edit) → IsRising es → AllFrom s es → slice_get es 0 ≡ Some f → same_stamp f.stamp s ≡ false → edit_with s es ≡ None
 none-begun-by s es f r a g n =

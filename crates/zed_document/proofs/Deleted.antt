@@ -2,7 +2,6 @@
 use Rattle.std.proofs.Common.{◌≡◌, ℕ, zero, suc, ◌+◌, ◌≤◌, Bool, true, false, ◌&&◌, ◌||◌, not, cond, eqb, leb, List, [], ◌∷◌, map, take, drop, refl, ap, sym, ◌∙◌, arith}
 use Rattle.std.specs.List.{AllByRecursion, list_any, filter}
 use Rattle.std.proofs.lemmas.Bool.{and_parts, eqb-true}
-use Rattle.zed_types.specs.declared.stamp.Stamp.{Stamp}
 use Rattle.zed_types.specs.declared.names.ElemId.{ElemId}
 use Rattle.zed_types.specs.declared.text.TextByte.{TextByte}
 use Rattle.zed_types.specs.declared.text.ByteRange.{ByteRange}
@@ -11,7 +10,7 @@ use Rattle.zed_types.specs.Names.{same_element}
 use Rattle.zed_types.specs.Text.{is_within, kill, alive_bytes}
 use Rattle.zed_laws.specs.TextNames.{HaveOwnNames}
 use Rattle.zed_document.specs.Authoring.{alive, alone, goes_before, with_byte, stretches, part, without}
-use Rattle.zed_types.proofs.StampOrder.{same_stamp-true}
+use Rattle.zed_types.proofs.StampOrder.{same_stamp-true, same_stamp-sym}
 use Rattle.zed_document.proofs.TypedTexts.{same_element-itself}
 
 -- ranges deleted one after the other
@@ -44,10 +43,6 @@ kill-step r rs (x ∷ xs) = go x.alive refl (is_within r x.id) refl (within_any 
 pub kills-outside : (rs : List ByteRange) (xs : List TextByte) → alive_bytes (kills rs xs) ≡ outside rs (alive xs)
 kills-outside [] xs = ap (map (λ x. x.byte)) (sym (filter-all (alive xs)))
 kills-outside (r ∷ rs) xs = kills-outside rs (kill r xs) ∙ kill-step r rs xs
-
--- the names in stretches are those of their bytes
-same_stamp-sym : (a b : Stamp) → same_stamp a b ≡ same_stamp b a
-same_stamp-sym a b = grind (arith)
 
 one-number : (i x : ℕ) → (leb i x && leb x i) ≡ eqb i x
 one-number i x = grind (arith)

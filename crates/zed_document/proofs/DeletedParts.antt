@@ -11,14 +11,13 @@ use Rattle.zed_types.specs.declared.text.ByteRange.{ByteRange}
 use Rattle.zed_types.specs.Stamp.{before, same_stamp}
 use Rattle.zed_types.specs.Names.{byte_of, same_element}
 use Rattle.zed_types.specs.Text.{kill, alive_bytes}
-use Rattle.zed_op.specs.declared.op.Op.{Op}
-use Rattle.zed_op.specs.declared.op.Op.TheVariants.{Genesis, TextDelete}
+use Rattle.zed_op.specs.declared.op.Op.TheVariants.{TextDelete}
 use Rattle.zed_op.specs.declared.op.Edit.{Edit}
 use Rattle.zed_edit.specs.declared.plain.Plain.{Plain}
 use Rattle.zed_op.specs.declared.thing.Thing.{Thing}
 use Rattle.zed_op.specs.declared.thing.Thing.TheVariants as thing
 use Rattle.zed_edit.specs.Document.{elements, text, has}
-use Rattle.zed_op.specs.Fit.{Fits, genesis_stamp, is_stamp, is_author_stamp, is_own_stamp}
+use Rattle.zed_op.specs.Fit.{Fits, is_stamp, is_author_stamp, is_own_stamp}
 use Rattle.zed_laws.specs.Laws.{OneMoreIsOneStep, MadeStaysMade}
 use Rattle.zed_edit.specs.Replay.{replay, can, do_edit, hold}
 use Rattle.zed_op.specs.Set.{AllFit, IsRising}
@@ -28,7 +27,8 @@ use Rattle.zed_document.specs.Authoring.{alive, goes_before, with_byte, stretche
 use Rattle.zed_document.specs.Kept.{AllBelow}
 use Rattle.zed_document.specs.Stretches.{CanFollow}
 use Rattle.zed_document.proofs.Deleted.{kills, left-text, All-alive, All-take, All-drop}
-use Rattle.zed_types.proofs.StampOrder.{same_stamp-true}
+use Rattle.zed_types.proofs.StampOrder.{same_stamp-true, before_later}
+use Rattle.zed_op.proofs.RealSizes.{own_stamp}
 use Rattle.zed_document.proofs.Times.{later-all}
 use Rattle.zed_document.proofs.TypedTexts.{changed-text, same_element-itself}
 
@@ -71,9 +71,6 @@ stay-good p q t limit (r ∷ rs) stays h = (
 leb-of : (m n : ℕ) → m ≤ n → leb m n ≡ true
 leb-of m n h = grind (arith)
 
-before-of : (a b : Stamp) → a.time < b.time → before a b ≡ true
-before-of a b h = grind (arith)
-
 abbrev deletion_at : ℕ → ℕ → TextId → ByteRange → Edit
 deletion_at time replica t r = record { stamp = record { time = time; replica = replica }; op = TextDelete t r }
 
@@ -86,9 +83,9 @@ deletion-fits parts time replica limit p t r low high own l ts tl g =
     let c = leb-of 1 replica own in
     let mine : is_author_stamp s ≡ true = and_from _ _ (and_from _ _ a b) c in
     let rs = g.0.1 in
-    let tb = before-of t.name.stamp s (omega arith) in
+    let tb = before_later t.name.stamp s (omega arith) in
     let rl = g.0.2 in
-    let rb = before-of r.stamp s (omega arith) in
+    let rb = before_later r.stamp s (omega arith) in
     let named : (is_stamp t.name.stamp && (is_stamp r.stamp && (is_stamp r.stamp && true))) ≡ true = and_from _ _ ts (and_from _ _ rs (and_from _ _ rs refl)) in
     let earlier : (before t.name.stamp s && (before r.stamp s && (before r.stamp s && true))) ≡ true = and_from _ _ tb (and_from _ _ rb (and_from _ _ rb refl)) in
     (parts (deletion_at time replica t r)).1 (and_from _ _ mine named, leb-of r.first r.last g.2, earlier, refl)
@@ -133,10 +130,6 @@ all-there (x ∷ xs) = let i = same_element-itself x.id in (rw i refl, there-mor
 abbrev pub is_earlier : ℕ → Stamp → Bool
 is_earlier limit s = is_stamp s && ltb s.time limit
 
-own-stamp : (op : Op) (s : Stamp) → is_own_stamp op s ≡ true → is_stamp s ≡ true
-own-stamp (Genesis bytes) s h = rw h refl
-own-stamp _ s h = let k : is_author_stamp s ≡ true = h in rw k (or_true (same_stamp s genesis_stamp))
-
 ltb-of : (m n : ℕ) → m < n → ltb m n ≡ true
 ltb-of m n h = grind (arith)
 
@@ -144,7 +137,7 @@ all-earlier : FitIsEachPart → (es : List Edit) (limit : ℕ) → AllFit es →
 all-earlier parts [] limit f g = tt
 all-earlier parts (e ∷ es) limit f g =
     let own = (and_parts (is_own_stamp e.op e.stamp) _ ((parts e).0 f.0).0).0 in
-    (and_from (is_stamp e.stamp) (ltb e.stamp.time limit) (own-stamp e.op e.stamp own) (ltb-of e.stamp.time limit (omega arith)), all-earlier parts es limit f.1 (omega arith))
+    (and_from (is_stamp e.stamp) (ltb e.stamp.time limit) (own_stamp e.op e.stamp own) (ltb-of e.stamp.time limit (omega arith)), all-earlier parts es limit f.1 (omega arith))
 
 names-good : (p : Plain) (t : TextId) (limit : ℕ) (xs : List TextByte) → AllByRecursion (λ y. has p (thing.Element t y.id) ≡ true) xs → AllByRecursion (λ y. is_earlier limit y.id.name.stamp ≡ true) xs → AllByRecursion (λ y. IsGoodName p t limit y.id) xs
 names-good p t limit [] h k = tt

@@ -7,6 +7,7 @@ use Rattle.zed_types.specs.declared.names.Name.{Name}
 use Rattle.zed_types.specs.declared.names.TextId.{TextId}
 use Rattle.zed_types.specs.Names.{same_text}
 use Rattle.zed_types.proofs.StampOrder.{before_irrefl, same_text-true, same_text-itself, same_text-apart}
+use Rattle.zed_types.proofs.Facts.{all_weaker}
 use Rattle.zed_laws.specs.NameOrder.{NamesRise, is_earlier}
 use Rattle.zed_code.specs.Pieces.{Shown}
 use Rattle.zed_code.specs.Visits.{greatest, raised}
@@ -59,9 +60,6 @@ earlier-differs a b h = go (same_text b a) refl
 all-from : {X : Type 0} (P Q R : X → Type 0) (xs : List X) → ((x : X) → P x → Q x → R x) → AllByRecursion P xs → AllByRecursion Q xs → AllByRecursion R xs
 all-from P Q R [] f a b = tt
 all-from P Q R (x ∷ xs) f a b = (f x a.0 b.0, all-from P Q R xs f a.1 b.1)
-
-all-of : {X : Type 0} (P Q : X → Type 0) (xs : List X) → ((x : X) → P x → Q x) → AllByRecursion P xs → AllByRecursion Q xs
-all-of P Q xs f a = all-from P P Q xs (λ x p q. f x p) a a
 
 -- each is found by its name
 each-found : {X : Type 0} (xs : List (TextId × X)) → Rise xs → AllByRecursion (λ x. text_in x.0 xs ≡ Some x.1) xs
@@ -186,7 +184,7 @@ total-added : (old new : Counts) → Rise old → Rise new → Stay old new → 
 total-added old new r s a falls =
     ap (λ n. added old new + n) (sym (shared old new r s a))
     ∙ sums-add (λ y. y.1 - count_of y.0 old) (λ y. count_of y.0 old) (λ y. y.1) new
-    (all-of (λ y. text_in y.0 new ≡ Some y.1) (λ y. (y.1 - count_of y.0 old) + count_of y.0 old ≡ y.1) new
+    (all_weaker (λ y. text_in y.0 new ≡ Some y.1) (λ y. (y.1 - count_of y.0 old) + count_of y.0 old ≡ y.1) new
     (λ y f. minus-plus (count_of y.0 old) y.1 (subst (λ o. count_of y.0 old ≤ or_zero o) f (falls y.0))) (each-found new s))
 
 -- ---- texts and their counts
@@ -226,7 +224,7 @@ counts-fall-not xs ys falls t =
 counts-stay : (xs ys : Texts) → Rise xs → NoneFalls xs ys → Stay (counts_of xs) (counts_of ys)
 counts-stay xs ys r falls =
     all-mapped (λ y. (y.0, y.1.visits)) (λ x. (v : ℕ) × (text_in x.0 (counts_of ys) ≡ Some v)) xs
-    (all-of (λ x. text_in x.0 xs ≡ Some x.1) (λ x. (v : ℕ) × (text_in x.0 (counts_of ys) ≡ Some v)) xs (λ x f. go x f (text_in x.0 ys) refl) (each-found xs r))
+    (all_weaker (λ x. text_in x.0 xs ≡ Some x.1) (λ x. (v : ℕ) × (text_in x.0 (counts_of ys) ≡ Some v)) xs (λ x f. go x f (text_in x.0 ys) refl) (each-found xs r))
   where
     go : (x : TextId × Shown) → text_in x.0 xs ≡ Some x.1 → (p : Option Shown) → text_in x.0 ys ≡ p → (v : ℕ) × (text_in x.0 (counts_of ys) ≡ Some v)
     go x f (Some z) q = (z.visits, in-counts x.0 ys ∙ ap (option_map (λ y. y.visits)) q)
@@ -247,7 +245,7 @@ added-most : (xs ys : Texts) (most : TextId → ℕ) → Rise ys → ((y : TextI
 added-most xs ys most s each =
     sums-le (λ z. z.1 - count_of z.0 (counts_of xs)) (λ z. most z.0) (counts_of ys)
     (all-mapped (λ y. (y.0, y.1.visits)) (λ z. z.1 - count_of z.0 (counts_of xs) ≤ most z.0) ys
-    (all-of (λ y. text_in y.0 ys ≡ Some y.1) (λ y. y.1.visits - count_of y.0 (counts_of xs) ≤ most y.0) ys
+    (all_weaker (λ y. text_in y.0 ys ≡ Some y.1) (λ y. y.1.visits - count_of y.0 (counts_of xs) ≤ most y.0) ys
     (λ y f. subst (λ n. y.1.visits - n ≤ most y.0) (sym (count-is y.0 xs)) (each y f)) (each-found ys s)))
 
 pub most-one : (t : TextId) (n : ℕ) (xs ys : Texts) → Rise ys → AllGrow (λ i. same_text t i) xs ys → HasFew n (text_in t xs) → added (counts_of xs) (counts_of ys) ≤ 2 * n + 2

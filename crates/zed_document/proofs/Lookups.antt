@@ -1,7 +1,6 @@
 -- What is found in a log by its stamp, and that a rising log is known by what is found in it.
 use Rattle.std.proofs.Common.{◌≡◌, Bool, true, false, cond, List, [], ◌∷◌, Some, None, refl, ap, sym, subst, ◌∙◌}
 use Rattle.std.specs.Prelude.{Option, Contains}
-use Rattle.std.specs.List.{AllByRecursion}
 use Rattle.zed_types.specs.declared.stamp.Stamp.{Stamp}
 use Rattle.zed_types.specs.Stamp.{before, same_stamp}
 use Rattle.zed_op.specs.declared.op.Edit.{Edit}
@@ -11,7 +10,8 @@ use Rattle.zed_document.specs.Batch.{first_of}
 use Rattle.zed_document.specs.Delivery.{edit_with}
 use Rattle.zed_document.proofs.Clashing.{edit_with-there, edit_with-stands}
 use Rattle.zed_document.proofs.Spots.{AllAbove, edit_with-none}
-use Rattle.zed_types.proofs.StampOrder.{same_stamp-true, before_trans}
+use Rattle.zed_types.proofs.StampOrder.{same_stamp-true}
+use Rattle.zed_document.proofs.Walks.{above-later}
 
 abbrev Found : Type 0
 Found = Option Edit
@@ -24,10 +24,6 @@ first_of-assoc : (a b c : Found) → first_of (first_of a b) c ≡ first_of a (f
 first_of-assoc None b c = refl
 first_of-assoc (Some x) b c = refl
 
-above-all : (s t : Stamp) (es : List Edit) → before s t ≡ true → AllByRecursion (λ f. before t f.stamp ≡ true) es → AllAbove s es
-above-all s t [] b a = tt
-above-all s t (e ∷ es) b a = (before_trans s t e.stamp b a.0, above-all s t es b a.1)
-
 -- one more edit is found where there is none of its stamp
 pub found-with_edit : (s : Stamp) (e : Edit) (es : List Edit) → IsRising es → edit_with s (with_edit e es) ≡ first_of (edit_with s es) (edit_with s (e ∷ []))
 found-with_edit s e [] r = refl
@@ -38,7 +34,7 @@ found-with_edit s e (f ∷ fs) r =
         → edit_with s (with_edit e fs) ≡ first_of (edit_with s fs) (edit_with s (e ∷ []))
         → edit_with s (with_edit e (f ∷ fs)) ≡ first_of (edit_with s (f ∷ fs)) (edit_with s (e ∷ []))
     go true q true u hp hq ht hu more =
-        let above : AllAbove e.stamp (f ∷ fs) = (hp, above-all e.stamp f.stamp fs hp r.0) in
+        let above : AllAbove e.stamp (f ∷ fs) = (hp, above-later e.stamp f.stamp fs hp r.0) in
         let none : edit_with s (f ∷ fs) ≡ None = subst (λ k. edit_with k (f ∷ fs) ≡ None) (same_stamp-true e.stamp s ht) (edit_with-none e.stamp (f ∷ fs) above) in
         rw (hp, none, ht) refl
     go true q false u hp hq ht hu more = rw (hp, ht) (first_of-none (edit_with s (f ∷ fs)))

@@ -6,13 +6,14 @@ use Rattle.std.specs.BTreeMap.{is_at}
 use Rattle.std.specs.BTreeSet.{insert_key}
 use Rattle.std.specs.List.{AllByRecursion}
 use Rattle.std.specs.Ordering.{is_eq, match_ordering}
-use Rattle.std.specs.Prelude.{if◌then◌else◌}
+use Rattle.std.specs.Prelude.{◌⊎◌, if◌then◌else◌}
 use Rattle.std.specs.Set.{remove_key}
 use Rattle.std.specs.declared.cmp.Ordering.{Ordering}
 use Rattle.std.specs.declared.cmp.Ordering.TheVariants.{Less, Equal, Greater}
 use Rattle.zed_types.specs.declared.stamp.Stamp.{Stamp}
 use Rattle.zed_types.specs.Stamp.{before, same_stamp, stamp_cmp}
 use Rattle.zed_types.proofs.StampOrder.{before_asym, before_differs_after, same_stamp-true, same_stamp-itself}
+use Rattle.zed_types.proofs.Orderings.{by_tests}
 use Rattle.zed_op.specs.declared.op.Edit.{Edit}
 use Rattle.zed_op.specs.Fit.{Fits}
 use Rattle.zed_op.specs.Set.{AllFit, IsRising, StampsRise, stamps_of, with_edit}
@@ -27,8 +28,7 @@ use Rattle.zed_body.specs.declared.take.Taken.{Taken}
 use Rattle.zed_body.specs.Taking.{IsApart, is_held}
 use Rattle.zed_body.proofs.Members.{IsCut, all-behind, all-members, cut, held-in}
 use Rattle.zed_body.proofs.Woken.{still-held, told-done, woken-held}
-use Rattle.zed_document.specs.Held.{IsRenewed, held_stamps, is_among, waits_in, woken}
-use Rattle.zed_document.proofs.Stamped.{by_tests}
+use Rattle.zed_document.specs.Held.{held_stamps, is_among, waits_in, woken}
 
 -- ---- stamps in a set
 
@@ -179,6 +179,11 @@ waking e es r f fits n some = go (can (replay es) e) refl
     go false cant = absurd (let none = woken-held e es r f fits n cant in omega (arith, none, some))
 
 -- ---- renewed stamps
+
+-- the stamps kept are renewed after a body took an edit: they are those that wait by now, or where it wakes none, those kept before, with its own if it waits
+abbrev pub IsRenewed : Taken → Edit → List Edit → List Stamp → List Stamp → Type 0
+IsRenewed t e waiting old new =
+    (new ≡ stamps_of waiting) ⊎ ((t.woken ≡ 0) × (new ≡ (if t.held then insert_key stamp_cmp old e.stamp else old)))
 
 pub is_renewed : (t : Taken) (e : Edit) (waiting : List Edit) (old mid new : List Stamp) (w : ℕ) → t.woken ≡ w
     → mid ≡ (if t.held then insert_key stamp_cmp old e.stamp else old) → (0 < w → new ≡ stamps_of waiting) → (w ≡ 0 → new ≡ mid) → IsRenewed t e waiting old new

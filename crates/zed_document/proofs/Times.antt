@@ -4,6 +4,7 @@ use Rattle.std.specs.Prelude.{slice_index_or}
 use Rattle.std.specs.List.{AllByRecursion}
 use Rattle.zed_types.specs.declared.stamp.Stamp.{Stamp}
 use Rattle.zed_types.specs.Stamp.{before}
+use Rattle.zed_types.proofs.StampOrder.{before_later}
 use Rattle.zed_op.specs.declared.op.Edit.{Edit}
 use Rattle.zed_op.specs.Set.{IsRising}
 use Rattle.zed_document.specs.Authoring.{greatest_time}
@@ -11,9 +12,6 @@ use Rattle.zed_document.specs.Kept.{AllBelow}
 
 before-time : (a b : Stamp) → before a b ≡ true → a.time ≤ b.time
 before-time a b h = grind (arith)
-
-later-before : (a b : Stamp) → a.time < b.time → before a b ≡ true
-later-before a b h = grind (arith)
 
 first-least : (x : Edit) (es : List Edit) → AllByRecursion (λ f. before x.stamp f.stamp ≡ true) es → 0 < length es → x.stamp.time ≤ greatest_time es
 first-least x [] a l = absurd (omega arith)
@@ -32,4 +30,4 @@ greatest-last (y ∷ z ∷ zs) (suc i) x r l h =
 -- a stamp of a later time than all is after all
 pub later-all : (s : Stamp) (es : List Edit) → greatest_time es < s.time → AllBelow s es
 later-all s [] h = tt
-later-all s (e ∷ es) h = (later-before e.stamp s (omega arith), later-all s es (omega arith))
+later-all s (e ∷ es) h = (before_later e.stamp s (omega arith), later-all s es (omega arith))

@@ -8,6 +8,7 @@ use Rattle.std.proofs.lemmas.List.Sums.{count_by-le-length}
 use Rattle.zed_types.specs.declared.names.TextId.{TextId}
 use Rattle.zed_types.specs.Names.{same_text}
 use Rattle.zed_types.proofs.StampOrder.{same_text-itself}
+use Rattle.zed_types.proofs.Facts.{none_is}
 use Rattle.zed_op.specs.declared.op.Op.{Op}
 use Rattle.zed_op.specs.declared.op.Op.TheVariants.{TextInsert, TextDelete}
 use Rattle.zed_op.specs.declared.op.Edit.{Edit}
@@ -162,13 +163,9 @@ none_woken remembered e es b t come tells none =
     let waits : length b.inbox ≡ length (held es) = ap length come.shows.waiting in
     omega (arith, told, most, all, waits, none)
 
-not-some : {X : Type 0} (o : Option X) → is_some o ≡ false → o ≡ None
-not-some None h = refl
-not-some (Some x) h = absurd (cc)
-
 -- what is told, by the looks before
 pub told_by : (e : Edit) (t : Taken) (b : Body) (ys : Texts) (before : Option ℕ) (v : ℕ)
     → IfSome before (λ n. n ≡ capped (counts_of b.texts)) → (before ≡ None → is_some (text_changed e.op) ≡ false) → (before ≡ None → length b.inbox ≡ 0)
     → IfSome before (λ n. v ≡ capped (counts_of ys) - n) → (before ≡ None → v ≡ 0) → (length b.inbox ≡ 0 → t.woken ≡ 0) → IsTold e t b.texts ys v
 told_by e t b ys (Some n) v was none calm since nothing woken = inl (since ∙ ap (λ m. capped (counts_of ys) - m) was)
-told_by e t b ys None v was none calm since nothing woken = inr (not-some (text_changed e.op) (none refl), woken (calm refl), nothing refl)
+told_by e t b ys None v was none calm since nothing woken = inr (none_is (text_changed e.op) (none refl), woken (calm refl), nothing refl)

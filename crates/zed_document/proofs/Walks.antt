@@ -44,7 +44,7 @@ pub AllBelow-later : (s t : Stamp) (es : List Edit) → before s t ≡ true → 
 AllBelow-later s t [] b a = tt
 AllBelow-later s t (e ∷ es) b a = (before_trans e.stamp s t a.0 b, AllBelow-later s t es b a.1)
 
-above-later : (s t : Stamp) (es : List Edit) → before s t ≡ true → AllByRecursion (λ f. before t f.stamp ≡ true) es → AllAbove s es
+pub above-later : (s t : Stamp) (es : List Edit) → before s t ≡ true → AllByRecursion (λ f. before t f.stamp ≡ true) es → AllAbove s es
 above-later s t [] b a = tt
 above-later s t (e ∷ es) b a = (before_trans s t e.stamp b a.0, above-later s t es b a.1)
 

@@ -1,13 +1,10 @@
 -- Which edits of a set are held: those that the replay passes over.
-use Rattle.std.specs.Prelude.{◌≡◌, ◌⊎◌, ℕ, Bool, not, if◌then◌else◌, List, count_by}
-use Rattle.std.specs.BTreeSet.{insert_key}
+use Rattle.std.specs.Prelude.{ℕ, Bool, not, List, count_by}
 use Rattle.std.specs.List.{list_any}
 use Rattle.zed_types.specs.declared.stamp.Stamp.{Stamp}
-use Rattle.zed_types.specs.Stamp.{same_stamp, stamp_cmp}
+use Rattle.zed_types.specs.Stamp.{same_stamp}
 use Rattle.zed_op.specs.declared.op.Edit.{Edit}
-use Rattle.zed_op.specs.Set.{stamps_of}
 use Rattle.zed_edit.specs.Replay.{replay}
-use Rattle.zed_body.specs.declared.take.Taken.{Taken}
 
 -- the stamps of the edits that are held, rising
 abbrev pub held_stamps : List Edit → List Stamp
@@ -24,8 +21,3 @@ woken old new = count_by (λ s. not (is_among (held_stamps new) s)) (held_stamps
 -- whether an edit with a stamp is among those that wait
 abbrev pub waits_in : List Edit → Stamp → Bool
 waits_in waiting s = list_any (λ e. same_stamp e.stamp s) waiting
-
--- the stamps kept are renewed after a body took an edit: they are those that wait by now, or where it wakes none, those kept before, with its own if it waits
-abbrev pub IsRenewed : Taken → Edit → List Edit → List Stamp → List Stamp → Type 0
-IsRenewed t e waiting old new =
-    (new ≡ stamps_of waiting) ⊎ ((t.woken ≡ 0) × (new ≡ (if t.held then insert_key stamp_cmp old e.stamp else old)))

@@ -3,4 +3,3 @@ pub mod Held
 pub mod Places
 pub mod Programs
 pub mod Rows
-pub mod Tables

@@ -1,14 +1,11 @@
 -- Filling a row of a table.
-use Rattle.std.proofs.Common.{◌≡◌, ℕ, ◌+◌, ◌-◌, ◌*◌, ◌/◌, ◌%◌, ◌<◌, ◌≤◌, zero, suc, Bool, true, false, ◌&&◌, nat_le, nat_lt, cond, List, [], ◌∷◌, ◌++◌, length, take, drop, replicate, refl, sym, arith, rules, IsTrue}
+use Rattle.std.proofs.Common.{◌≡◌, ℕ, ◌+◌, ◌-◌, ◌*◌, ◌<◌, ◌≤◌, zero, suc, cond, List, [], ◌∷◌, ◌++◌, length, take, drop, replicate, refl, sym, arith}
 use Rattle.std.proofs.lemmas.List.{drop-drop}
-use Rattle.std.proofs.lemmas.Bool.{ltb-true, ltb-false}
-use Rattle.std.proofs.Math.Bool.{and-false}
-use Rattle.std.proofs.lemmas.Bool.Decides.{nat_tests}
 use Rattle.zed_types.specs.declared.tile.Tile.{Tile}
 use Rattle.zed_types.specs.declared.tile.Rectangle.{Rectangle}
 use Rattle.zed_types.specs.Table.{map_from}
+use Rattle.zed_types.proofs.TableRows.{inside, inside-none, inside-row, inside-before, inside-behind}
 use Rattle.zed_edit.specs.Board.{set_cells}
-use Rattle.zed_op.specs.Fit.{is_in_table}
 
 module _ {X Y : Type 0} where
   -- two functions that agree on the members
@@ -60,54 +57,6 @@ map_from-filled f g t i (suc a) n (x ∷ xs) m before within behind =
     (λ k y p q. behind k y (omega arith) (omega arith)) in
     cc
 
-abbrev inside : ℕ → ℕ → ℕ → ℕ → ℕ → Bool
-inside left right top bottom k = (nat_le left (k % 60 + 1) && nat_le (k % 60 + 1) right) && (nat_le top (k / 60 + 1) && nat_le (k / 60 + 1) bottom)
-
-inside-none : (left right top bottom k : ℕ) → bottom + 1 ≤ top → inside left right top bottom k ≡ false
-inside-none left right top bottom k h = grind (arith, nat_tests)
-
-inside-row : (left right top bottom k : ℕ) → 1 ≤ left → left ≤ right → right ≤ 60 → top ≤ bottom + 1 → bottom * 60 + (left - 1) ≤ k → k < bottom * 60 + right → inside left right top (bottom + 1) k ≡ true
-inside-row left right top bottom k a b c d e f =
-    let quotient : k / 60 ≡ bottom = omega arith in
-    let rest : k ≡ bottom * 60 + k % 60 = omega arith in
-    grind (arith, nat_tests)
-
-inside-low : (left right top bottom k : ℕ) → k / 60 < bottom → inside left right top (bottom + 1) k ≡ inside left right top bottom k
-inside-low left right top bottom k h =
-    let a : nat_le (k / 60 + 1) (bottom + 1) ≡ true = grind (arith, nat_tests) in
-    let b : nat_le (k / 60 + 1) bottom ≡ true = grind (arith, nat_tests) in
-    rw (a, b)
-
-inside-high : (left right top bottom k : ℕ) → bottom < k / 60 → inside left right top (bottom + 1) k ≡ inside left right top bottom k
-inside-high left right top bottom k h =
-    let a : nat_le (k / 60 + 1) (bottom + 1) ≡ false = grind (arith, nat_tests) in
-    let b : nat_le (k / 60 + 1) bottom ≡ false = grind (arith, nat_tests) in
-    rw (a, b)
-
-inside-left : (left right top bottom k : ℕ) → k % 60 + 1 < left → inside left right top (bottom + 1) k ≡ inside left right top bottom k
-inside-left left right top bottom k h =
-    let a : nat_le left (k % 60 + 1) ≡ false = grind (arith, nat_tests) in
-    rw a
-
-inside-right : (left right top bottom k : ℕ) → right < k % 60 + 1 → inside left right top (bottom + 1) k ≡ inside left right top bottom k
-inside-right left right top bottom k h =
-    let a : nat_le (k % 60 + 1) right ≡ false = grind (arith, nat_tests) in
-    rw (a, and-false)
-
-inside-before : (left right top bottom k : ℕ) → 1 ≤ left → left ≤ right → right ≤ 60 → k < bottom * 60 + (left - 1) → inside left right top (bottom + 1) k ≡ inside left right top bottom k
-inside-before left right top bottom k a b c e = go (nat_lt (k / 60) bottom) refl
-  where
-    go : (v : Bool) → nat_lt (k / 60) bottom ≡ v → inside left right top (bottom + 1) k ≡ inside left right top bottom k
-    go true v = inside-low left right top bottom k (ltb-true (k / 60) bottom v)
-    go false v = let h = ltb-false (k / 60) bottom v in inside-left left right top bottom k (omega arith)
-
-inside-behind : (left right top bottom k : ℕ) → 1 ≤ left → left ≤ right → right ≤ 60 → bottom * 60 + right ≤ k → inside left right top (bottom + 1) k ≡ inside left right top bottom k
-inside-behind left right top bottom k a b c e = go (nat_lt bottom (k / 60)) refl
-  where
-    go : (v : Bool) → nat_lt bottom (k / 60) ≡ v → inside left right top (bottom + 1) k ≡ inside left right top bottom k
-    go true v = inside-high left right top bottom k (ltb-true bottom (k / 60) v)
-    go false v = let h = ltb-false bottom (k / 60) v in inside-right left right top bottom k (omega arith)
-
 -- before the first row nothing is filled
 pub set_cells-none : (r : Rectangle) (row : ℕ) (tile : Tile) (xs : List Tile) → row + 1 ≤ r.top → xs ≡ set_cells (record r { bottom = row }) tile xs
 set_cells-none r row tile xs top = sym (map_from-kept _ 0 xs (λ k x p q. rw (inside-none r.left r.right r.top row k top) refl))
@@ -132,7 +81,3 @@ set_cells-more r row from to tile xs a b c d e l f t =
     (λ k x p q. rw (inside-row r.left r.right r.top row k a b c d (omega arith) (omega arith)) refl)
     (λ k x p q. rw (inside-behind r.left r.right r.top row k a b c (omega arith)) refl) in
     rw there fill
-
--- where a rectangle of the table is
-pub in_table : (r : Rectangle) → IsTrue (is_in_table r) → ((1 ≤ r.left) × (r.left ≤ r.right) × (r.right ≤ 60)) × ((1 ≤ r.top) × (r.top ≤ r.bottom) × (r.bottom ≤ 25))
-in_table r h = search rules

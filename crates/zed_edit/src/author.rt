@@ -3,7 +3,8 @@
 ghost use Rattle.std.specs.Prelude.{◌≡◌, ◌<◌, ◌^◌, IsTrue, true, length, IfOk, IfErr, OnErr};
 ghost use Rattle.zed_op.specs.declared.op.Op.TheVariants.{BoardAdd, StatAdd, TextAdd};
 ghost use Rattle.zed_op.specs.Growth.{may_grow};
-ghost use Rattle.zed_op.specs.Fit.{Fits, is_in_range, is_in_table};
+ghost use Rattle.zed_types.specs.Table.{is_in_table};
+ghost use Rattle.zed_op.specs.Fit.{Fits, is_in_range};
 ghost use Rattle.zed_op.specs.Set.{AllFit, IsRising, StampsRise, stamps_of};
 ghost use Rattle.zed_edit.specs.Document.{empty_document};
 ghost use Rattle.zed_edit.specs.Replay.{MayGrow, do_op, do_edit as done, held as held_of, hold as held_back, step as stepped, replay_on as replayed_on, replay as replayed};

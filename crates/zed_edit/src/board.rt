@@ -1,7 +1,7 @@
 //! What edits do to the boards of a document.
 
 ghost use Rattle.std.specs.Prelude.{◌≡◌, ◌++◌, ◌∷◌, [], IsTrue, true, map, IfOk, IfErr};
-ghost use Rattle.zed_op.specs.Fit.{is_in_table};
+ghost use Rattle.zed_types.specs.Table.{is_in_table};
 ghost use Rattle.zed_op.specs.Growth.{board_has_string};
 ghost use Rattle.zed_edit.specs.Board.{set_board_property, set_board_cells, remove_board, add_stat, new_properties as properties_of_new, new_board as board_of_new};
 ghost use Rattle.zed_edit.specs.Stat.{set_stat as stat_with, remove_stat};

@@ -2,7 +2,7 @@
 
 ghost use Rattle.std.specs.Prelude.{◌≡◌, ◌≤◌, ◌-◌, ◌++◌, IsTrue, take, drop, replicate, length};
 ghost use Rattle.zed_types.specs.declared.tile.TheConstants.{TILES};
-ghost use Rattle.zed_op.specs.Fit.{is_in_table};
+ghost use Rattle.zed_types.specs.Table.{is_in_table};
 ghost use Rattle.zed_edit.specs.Board.{set_cells as cells_with, new_table as table_of_new, wall_tile, empty_tile, player_tile};
 
 use zed_types::{COLUMNS, Rectangle, TILES, Tile};

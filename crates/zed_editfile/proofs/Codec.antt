@@ -12,6 +12,7 @@ use Rattle.zed_editfile.specs.declared.error.EditFileError.TheVariants.{BadEdit}
 use Rattle.zed_editfile.specs.Spelling.{number, integer, boolean, string, stamp, tile, rectangle}
 use Rattle.zed_types.specs.Steps.{◌>>=◌}
 use Rattle.zed_types.proofs.Steps.{bind_ok, ok_is, guard_ok}
+use Rattle.zed_world.proofs.FieldsAgain.{of_z_fits}
 use Rattle.zed_editfile.specs.Reading.{Field, mapped, by_kind, byte_at, number_at, integer_at, boolean_at, string_at, stamp_at, tile_at, rectangle_at}
 use Rattle.zed_op.specs.Sizes.{IsString, IsStamp, IsTile, IsRectangle}
 use Rattle.zed_editfile.proofs.Numbers.{IsBytes, IsBytes-drop, IsBytes-rest, length_number, number_is, number_below, number_back}
@@ -142,10 +143,6 @@ unsigned_again : (b : Bool) (n : ℕ) → n < 2 ^ 16 → ltb n (2 ^ 15) ≡ b �
 unsigned_again true n lt e = omega arith
 unsigned_again false n lt e = omega arith
 
-unsigned_below : (z : ℤ) → SFits w16 z → cast_unsigned w16 z < 2 ^ 16
-unsigned_below (pos n) f = let h : n < 2 ^ 15 = f.sfits in omega arith
-unsigned_below (negsuc n) f = let h : n < 2 ^ 15 = f.sfits in omega arith
-
 integer_completes : Completes (SFits w16) integer (λ t. t) integer_at
 unfolding integer_at
 integer_completes =
@@ -156,7 +153,7 @@ integer_completes =
 
 integer_again : (z : ℤ) (rest : List ℕ) → SFits w16 z → integer_at (integer z ++ rest) ≡ Ok (z, rest)
 unfolding integer_at
-integer_again z rest f = again_then (number_field 2) (λ n. Ok (cast_signed w16 n.0, n.1)) rest (Ok (z, rest)) (cast_unsigned w16 z) (unsigned_below z f) (ap (λ (y : ℤ). Ok (y, rest)) (to_z-of_z w16 z f))
+integer_again z rest f = again_then (number_field 2) (λ n. Ok (cast_signed w16 n.0, n.1)) rest (Ok (z, rest)) (cast_unsigned w16 z) (of_z_fits z f) (ap (λ (y : ℤ). Ok (y, rest)) (to_z-of_z w16 z f))
 
 pub integer_field : IsField (SFits w16) integer integer_at
 integer_field = record { again = integer_again; takes = takes_all (SFits w16) integer integer_at integer_completes }

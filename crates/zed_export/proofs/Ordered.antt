@@ -8,14 +8,7 @@ use Rattle.zed_edit.specs.declared.plain.Stat.{Stat}
 use Rattle.zed_edit.specs.declared.plain.Plain.{Plain}
 use Rattle.zed_laws.specs.NameOrder.{is_earlier, NamesRise, IsOrdered}
 use Rattle.zed_export.specs.Fields.{board_names, stat_names}
-
-all-filter : {X : Type 0} (P : X → Type 0) (test : X → Bool) (xs : List X) → AllByRecursion P xs → AllByRecursion P (filter test xs)
-all-filter P test [] h = tt
-all-filter P test (x ∷ xs) h = go (test x) (all-filter P test xs h.1)
-  where
-    go : (t : Bool) → AllByRecursion P (filter test xs) → AllByRecursion P (cond t (x ∷ filter test xs) (filter test xs))
-    go true rest = (h.0, rest)
-    go false rest = rest
+use Rattle.zed_export.proofs.Each.{each_filtered}
 
 all-map : {X Y : Type 0} (P : Y → Type 0) (f : X → Y) (xs : List X) → AllByRecursion (λ x. P (f x)) xs → AllByRecursion P (map f xs)
 all-map P f [] h = tt
@@ -33,7 +26,7 @@ rise-filter name test [] h = tt
 rise-filter name test (x ∷ xs) h = go (test x) (rise-filter name test xs h.1)
   where
     go : (t : Bool) → NamesRise name (filter test xs) → NamesRise name (cond t (x ∷ filter test xs) (filter test xs))
-    go true rest = (all-filter (λ y. is_earlier (name x) (name y) ≡ true) test xs h.0, rest)
+    go true rest = (each_filtered (λ y. is_earlier (name x) (name y) ≡ true) test xs h.0, rest)
     go false rest = rest
 
 -- names are in order where their things are

@@ -2,11 +2,9 @@
 use Rattle.std.proofs.Common.{◌≡◌, inl, inr, ℕ, zero, suc, ◌<◌, ◌^◌, true, List, [], ◌∷◌, ◌++◌, length, get_or, refl, sym, ap, ◌∙◌, arith, Option, Some, None}
 use Rattle.std.specs.Prelude.{position, slice_get, option_map, IsSomeAnd}
 use Rattle.zed_types.specs.declared.names.TextId.{TextId}
-use Rattle.zed_types.specs.Names.{same_text}
 use Rattle.zed_world.specs.declared.stat.Code.TheVariants as code
 use Rattle.zed_world.specs.declared.stat.StatData.{StatData}
-use Rattle.zed_types.specs.declared.names.Name.{Name}
-use Rattle.zed_types.proofs.StampOrder.{same_name-true}
+use Rattle.zed_types.proofs.StampOrder.{same_text-true}
 use Rattle.zed_world.specs.Writing.{code_text}
 use Rattle.zed_world.specs.Normal.{IsNormalCode}
 use Rattle.zed_edit.specs.declared.plain.Plain.{Plain}
@@ -14,12 +12,6 @@ use Rattle.zed_edit.specs.Document.{text}
 use Rattle.zed_export.specs.World.{is_of, user_of, code_with, exported_code}
 use Rattle.zed_export.specs.Fields.{IsOwned}
 use Rattle.zed_export.proofs.Searching.{found_in_more, get_last}
-
-same_names : (a b : TextId) → same_text a b ≡ true → a ≡ b
-same_names a b h =
-    let make : Name → TextId = λ n. record { name = n } in
-    let path : make a.name ≡ make b.name = ap make (same_name-true a.name b.name h) in
-    path
 
 pub owned_first : (p : Plain) → IsOwned p [] []
 owned_first p t n e = absurd (cc)
@@ -55,7 +47,7 @@ owned_more p (q ∷ rest) done o x long is owned t n e =
     last : (o : Option TextId) → is_of t o ≡ true → position (is_of t) rest ≡ None → exported_code p (q ∷ rest) o ≡ code_with None (text p t)
     last None h none = absurd (cc)
     last (Some u) h none =
-        let same : u ≡ t = same_names u t h in
+        let same : u ≡ t = same_text-true u t h in
         ap (λ (v : TextId). exported_code p (q ∷ rest) (Some v)) same ∙ ap (λ (i : Option ℕ). code_with (option_map suc i) (text p t)) none
 
 -- a stat that is there with a program of its own

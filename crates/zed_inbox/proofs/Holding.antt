@@ -4,13 +4,13 @@ use Rattle.std.proofs.lemmas.Bool.{and_parts, and_right, or_parts, or_from}
 use Rattle.std.specs.List.{find, list_any, AllByRecursion}
 use Rattle.zed_types.specs.declared.stamp.Stamp.{Stamp}
 use Rattle.zed_types.specs.Stamp.{before, same_stamp}
-use Rattle.zed_types.proofs.StampOrder.{same_stamp-true, before_differs_after}
+use Rattle.zed_types.proofs.StampOrder.{same_stamp-true, before_differs_after, same_stamp-sym}
 use Rattle.zed_op.specs.declared.op.Edit.{Edit}
 use Rattle.zed_op.specs.declared.thing.Thing.{Thing}
 use Rattle.zed_op.specs.Set.{IsRising, with_edit}
 use Rattle.zed_inbox.specs.Waiting.{names, without}
 use Rattle.zed_inbox.specs.Kept.{is_listed, belongs, IsUnlisted, ListsAlso, ListsNoMore, ListsTheSame, AreListed}
-use Rattle.zed_inbox.proofs.Stamped.{has_stamp, same_both_ways}
+use Rattle.zed_inbox.proofs.Stamped.{has_stamp}
 use Rattle.zed_inbox.proofs.Taking.{some_or}
 
 -- ---- tests
@@ -39,7 +39,7 @@ any_with : (test : Edit → Bool) (e : Edit) (es : List Edit) → list_any (has_
 any_with test e [] none = turn (test e) false
 any_with test e (f ∷ fs) none =
     let parts = or_parts (same_stamp f.stamp e.stamp) (list_any (has_stamp e.stamp) fs) none in
-    go (before e.stamp f.stamp) (same_stamp e.stamp f.stamp) (same_both_ways e.stamp f.stamp ∙ parts.0) (any_with test e fs parts.1)
+    go (before e.stamp f.stamp) (same_stamp e.stamp f.stamp) (same_stamp-sym e.stamp f.stamp ∙ parts.0) (any_with test e fs parts.1)
   where
     go : (b c : Bool) → c ≡ false → list_any test (with_edit e fs) ≡ (list_any test fs || test e)
         → list_any test (cond b (e ∷ f ∷ fs) (cond c (f ∷ fs) (f ∷ with_edit e fs))) ≡ ((test f || list_any test fs) || test e)

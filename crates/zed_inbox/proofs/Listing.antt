@@ -15,13 +15,14 @@ use Rattle.std.specs.List.Sorted.{IsStrictlySortedBy}
 use Rattle.zed_types.specs.declared.stamp.Stamp.{Stamp}
 use Rattle.zed_types.specs.Stamp.{before, same_stamp, stamp_cmp}
 use Rattle.zed_types.proofs.StampOrder.{same_stamp-true}
+use Rattle.zed_types.proofs.Orderings.{either}
 use Rattle.zed_op.specs.declared.op.Edit.{Edit}
 use Rattle.zed_op.specs.declared.thing.Thing.{Thing}
 use Rattle.zed_op.specs.Set.{IsRising, stamps_of}
 use Rattle.zed_inbox.specs.Waiting.{same_thing, names, naming}
 use Rattle.zed_inbox.specs.Kept.{is_listed, belongs, AreListed}
 use Rattle.zed_inbox.proofs.Stamped.{alike}
-use Rattle.zed_inbox.proofs.Order.{IsThingOrder, stamps_total, either, wait_cmp, back, tie, beyond}
+use Rattle.zed_inbox.proofs.Order.{IsThingOrder, stamps_total, wait_cmp, back, tie, beyond}
 
 -- the stamps that are listed under a thing
 abbrev pub listed : Thing → List (Thing × Stamp) → List Stamp

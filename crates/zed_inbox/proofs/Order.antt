@@ -1,6 +1,5 @@
 -- The order of what an index lists: by thing, and then by stamp.
-use Rattle.std.proofs.Common.{◌≡◌, ◌∙◌, ℕ, Bool, true, false, cond, not, ◌||◌, ◌&&◌, eqb, List, [], ◌∷◌, refl, ap, sym, true≢false, arith}
-use Rattle.std.proofs.lemmas.Bool.Decides.{nat_tests}
+use Rattle.std.proofs.Common.{◌≡◌, ◌∙◌, ℕ, Bool, true, false, cond, not, ◌||◌, ◌&&◌, List, [], ◌∷◌, refl, ap, sym, true≢false}
 use Rattle.std.proofs.lemmas.Cmp.{nat_cmp_total, on_total, then_total, eq_by_cmp_equiv, alike_right, tied_back}
 use Rattle.std.specs.Cmp.{IsTotalOrder}
 use Rattle.std.specs.declared.cmp.Ordering.{Ordering}
@@ -9,9 +8,8 @@ use Rattle.std.specs.Ordering.{is_eq, is_gt, nat_cmp, ordering_then}
 use Rattle.std.specs.BTreeMap.{is_at}
 use Rattle.std.specs.List.{list_any}
 use Rattle.zed_types.specs.declared.stamp.Stamp.{Stamp}
-use Rattle.zed_types.specs.declared.names.Name.{Name}
 use Rattle.zed_types.specs.Stamp.{same_stamp, stamp_cmp}
-use Rattle.zed_types.specs.Names.{same_name}
+use Rattle.zed_types.proofs.Orderings.{then_eq, both, either, stamp_same, name_same, equal_from}
 use Rattle.zed_op.specs.declared.thing.Thing.{Thing}
 use Rattle.zed_op.specs.declared.thing.Thing.TheVariants.{Board as board, Stat as stat, Text as text, Element as element}
 use Rattle.zed_op.specs.contracts.thing.ThingOrd.TheImpl as thing_ord
@@ -27,26 +25,6 @@ pub record IsThingOrder (R : Thing → Thing → Ordering) : Type 0 where
 
 pub stamps_total : IsTotalOrder stamp_cmp
 stamps_total = then_total (on_total (λ (s : Stamp). s.time) nat_cmp_total) (on_total (λ (s : Stamp). s.replica) nat_cmp_total)
-
-then_eq : (o p : Ordering) → is_eq (ordering_then o p) ≡ (is_eq o && is_eq p)
-then_eq Less p = refl
-then_eq Equal p = refl
-then_eq Greater p = refl
-
-both : {p q r s : Bool} → p ≡ q → r ≡ s → (p && r) ≡ (q && s)
-both e f = λ i. e i && f i
-
-pub either : {p q r s : Bool} → p ≡ q → r ≡ s → (p || r) ≡ (q || s)
-either e f = λ i. e i || f i
-
-nat_same : (x y : ℕ) → is_eq (nat_cmp x y) ≡ eqb x y
-nat_same x y = grind (arith, nat_tests)
-
-stamp_same : (a b : Stamp) → is_eq (stamp_cmp a b) ≡ same_stamp a b
-stamp_same a b = then_eq (nat_cmp a.time b.time) (nat_cmp a.replica b.replica) ∙ both (nat_same a.time b.time) (nat_same a.replica b.replica)
-
-name_same : (a b : Name) → is_eq (ordering_then (stamp_cmp a.stamp b.stamp) (nat_cmp a.index b.index)) ≡ same_name a b
-name_same a b = then_eq (stamp_cmp a.stamp b.stamp) (nat_cmp a.index b.index) ∙ both (stamp_same a.stamp b.stamp) (nat_same a.index b.index)
 
 -- the order of things that the keys of the index go by
 abbrev pub thing_cmp : Thing → Thing → Ordering
@@ -89,11 +67,6 @@ and_after true true = refl
 and_after true false = refl
 and_after false true = refl
 and_after false false = refl
-
-equal_from : (r : Ordering) → is_eq r ≡ true → r ≡ Equal
-equal_from Less h = absurd (true≢false (sym h))
-equal_from Equal h = refl
-equal_from Greater h = absurd (true≢false (sym h))
 
 module _ (R : Thing → Thing → Ordering) where
   -- by thing, and then by stamp

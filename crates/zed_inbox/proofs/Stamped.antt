@@ -1,13 +1,14 @@
 -- Edits in a map, each under its stamp.
-use Rattle.std.proofs.Common.{◌≡◌, ◌∙◌, Bool, true, false, cond, ◌||◌, ◌&&◌, eqb, ltb, List, [], ◌∷◌, Option, Some, None, refl, ap, subst, sym, arith}
-use Rattle.std.specs.declared.cmp.Ordering.TheVariants.{Less, Equal, Greater}
-use Rattle.std.specs.Ordering.{is_eq, match_ordering, ordering_then}
+use Rattle.std.proofs.Common.{◌≡◌, ◌∙◌, Bool, true, false, cond, ◌||◌, List, [], ◌∷◌, Option, Some, None, refl, ap, subst, sym, arith}
+use Rattle.std.specs.Ordering.{is_eq}
 use Rattle.std.specs.BTreeMap.{insert_entry, is_at}
 use Rattle.std.specs.List.{find, list_any, AllByRecursion}
 use Rattle.std.specs.Map.{lookup, remove_entry, keys_of, values_of}
 use Rattle.std.specs.Option.{is_some}
 use Rattle.zed_types.specs.declared.stamp.Stamp.{Stamp}
 use Rattle.zed_types.specs.Stamp.{before, same_stamp, stamp_cmp}
+use Rattle.zed_types.proofs.Orderings.{by_tests}
+use Rattle.zed_types.proofs.StampOrder.{same_stamp-sym}
 use Rattle.zed_op.specs.declared.op.Edit.{Edit}
 use Rattle.zed_op.specs.Set.{IsRising, with_edit, stamps_of}
 use Rattle.zed_op.specs.declared.thing.Thing.{Thing}
@@ -21,21 +22,6 @@ has_stamp s e = same_stamp e.stamp s
 -- stamps that compare alike are one
 pub alike : (a b : Stamp) → is_eq (stamp_cmp a b) ≡ same_stamp b a
 alike a b = grind (arith)
-
-pub same_both_ways : (a b : Stamp) → same_stamp a b ≡ same_stamp b a
-same_both_ways a b = grind (arith)
-
--- the order of two stamps, by the tests on them
-by_tests : {X : Type 0} (a b : Stamp) (x y z : X) → match_ordering (stamp_cmp a b) x y z ≡ cond (before a b) x (cond (same_stamp a b) y z)
-by_tests {X} a b x y z = go (ltb a.time b.time) (eqb a.time b.time) (ltb a.replica b.replica) (eqb a.replica b.replica)
-  where
-    go : (p q r s : Bool) → match_ordering (ordering_then (cond p Less (cond q Equal Greater)) (cond r Less (cond s Equal Greater))) x y z
-        ≡ cond (p || (q && r)) x (cond (q && s) y z)
-    go true q r s = refl
-    go false true true s = refl
-    go false true false true = refl
-    go false true false false = refl
-    go false false r s = refl
 
 -- the map has under a stamp the edit with this stamp
 pub lookup_stamped : (s : Stamp) (es : List Edit) → lookup (is_at (stamp_cmp s)) (stamped es) ≡ find (has_stamp s) es
@@ -59,7 +45,7 @@ pub insert_stamped : (e : Edit) (es : List Edit) → find (has_stamp e.stamp) es
 insert_stamped e [] none = refl
 insert_stamped e (f ∷ fs) none =
     let split = apart (same_stamp f.stamp e.stamp) refl none in
-    by_tests e.stamp f.stamp _ _ _ ∙ go (before e.stamp f.stamp) (same_stamp e.stamp f.stamp) (same_both_ways e.stamp f.stamp ∙ split.0) (insert_stamped e fs split.1)
+    by_tests e.stamp f.stamp _ _ _ ∙ go (before e.stamp f.stamp) (same_stamp e.stamp f.stamp) (same_stamp-sym e.stamp f.stamp ∙ split.0) (insert_stamped e fs split.1)
   where
     apart : (b : Bool) → same_stamp f.stamp e.stamp ≡ b → cond b (Some f) (find (has_stamp e.stamp) fs) ≡ None
         → (same_stamp f.stamp e.stamp ≡ false) × (find (has_stamp e.stamp) fs ≡ None)
@@ -130,7 +116,7 @@ with_edit_there e (f ∷ fs) r h = go (before e.stamp f.stamp) refl (same_stamp 
         let bad : true ≡ false = sym h ∙ gone in absurd (cc)
     go false b true d more = refl
     go false b false d more =
-        let k : same_stamp f.stamp e.stamp ≡ false = same_both_ways f.stamp e.stamp ∙ d in
+        let k : same_stamp f.stamp e.stamp ≡ false = same_stamp-sym f.stamp e.stamp ∙ d in
         ap (λ gs. f ∷ gs) (more (sym (ap (λ x. x || list_any (has_stamp e.stamp) fs) k) ∙ h))
 
 none_from : (o : Option Edit) → is_some o ≡ false → o ≡ None

@@ -17,6 +17,7 @@ use Rattle.zed_types.specs.Names.{board_of, stat_of, same_board, same_stat}
 use Rattle.zed_types.specs.Table.{map_from}
 use Rattle.zed_world.specs.Contents.{Contents}
 use Rattle.zed_types.specs.declared.tile.Tile.{Tile}
+use Rattle.zed_types.proofs.Facts.{all_joined}
 use Rattle.zed_world.specs.declared.error.WorldError.{WorldError}
 use Rattle.zed_world.specs.declared.board.BoardData.{BoardData}
 use Rattle.zed_world.specs.declared.stat.StatData.{StatData}
@@ -37,7 +38,7 @@ use Rattle.zed_edit.specs.Document.{empty_document, change_such}
 use Rattle.zed_edit.specs.Replay.{can, step, do_op, do_edit, hold, open_world, replay_on}
 use Rattle.zed_op.specs.Sizes.{IsHeaderSetting, IsBoardSetting, IsStatSetting, IsOp, HaveSizes}
 use Rattle.zed_laws.specs.Integers.{StatHasIntegers, BoardHasIntegers, HasIntegers, ReplayKeepsIntegers}
-use Rattle.zed_laws.proofs.AllBoards.{all_set, each_changed, all_mapped, all_joined}
+use Rattle.zed_laws.proofs.AllBoards.{all_set, each_changed, all_mapped}
 use Rattle.zed_laws.proofs.RegularSteps.{ReadIsNormal}
 
 nought : IsInteger (pos 0)

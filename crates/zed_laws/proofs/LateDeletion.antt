@@ -21,7 +21,8 @@ use Rattle.zed_op.specs.Set.{IsRising}
 use Rattle.zed_edit.specs.Replay.{replay, held}
 use Rattle.zed_laws.specs.Laws.{deletion}
 use Rattle.zed_types.proofs.StampOrder.{same_text-itself}
-use Rattle.zed_laws.proofs.TextSteps.{elements_step, elements_steps, kill-append, kill-run}
+use Rattle.zed_types.proofs.Passing.{kill-append}
+use Rattle.zed_laws.proofs.TextSteps.{elements_step, elements_steps, kill-run}
 use Rattle.zed_laws.proofs.LateInsertion.{there-steps, text_there, rising-high}
 use Rattle.zed_laws.proofs.DoneEdits.{all_done, AllCan, all_done-append, AllCan-tail, AllCan-none_held, replay_on-all_done}
 

@@ -1,7 +1,7 @@
 -- Texts and their elements have the stamps of edits.
-use Rattle.std.proofs.Common.{◌≡◌, ℕ, ◌+◌, Bool, true, false, cond, eqb, List, [], ◌∷◌, ◌++◌, Option, Some, None, Result, Ok, Err, refl, ap, ◌∙◌, subst}
+use Rattle.std.proofs.Common.{◌≡◌, ℕ, ◌+◌, Bool, true, false, cond, eqb, List, [], ◌∷◌, ◌++◌, Option, Some, None, Result, Ok, Err, refl, subst}
 use Rattle.std.specs.List.{AllByRecursion, list_any}
-use Rattle.std.proofs.lemmas.Bool.{and_parts, eqb-true}
+use Rattle.std.proofs.lemmas.Bool.{and_parts}
 use Rattle.zed_types.specs.declared.stamp.Stamp.{Stamp}
 use Rattle.zed_types.specs.declared.names.TextId.{TextId}
 use Rattle.zed_types.specs.declared.names.ElemId.{ElemId}
@@ -11,6 +11,8 @@ use Rattle.zed_types.specs.Stamp.{same_stamp}
 use Rattle.zed_types.specs.Names.{text_of, same_text, same_element}
 use Rattle.zed_types.specs.Table.{map_from}
 use Rattle.zed_types.specs.Text.{run_from, behind, put_after, kill}
+use Rattle.zed_types.proofs.Facts.{all_joined}
+use Rattle.zed_types.proofs.StampOrder.{same_stamp-true}
 use Rattle.zed_world.specs.Contents.{Contents}
 use Rattle.zed_world.specs.Reading.{world_at}
 use Rattle.zed_world.specs.declared.error.WorldError.{WorldError}
@@ -23,10 +25,6 @@ use Rattle.zed_edit.specs.Document.{change_such, change_elements, find_text, ele
 use Rattle.zed_edit.specs.Genesis.{opened_text, opened_texts, programs_of}
 use Rattle.zed_edit.specs.Replay.{can, do_op, open_world, step, replay_on}
 use Rattle.zed_laws.specs.TextNames.{StampsPass, ElementsAreOfEdits, TextsAreOfEdits}
-
-pub All-append : {X : Type 0} (P : X → Type 0) (xs ys : List X) → AllByRecursion P xs → AllByRecursion P ys → AllByRecursion P (xs ++ ys)
-All-append P [] ys a b = b
-All-append P (x ∷ xs) ys a b = (a.0, All-append P xs ys a.1 b)
 
 -- a change of one text among others
 pub keep-change : (P Q : Text → Type 0) (t : TextId) (f : List TextByte → List TextByte) (xs : List Text) → ((x : Text) → P x → Q (change_elements f x)) → ((x : Text) → P x → Q x) → AllByRecursion P xs → AllByRecursion Q (change_such (λ x. same_text x.id t) (change_elements f) xs)
@@ -54,11 +52,11 @@ All-behind P a run [] r h = tt
 All-behind P a run (x ∷ xs) r h = (h.0, go (same_element x.id a) (All-behind P a run xs r h.1))
   where
     go : (b : Bool) → AllByRecursion P (behind a (λ rest. run ++ rest) xs) → AllByRecursion P (cond b (run ++ xs) (behind a (λ rest. run ++ rest) xs))
-    go true more = All-append P run xs r h.1
+    go true more = all_joined P run xs r h.1
     go false more = more
 
 All-put : (P : TextByte → Type 0) (a : Option ElemId) (run xs : List TextByte) → AllByRecursion P run → AllByRecursion P xs → AllByRecursion P (put_after a run xs)
-All-put P None run xs r h = All-append P run xs r h
+All-put P None run xs r h = all_joined P run xs r h
 All-put P (Some a) run xs r h = All-behind P a run xs r h
 
 pass-kill : (test : Stamp → Bool) (r : ByteRange) (xs : List TextByte) → Pass test xs → Pass test (kill r xs)
@@ -71,11 +69,11 @@ good-opened test s n (bytes ∷ programs) h = ((h, pass-run test s 0 bytes h), g
 
 good-world : (test : Stamp → Bool) (s : Stamp) (r : Result Contents WorldError) (p : Plain) → test s ≡ true → AllByRecursion (IsGood test) p.texts → AllByRecursion (IsGood test) (open_world s r p).texts
 good-world test s (Err e) p h a = a
-good-world test s (Ok w) p h a = All-append (IsGood test) p.texts (opened_texts s w.boards) a (good-opened test s 0 (programs_of w.boards) h)
+good-world test s (Ok w) p h a = all_joined (IsGood test) p.texts (opened_texts s w.boards) a (good-opened test s 0 (programs_of w.boards) h)
 
 good-do_op : (test : Stamp → Bool) (s : Stamp) (op : Op) (p : Plain) → test s ≡ true → AllByRecursion (IsGood test) p.texts → AllByRecursion (IsGood test) (do_op s op p).texts
 good-do_op test s (Genesis bytes) p h a = good-world test s (world_at bytes) p h a
-good-do_op test s TextAdd p h a = All-append (IsGood test) p.texts (record { id = text_of s 0; elements = [] } ∷ []) a ((h, tt), tt)
+good-do_op test s TextAdd p h a = all_joined (IsGood test) p.texts (record { id = text_of s 0; elements = [] } ∷ []) a ((h, tt), tt)
 good-do_op test s (TextInsert t after bytes) p h a =
     keep-change (IsGood test) (IsGood test) t (put_after after (run_from s 0 bytes)) p.texts (λ x g. (g.0, All-put (λ y. test y.id.name.stamp ≡ true) after (run_from s 0 bytes) x.elements (pass-run test s 0 bytes h) g.1)) (λ x g. g) a
 good-do_op test s (TextDelete t r) p h a =
@@ -113,13 +111,6 @@ elements_are_of_edits test es t h =
 
 abbrev stamp_at : ℕ → ℕ → Stamp
 stamp_at t r = record { time = t; replica = r }
-
-same_stamp-true : (a b : Stamp) → same_stamp a b ≡ true → a ≡ b
-same_stamp-true a b h =
-    let e = and_parts (eqb a.time b.time) (eqb a.replica b.replica) h in
-    let t = eqb-true a.time b.time e.0 in
-    let r = eqb-true a.replica b.replica e.1 in
-    ap (λ n. stamp_at n a.replica) t ∙ ap (λ n. stamp_at b.time n) r
 
 text-passes : (test : Stamp → Bool) (t : TextId) (xs : List Text) → AllByRecursion (IsGood test) xs → list_any (λ x. same_text x.id t) xs ≡ true → test t.name.stamp ≡ true
 text-passes test t [] a h = absurd (cc)

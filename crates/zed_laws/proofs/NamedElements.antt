@@ -9,6 +9,8 @@ use Rattle.zed_types.specs.Stamp.{before}
 use Rattle.zed_types.specs.Names.{text_of, byte_of, same_element}
 use Rattle.zed_types.specs.Table.{map_from}
 use Rattle.zed_types.specs.Text.{run_from, behind, put_after, kill}
+use Rattle.zed_types.proofs.Facts.{all_joined}
+use Rattle.zed_types.proofs.StampOrder.{before_trans}
 use Rattle.zed_world.specs.Contents.{Contents}
 use Rattle.zed_world.specs.Reading.{world_at}
 use Rattle.zed_world.specs.declared.error.WorldError.{WorldError}
@@ -22,7 +24,7 @@ use Rattle.zed_edit.specs.Genesis.{opened_text, opened_texts, programs_of}
 use Rattle.zed_edit.specs.Replay.{can, do_op, open_world, step, replay_on}
 use Rattle.zed_op.specs.Set.{IsRising}
 use Rattle.zed_laws.specs.TextNames.{HaveOwnNames, ElementsHaveOwnNames}
-use Rattle.zed_laws.proofs.MadeElements.{All-append, All-behind, keep-change, Pass, IsGood, good-step, found-all}
+use Rattle.zed_laws.proofs.MadeElements.{All-behind, keep-change, Pass, IsGood, good-step, found-all}
 
 abbrev Below : Stamp → List TextByte → Type 0
 Below s xs = Pass (λ r. before r s) xs
@@ -55,7 +57,7 @@ earlier-others a s n (b ∷ bytes) h = (before-other_back a (byte_of s n) h, ear
 own-front : (s : Stamp) (n : ℕ) (bytes : List ℕ) (xs : List TextByte) → Below s xs → HaveOwnNames xs → HaveOwnNames (run_from s n bytes ++ xs)
 own-front s n [] xs b o = o
 own-front s n (c ∷ bytes) xs b o = (
-  All-append (λ y. same_element (byte_of s n) y.id ≡ false) (run_from s (n + 1) bytes) xs (run-others s n (n + 1) bytes (omega arith)) (below-others s n xs b),
+  all_joined (λ y. same_element (byte_of s n) y.id ≡ false) (run_from s (n + 1) bytes) xs (run-others s n (n + 1) bytes (omega arith)) (below-others s n xs b),
   own-front s (n + 1) bytes xs b o,
 )
 
@@ -64,7 +66,7 @@ own-behind s a bytes [] b o = tt
 own-behind s a bytes (x ∷ xs) b o = go (same_element x.id a) (own-behind s a bytes xs b.1 o.1)
   where
     go : (t : Bool) → HaveOwnNames (behind a (λ rest. run_from s 0 bytes ++ rest) xs) → HaveOwnNames (x ∷ cond t (run_from s 0 bytes ++ xs) (behind a (λ rest. run_from s 0 bytes ++ rest) xs))
-    go true more = (All-append (λ y. same_element x.id y.id ≡ false) (run_from s 0 bytes) xs (earlier-others x.id s 0 bytes b.0) o.0, own-front s 0 bytes xs b.1 o.1)
+    go true more = (all_joined (λ y. same_element x.id y.id ≡ false) (run_from s 0 bytes) xs (earlier-others x.id s 0 bytes b.0) o.0, own-front s 0 bytes xs b.1 o.1)
     go false more = (All-behind (λ y. same_element x.id y.id ≡ false) a (run_from s 0 bytes) xs (earlier-others x.id s 0 bytes b.0) o.0, more)
 
 own-put : (s : Stamp) (after : Option ElemId) (bytes : List ℕ) (xs : List TextByte) → Below s xs → HaveOwnNames xs → HaveOwnNames (put_after after (run_from s 0 bytes) xs)
@@ -92,7 +94,7 @@ own-opened s n (bytes ∷ programs) = (run-own s 0 bytes, own-opened s (n + 1) p
 
 own-world : (s : Stamp) (r : Result Contents WorldError) (p : Plain) → AllByRecursion IsOwn p.texts → AllByRecursion IsOwn (open_world s r p).texts
 own-world s (Err e) p a = a
-own-world s (Ok w) p a = All-append IsOwn p.texts (opened_texts s w.boards) a (own-opened s 0 (programs_of w.boards))
+own-world s (Ok w) p a = all_joined IsOwn p.texts (opened_texts s w.boards) a (own-opened s 0 (programs_of w.boards))
 
 -- texts that have names of their own, all before a stamp
 abbrev IsOwnBelow : Stamp → Text → Type 0
@@ -104,7 +106,7 @@ both s (x ∷ xs) a b = ((a.0.1, b.0), both s xs a.1 b.1)
 
 own-do_op : (s : Stamp) (op : Op) (p : Plain) → AllByRecursion (IsGood (λ r. before r s)) p.texts → AllByRecursion IsOwn p.texts → AllByRecursion IsOwn (do_op s op p).texts
 own-do_op s (Genesis bytes) p g a = own-world s (world_at bytes) p a
-own-do_op s TextAdd p g a = All-append IsOwn p.texts (record { id = text_of s 0; elements = [] } ∷ []) a (tt, tt)
+own-do_op s TextAdd p g a = all_joined IsOwn p.texts (record { id = text_of s 0; elements = [] } ∷ []) a (tt, tt)
 own-do_op s (TextInsert t after bytes) p g a =
     keep-change (IsOwnBelow s) IsOwn t (put_after after (run_from s 0 bytes)) p.texts (λ x h. own-put s after bytes x.elements h.0 h.1) (λ x h. h.1) (both s p.texts g a)
 own-do_op s (TextDelete t r) p g a =
@@ -123,16 +125,13 @@ abbrev AllBefore : Plain → List Edit → Type 0
 AllBefore p [] = Unit {0}
 AllBefore p (e ∷ es) = AllByRecursion (IsGood (λ r. before r e.stamp)) p.texts
 
-later-trans : (a b c : Stamp) → before a b ≡ true → before b c ≡ true → before a c ≡ true
-later-trans a b c p q = grind (arith)
-
 later-elements : (s t : Stamp) (xs : List TextByte) → before s t ≡ true → Below s xs → Below t xs
 later-elements s t [] h a = tt
-later-elements s t (x ∷ xs) h a = (later-trans x.id.name.stamp s t a.0 h, later-elements s t xs h a.1)
+later-elements s t (x ∷ xs) h a = (before_trans x.id.name.stamp s t a.0 h, later-elements s t xs h a.1)
 
 later-texts : (s t : Stamp) (xs : List Text) → before s t ≡ true → AllByRecursion (IsGood (λ r. before r s)) xs → AllByRecursion (IsGood (λ r. before r t)) xs
 later-texts s t [] h a = tt
-later-texts s t (x ∷ xs) h a = ((later-trans x.id.name.stamp s t a.0.0 h, later-elements s t x.elements h a.0.1), later-texts s t xs h a.1)
+later-texts s t (x ∷ xs) h a = ((before_trans x.id.name.stamp s t a.0.0 h, later-elements s t x.elements h a.0.1), later-texts s t xs h a.1)
 
 before-next : (p : Plain) (e : Edit) (es : List Edit) → IsRising (e ∷ es) → AllByRecursion (IsGood (λ r. before r e.stamp)) p.texts → AllBefore (step p e) es
 before-next p e [] r a = tt

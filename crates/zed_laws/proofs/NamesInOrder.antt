@@ -15,6 +15,7 @@ use Rattle.zed_types.specs.Names.{name_of, board_of, stat_of, text_of, same_boar
 use Rattle.zed_types.specs.Table.{map_from}
 use Rattle.zed_types.specs.Text.{run_from, put_after, kill}
 use Rattle.zed_types.proofs.StampOrder.{same_stamp-itself, before_irrefl}
+use Rattle.zed_types.proofs.Facts.{all_joined, all_weaker}
 use Rattle.zed_world.specs.Contents.{Contents}
 use Rattle.zed_world.specs.Reading.{world_at}
 use Rattle.zed_world.specs.declared.board.BoardData.{BoardData}
@@ -34,7 +35,6 @@ use Rattle.zed_edit.specs.Document.{empty_document, change_such, change_elements
 use Rattle.zed_edit.specs.Genesis.{programs_of, programs_before, opened_stat, opened_boards, opened_boards_from, opened_text, opened_texts}
 use Rattle.zed_edit.specs.Replay.{can, do_op, open_world, step, replay_on}
 use Rattle.zed_laws.specs.NameOrder.{is_earlier, NamesRise, StatsRise, IsOrdered, ReplayIsOrdered}
-use Rattle.zed_laws.proofs.MadeElements.{All-append}
 
 -- ---- lists of named things
 
@@ -51,10 +51,6 @@ pub All-map : {X : Type 0} (P Q : X → Type 0) (f : X → X) (xs : List X) → 
 All-map P Q f [] keeps h = tt
 All-map P Q f (x ∷ xs) keeps h = (keeps x h.0, All-map P Q f xs keeps h.1)
 
-pub All-weaken : {X : Type 0} (P Q : X → Type 0) (xs : List X) → ((x : X) → P x → Q x) → AllByRecursion P xs → AllByRecursion Q xs
-All-weaken P Q [] weaker h = tt
-All-weaken P Q (x ∷ xs) weaker h = (weaker x h.0, All-weaken P Q xs weaker h.1)
-
 pub All-both : {X : Type 0} (P Q : X → Type 0) (xs : List X) → AllByRecursion P xs → AllByRecursion Q xs → AllByRecursion (λ x. P x × Q x) xs
 All-both P Q [] h k = tt
 All-both P Q (x ∷ xs) h k = ((h.0, k.0), All-both P Q xs h.1 k.1)
@@ -69,8 +65,8 @@ rise-append : {X : Type 0} (name : X → Name) (s : Stamp) (xs ys : List X)
     → NamesRise name xs → NamesRise name ys → NamesRise name (xs ++ ys)
 rise-append name s [] ys low high h k = k
 rise-append name s (x ∷ xs) ys low high h k =
-    let later = All-weaken (λ y. before (name x).stamp (name y).stamp ≡ true) (λ y. is_earlier (name x) (name y) ≡ true) ys (λ y e. by_stamp (name x) (name y) e) (high (λ r. before (name x).stamp r) low.0) in
-    (All-append (λ y. is_earlier (name x) (name y) ≡ true) xs ys h.0 later, rise-append name s xs ys low.1 high h.1 k)
+    let later = all_weaker (λ y. before (name x).stamp (name y).stamp ≡ true) (λ y. is_earlier (name x) (name y) ≡ true) ys (λ y e. by_stamp (name x) (name y) e) (high (λ r. before (name x).stamp r) low.0) in
+    (all_joined (λ y. is_earlier (name x) (name y) ≡ true) xs ys h.0 later, rise-append name s xs ys low.1 high h.1 k)
 
 -- a change that keeps names
 rise-map : {X : Type 0} (name : X → Name) (f : X → X) (xs : List X) → ((x : X) → name (f x) ≡ name x) → NamesRise name xs → NamesRise name (map f xs)
@@ -164,8 +160,8 @@ each-opened_board s n m t (b ∷ bs) = (rise-opened_stats s m t b 0 b.stats, eac
 pass-world : (test : Stamp → Bool) (s : Stamp) (r : Result Contents WorldError) (p : Plain) → test s ≡ true → NamesPass test p → NamesPass test (open_world s r p)
 pass-world test s (Err e) p h a = a
 pass-world test s (Ok w) p h a = record {
-  texts = All-append (λ t. test t.id.name.stamp ≡ true) p.texts (opened_texts s w.boards) a.texts (pass-opened_texts test s 0 (programs_of w.boards) h);
-  boards = All-append (IsBoardOf test) p.boards (opened_boards s w.boards) a.boards (pass-opened_boards test s 0 0 0 w.boards h);
+  texts = all_joined (λ t. test t.id.name.stamp ≡ true) p.texts (opened_texts s w.boards) a.texts (pass-opened_texts test s 0 (programs_of w.boards) h);
+  boards = all_joined (IsBoardOf test) p.boards (opened_boards s w.boards) a.boards (pass-opened_boards test s 0 0 0 w.boards h);
 }
 
 pass-each : (test : Stamp → Bool) (p : Plain) (f : Board → Board) → ((b : Board) → IsBoardOf test b → IsBoardOf test (f b)) → NamesPass test p → NamesPass test (record p { boards = map f p.boards })
@@ -193,16 +189,16 @@ pass-texts test p t f a =
 pass-do_op : (test : Stamp → Bool) (s : Stamp) (op : Op) (p : Plain) → test s ≡ true → NamesPass test p → NamesPass test (do_op s op p)
 pass-do_op test s (Genesis bytes) p h a = pass-world test s (world_at bytes) p h a
 pass-do_op test s (SetHeader setting) p h a = record { texts = a.texts; boards = a.boards }
-pass-do_op test s (BoardAdd name) p h a = record { texts = a.texts; boards = All-append (IsBoardOf test) p.boards (new_board (board_of s 0) (stat_of s 0) name ∷ []) a.boards ((h, (h, tt)), tt) }
+pass-do_op test s (BoardAdd name) p h a = record { texts = a.texts; boards = all_joined (IsBoardOf test) p.boards (new_board (board_of s 0) (stat_of s 0) name ∷ []) a.boards ((h, (h, tt)), tt) }
 pass-do_op test s (BoardRemove b) p h a = pass-each test p _ (pass-such test (λ x. same_board x.id b) remove_board (λ x k. k)) a
 pass-do_op test s (SetBoard b setting) p h a = pass-each test p _ (pass-such test (λ x. same_board x.id b) (set_board_property setting) (λ x k. k)) a
 pass-do_op test s (SetCells b r tile) p h a = pass-each test p _ (pass-such test (λ x. same_board x.id b) (set_board_cells r tile) (λ x k. k)) a
 pass-do_op test s (StatAdd b fields) p h a =
     let new = new_stat (stat_of s 0) false fields in
-    pass-each test p _ (pass-such test (λ x. same_board x.id b) (add_stat new) (λ x k. (k.0, All-append (λ y. test y.id.name.stamp ≡ true) x.stats (new ∷ []) k.1 (h, tt)))) a
+    pass-each test p _ (pass-such test (λ x. same_board x.id b) (add_stat new) (λ x k. (k.0, all_joined (λ y. test y.id.name.stamp ≡ true) x.stats (new ∷ []) k.1 (h, tt)))) a
 pass-do_op test s (StatRemove x) p h a = pass-each test p _ (pass-stats test x remove_stat (λ y. refl)) a
 pass-do_op test s (SetStat x setting) p h a = pass-each test p _ (pass-stats test x (set_stat setting) (set_stat-stamp setting)) a
-pass-do_op test s TextAdd p h a = record { texts = All-append (λ t. test t.id.name.stamp ≡ true) p.texts (record { id = text_of s 0; elements = [] } ∷ []) a.texts (h, tt); boards = a.boards }
+pass-do_op test s TextAdd p h a = record { texts = all_joined (λ t. test t.id.name.stamp ≡ true) p.texts (record { id = text_of s 0; elements = [] } ∷ []) a.texts (h, tt); boards = a.boards }
 pass-do_op test s (TextInsert t after bytes) p h a = pass-texts test p t (put_after after (run_from s 0 bytes)) a
 pass-do_op test s (TextDelete t r) p h a = pass-texts test p t (kill r) a
 
@@ -220,10 +216,10 @@ order-world s (Err e) p a o = o
 order-world s (Ok w) p a o = record {
   texts = rise-append (λ (t : Text). t.id.name) s p.texts (opened_texts s w.boards) a.texts (λ test h. pass-opened_texts test s 0 (programs_of w.boards) h) o.texts (rise-opened_texts s 0 (programs_of w.boards));
   boards = rise-append (λ (b : Board). b.id.name) s p.boards (opened_boards s w.boards)
-      (All-weaken (IsBoardOf (λ q. before q s)) (λ (b : Board). before b.id.name.stamp s ≡ true) p.boards (λ b k. k.0) a.boards)
-      (λ test h. All-weaken (IsBoardOf test) (λ (b : Board). test b.id.name.stamp ≡ true) (opened_boards s w.boards) (λ b k. k.0) (pass-opened_boards test s 0 0 0 w.boards h))
+      (all_weaker (IsBoardOf (λ q. before q s)) (λ (b : Board). before b.id.name.stamp s ≡ true) p.boards (λ b k. k.0) a.boards)
+      (λ test h. all_weaker (IsBoardOf test) (λ (b : Board). test b.id.name.stamp ≡ true) (opened_boards s w.boards) (λ b k. k.0) (pass-opened_boards test s 0 0 0 w.boards h))
       o.boards (rise-opened_boards s 0 0 0 w.boards);
-  stats = All-append StatsRise p.boards (opened_boards s w.boards) o.stats (each-opened_board s 0 0 0 w.boards);
+  stats = all_joined StatsRise p.boards (opened_boards s w.boards) o.stats (each-opened_board s 0 0 0 w.boards);
 }
 
 -- a change of boards that keeps their names, and the order of stats
@@ -260,8 +256,8 @@ order-do_op s (BoardAdd name) p a o =
     let new = new_board (board_of s 0) (stat_of s 0) name in
     record {
       texts = o.texts;
-      boards = rise-append (λ (b : Board). b.id.name) s p.boards (new ∷ []) (All-weaken (IsBoardOf (λ q. before q s)) (λ (b : Board). before b.id.name.stamp s ≡ true) p.boards (λ b k. k.0) a.boards) (λ test h. (h, tt)) o.boards (tt, tt);
-      stats = All-append StatsRise p.boards (new ∷ []) o.stats ((tt, tt), tt);
+      boards = rise-append (λ (b : Board). b.id.name) s p.boards (new ∷ []) (all_weaker (IsBoardOf (λ q. before q s)) (λ (b : Board). before b.id.name.stamp s ≡ true) p.boards (λ b k. k.0) a.boards) (λ test h. (h, tt)) o.boards (tt, tt);
+      stats = all_joined StatsRise p.boards (new ∷ []) o.stats ((tt, tt), tt);
     }
 order-do_op s (BoardRemove b) p a o = order-each s p _ (such (λ (x : Board). x.id) (λ x. same_board x.id b) remove_board (λ x. refl)) (order-such s (λ x. same_board x.id b) remove_board (λ x k. k.1)) a o
 order-do_op s (SetBoard b setting) p a o = order-each s p _ (such (λ (x : Board). x.id) (λ x. same_board x.id b) (set_board_property setting) (λ x. refl)) (order-such s (λ x. same_board x.id b) (set_board_property setting) (λ x k. k.1)) a o

@@ -1,5 +1,5 @@
 -- Every edit that fits keeps a document regular.
-use Rattle.std.proofs.Common.{◌≡◌, ◌≤◌, ◌+◌, ℕ, ℤ, suc, Bool, true, false, not, cond, List, [], ◌∷◌, ◌++◌, length, set, refl, ap, ◌∙◌, arith, lit≤, Option, Some, None, Result, Ok, Err}
+use Rattle.std.proofs.Common.{◌≡◌, ◌≤◌, ◌+◌, ℕ, ℤ, Bool, true, false, not, cond, List, [], ◌∷◌, ◌++◌, length, set, refl, ap, ◌∙◌, arith, lit≤, Option, Some, None, Result, Ok, Err}
 use Rattle.std.specs.List.{AllByRecursion}
 use Rattle.std.proofs.lemmas.List.{length-set}
 use Rattle.std.proofs.lemmas.Bool.{leb-true}
@@ -48,7 +48,8 @@ use Rattle.zed_op.specs.Set.{AllFit}
 use Rattle.zed_edit.specs.Replay.{can, step, do_op, do_edit, hold, open_world, replay_on}
 use Rattle.zed_laws.specs.Regular.{IsRegularHeader, HasPlayer, AreTexts, IsRegularBoard, IsRegular, ReplayIsRegular}
 use Rattle.zed_types.proofs.StampOrder.{same_board-true}
-use Rattle.zed_laws.proofs.AllBoards.{all_set, each_changed, all_mapped, all_joined}
+use Rattle.zed_types.proofs.Facts.{all_joined, length-map_from}
+use Rattle.zed_laws.proofs.AllBoards.{all_set, each_changed, all_mapped}
 
 -- ---- the header
 
@@ -85,12 +86,8 @@ property_regular (property.TimeLimit n) b good r = with_properties b (set_proper
 property_regular (property.Exit f n) b good r = with_properties b (set_property (property.Exit f n) b.properties) r.texts r
 property_regular (property.Text f s) b good r = with_properties b (set_property (property.Text f s) b.properties) (text_set f s b.properties.texts good r.texts) r
 
-pub length_map_from : {X Y : Type 0} (f : ℕ → X → Y) (i : ℕ) (xs : List X) → length (map_from f i xs) ≡ length xs
-length_map_from f i [] = refl
-length_map_from f i (x ∷ xs) = ap suc (length_map_from f (i + 1) xs)
-
 cells_regular : (r : Rectangle) (tile : Tile) (b : Board) → IsRegularBoard b → IsRegularBoard (set_board_cells r tile b)
-cells_regular r tile b h = record { texts = h.texts; tiles = length_map_from (λ i old. cond (is_inside r (place_at i)) tile old) 0 b.tiles ∙ h.tiles; player = h.player; title_stays = h.title_stays }
+cells_regular r tile b h = record { texts = h.texts; tiles = length-map_from (λ i old. cond (is_inside r (place_at i)) tile old) 0 b.tiles ∙ h.tiles; player = h.player; title_stays = h.title_stays }
 
 same_name : (a b c : BoardId) → same_board a b ≡ true → same_board a c ≡ true → same_board b c ≡ true
 same_name a b c h k = let e = same_board-true a b h in rw e at k

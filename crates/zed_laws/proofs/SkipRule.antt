@@ -1,5 +1,5 @@
 -- The skip rule and a direct insertion of a later edit can change places.
-use Rattle.std.proofs.Common.{◌≡◌, Bool, true, false, List, [], ◌∷◌, ◌++◌, Option, Some, None, refl, ap, sym, append-nil}
+use Rattle.std.proofs.Common.{◌≡◌, Bool, true, false, List, [], ◌∷◌, ◌++◌, Option, Some, None, refl, ap, sym}
 use Rattle.std.specs.List.{AllByRecursion}
 use Rattle.zed_types.specs.declared.stamp.Stamp.{Stamp}
 use Rattle.zed_types.specs.declared.names.ElemId.{ElemId}
@@ -66,16 +66,3 @@ put_late-put_after s e h None None xs qe ph lh = pass_later-run s e h xs lh
 put_late-put_after s e h None (Some q) xs qe ph lh = pass_later-behind s e h q xs qe lh
 put_late-put_after s e h (Some p) None xs qe ph lh = behind-run p (pass_later s e) h xs ph
 put_late-put_after s e h (Some p) (Some q) xs qe ph lh = behind-behind s e h p q xs qe ph lh
-
--- where no element is of a later edit, the skip rule passes nothing
-pub pass_later-none : (s : Stamp) (e xs : List TextByte) → NoneLater s xs → pass_later s e xs ≡ e ++ xs
-pass_later-none s e [] n = sym (append-nil e)
-pass_later-none s e (x ∷ xs) n = rw (n.0)
-
-behind-none_later : (s : Stamp) (e : List TextByte) (p : ElemId) (xs : List TextByte) → NoneLater s xs → behind p (pass_later s e) xs ≡ behind p (λ rest. e ++ rest) xs
-behind-none_later s e p [] n = refl
-behind-none_later s e p (x ∷ xs) n = rw (pass_later-none s e xs n.1, behind-none_later s e p xs n.1)
-
-pub put_late-none_later : (s : Stamp) (e : List TextByte) (p : Option ElemId) (xs : List TextByte) → NoneLater s xs → put_late p s e xs ≡ put_after p e xs
-put_late-none_later s e None xs n = pass_later-none s e xs n
-put_late-none_later s e (Some p) xs n = behind-none_later s e p xs n

@@ -1,5 +1,5 @@
 -- The edits taken make by themselves all that the replay shows, and a late edit takes nothing from those behind it.
-use Rattle.std.proofs.Common.{◌≡◌, Bool, true, false, cond, ◌||◌, List, [], ◌∷◌, ◌++◌, map, Result, Ok, Err, refl, ap, ◌∙◌, sym, subst, arith}
+use Rattle.std.proofs.Common.{◌≡◌, Bool, true, false, cond, List, [], ◌∷◌, ◌++◌, map, Result, Ok, Err, refl, ap, ◌∙◌, sym, subst, arith}
 use Rattle.std.specs.List.{AllByRecursion, list_all, Contains}
 use Rattle.std.proofs.lemmas.Bool.{and_parts, and_from}
 use mathlib.Core.Path.{fun_ext}
@@ -22,6 +22,7 @@ use Rattle.zed_op.specs.Set.{AllFit}
 use Rattle.zed_edit.specs.Replay.{can, open_world, do_op, do_edit, hold, step, replay_on, replay, taken_on, taken, held_on, held}
 use Rattle.zed_laws.specs.Laws.{TakenMakeAll, LateEditHoldsNone, LateEditHoldsNoOther}
 use Rattle.zed_types.proofs.StampOrder.{same_stamp-true}
+use Rattle.zed_types.proofs.Facts.{or_more}
 use Rattle.zed_laws.proofs.ReplaySteps.{held_on-append, held_are_remembered}
 use Rattle.zed_laws.proofs.MadeThings.{makes, grown, has-do_op}
 use Rattle.zed_op.proofs.Sets.{Member, Member-from, Member-to}
@@ -86,10 +87,6 @@ all_more f g m [] h = refl
 all_more f g m (t ∷ ts) h =
     let k = and_parts (f t) (list_all f ts) h in
     and_from (g t) (list_all g ts) (m t k.0) (all_more f g m ts k.1)
-
-or_more : (a b c : Bool) → (b ≡ true → c ≡ true) → (a || b) ≡ true → (a || c) ≡ true
-or_more true b c m h = refl
-or_more false b c m h = m h
 
 grown_more : (p q : Document) (s : Stamp) (op : Op) (x : Thing) → OpensNone op → HasMore p q → grown (has p) s op x ≡ true → grown (has q) s op x ≡ true
 grown_more p q s (Genesis bytes) x o m h = absurd o

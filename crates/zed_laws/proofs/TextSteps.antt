@@ -1,5 +1,5 @@
 -- An insertion that comes late, put in by the skip rule, gives the text of the edits in rising stamp order.
-use Rattle.std.proofs.Common.{◌≡◌, ℕ, ◌+◌, Bool, true, false, cond, List, [], ◌∷◌, ◌++◌, Option, Some, None, refl, ap, ◌∙◌, sym, arith}
+use Rattle.std.proofs.Common.{◌≡◌, ℕ, ◌+◌, Bool, true, false, cond, List, [], ◌∷◌, Option, Some, None, refl, ap, ◌∙◌, sym, arith}
 use Rattle.std.specs.List.{AllByRecursion}
 use Rattle.zed_types.specs.declared.stamp.Stamp.{Stamp}
 use Rattle.zed_types.specs.declared.names.TextId.{TextId}
@@ -11,8 +11,9 @@ use Rattle.zed_op.specs.declared.op.Edit.{Edit}
 use Rattle.zed_types.specs.Stamp.{before, same_stamp}
 use Rattle.zed_types.specs.Names.{same_text, same_element}
 use Rattle.zed_types.specs.Text.{run_from, behind, put_after, pass_later, put_late, kill, kill_within}
-use Rattle.zed_laws.proofs.SkipRule.{NotNamed, Later, NoneLater, PlaceNotIn, put_late-put_after, put_late-none_later}
+use Rattle.zed_laws.proofs.SkipRule.{NotNamed, Later, NoneLater, PlaceNotIn, put_late-put_after}
 use Rattle.zed_types.specs.declared.text.TextByte.{TextByte}
+use Rattle.zed_types.proofs.Passing.{put_late-none_later, kill-append}
 
 -- what an edit does to the elements of a text that is there
 abbrev pub elements_step : TextId → Stamp → Op → List TextByte → List TextByte
@@ -58,10 +59,6 @@ place_below-not_of s r None h p = tt
 place_below-not_of s r (Some a) h p = grind (arith)
 
 -- marking dead keeps names, so it can change places with the skip rule
-pub kill-append : (x : ByteRange) (xs ys : List TextByte) → kill x (xs ++ ys) ≡ kill x xs ++ kill x ys
-kill-append x [] ys = refl
-kill-append x (e ∷ xs) ys = ap (λ rest. kill_within x e ∷ rest) (kill-append x xs ys)
-
 pub kill-run : (x : ByteRange) (r : Stamp) (n : ℕ) (bytes : List ℕ) → same_stamp r x.stamp ≡ false → kill x (run_from r n bytes) ≡ run_from r n bytes
 kill-run x r n [] h = refl
 kill-run x r n (b ∷ bytes) h = rw (h, kill-run x r (n + 1) bytes h)

@@ -11,6 +11,7 @@ use Rattle.zed_types.specs.Names.{same_board}
 use Rattle.zed_types.specs.Register.{keep_later, latest_of}
 use Rattle.zed_types.specs.Stamp.{before}
 use Rattle.zed_types.proofs.StampOrder.{same_name-itself}
+use Rattle.zed_types.proofs.Facts.{or_right}
 use Rattle.zed_op.specs.declared.op.Edit.{Edit}
 use Rattle.zed_op.specs.declared.thing.Thing.TheVariants as thing
 use Rattle.zed_op.specs.Set.{IsRising, AllFit}
@@ -61,13 +62,9 @@ homes-next : (x : StatId) (e : Edit) (es : List Edit) (m : Option BoardId) → m
 homes-next x e es None m = rw m refl
 homes-next x e es (Some c) m = rw m refl
 
-or-right : (a b : Bool) → b ≡ true → (a || b) ≡ true
-or-right true b h = refl
-or-right false b h = h
-
 or-between : (a b c : Bool) → (a || c) ≡ true → (a || (b || c)) ≡ true
 or-between true b c h = refl
-or-between false b c h = or-right b c h
+or-between false b c h = or_right b c h
 
 or-false : (a : Bool) → a ≡ true → (a || false) ≡ true
 or-false true h = refl
@@ -84,7 +81,7 @@ latest-among b x o (e ∷ es) h =
     later c (Some w) k = either (before w.stamp e.stamp) k
       where
         either : (v : Bool) → (is_board b (home_of (cond v (Some (written_at e.stamp c)) (Some w))) || list_any (puts x b) es) ≡ true → (same_board w.value b || (same_board c b || list_any (puts x b) es)) ≡ true
-        either true j = or-right (same_board w.value b) (same_board c b || list_any (puts x b) es) j
+        either true j = or_right (same_board w.value b) (same_board c b || list_any (puts x b) es) j
         either false j = or-between (same_board w.value b) (same_board c b) (list_any (puts x b) es) j
 
     go : (m : Option BoardId) → is_board b (home_of (latest_of o (with_write e.stamp m (homes x es)))) ≡ true

@@ -2,12 +2,14 @@
 use Rattle.std.proofs.Common.{◌≡◌, ◌∙◌, ◌||◌, Bool, true, false, cond, List, [], ◌∷◌, ◌++◌, Option, Some, None, refl, ap, sym, subst, true≢false}
 use Rattle.std.specs.List.{list_any}
 use Rattle.std.specs.Option.{option_or, option_map, is_some}
+use Rattle.std.proofs.lemmas.Bool.{or_parts}
 use Rattle.zed_types.specs.declared.stamp.Stamp.{Stamp}
 use Rattle.zed_types.specs.declared.names.BoardId.{BoardId}
 use Rattle.zed_types.specs.declared.names.StatId.{StatId}
 use Rattle.zed_types.specs.declared.stat_field.StatFields.{StatFields}
 use Rattle.zed_types.specs.Names.{stat_of, same_board, same_stat}
 use Rattle.zed_types.proofs.StampOrder.{same_stamp-true}
+use Rattle.zed_types.proofs.Facts.{none_is}
 use Rattle.zed_op.specs.declared.op.Op.{Op}
 use Rattle.zed_op.specs.declared.op.Op.TheVariants.{StatAdd, StatRemove, SetStat}
 use Rattle.zed_op.specs.declared.op.Edit.{Edit}
@@ -30,7 +32,7 @@ use Rattle.zed_live.specs.declared.board.LiveBoard.{LiveBoard}
 use Rattle.zed_live.specs.Stat.{values_of, stat_after, touches_stat, StatShows}
 use Rattle.zed_live.specs.Board.{is_of, touches, stat_changed, IsUntouched, MakesNewStats}
 use Rattle.zed_live.specs.BoardStats.{Entries, stat_in, add_made, add_each, is_board, puts, IsLeftOn, StatsShow}
-use Rattle.zed_live.proofs.Lists.{any-here, any-insert, any-beside, any-follows, any-none, none-there, found-passes}
+use Rattle.zed_live.proofs.Lists.{any-here, any-insert, any-beside, any-follows, any-none, found-passes}
 use Rattle.zed_live.proofs.Homes.{puts-made, finds-made, puts-none, puts-makes}
 use Rattle.zed_live.proofs.MadeOnce.{stat-stamp, stat-made-once}
 use Rattle.zed_live.proofs.StatTakes.{stat_takes, stat_passes_others, stat_is_made}
@@ -39,14 +41,10 @@ use Rattle.zed_live.proofs.StatsByName.{only_stat, as_live, in-add_made, in-add_
 
 -- ---- a board that edits don't touch
 
-or-parts : (a b : Bool) → (a || b) ≡ false → (a ≡ false) × (b ≡ false)
-or-parts true b h = absurd (true≢false h)
-or-parts false b h = (refl, h)
-
 pub beside-puts : (b : BoardId) (x : StatId) (e : Edit) → touches b e ≡ false → puts x b e ≡ false
 beside-puts b x e h =
-    let p = or-parts (is_some (find_board b (made_boards e.stamp e.op))) (is_of b e.op) h in
-    puts-none b x e (none-there (find_board b (made_boards e.stamp e.op)) p.0) p.1
+    let p = or_parts (is_some (find_board b (made_boards e.stamp e.op))) (is_of b e.op) h in
+    puts-none b x e (none_is (find_board b (made_boards e.stamp e.op)) p.0) p.1
 
 pub none-put : (b : BoardId) (x : StatId) (es : List Edit) → IsUntouched b es → list_any (puts x b) es ≡ false
 none-put b x es a = any-none (λ e. touches b e ≡ false) (puts x b) (λ e h. beside-puts b x e h) es a
@@ -63,7 +61,7 @@ unmade b x e low high rises h = go (makes e (thing.Stat x)) refl
   where
     go : (v : Bool) → makes e (thing.Stat x) ≡ v → find_stat x (made_stats e.stamp e.op) ≡ None
     go true v = absurd (true≢false (sym (put-made b x (low ++ high) h) ∙ stat-made-once x e low high rises v))
-    go false v = none-there (find_stat x (made_stats e.stamp e.op)) (find-any (λ y. same_stat y.id x) (made_stats e.stamp e.op) ∙ v)
+    go false v = none_is (find_stat x (made_stats e.stamp e.op)) (find-any (λ y. same_stat y.id x) (made_stats e.stamp e.op) ∙ v)
 
 -- a name that an edit neither puts on the board nor changes
 left-beside : (b : BoardId) (x : StatId) (e : Edit) (low high : List Edit) (o : Option LiveStat) → IsRising (low ++ e ∷ high) → puts x b e ≡ false → changes_stat x e.op ≡ false → IsLeftOn b (low ++ high) x o → IsLeftOn b (low ++ e ∷ high) x o

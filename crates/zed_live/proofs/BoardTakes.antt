@@ -1,7 +1,8 @@
 -- A board takes each edit as if it had come at its place.
-use Rattle.std.proofs.Common.{◌≡◌, ◌∙◌, ◌<◌, ◌+◌, ◌||◌, ℕ, zero, suc, Bool, true, false, cond, List, [], ◌∷◌, ◌++◌, length, map, get_or, slice_get, Option, Some, None, refl, ap, sym, subst, true≢false, arith}
+use Rattle.std.proofs.Common.{◌≡◌, ◌∙◌, ◌<◌, ◌+◌, ℕ, zero, suc, Bool, true, false, cond, List, [], ◌∷◌, ◌++◌, length, map, get_or, slice_get, Option, Some, None, refl, ap, sym, subst, true≢false, arith}
 use Rattle.std.specs.Option.{option_or, option_map, is_some}
 use Rattle.std.proofs.lemmas.List.{length-map}
+use Rattle.std.proofs.lemmas.Bool.{or_parts}
 use Rattle.zed_types.specs.declared.stamp.Stamp.{Stamp}
 use Rattle.zed_types.specs.declared.written.Written.{Written}
 use Rattle.zed_types.specs.declared.tile.Tile.{Tile}
@@ -11,8 +12,9 @@ use Rattle.zed_types.specs.declared.names.BoardId.{BoardId}
 use Rattle.zed_types.specs.declared.property.BoardSetting.{BoardSetting}
 use Rattle.zed_types.specs.Board.{board_byte_index, board_flag_index, side_index, board_text_index}
 use Rattle.zed_types.specs.Register.{keep_later, latest_of}
-use Rattle.zed_types.specs.Table.{is_inside, place_at, map_from}
+use Rattle.zed_types.specs.Table.{is_inside, place_at}
 use Rattle.zed_types.proofs.StampOrder.{same_board-true}
+use Rattle.zed_types.proofs.Facts.{none_is, length-map_from}
 use Rattle.zed_op.specs.declared.op.Op.{Op}
 use Rattle.zed_op.specs.declared.op.Op.TheVariants.{BoardRemove, SetBoard, SetCells, StatAdd, StatRemove, SetStat}
 use Rattle.zed_op.specs.declared.op.Edit.{Edit}
@@ -32,14 +34,9 @@ use Rattle.zed_live.specs.Properties.{unwritten, write_property, PropertiesShow,
 use Rattle.zed_live.specs.Board.{board_after, stat_changed, is_of, BoardShows, touches, IsUntouched, MakesNewStats, BoardIsMade, BoardTakes, BoardPassesOthers}
 use Rattle.zed_live.proofs.BoardStatsTake.{stats_pass, stats_add, stats_beside, stats_made}
 use Rattle.zed_live.proofs.HeaderTakes.{put-late, unset}
-use Rattle.zed_live.proofs.Lists.{none-there}
 use Rattle.zed_live.proofs.PropertiesTake.{properties_take_settings, properties_take_making, properties_pass_others, wrote}
 
 -- ---- what an edit writes
-
-or-parts : (a b : Bool) → (a || b) ≡ false → (a ≡ false) × (b ≡ false)
-or-parts true b h = absurd (cc)
-or-parts false b h = (refl, h)
 
 -- an edit that isn't of a board doesn't change it
 of-changes : (b : BoardId) (op : Op) → is_of b op ≡ false → changes_board b op ≡ false
@@ -48,8 +45,8 @@ of-changes b op h = h
 
 pub untouched-parts : (b : BoardId) (e : Edit) → touches b e ≡ false → (find_board b (made_boards e.stamp e.op) ≡ None) × (changes_board b e.op ≡ false)
 untouched-parts b e h =
-    let p = or-parts (is_some (find_board b (made_boards e.stamp e.op))) (is_of b e.op) h in
-    (none-there (find_board b (made_boards e.stamp e.op)) p.0, of-changes b e.op p.1)
+    let p = or_parts (is_some (find_board b (made_boards e.stamp e.op))) (is_of b e.op) h in
+    (none_is (find_board b (made_boards e.stamp e.op)) p.0, of-changes b e.op p.1)
 
 module _ {V : Type 0} (f : Field Board V) (b : BoardId) where
   -- an edit that neither makes a board nor changes it writes none of its registers
@@ -110,10 +107,6 @@ module _ (latest : CellsHoldTheLatest) where
       go : (v : Bool) → is_inside r (place_at i) ≡ v → (o : Option (Written Tile)) → latest_of o (writes_into i ((r, written_at s tile) ∷ [])) ≡ kept_after s o (cond v (Some tile) None)
       go true v o = rw v refl
       go false v o = rw v refl
-
-length-map_from : {X Y : Type 0} (f : ℕ → X → Y) (n : ℕ) (xs : List X) → length (map_from f n xs) ≡ length xs
-length-map_from f n [] = refl
-length-map_from f n (x ∷ xs) = ap suc (length-map_from f (n + 1) xs)
 
 -- ---- an edit of the board
 

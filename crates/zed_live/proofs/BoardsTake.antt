@@ -7,6 +7,7 @@ use Rattle.zed_types.specs.declared.names.BoardId.{BoardId}
 use Rattle.zed_types.specs.declared.names.StatId.{StatId}
 use Rattle.zed_types.specs.Names.{same_board, same_stat}
 use Rattle.zed_types.proofs.StampOrder.{same_board-true, same_name-itself}
+use Rattle.zed_types.proofs.Facts.{all_weaker}
 use Rattle.zed_world.specs.Contents.{Contents}
 use Rattle.zed_world.specs.Reading.{world_at}
 use Rattle.zed_world.specs.declared.error.WorldError.{WorldError}
@@ -20,7 +21,7 @@ use Rattle.zed_edit.specs.declared.plain.Board.{Board}
 use Rattle.zed_edit.specs.Document.{empty_document}
 use Rattle.zed_edit.specs.Replay.{open_world}
 use Rattle.zed_laws.proofs.MadeThings.{find-any}
-use Rattle.zed_laws.proofs.NamesInOrder.{All-weaken, All-both}
+use Rattle.zed_laws.proofs.NamesInOrder.{All-both}
 use Rattle.zed_laws.proofs.RegularSteps.{ReadIsNormal}
 use Rattle.zed_settle.specs.Making.{makes}
 use Rattle.zed_settle.specs.Registers.{opened_from, made_boards, made_stats, changes_stat, find_board}
@@ -77,7 +78,7 @@ new-stats e low high ys rises was x h = go (list_any (λ f. changes_stat x f.op)
     go : (v : Bool) → list_any (λ f. changes_stat x f.op) (low ++ high) ≡ v → AllByRecursion (λ f. touches_stat x f ≡ false) (low ++ high)
     go true v = absurd (true≢false (sym (was.changed x v) ∙ once))
     go false v =
-        All-weaken (λ f. (makes f (thing.Stat x) ≡ false) × (changes_stat x f.op ≡ false)) (λ f. touches_stat x f ≡ false) (low ++ high) untouched
+        all_weaker (λ f. (makes f (thing.Stat x) ≡ false) × (changes_stat x f.op ≡ false)) (λ f. touches_stat x f ≡ false) (low ++ high) untouched
         (All-both (λ f. makes f (thing.Stat x) ≡ false) (λ f. changes_stat x f.op ≡ false) (low ++ high) (none-any (λ f. makes f (thing.Stat x)) (low ++ high) once) (none-any (λ f. changes_stat x f.op) (low ++ high) v))
 
 -- each stat that is changed is made, with one more edit too

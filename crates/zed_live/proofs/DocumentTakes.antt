@@ -1,10 +1,9 @@
 -- A document takes each edit as if it had come at its place.
-use Rattle.std.proofs.Common.{◌≡◌, ◌∙◌, Bool, true, false, cond, List, [], ◌∷◌, ◌++◌, refl, ap, sym, true≢false}
-use Rattle.std.specs.List.{AllByRecursion, list_any}
+use Rattle.std.proofs.Common.{◌≡◌, ◌∙◌, true, List, [], ◌++◌, ap, sym, true≢false}
+use Rattle.std.specs.List.{list_any}
 use Rattle.std.proofs.lemmas.Bool.{and_parts}
 use Rattle.zed_types.specs.declared.names.BoardId.{BoardId}
 use Rattle.zed_types.specs.declared.names.StatId.{StatId}
-use Rattle.zed_types.specs.Stamp.{before}
 use Rattle.zed_types.proofs.StampOrder.{same_board-true}
 use Rattle.zed_op.specs.declared.op.Op.{Op}
 use Rattle.zed_op.specs.declared.op.Op.TheVariants.{BoardRemove, SetBoard, SetCells, StatAdd, StatRemove, SetStat}
@@ -15,11 +14,11 @@ use Rattle.zed_op.specs.Names.{names_of, board_names, stat_names, target_named, 
 use Rattle.zed_op.specs.Set.{IsRising}
 use Rattle.zed_edit.specs.declared.plain.Plain.{Plain}
 use Rattle.zed_edit.specs.Document.{empty_document, has}
-use Rattle.zed_edit.specs.Replay.{can, step, has_all, replay, taken_on, held_on, held}
+use Rattle.zed_edit.specs.Replay.{can, has_all, replay, held}
 use Rattle.zed_laws.proofs.RegularSteps.{ReadIsNormal}
 use Rattle.zed_settle.specs.Making.{makes}
 use Rattle.zed_settle.specs.Registers.{changes_stat}
-use Rattle.zed_settle.proofs.Making.{taken_make}
+use Rattle.zed_settle.proofs.Making.{taken_make, all-taken, rising-without}
 use Rattle.zed_cells.specs.Cells.{CellsHoldTheLatest}
 use Rattle.zed_stats.specs.Arrivals.{FieldsHoldTheLatest}
 use Rattle.zed_live.specs.Board.{is_of}
@@ -30,24 +29,6 @@ use Rattle.zed_live.proofs.BoardsTake.{boards_take, no_board_is_made}
 use Rattle.zed_live.proofs.HeaderTakes.{header_takes, none_is_unwritten}
 use Rattle.zed_live.proofs.Shown.{replay_is_shown}
 use Rattle.zed_live.proofs.StatsByName.{stat-true}
-
--- where none is held all are taken
-all-taken : (p : Plain) (es : List Edit) → held_on p es ≡ [] → taken_on p es ≡ es
-all-taken p [] h = refl
-all-taken p (e ∷ es) h = go (can p e) h (λ k. all-taken (step p e) es k)
-  where
-    go : (b : Bool) → cond b (held_on (step p e) es) (e ∷ held_on (step p e) es) ≡ [] → (held_on (step p e) es ≡ [] → taken_on (step p e) es ≡ es) → cond b (e ∷ taken_on (step p e) es) (taken_on (step p e) es) ≡ e ∷ es
-    go true k more = ap (λ rest. e ∷ rest) (more k)
-    go false k more = absurd (cc)
-
--- the others rise without one
-rising-without : (e : Edit) (low high : List Edit) → IsRising (low ++ e ∷ high) → IsRising (low ++ high)
-rising-without e [] high r = r.1
-rising-without e (f ∷ low) high r = (without low r.0, rising-without e low high r.1)
-  where
-    without : (es : List Edit) → AllByRecursion (λ g. before f.stamp g.stamp ≡ true) (es ++ e ∷ high) → AllByRecursion (λ g. before f.stamp g.stamp ≡ true) (es ++ high)
-    without [] a = a.1
-    without (g ∷ es) a = (a.0, without es a.1)
 
 -- an edit that can be done is of no board but one that is there
 board_there : (p : Plain) (op : Op) (b : BoardId) → has_all p (names_of op) ≡ true → is_of b op ≡ true → has p (thing.Board b) ≡ true

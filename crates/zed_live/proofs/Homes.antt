@@ -8,6 +8,7 @@ use Rattle.zed_types.specs.declared.names.BoardId.{BoardId}
 use Rattle.zed_types.specs.declared.names.StatId.{StatId}
 use Rattle.zed_types.specs.Names.{stat_of, same_name, same_board, same_stat}
 use Rattle.zed_types.proofs.StampOrder.{same_board-true, same_name-itself}
+use Rattle.zed_types.proofs.Facts.{none_is, some_is}
 use Rattle.zed_world.specs.Contents.{Contents}
 use Rattle.zed_world.specs.Reading.{world_at}
 use Rattle.zed_world.specs.declared.error.WorldError.{WorldError}
@@ -29,7 +30,7 @@ use Rattle.zed_settle.proofs.OwnNames.{boards_have_own_names, stats_have_own_nam
 use Rattle.zed_settle.proofs.StatReads.{any-stat}
 use Rattle.zed_live.specs.Board.{is_of}
 use Rattle.zed_live.specs.BoardStats.{is_board, puts}
-use Rattle.zed_live.proofs.Lists.{found-passes, none-there, some-inside}
+use Rattle.zed_live.proofs.Lists.{found-passes}
 use Rattle.zed_live.proofs.StatsByName.{stat-true}
 
 -- ---- boards and stats of names of their own
@@ -90,7 +91,7 @@ on-it b x (c ∷ bs) made st own h k = go (same_board c.id b) h (λ m. on-it b x
   where
     go : (v : Bool) → cond v (Some c) (find_board b bs) ≡ Some made → (find_board b bs ≡ Some made → (find (is_on x) bs ≡ Some made) × (find_stat x (stats_of bs) ≡ Some st)) → (find (is_on x) (c ∷ bs) ≡ Some made) × (find_stat x (c.stats ++ stats_of bs) ≡ Some st)
     go true m more =
-        let i : c ≡ made = some-inside c made m in
+        let i : c ≡ made = some_is c made m in
         let t : find_stat x c.stats ≡ Some st = ap (λ (d : Board). find_stat x d.stats) i ∙ k in
         let on : is_on x c ≡ true = sym (find-any (named x) c.stats) ∙ ap is_some t in
         (rw on m, joined x c.stats (stats_of bs) st t)
@@ -98,7 +99,7 @@ on-it b x (c ∷ bs) made st own h k = go (same_board c.id b) h (λ m. on-it b x
         let p = more m in
         let there : list_any (named x) (stats_of bs) ≡ true = sym (find-any (named x) (stats_of bs)) ∙ ap is_some p.1 in
         let off : is_on x c ≡ false = beside (is_on x c) refl there in
-        (rw off p.0, behind x c.stats (stats_of bs) st (none-there (find_stat x c.stats) (find-any (named x) c.stats ∙ off)) p.1)
+        (rw off p.0, behind x c.stats (stats_of bs) st (none_is (find_stat x c.stats) (find-any (named x) c.stats ∙ off)) p.1)
       where
         beside : (v : Bool) → is_on x c ≡ v → list_any (named x) (stats_of bs) ≡ true → v ≡ false
         beside false v t = refl
@@ -114,7 +115,7 @@ own-board x bs d own h = (its-name x bs d own h, found-passes (is_on x) bs d h)
       where
         go : (v : Bool) → cond v (Some c) (find (is_on x) bs) ≡ Some d → (find (is_on x) bs ≡ Some d → find_board d.id bs ≡ Some d) → find_board d.id (c ∷ bs) ≡ Some d
         go true m more =
-            let i : c ≡ d = some-inside c d m in
+            let i : c ≡ d = some_is c d m in
             let k : same_board c.id d.id ≡ true = ap (λ (a : Board). same_board a.id d.id) i ∙ same_name-itself d.id.name in
             rw k m
         go false m more =
@@ -145,7 +146,7 @@ home-on b x bs made own h = go (find_stat x made.stats) refl
             other false v = refl
             other true v =
                 let w = own-board x bs d own m in
-                let i : made ≡ d = some-inside made d (sym h ∙ ap (λ (n : BoardId). find_board n bs) (sym (same_board-true d.id b v)) ∙ w.0) in
+                let i : made ≡ d = some_is made d (sym h ∙ ap (λ (n : BoardId). find_board n bs) (sym (same_board-true d.id b v)) ∙ w.0) in
                 absurd (true≢false (sym w.1 ∙ ap (is_on x) (sym i) ∙ sym (find-any (named x) made.stats) ∙ ap is_some k))
 
 -- it isn't on a board that isn't there

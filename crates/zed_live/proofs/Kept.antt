@@ -20,6 +20,8 @@ use Rattle.zed_types.specs.declared.names.StatId.{StatId}
 use Rattle.zed_types.specs.Names.{board_of, stat_of, same_board, same_stat}
 use Rattle.zed_types.specs.Stamp.{stamp_cmp}
 use Rattle.zed_types.proofs.StampOrder.{same_board-true}
+use Rattle.zed_types.proofs.Facts.{is_some-map, all_weaker}
+use Rattle.zed_types.proofs.Orderings.{name_same}
 use Rattle.zed_names.specs.ByName.{put, add, is_earlier}
 use Rattle.zed_names.proofs.Changed.{change-none}
 use Rattle.zed_names.proofs.Found.{in-change, rise-change, rise-add_all}
@@ -30,7 +32,6 @@ use Rattle.zed_edit.specs.declared.plain.Board.{Board}
 use Rattle.zed_edit.specs.declared.plain.Stat.{Stat}
 use Rattle.zed_edit.specs.Stat.{new_stat as plain_stat}
 use Rattle.zed_laws.specs.NameOrder.{NamesRise}
-use Rattle.zed_laws.proofs.NamesInOrder.{All-weaken}
 use Rattle.zed_settle.specs.Registers.{changes_stat, find_stat}
 use Rattle.zed_stats.specs.declared.stat.LiveStat.{LiveStat}
 use Rattle.zed_stats.specs.Fields.{write, remove}
@@ -42,7 +43,7 @@ use Rattle.zed_live.specs.Boards.{Boards, board_name, board_cmp, board_in, home_
 use Rattle.zed_live.specs.Listed.{Homes, home_cmp, is_listed, StayListed, AreOn, AreMadeOn, adds_stat, IsAddedOn, StatsAreListed, AreKept}
 use Rattle.zed_live.proofs.BoardsByName.{only_board, rise-change_all}
 use Rattle.zed_live.proofs.StatsByName.{only_stat, as_live, in-add_made, in-add_each, stat-true, stat-apart}
-use Rattle.zed_live.proofs.Listed.{name_same, is_among, change_each, all_changed, first_found}
+use Rattle.zed_live.proofs.Listed.{is_among, change_each, all_changed, first_found}
 use Rattle.zed_live.proofs.Pairs.{listed, run, stays, is_put, any_listed, sorted_listed, run_listed}
 
 -- ---- what is listed
@@ -74,7 +75,7 @@ now_listed x b old new h = is_put home_cmp (x, b) old new homes_total h
 
 -- what stays listed is on its board
 pub still_on : (b : BoardId) (xs : List Stat) (old new : Homes) → StayListed old new → AreOn b xs old → AreOn b xs new
-still_on b xs old new stay a = All-weaken (λ x. is_listed x.id b old ≡ true) (λ x. is_listed x.id b new ≡ true) xs (λ x h. stay.each x.id b h) a
+still_on b xs old new stay a = all_weaker (λ x. is_listed x.id b old ≡ true) (λ x. is_listed x.id b new ≡ true) xs (λ x h. stay.each x.id b h) a
 
 -- one place back in a list, where what stands there has a property and what comes behind has it
 pub one_back : {X : Type 0} (P : X → Type 0) (xs : List X) (i : ℕ) (d : X) → i < length xs → P (get_or xs i d) → AllByRecursion P (drop (i + 1) xs) → AllByRecursion P (drop i xs)
@@ -177,7 +178,7 @@ pub all_passed : (x : StatId) (s : Stamp) (op : Op) (homes : Homes) (ys : Boards
     → change_each board_name (stat_changed s op) (boards_with x homes) ys ≡ change_all (stat_changed s op) ys
 all_passed x s op homes ys up kept h =
     all_changed board_name only_board (stat_changed s op) (boards_with x homes) ys (sorted_boards x homes up) kept.rise
-    (All-weaken (StatsAreListed homes) (λ y. is_among board_name y.0 (boards_with x homes) ≡ false → stat_changed s op y.1 ≡ y.1) ys (λ y l n. others y l n) kept.listed)
+    (all_weaker (StatsAreListed homes) (λ y. is_among board_name y.0 (boards_with x homes) ≡ false → stat_changed s op y.1 ≡ y.1) ys (λ y l n. others y l n) kept.listed)
   where
     others : (y : BoardId × LiveBoard) → StatsAreListed homes y → is_among board_name y.0 (boards_with x homes) ≡ false → stat_changed s op y.1 ≡ y.1
     others y l n = go (has x (y.1).stats) refl
@@ -196,7 +197,7 @@ pub kept_more : (ys : Boards) (homes more : Homes) → StayListed homes more →
 kept_more ys homes more stay kept = record {
   sorted = kept.sorted;
   rise = kept.rise;
-  listed = All-weaken (StatsAreListed homes) (StatsAreListed more) ys (λ y l x h. stay.each x y.0 (l x h)) kept.listed;
+  listed = all_weaker (StatsAreListed homes) (StatsAreListed more) ys (λ y l x h. stay.each x y.0 (l x h)) kept.listed;
 }
 
 -- where an edit of a stat was passed
@@ -283,14 +284,10 @@ on-made x b (z ∷ xs) homes a h = go (same_stat z.id x) refl h (on-made x b xs 
     go true v h more = subst (λ c. is_listed c b homes ≡ true) (stat-true z.id x v) a.0
     go false v h more = more h
 
-mapped : {X Y : Type 0} (f : X → Y) (o : Option X) → is_some (option_map f o) ≡ is_some o
-mapped f None = refl
-mapped f (Some z) = refl
-
 made-listed : (s : Stamp) (bs : List Board) (homes : Homes) → AreMadeOn bs homes → AllByRecursion (StatsAreListed homes) (all_as_made s bs)
 made-listed s [] homes a = tt
 made-listed s (b ∷ bs) homes a =
-    ((λ x h. on-made x b.id b.stats homes a.0 (sym (ap is_some (in-add_each x b.stats []) ∙ mapped as_live (find_stat x b.stats)) ∙ h)), made-listed s bs homes a.1)
+    ((λ x h. on-made x b.id b.stats homes a.0 (sym (ap is_some (in-add_each x b.stats []) ∙ is_some-map as_live (find_stat x b.stats)) ∙ h)), made-listed s bs homes a.1)
 
 -- where boards were added
 pub kept_made : (s : Stamp) (bs : List Board) (homes : Homes) (ys zs : Boards) → zs ≡ add_all (all_as_made s bs) ys → IsSorted board_cmp (keys_of zs) → AreMadeOn bs homes → AreKept ys homes → AreKept zs homes

@@ -1,6 +1,5 @@
 -- Values under keys, where just the keys of a list are looked at.
-use Rattle.std.proofs.Common.{◌≡◌, ◌∙◌, ℕ, Bool, true, false, cond, ◌&&◌, ◌||◌, eqb, List, [], ◌∷◌, find, map, Option, Some, None, refl, ap, sym, subst, true≢false, arith}
-use Rattle.std.proofs.lemmas.Bool.Decides.{nat_tests}
+use Rattle.std.proofs.Common.{◌≡◌, ◌∙◌, ℕ, Bool, true, false, cond, ◌&&◌, ◌||◌, List, [], ◌∷◌, find, map, Option, Some, None, refl, ap, sym, subst, true≢false}
 use Rattle.std.proofs.lemmas.Cmp.{on_total, tied_itself}
 use Rattle.std.proofs.lemmas.List.Kept.{IsStrictlySortedBy-filter}
 use Rattle.std.proofs.lemmas.Map.Keys.{sorted_head, sorted_tail}
@@ -13,38 +12,18 @@ use Rattle.std.specs.declared.cmp.Ordering.TheVariants.{Less, Equal, Greater}
 use Rattle.std.specs.List.{filter, list_any, AllByRecursion}
 use Rattle.std.specs.List.Sorted.{IsStrictlySortedBy}
 use Rattle.std.specs.Option.{option_map, option_map_or}
-use Rattle.std.specs.Ordering.{is_eq, is_lt, nat_cmp, ordering_reverse}
-use Rattle.zed_types.specs.declared.stamp.Stamp.{Stamp}
+use Rattle.std.specs.Ordering.{is_eq, ordering_reverse}
 use Rattle.zed_types.specs.declared.names.Name.{Name}
-use Rattle.zed_types.specs.Stamp.{same_stamp, stamp_cmp}
-use Rattle.zed_types.specs.Names.{same_name}
+use Rattle.zed_types.proofs.Orderings.{name_same, less_from}
 use Rattle.zed_names.specs.ByName.{Under, IsOnlyName, NamesRise, name_cmp, key_cmp, same, is_earlier, under, change}
 use Rattle.zed_names.proofs.Found.{apart, one, rise-change}
 use Rattle.zed_names.proofs.Order.{name_total, is_less}
-use Rattle.zed_live.proofs.Pairs.{then_eq, sorted_cons}
+use Rattle.zed_live.proofs.Pairs.{sorted_cons}
 
 -- ---- the order of names
 
-both : {p q r s : Bool} → p ≡ q → r ≡ s → (p && r) ≡ (q && s)
-both e f = λ i. e i && f i
-
-nat_same : (x y : ℕ) → is_eq (nat_cmp x y) ≡ eqb x y
-nat_same x y = grind (arith, nat_tests)
-
-stamp_same : (a b : Stamp) → is_eq (stamp_cmp a b) ≡ same_stamp a b
-stamp_same a b = then_eq (nat_cmp a.time b.time) (nat_cmp a.replica b.replica) ∙ both (nat_same a.time b.time) (nat_same a.replica b.replica)
-
--- names compare as equal where they are one
-pub name_same : (a b : Name) → is_eq (name_cmp a b) ≡ same_name a b
-name_same a b = then_eq (stamp_cmp a.stamp b.stamp) (nat_cmp a.index b.index) ∙ both (stamp_same a.stamp b.stamp) (nat_same a.index b.index)
-
-less : (o : Ordering) → is_lt o ≡ true → o ≡ Less
-less Less h = refl
-less Equal h = absurd (true≢false (sym h))
-less Greater h = absurd (true≢false (sym h))
-
 comes-first : (a b : Name) → is_earlier a b ≡ true → name_cmp a b ≡ Less
-comes-first a b h = less (name_cmp a b) (is_less a b ∙ h)
+comes-first a b h = less_from (name_cmp a b) (is_less a b ∙ h)
 
 -- a later name isn't an earlier one
 later-apart : (a b : Name) → is_earlier a b ≡ true → is_eq (name_cmp b a) ≡ false

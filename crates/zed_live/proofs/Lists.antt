@@ -1,20 +1,9 @@
 -- What is found in lists, and what all or some pass where one more is put in.
-use Rattle.std.proofs.Common.{◌≡◌, ◌∙◌, ◌||◌, Bool, true, false, List, [], ◌∷◌, ◌++◌, find, Option, Some, None, refl, ap, subst, true≢false}
+use Rattle.std.proofs.Common.{◌≡◌, ◌∙◌, ◌||◌, Bool, true, false, List, [], ◌∷◌, ◌++◌, find, Some, refl, ap, subst, true≢false}
 use Rattle.std.specs.List.{AllByRecursion, list_any}
-use Rattle.std.specs.Option.{is_some}
+use Rattle.zed_types.proofs.Facts.{some_is, or_right}
 
 -- ---- options
-
-pub some-inside : {X : Type 0} (x y : X) → Some x ≡ Some y → x ≡ y
-some-inside {X = X} x y e = ap (value x) e
-  where
-    value : X → Option X → X
-    value d None = d
-    value d (Some z) = z
-
-pub none-there : {X : Type 0} (o : Option X) → is_some o ≡ false → o ≡ None
-none-there None h = refl
-none-there (Some x) h = absurd (true≢false h)
 
 -- ---- what is found
 
@@ -24,7 +13,7 @@ found-passes q [] x h = absurd (cc)
 found-passes q (y ∷ xs) x h = go (q y) refl (found-passes q xs x)
   where
     go : (b : Bool) → q y ≡ b → (find q xs ≡ Some x → q x ≡ true) → q x ≡ true
-    go true b more = let k : Some y ≡ Some x = rw b at h in subst (λ z. q z ≡ true) (some-inside y x k) b
+    go true b more = let k : Some y ≡ Some x = rw b at h in subst (λ z. q z ≡ true) (some_is y x k) b
     go false b more = more (rw b at h)
 
 -- ---- one more
@@ -47,13 +36,9 @@ any-late q (f ∷ low) e high = ap (λ v. q f || v) (any-late q low e high) ∙ 
     swap true false c = refl
     swap false b c = refl
 
-pub or-right : (a b : Bool) → b ≡ true → (a || b) ≡ true
-or-right true b h = refl
-or-right false b h = h
-
 -- what some pass, some pass with one more
 pub any-insert : {X : Type 0} (q : X → Bool) (low : List X) (e : X) (high : List X) → list_any q (low ++ high) ≡ true → list_any q (low ++ e ∷ high) ≡ true
-any-insert q low e high h = any-late q low e high ∙ or-right (q e) (list_any q (low ++ high)) h
+any-insert q low e high h = any-late q low e high ∙ or_right (q e) (list_any q (low ++ high)) h
 
 pub any-here : {X : Type 0} (q : X → Bool) (low : List X) (e : X) (high : List X) → q e ≡ true → list_any q (low ++ e ∷ high) ≡ true
 any-here q low e high h = any-late q low e high ∙ ap (λ v. v || list_any q (low ++ high)) h
@@ -69,7 +54,7 @@ any-follows p q follows (x ∷ xs) h = go (p x) refl h (λ k. any-follows p q fo
   where
     go : (b : Bool) → p x ≡ b → (b || list_any p xs) ≡ true → (list_any p xs ≡ true → list_any q xs ≡ true) → (q x || list_any q xs) ≡ true
     go true b k more = ap (λ v. v || list_any q xs) (follows x b)
-    go false b k more = or-right (q x) (list_any q xs) (more k)
+    go false b k more = or_right (q x) (list_any q xs) (more k)
 
 -- what each fails, none passes
 pub any-none : {X : Type 0} (P : X → Type 0) (q : X → Bool) → ((x : X) → P x → q x ≡ false) → (xs : List X) → AllByRecursion P xs → list_any q xs ≡ false

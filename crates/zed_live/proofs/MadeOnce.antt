@@ -1,5 +1,5 @@
 -- One edit alone makes a board, or a stat.
-use Rattle.std.proofs.Common.{◌≡◌, ◌∙◌, ◌||◌, Bool, true, false, List, [], ◌∷◌, ◌++◌, None, refl, ap, sym, true≢false}
+use Rattle.std.proofs.Common.{◌≡◌, ◌∙◌, ◌||◌, Bool, true, false, List, [], ◌∷◌, ◌++◌, refl, ap, sym, true≢false}
 use Rattle.std.specs.List.{AllByRecursion, list_any}
 use Rattle.std.specs.Option.{is_some}
 use Rattle.zed_types.specs.declared.stamp.Stamp.{Stamp}
@@ -16,11 +16,11 @@ use Rattle.zed_op.specs.Set.{IsRising}
 use Rattle.zed_edit.specs.declared.plain.Board.{Board}
 use Rattle.zed_edit.specs.declared.plain.Stat.{Stat}
 use Rattle.zed_laws.proofs.MadeThings.{find-any}
-use Rattle.zed_laws.proofs.NamesInOrder.{All-weaken, IsBoardOf, StampsAre}
+use Rattle.zed_laws.proofs.NamesInOrder.{StampsAre}
 use Rattle.zed_settle.specs.Making.{makes}
-use Rattle.zed_settle.specs.Registers.{made_boards, made_stats, find_board}
+use Rattle.zed_settle.specs.Registers.{made_boards, made_stats}
 use Rattle.zed_settle.proofs.Found.{unfound}
-use Rattle.zed_settle.proofs.Fresh.{boards-pass, stats-pass}
+use Rattle.zed_settle.proofs.Fresh.{boards-pass, stats-pass, unfound-board}
 use Rattle.zed_live.proofs.Lists.{here-all}
 
 -- ---- what bears the stamp of its edit is made once
@@ -49,11 +49,6 @@ module _ (makes_it : Edit → Bool) (s : Stamp) (stamped : (e : Edit) → makes_
       go false v more = more
 
 -- ---- boards
-
--- a name whose stamp fails a test that all boards pass
-unfound-board : (test : Stamp → Bool) (b : BoardId) (bs : List Board) → AllByRecursion (IsBoardOf test) bs → test b.name.stamp ≡ false → find_board b bs ≡ None
-unfound-board test b bs a h =
-    unfound (λ (x : Board). x.id.name) test b.name bs (All-weaken (IsBoardOf test) (λ (x : Board). test x.id.name.stamp ≡ true) bs (λ x k. k.0) a) h
 
 -- the board has the stamp of the edit
 board-stamp : (b : BoardId) (e : Edit) → makes e (thing.Board b) ≡ true → same_stamp b.name.stamp e.stamp ≡ true

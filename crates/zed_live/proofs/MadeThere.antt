@@ -6,6 +6,7 @@ use Rattle.zed_types.specs.declared.names.BoardId.{BoardId}
 use Rattle.zed_types.specs.declared.names.StatId.{StatId}
 use Rattle.zed_types.specs.Names.{same_board}
 use Rattle.zed_types.proofs.StampOrder.{same_board-true, same_name-itself}
+use Rattle.zed_types.proofs.Facts.{some_is, or_right}
 use Rattle.zed_op.specs.declared.op.Edit.{Edit}
 use Rattle.zed_op.specs.declared.thing.Thing.TheVariants as thing
 use Rattle.zed_op.specs.Set.{IsRising}
@@ -24,7 +25,7 @@ use Rattle.zed_live.proofs.BoardStatsTake.{none-put, put-made}
 use Rattle.zed_live.proofs.BoardsByName.{Rise}
 use Rattle.zed_live.proofs.BoardsTake.{untouched-unmade}
 use Rattle.zed_live.proofs.Homes.{makes-puts}
-use Rattle.zed_live.proofs.Lists.{or-right, found-passes, some-inside}
+use Rattle.zed_live.proofs.Lists.{found-passes}
 
 -- ---- boards
 
@@ -39,7 +40,7 @@ its-board (z ∷ ys) q y r h = go (q z) h (λ k. its-board ys q y r.1 k)
   where
     go : (v : Bool) → cond v (Some z) (find q ys) ≡ Some y → (find q ys ≡ Some y → board_in y.0 ys ≡ Some y.1) → cond (same_board y.0 z.0) (Some z.1) (board_in y.0 ys) ≡ Some y.1
     go true k more =
-        let i : z ≡ y = some-inside z y k in
+        let i : z ≡ y = some_is z y k in
         let w : same_board y.0 z.0 ≡ true = ap (λ (a : BoardId × LiveBoard). same_board y.0 a.0) i ∙ same_name-itself (y.0).name in
         rw w (ap (λ (a : BoardId × LiveBoard). Some a.1) i)
     go false k more =
@@ -51,7 +52,7 @@ its-board (z ∷ ys) q y r h = go (q z) h (λ k. its-board ys q y r.1 k)
         later (x ∷ zs) a m = pick (q x) m (λ j. later zs a.1 j)
           where
             pick : (v : Bool) → cond v (Some x) (find q zs) ≡ Some y → (find q zs ≡ Some y → is_earlier (z.0).name (y.0).name ≡ true) → is_earlier (z.0).name (y.0).name ≡ true
-            pick true j rest = sym (ap (λ (u : BoardId × LiveBoard). is_earlier (z.0).name (u.0).name) (some-inside x y j)) ∙ a.0
+            pick true j rest = sym (ap (λ (u : BoardId × LiveBoard). is_earlier (z.0).name (u.0).name) (some_is x y j)) ∙ a.0
             pick false j rest = rest j
 
 -- one that is found is among them
@@ -60,8 +61,8 @@ among b q [] x h k = absurd (cc)
 among b q (y ∷ ys) x h k = go (same_board b y.0) h (λ m. among b q ys x m k)
   where
     go : (v : Bool) → cond v (Some y.1) (board_in b ys) ≡ Some x → (board_in b ys ≡ Some x → list_any (λ y. q y.1) ys ≡ true) → (q y.1 || list_any (λ y. q y.1) ys) ≡ true
-    go true m more = ap (λ u. u || list_any (λ y. q y.1) ys) (ap q (some-inside y.1 x m) ∙ k)
-    go false m more = or-right (q y.1) (list_any (λ y. q y.1) ys) (more m)
+    go true m more = ap (λ u. u || list_any (λ y. q y.1) ys) (ap q (some_is y.1 x m) ∙ k)
+    go false m more = or_right (q y.1) (list_any (λ y. q y.1) ys) (more m)
 
 -- what is made is put on some board
 any-put : (x : StatId) (es : List Edit) → list_any (λ e. makes e (thing.Stat x)) es ≡ true → (b : BoardId) × (list_any (puts x b) es ≡ true)
@@ -70,7 +71,7 @@ any-put x (e ∷ es) h = go (makes e (thing.Stat x)) refl h (λ k. any-put x es 
   where
     go : (v : Bool) → makes e (thing.Stat x) ≡ v → (v || list_any (λ f. makes f (thing.Stat x)) es) ≡ true → (list_any (λ f. makes f (thing.Stat x)) es ≡ true → (b : BoardId) × (list_any (puts x b) es ≡ true)) → (b : BoardId) × (list_any (puts x b) (e ∷ es) ≡ true)
     go true v k more = let p = makes-puts x e v in (p.0, ap (λ u. u || list_any (puts x p.0) es) p.1)
-    go false v k more = let p = more k in (p.0, or-right (puts x p.0 e) (list_any (puts x p.0) es) p.1)
+    go false v k more = let p = more k in (p.0, or_right (puts x p.0 e) (list_any (puts x p.0) es) p.1)
 
 -- ---- what is there
 
@@ -93,7 +94,7 @@ module _ (es : List Edit) (ys : Boards) (rises : IsRising es) (was : BoardsShow 
       board : (o : Option LiveBoard) → IsLeft b es o → o ≡ Some live → list_any (puts x b) es ≡ true
       board None k m = absurd (cc)
       board (Some y) k m =
-          let i : y ≡ live = some-inside y live m in
+          let i : y ≡ live = some_is y live m in
           stat (stat_in x y.stats) (k.1.stats.each x) (ap (λ (a : LiveBoard). has x a.stats) i ∙ h)
 
   -- a stat that is put on a board is there
@@ -115,7 +116,7 @@ module _ (es : List Edit) (ys : Boards) (rises : IsRising es) (was : BoardsShow 
       go : (o : Option (BoardId × LiveBoard)) → find (λ y. has x (y.1).stats) ys ≡ o → option_map (λ y. y.0) o ≡ Some c → list_any (puts x c) es ≡ true
       go None k m = absurd (cc)
       go (Some y) k m =
-          let i : y.0 ≡ c = some-inside y.0 c m in
+          let i : y.0 ≡ c = some_is y.0 c m in
           ap (λ b. list_any (puts x b) es) (sym i) ∙ had-put y.0 x y.1 (its-board ys (λ z. has x (z.1).stats) y was.rise k) (found-passes (λ z. has x (z.1).stats) ys y k)
 
   some-home : (x : StatId) → is_some (home_in x ys) ≡ list_any (λ y. has x (y.1).stats) ys

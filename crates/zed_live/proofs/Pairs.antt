@@ -11,19 +11,7 @@ use Rattle.std.specs.BTreeMap.{is_at}
 use Rattle.std.specs.BTreeMap.Range.{range_contains}
 use Rattle.std.specs.List.{filter, list_any, AllByRecursion}
 use Rattle.std.specs.List.Sorted.{IsStrictlySortedBy}
-
-equal_from : (r : Ordering) → is_eq r ≡ true → r ≡ Equal
-equal_from Less h = absurd (true≢false (sym h))
-equal_from Equal h = refl
-equal_from Greater h = absurd (true≢false (sym h))
-
-pub then_eq : (o p : Ordering) → is_eq (ordering_then o p) ≡ (is_eq o && is_eq p)
-then_eq Less p = refl
-then_eq Equal p = refl
-then_eq Greater p = refl
-
-either : {p q r s : Bool} → p ≡ q → r ≡ s → (p || r) ≡ (q || s)
-either e f = λ i. e i || f i
+use Rattle.zed_types.proofs.Orderings.{equal_from, then_eq}
 
 -- ---- what a set has after one more is put in
 

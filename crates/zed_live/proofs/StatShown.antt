@@ -20,6 +20,7 @@ use Rattle.zed_types.specs.Stat.{stat_byte_index}
 use Rattle.zed_types.specs.Table.{map_from}
 use Rattle.zed_types.specs.Register.{last_value}
 use Rattle.zed_types.proofs.StampOrder.{same_name-true, same_stamp-true, same_stamp-itself, before_irrefl, before_trans}
+use Rattle.zed_types.proofs.Facts.{all_joined}
 use Rattle.zed_world.specs.Contents.{Contents}
 use Rattle.zed_world.specs.Reading.{world_at}
 use Rattle.zed_world.specs.declared.error.WorldError.{WorldError}
@@ -32,26 +33,25 @@ use Rattle.zed_op.specs.Fit.{Fits}
 use Rattle.zed_op.specs.Set.{IsRising, AllFit}
 use Rattle.zed_op.specs.Sizes.{HaveSizes}
 use Rattle.zed_op.proofs.FitParts.{fit_is_each_part}
-use Rattle.zed_edit.specs.declared.plain.Board.{Board}
 use Rattle.zed_edit.specs.declared.plain.Stat.{Stat}
 use Rattle.zed_edit.specs.declared.plain.Plain.{Plain}
 use Rattle.zed_edit.specs.Document.{empty_document, all_stats}
 use Rattle.zed_edit.specs.Genesis.{programs_before, opened_stat, opened_boards_from}
 use Rattle.zed_edit.specs.Replay.{can, step, replay, taken_on, taken}
 use Rattle.zed_laws.specs.Registers.{writes_of}
-use Rattle.zed_laws.proofs.AllBoards.{all_joined}
 use Rattle.zed_laws.proofs.LatestWrites.{latest_of-rising, writes-rising, taken-rising}
 use Rattle.zed_laws.proofs.NamesInOrder.{StampsAre}
 use Rattle.zed_laws.proofs.RegularSteps.{ReadIsNormal}
 use Rattle.zed_settle.specs.Fields.{Field, stat_byte, stat_number, third_parameter, follower, leader, stat_text, is_player, removed_or_player}
 use Rattle.zed_settle.specs.Registers.{GreatestStampWins, of_stat, find_stat, made_boards, made_stats, changes_stat, stats_of, opened_from, latest_or}
-use Rattle.zed_settle.specs.Whole.{IsWholeBoard, IsWholeStat}
+use Rattle.zed_settle.specs.Whole.{IsWholeStat}
 use Rattle.zed_settle.proofs.Found.{found-holds, unfound}
 use Rattle.zed_settle.proofs.Fresh.{boards-pass, stats-pass}
 use Rattle.zed_settle.proofs.StatFields.{is_byte, is_number, is_third_parameter, is_follower, is_leader, is_text, is_for_player, is_removed, stat-wins}
 use Rattle.zed_settle.proofs.WholeSteps.{replay_whole}
 use Rattle.zed_cells.specs.Writes.{written_at}
 use Rattle.zed_stats.specs.declared.stat.LiveStat.{LiveStat}
+use Rattle.zed_settle.proofs.StatReads.{whole-stats}
 use Rattle.zed_live.specs.Shows.{latest_in}
 use Rattle.zed_live.specs.Stat.{removes, StatShows, shown_stat, ReplayedStatIsShown}
 use Rattle.zed_live.proofs.Lists.{found-passes}
@@ -216,10 +216,6 @@ taken-fit p (e ∷ es) a = go (can p e) (taken-fit (step p e) es a.1)
     go false more = more
 
 -- ---- the stat of the replay
-
-whole-stats : (bs : List Board) → AllByRecursion IsWholeBoard bs → AllByRecursion IsWholeStat (stats_of bs)
-whole-stats [] a = tt
-whole-stats (b ∷ bs) a = all_joined IsWholeStat b.stats (stats_of bs) a.0.stats (whole-stats bs a.1)
 
 each-byte : (P : ℕ → Type 0) → ((f : StatByte) → P (stat_byte_index f)) → (i : ℕ) → i < 6 → P i
 each-byte P all zero h = all X

@@ -3,6 +3,7 @@ use Rattle.std.proofs.Common.{◌≡◌, ◌∙◌, ◌&&◌, ◌||◌, ℕ, ℤ
 use Rattle.std.specs.List.{AllByRecursion, list_any}
 use Rattle.std.specs.Option.{option_or, option_map, is_some}
 use Rattle.std.proofs.lemmas.List.{length-set}
+use Rattle.std.proofs.lemmas.Bool.{or_parts}
 use Rattle.zed_types.specs.declared.stamp.Stamp.{Stamp}
 use Rattle.zed_types.specs.declared.written.Written.{Written}
 use Rattle.zed_types.specs.declared.names.StatId.{StatId}
@@ -16,6 +17,7 @@ use Rattle.zed_types.specs.Stamp.{before}
 use Rattle.zed_types.specs.Names.{same_stat}
 use Rattle.zed_types.specs.Stat.{stat_byte_index, stat_number_index}
 use Rattle.zed_types.specs.Register.{keep_later, latest_of}
+use Rattle.zed_types.proofs.Facts.{none_is}
 use Rattle.zed_op.specs.declared.op.Op.{Op}
 use Rattle.zed_op.specs.declared.op.Op.TheVariants.{StatRemove, SetStat}
 use Rattle.zed_op.specs.declared.op.Edit.{Edit}
@@ -30,6 +32,7 @@ use Rattle.zed_stats.specs.declared.field.StatField.TheVariants as field
 use Rattle.zed_stats.specs.declared.stat.LiveStat.{LiveStat}
 use Rattle.zed_stats.specs.Fields.{field_of, field_number, number_at, value_of, with_number, with_setting, stamp_of, overwrite, write, new_stat}
 use Rattle.zed_stats.specs.Arrivals.{held, writes_of, IsWhole, FieldsHoldTheLatest}
+use Rattle.zed_stats.proofs.FieldWrites.{whole_write}
 use Rattle.zed_live.specs.Shows.{latest_in}
 use Rattle.zed_live.specs.Stat.{values_of, stat_after, removes, held_as, StatShows, touches_stat, StatIsMade, StatTakes, StatPassesOthers}
 use Rattle.zed_live.proofs.HeaderTakes.{put-late}
@@ -61,18 +64,10 @@ module _ {V : Type 0} (latest : FieldsHoldTheLatest) (value : StatSetting → V)
 
 -- ---- what an edit writes
 
-or-parts : (a b : Bool) → (a || b) ≡ false → (a ≡ false) × (b ≡ false)
-or-parts true b h = absurd (true≢false h)
-or-parts false b h = (refl, h)
-
-none-there : {X : Type 0} (o : Option X) → is_some o ≡ false → o ≡ None
-none-there None h = refl
-none-there (Some x) h = absurd (true≢false h)
-
 untouched-parts : (x : StatId) (e : Edit) → touches_stat x e ≡ false → (find_stat x (made_stats e.stamp e.op) ≡ None) × (changes_stat x e.op ≡ false)
 untouched-parts x e h =
-    let p = or-parts (is_some (find_stat x (made_stats e.stamp e.op))) (changes_stat x e.op) h in
-    (none-there (find_stat x (made_stats e.stamp e.op)) p.0, p.1)
+    let p = or_parts (is_some (find_stat x (made_stats e.stamp e.op))) (changes_stat x e.op) h in
+    (none_is (find_stat x (made_stats e.stamp e.op)) p.0, p.1)
 
 module _ {V : Type 0} (f : Field Stat V) (x : StatId) where
   beside-writes : (e : Edit) → touches_stat x e ≡ false → (of_stat x f).writes e ≡ None
@@ -165,13 +160,6 @@ setting-whole (setting.Follower o) s t = (t.bytes, t.numbers)
 setting-whole (setting.Leader o) s t = (t.bytes, t.numbers)
 setting-whole (setting.Text o) s t = (t.bytes, t.numbers)
 
-write-whole : (at : Stamp) (w : StatSetting) (s : LiveStat) → IsWhole s → IsWhole (write at w s)
-write-whole at w s t = go (before (stamp_of (field_of w) s) at)
-  where
-    go : (b : Bool) → IsWhole (cond b (overwrite at w s) s)
-    go true = record { stamps = length-set s.stamps (field_number (field_of w)) at ∙ t.stamps; bytes = (setting-whole w s t).0; numbers = (setting-whole w s t).1 }
-    go false = t
-
 -- ---- edits of the stat
 
 abbrev edit_of : Stamp → Op → Edit
@@ -180,7 +168,7 @@ edit_of s op = record { stamp = s; op = op }
 module _ (latest : FieldsHoldTheLatest) where
   op-takes : (x : StatId) (at : Stamp) (op : Op) (low high : List Edit) (s : LiveStat) → IsRising (low ++ edit_of at op ∷ high) → changes_stat x op ≡ true → StatShows x (low ++ high) s → StatShows x (low ++ edit_of at op ∷ high) (stat_after at op s)
   op-takes x at (SetStat y w) low high s rises h was = record {
-    whole = write-whole at w s was.whole;
+    whole = whole_write at w s was.whole;
     bytes = λ f. setting-put latest byte_in (field.Byte f) (λ z. (stat_byte f).value z) (stat_byte_set f) (byte-set f) x y at w low high s rises h was.whole (was.bytes f);
     numbers = λ f. setting-put latest number_in (field.Number f) (λ z. (stat_number f).value z) (stat_number_set f) (number-set f) x y at w low high s rises h was.whole (was.numbers f);
     p3 = setting-put latest p3_in field.P3 (λ z. third_parameter.value z) third_parameter_set p3-set x y at w low high s rises h was.whole was.p3;

@@ -8,6 +8,7 @@ use Rattle.std.specs.declared.cmp.Ordering.{Ordering}
 use Rattle.std.specs.declared.cmp.Ordering.TheVariants.{Less, Equal, Greater}
 use Rattle.zed_types.specs.declared.names.Name.{Name}
 use Rattle.zed_types.specs.Names.{same_name}
+use Rattle.zed_types.proofs.Orderings.{less_from}
 use Rattle.zed_names.specs.ByName.{name_cmp, is_earlier}
 
 pub name_total : IsTotalOrder name_cmp
@@ -26,20 +27,15 @@ by_tests false true false true false false = refl
 by_tests false true false false e f = refl
 by_tests false false c d e f = refl
 
--- a name compares as less where it is earlier
+-- a name compares as less_from where it is earlier
 pub is_less : (a b : Name) → is_lt (name_cmp a b) ≡ is_earlier a b
 is_less a b =
     by_tests (ltb a.stamp.time b.stamp.time) (eqb a.stamp.time b.stamp.time) (ltb a.stamp.replica b.stamp.replica) (eqb a.stamp.replica b.stamp.replica)
     (ltb a.index b.index) (eqb a.index b.index)
 
-less : (o : Ordering) → is_lt o ≡ true → o ≡ Less
-less Less h = refl
-less Equal h = absurd (cc)
-less Greater h = absurd (cc)
-
 pub earlier-through : (a b c : Name) → is_earlier a b ≡ true → is_earlier b c ≡ true → is_earlier a c ≡ true
 earlier-through a b c h k =
-    sym (is_less a c) ∙ ap is_lt (name_total.trans a b c (less (name_cmp a b) (is_less a b ∙ h)) (less (name_cmp b c) (is_less b c ∙ k)))
+    sym (is_less a c) ∙ ap is_lt (name_total.trans a b c (less_from (name_cmp a b) (is_less a b ∙ h)) (less_from (name_cmp b c) (is_less b c ∙ k)))
 
 then_equal : (o p : Ordering) → ordering_then o p ≡ Equal → (o ≡ Equal) × (p ≡ Equal)
 then_equal Less p h = absurd (cc)

@@ -1,7 +1,8 @@
 -- An edit that fits has the sizes of its fields.
-use Rattle.std.proofs.Common.{◌≡◌, Bool, true, false, ◌||◌, refl}
+use Rattle.std.proofs.Common.{◌≡◌, true, refl}
 use Rattle.std.proofs.lemmas.Bool.{and_parts}
 use Rattle.zed_types.specs.declared.stamp.Stamp.{Stamp}
+use Rattle.zed_types.proofs.Facts.{or_right}
 use Rattle.zed_op.specs.declared.op.Op.{Op}
 use Rattle.zed_op.specs.declared.op.Op.TheVariants.{Genesis}
 use Rattle.zed_op.specs.declared.op.Edit.{Edit}
@@ -10,13 +11,9 @@ use Rattle.zed_op.specs.Fit.{is_stamp, is_own_stamp, is_in_range, Fits}
 use Rattle.zed_op.specs.Sizes.{AreStamped, IsStamp, IsOp, HasSizes}
 use Rattle.zed_op.specs.Verdict.{FitIsEachPart}
 
-either_of : (a b : Bool) → b ≡ true → (a || b) ≡ true
-either_of true b h = refl
-either_of false b h = h
-
-own_stamp : (op : Op) (s : Stamp) → is_own_stamp op s ≡ true → is_stamp s ≡ true
+pub own_stamp : (op : Op) (s : Stamp) → is_own_stamp op s ≡ true → is_stamp s ≡ true
 own_stamp (Genesis bytes) s h = rw h refl
-own_stamp _ s h = either_of _ _ h
+own_stamp _ s h = or_right _ _ h
 
 -- by the facts on real edits: the stamp and the op have their sizes
 pub has_sizes : FitIsEachPart → (e : Edit) → (is_stamp e.stamp ≡ true → IsStamp e.stamp) → (AreStamped (names_of e.op) → is_in_range e.op ≡ true → IsOp e.op) → Fits e → HasSizes e

@@ -28,7 +28,7 @@ rising_is_its_edits es fs r s h =
     rising-same es fs r s (λ e m. Member-from e fs ((h e).0 (Member-to e es m))) (λ e m. Member-from e es ((h e).1 (Member-to e fs m)))
 
 -- lists that agree with one another
-agree_left : (es fs : List Edit) → Agrees (es ++ fs) → Agrees es
+pub agree_left : (es fs : List Edit) → Agrees (es ++ fs) → Agrees es
 agree_left es fs a e f m n s = a e f (Contains-append_left es fs e m) (Contains-append_left es fs f n) s
 
 agree_right : (es fs : List Edit) → Agrees (es ++ fs) → Agrees fs

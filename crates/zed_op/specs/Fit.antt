@@ -1,8 +1,7 @@
 -- When an edit fits, and the first cause where it doesn't.
-use Rattle.std.specs.Prelude.{ℕ, nat_le, Bool, true, false, not, ◌&&◌, ◌||◌, if◌then◌else◌, List, length, Option, Some, None, ◌≡◌}
+use Rattle.std.specs.Prelude.{ℕ, nat_le, Bool, true, not, ◌&&◌, ◌||◌, if◌then◌else◌, List, length, Option, Some, None, ◌≡◌}
 use Rattle.std.specs.List.{list_all}
 use Rattle.zed_types.specs.declared.stamp.Stamp.{Stamp}
-use Rattle.zed_types.specs.declared.tile.Rectangle.{Rectangle}
 use Rattle.zed_types.specs.declared.header.HeaderSetting.{HeaderSetting}
 use Rattle.zed_types.specs.declared.header.HeaderSetting.TheVariants.{WorldName, Flag as FlagSetting}
 use Rattle.zed_types.specs.declared.property.BoardText.{BoardText}
@@ -18,6 +17,7 @@ use Rattle.zed_op.specs.declared.op.Op.{Op}
 use Rattle.zed_op.specs.declared.op.Op.TheVariants.{Genesis, SetHeader, BoardAdd, BoardRemove, SetBoard, SetCells, TextInsert, TextDelete}
 use Rattle.zed_op.specs.declared.op.Edit.{Edit}
 use Rattle.zed_types.specs.Names.{title}
+use Rattle.zed_types.specs.Table.{is_in_table}
 use Rattle.zed_op.specs.Names.{names_of, stamp_of}
 
 -- the stamp of the edit that makes the world
@@ -44,10 +44,6 @@ has_good_stamps e = is_own_stamp e.op e.stamp && list_all (λ x. is_stamp (stamp
 -- a string of at most n bytes
 abbrev pub is_at_most : ℕ → List ℕ → Bool
 is_at_most n s = nat_le (length s) n
-
--- a rectangle of at least one cell, inside the table
-abbrev pub is_in_table : Rectangle → Bool
-is_in_table r = (nat_le 1 r.left && nat_le r.left r.right && nat_le r.right 60) && (nat_le 1 r.top && nat_le r.top r.bottom && nat_le r.bottom 25)
 
 -- the string of a header register is short enough
 abbrev pub is_header_in_range : HeaderSetting → Bool

@@ -2,7 +2,8 @@
 ghost use Rattle.std.specs.Prelude.{◌≡◌, ◌⊎◌, Err, IfOk, IfErr, true};
 ghost use Rattle.std.specs.List.{list_all};
 ghost use Rattle.zed_op.specs.declared.cause.EditError.TheVariants.{Memory};
-ghost use Rattle.zed_op.specs.Fit.{Fits, fault, is_author_stamp, is_stamp, is_own_stamp, has_good_stamps, is_in_table, is_header_in_range, most_of, is_property_in_range, is_in_range, names_earlier, has_good_world};
+ghost use Rattle.zed_types.specs.Table.{is_in_table};
+ghost use Rattle.zed_op.specs.Fit.{Fits, fault, is_author_stamp, is_stamp, is_own_stamp, has_good_stamps, is_header_in_range, most_of, is_property_in_range, is_in_range, names_earlier, has_good_world};
 ghost use Rattle.zed_op.specs.Names.{names_of, stamp_of};
 ghost use Rattle.zed_op.specs.Verdict.{verdict, is_genesis, HangsOnItsWorld};
 

@@ -6,7 +6,7 @@ use Rattle.std.proofs.lemmas.Bool.{ne_eqb}
 use mathlib.Core.Logic.{inl, inr}
 use Rattle.zed_types.specs.declared.stamp.Stamp.{Stamp}
 use Rattle.zed_op.specs.declared.op.Edit.{Edit}
-use Rattle.zed_op.specs.Set.{Agrees, AllFit, set_of}
+use Rattle.zed_op.specs.Set.{Agrees, set_of}
 use Rattle.zed_editfile.specs.declared.error.EditFileError.{EditFileError}
 use Rattle.zed_editfile.specs.declared.error.EditFileError.TheVariants as file
 use Rattle.zed_editfile.specs.Spelling.{file_text}
@@ -27,6 +27,7 @@ use Rattle.zed_world.specs.Reading.{world_at}
 use Rattle.zed_world.specs.Writing.{world_text}
 use Rattle.zed_edit.specs.Replay.{replay}
 use Rattle.zed_op.specs.Sizes.{HaveSizes}
+use Rattle.zed_link.proofs.Readings.{records_fit}
 use Rattle.zed_export.specs.declared.error.ExportError.{ExportError}
 use Rattle.zed_export.specs.World.{world_of}
 use Rattle.zed_export.specs.Limits as limit
@@ -147,10 +148,6 @@ run_of_texts devices law words t out n lists status new asks ended =
     ]
 
 -- ---- what is saved is read
-
-pub records_fit : (es : List Edit) → AreRecords es → AllFit es
-records_fit [] h = tt
-records_fit (e ∷ es) h = (h.0.0, records_fit es h.1)
 
 records_have_sizes : (es : List Edit) → AreRecords es → HaveSizes es
 records_have_sizes [] h = tt

@@ -2,10 +2,10 @@
 use Rattle.std.proofs.Common.{◌≡◌, ◌∙◌, ◌≤◌, ◌<◌, ◌^◌, ◌++◌, arith, ℕ, Bool, false, List, [], ◌∷◌, length, take, suc, nat_lt, Option, Some, None, Result, Ok, Err, refl, ap, sym, subst, map, append_assoc, append-nil, inl, inr}
 use Rattle.std.specs.Prelude.{◌⊎◌, Contains, MatchBool, option_map}
 use Rattle.std.proofs.lemmas.List.{length-map, length-take-le, take-map}
-use Rattle.std.proofs.lemmas.List.Elements.{Contains-append_left}
 use Rattle.zed_types.specs.declared.stamp.Stamp.{Stamp}
 use Rattle.zed_op.specs.declared.op.Edit.{Edit}
 use Rattle.zed_op.specs.Set.{Agrees, AllFit, set_of}
+use Rattle.zed_op.proofs.SetLaws.{agree_left}
 use Rattle.zed_editfile.specs.Spelling.{file_text}
 use Rattle.zed_editfile.specs.Stream.{AreRecords}
 use Rattle.zed_document.specs.declared.error.DocumentError.TheVariants as document
@@ -21,6 +21,7 @@ use Rattle.zed_link.specs.Ends.{LinkEnds}
 use Rattle.zed_link.specs.Laws.{DeliveriesGoOn, FilesArePulled, HoldsFile, PullsFile}
 use Rattle.zed_link.specs.Pull.{AllDelivered}
 use Rattle.zed_link.specs.declared.pulled.Pulled.{Pulled}
+use Rattle.zed_link.proofs.Readings.{records_fit}
 use Rattle.zed_session.specs.Links.{LinkSeen, PullsOver}
 use Rattle.zed_program.specs.Devices.{Devices}
 use Rattle.zed_program.specs.declared.refusal.Refusal.{Refusal}
@@ -33,7 +34,7 @@ use Rattle.zed_program.specs.Lines.{joined_line}
 use Rattle.zed_program.specs.Merged.{IsMerged, PullsEach, empty_document, with_edits}
 use Rattle.zed_program.specs.Outcome.{ComesTo, Effect, EndsCalmly, HasStatus, Writes, writes_joined}
 use Rattle.zed_program.specs.Refusals.{link_refusal}
-use Rattle.zed_program.proofs.FileTexts.{no_clash, records_fit, records_left, records_right}
+use Rattle.zed_program.proofs.FileTexts.{no_clash, records_left, records_right}
 
 -- what a function makes of each element of a list
 abbrev pub each_of : {X Y : Type 0} → List X → (X → Y) → List Y
@@ -98,10 +99,6 @@ holds : (d : Replica) (es : List Edit) (ends : Option LinkEnds) → d.world < 2 
 holds d es None small good is = absurd (let bad : None ≡ Some (file_text d.world es) = is in cc)
 holds d es (Some t) small good is =
     record { ends = t; told = refl; number = small; records = good; text = (let same : Some t.left ≡ Some (file_text d.world es) = is in cc) }
-
--- the first edits of a list that agrees agree
-agree_left : (es fs : List Edit) → Agrees (es ++ fs) → Agrees es
-agree_left es fs agrees = λ e f here there same. agrees e f (Contains-append_left es fs e here) (Contains-append_left es fs f there) same
 
 abbrev all_done : Result (Unit {0}) DocumentError
 all_done = Ok tt

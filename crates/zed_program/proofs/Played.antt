@@ -1,6 +1,6 @@
 -- What a session answers, as a command tells it.
 use Rattle.std.proofs.Common.{◌≡◌, ◌∙◌, ◌≢◌, ℕ, Bool, List, [], ◌∷◌, drop, true, false, Option, Some, None, Result, Ok, Err, MatchResult, ap, ap₂, refl, slice_get, subst, sym, inl, inr}
-use Rattle.std.specs.Prelude.{◌⊎◌, is_some, option_map}
+use Rattle.std.specs.Prelude.{◌⊎◌, option_map}
 use Rattle.zed_world.specs.declared.board.BoardData.{BoardData}
 use Rattle.zed_world.specs.declared.header.Header.{Header}
 use Rattle.zed_world.specs.Contents.{Contents}
@@ -243,8 +243,3 @@ still_lent now o (Some used) words old new keys left p at plays lent none =
 still_lent now o None words old new keys left p at plays lent none =
     let bad : None ≡ Some p = sym (ap (option_map now) none) ∙ lent ∙ ap (λ (x : Playing). x.playtest) (plays.2 ∙ at) in
     absurd (cc)
-
--- what isn't something is nothing
-pub not_some : {X : Type 0} (o : Option X) → is_some o ≡ false → o ≡ None
-not_some None none = refl
-not_some (Some x) none = absurd (let bad : true ≡ false = none in cc)

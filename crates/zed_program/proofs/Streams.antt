@@ -12,7 +12,7 @@ use mathlib.Core.Logic.{◌⊎◌, inl, inr}
 use Rattle.zed_op.specs.declared.op.Edit.{Edit}
 use Rattle.zed_op.specs.Set.{Agrees, AllFit, set_of}
 use Rattle.zed_editfile.specs.declared.error.EditFileError.{EditFileError}
-use Rattle.zed_editfile.specs.Stream.{AreRecords}
+use Rattle.zed_link.proofs.Readings.{records_fit}
 use Rattle.zed_program.specs.Files.{IsFile, IsStream, Stream, edits_then, end_of, stream_after}
 use Rattle.zed_program.specs.Refusals.{file_refusal}
 
@@ -32,10 +32,6 @@ pub last_file : (P : Stream → Type 0) (asked : Option ℕ) (bytes : List ℕ) 
 last_file P asked bytes files all es more e first read file =
     let here : IsStream asked (Some bytes ∷ files) (edits_then more (Some (file_refusal e))) = inl (e, file, refl) in
     read (edits_then more (Some (file_refusal e))) (subst (λ files. IsStream asked files (edits_then more (Some (file_refusal e)))) (sym first) here)
-
-records_fit : (es : List Edit) → AreRecords es → AllFit es
-records_fit [] h = tt
-records_fit (e ∷ es) h = (h.0.0, records_fit es h.1)
 
 -- the edits of a file fit
 pub file_fits : (asked : Option ℕ) (bytes : List ℕ) (es : List Edit) (end : Result ℕ EditFileError) → IsFile asked bytes es end → AllFit es

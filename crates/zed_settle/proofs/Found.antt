@@ -10,6 +10,7 @@ use Rattle.zed_types.specs.declared.names.Name.{Name}
 use Rattle.zed_types.specs.Names.{same_name}
 use Rattle.zed_types.specs.Table.{map_from}
 use Rattle.zed_types.proofs.StampOrder.{same_name-true}
+use Rattle.zed_types.proofs.Facts.{some_is}
 use Rattle.zed_edit.specs.Document.{change_such}
 use Rattle.zed_laws.specs.Registers.{overwritten}
 use Rattle.zed_laws.proofs.ChangedTexts.{map_option, find-change_same, find-change_apart}
@@ -35,20 +36,13 @@ get-map_from f n d (x ∷ xs) (suc i) h = let e : n + suc i ≡ (n + 1) + i = om
 
 -- ---- what is found
 
-some-inside : {X : Type 0} (x y : X) → Some x ≡ Some y → x ≡ y
-some-inside {X = X} x y e = ap (value x) e
-  where
-    value : X → Option X → X
-    value d None = d
-    value d (Some z) = z
-
 -- what holds of all holds of the one found
 pub found-holds : {X : Type 0} (P : X → Type 0) (q : X → Bool) (xs : List X) → AllByRecursion P xs → (x : X) → find q xs ≡ Some x → P x
 found-holds P q [] a x h = absurd (cc)
 found-holds P q (y ∷ xs) a x h = go (q y) refl (λ k. found-holds P q xs a.1 x k)
   where
     go : (b : Bool) → q y ≡ b → (find q xs ≡ Some x → P x) → P x
-    go true b more = let k : Some y ≡ Some x = rw b at h in subst P (some-inside y x k) a.0
+    go true b more = let k : Some y ≡ Some x = rw b at h in subst P (some_is y x k) a.0
     go false b more = more (rw b at h)
 
 -- a name whose stamp fails a test that all pass is not found

@@ -7,6 +7,7 @@ use Rattle.zed_types.specs.declared.names.BoardId.{BoardId}
 use Rattle.zed_types.specs.declared.names.StatId.{StatId}
 use Rattle.zed_types.specs.Stamp.{before, same_stamp}
 use Rattle.zed_types.proofs.StampOrder.{same_stamp-true, same_stamp-itself, before_irrefl}
+use Rattle.zed_types.proofs.Facts.{all_joined, all_weaker}
 use Rattle.zed_world.specs.Contents.{Contents}
 use Rattle.zed_world.specs.Reading.{world_at}
 use Rattle.zed_world.specs.declared.error.WorldError.{WorldError}
@@ -16,8 +17,7 @@ use Rattle.zed_edit.specs.declared.plain.Board.{Board}
 use Rattle.zed_edit.specs.declared.plain.Stat.{Stat}
 use Rattle.zed_edit.specs.declared.plain.Plain.{Plain}
 use Rattle.zed_edit.specs.Document.{all_stats}
-use Rattle.zed_laws.proofs.AllBoards.{all_joined}
-use Rattle.zed_laws.proofs.NamesInOrder.{All-weaken, StampsAre, IsBoardOf, NamesPass, pass-opened_boards}
+use Rattle.zed_laws.proofs.NamesInOrder.{StampsAre, IsBoardOf, NamesPass, pass-opened_boards}
 use Rattle.zed_settle.specs.Registers.{opened_from, made_boards, made_stats, stats_of, find_board, find_stat}
 use Rattle.zed_settle.proofs.Found.{unfound}
 
@@ -42,9 +42,9 @@ made_stats-pass test s op h = stats-pass test (made_boards s op) (boards-pass te
 pub not-earlier : (r s : Stamp) → same_stamp r s ≡ true → before r s ≡ false
 not-earlier r s h = ap (λ q. before q s) (same_stamp-true r s h) ∙ before_irrefl s
 
-unfound-board : (test : Stamp → Bool) (b : BoardId) (bs : List Board) → AllByRecursion (IsBoardOf test) bs → test b.name.stamp ≡ false → find_board b bs ≡ None
+pub unfound-board : (test : Stamp → Bool) (b : BoardId) (bs : List Board) → AllByRecursion (IsBoardOf test) bs → test b.name.stamp ≡ false → find_board b bs ≡ None
 unfound-board test b bs a h =
-    unfound (λ (x : Board). x.id.name) test b.name bs (All-weaken (IsBoardOf test) (λ (x : Board). test x.id.name.stamp ≡ true) bs (λ x k. k.0) a) h
+    unfound (λ (x : Board). x.id.name) test b.name bs (all_weaker (IsBoardOf test) (λ (x : Board). test x.id.name.stamp ≡ true) bs (λ x k. k.0) a) h
 
 pub fresh-board : (b : BoardId) (s : Stamp) (op : Op) (p : Plain) → NamesPass (λ q. before q s) p → (find_board b p.boards ≡ None) ⊎ (find_board b (made_boards s op) ≡ None)
 fresh-board b s op p a = go (same_stamp b.name.stamp s) refl

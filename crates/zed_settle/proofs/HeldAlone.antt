@@ -34,7 +34,7 @@ held_changes_nothing e low high c =
     (ap (λ (p : Plain). p.header) same, ap (λ (p : Plain). p.boards) same, ap (λ (p : Plain). p.texts) same)
 
 -- what holds of all edits holds of those held
-held-all : (P : Edit → Type 0) (p : Plain) (es : List Edit) → AllByRecursion P es → AllByRecursion P (held_on p es)
+pub held-all : (P : Edit → Type 0) (p : Plain) (es : List Edit) → AllByRecursion P es → AllByRecursion P (held_on p es)
 held-all P p [] h = tt
 held-all P p (e ∷ es) h = go (can p e) (held-all P (step p e) es h.1)
   where

@@ -11,6 +11,7 @@ use Rattle.zed_types.specs.declared.names.StatId.{StatId}
 use Rattle.zed_types.specs.Stamp.{before}
 use Rattle.zed_types.specs.Names.{board_of, stat_of, same_board, same_stat}
 use Rattle.zed_types.proofs.StampOrder.{same_board-true}
+use Rattle.zed_types.proofs.Facts.{none_is}
 use Rattle.zed_world.specs.Contents.{Contents}
 use Rattle.zed_world.specs.Reading.{world_at}
 use Rattle.zed_world.specs.declared.error.WorldError.{WorldError}
@@ -43,14 +44,10 @@ or-none : {X : Type 0} (o : Option X) → option_or o None ≡ o
 or-none None = refl
 or-none (Some x) = refl
 
-absent : {X : Type 0} (o : Option X) → is_some o ≡ false → o ≡ None
-absent None h = refl
-absent (Some x) h = absurd (cc)
-
 module _ (x : StatId) where
   -- a stat that is not among those of boards is on none of them
   on-none : (bs : List Board) → find_stat x (stats_of bs) ≡ None → find (is_on x) bs ≡ None
-  on-none bs h = absent (find (is_on x) bs) (find-any (is_on x) bs ∙ sym (any-stat (λ y. same_stat y.id x) bs) ∙ sym (find-any (λ y. same_stat y.id x) (stats_of bs)) ∙ ap is_some h)
+  on-none bs h = none_is (find (is_on x) bs) (find-any (is_on x) bs ∙ sym (any-stat (λ y. same_stat y.id x) bs) ∙ sym (find-any (λ y. same_stat y.id x) (stats_of bs)) ∙ ap is_some h)
 
   -- boards that come behind those that are there
   joined : (bs more : List Board) → (find_stat x (stats_of bs) ≡ None) ⊎ (find_stat x (stats_of more) ≡ None) → option_map id_of (find (is_on x) (bs ++ more)) ≡ option_or (option_map id_of (find (is_on x) more)) (option_map id_of (find (is_on x) bs))

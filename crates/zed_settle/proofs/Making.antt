@@ -32,8 +32,9 @@ use Rattle.zed_edit.specs.Replay.{can, do_edit, hold, step, replay_on, replay, t
 use Rattle.zed_laws.specs.TextNames.{StampsPass}
 use Rattle.zed_laws.proofs.MadeElements.{elements_are_of_edits}
 use Rattle.std.proofs.Math.Bool.{or_comm}
+use Rattle.zed_types.proofs.Facts.{all_weaker}
 use Rattle.zed_laws.proofs.MadeThings.{or_false, find-any, any_stat, makes as grows, opened, grown, has-do_op}
-use Rattle.zed_laws.proofs.NamesInOrder.{All-weaken, StampsAre, IsBoardOf, NamesPass, pass-opened_texts, pass-step, IsBefore, before-next, none-before}
+use Rattle.zed_laws.proofs.NamesInOrder.{StampsAre, IsBoardOf, NamesPass, pass-opened_texts, pass-step, IsBefore, before-next, none-before}
 use Rattle.zed_laws.proofs.SameThings.{has-hold, text_of_byte}
 use Rattle.zed_settle.specs.Making.{op_makes, makes, TakenMake, LateEditMakes, ThingsAreOfEdits}
 use Rattle.zed_settle.proofs.Found.{unfound}
@@ -64,7 +65,7 @@ things_are_of_edits test es x h = go x
     names = pass-on test empty_document es h (record { texts = tt; boards = tt })
 
     boards : StampsAre (λ (b : Board). b.id.name.stamp) test (replay es).boards
-    boards = All-weaken (IsBoardOf test) (λ (b : Board). test b.id.name.stamp ≡ true) (replay es).boards (λ b k. k.0) names.boards
+    boards = all_weaker (IsBoardOf test) (λ (b : Board). test b.id.name.stamp ≡ true) (replay es).boards (λ b k. k.0) names.boards
 
     go : (y : Thing) → has (replay es) y ≡ true → test (stamp_of y) ≡ true
     go (board b) k = passes (λ (z : Board). z.id.name) test b.name (replay es).boards boards k
@@ -167,7 +168,7 @@ taken_make es x r =
 
 -- ---- a late edit
 
-all-taken : (p : Plain) (es : List Edit) → held_on p es ≡ [] → taken_on p es ≡ es
+pub all-taken : (p : Plain) (es : List Edit) → held_on p es ≡ [] → taken_on p es ≡ es
 all-taken p [] h = refl
 all-taken p (e ∷ es) h = go (can p e) h (λ k. all-taken (step p e) es k)
   where
@@ -184,7 +185,7 @@ any-insert q (f ∷ low) e high = ap (λ v. q f || v) (any-insert q low e high) 
     swap true false c = refl
     swap false b c = refl
 
-rising-without : (e : Edit) (low high : List Edit) → IsRising (low ++ e ∷ high) → IsRising (low ++ high)
+pub rising-without : (e : Edit) (low high : List Edit) → IsRising (low ++ e ∷ high) → IsRising (low ++ high)
 rising-without e [] high r = r.1
 rising-without e (f ∷ low) high r = (without low r.0, rising-without e low high r.1)
   where

@@ -1,13 +1,14 @@
 -- Lists in the order of names.
-use Rattle.std.proofs.Common.{◌≡◌, ℕ, Bool, true, false, ◌&&◌, ◌||◌, List, [], ◌∷◌, find, Option, Some, None, refl, ap, ◌∙◌, sym, arith, eqb, ltb}
+use Rattle.std.proofs.Common.{◌≡◌, ℕ, Bool, true, false, ◌&&◌, ◌||◌, List, [], ◌∷◌, find, Some, None, refl, ap, ◌∙◌, sym, arith, eqb, ltb}
 use Rattle.std.specs.List.{AllByRecursion}
-use Rattle.std.proofs.lemmas.Bool.{and_parts}
+use Rattle.std.proofs.lemmas.Bool.{and_parts, or_parts}
 use Rattle.zed_types.specs.declared.stamp.Stamp.{Stamp}
 use Rattle.zed_types.specs.declared.names.Name.{Name}
 use Rattle.zed_types.specs.Stamp.{before, same_stamp}
 use Rattle.zed_types.specs.Names.{name_of, same_name}
 use mathlib.Core.Logic.{◌⊎◌, inl, inr}
 use Rattle.zed_types.proofs.StampOrder.{same_stamp-true, same_stamp-itself, before_trans}
+use Rattle.zed_types.proofs.Facts.{some_is, or_right}
 use Rattle.zed_laws.specs.NameOrder.{is_earlier, NamesRise}
 use Rattle.zed_settle.specs.Ordered.{OrderedAreTheirMembers}
 
@@ -25,10 +26,6 @@ not-itself r s m n h = grind (arith, h)
 stamps-linear : (r s : Stamp) → before r s ≡ false → before s r ≡ false → same_stamp s r ≡ true
 stamps-linear r s h k = grind (arith, h, k)
 
-or-parts : (a b : Bool) → (a || b) ≡ false → (a ≡ false) × (b ≡ false)
-or-parts true b h = absurd (cc)
-or-parts false b h = (refl, h)
-
 one-way : (r s : Stamp) → same_stamp s r ≡ true → same_stamp r s ≡ true
 one-way r s h = grind (arith, h)
 
@@ -37,8 +34,8 @@ indices-linear m n h k = grind (arith, h, k)
 
 linear : (r s : Stamp) (m n : ℕ) → earlier r m s n ≡ false → earlier s n r m ≡ false → (same_stamp s r && eqb n m) ≡ true
 linear r s m n h k =
-    let a = or-parts (before r s) (same_stamp r s && ltb m n) h in
-    let b = or-parts (before s r) (same_stamp s r && ltb n m) k in
+    let a = or_parts (before r s) (same_stamp r s && ltb m n) h in
+    let b = or_parts (before s r) (same_stamp s r && ltb n m) k in
     let t : same_stamp s r ≡ true = stamps-linear r s a.0 b.0 in
     let u : same_stamp r s ≡ true = one-way r s t in
     let c : ltb m n ≡ false = sym (ap (λ v. v && ltb m n) u) ∙ a.1 in
@@ -54,15 +51,11 @@ earlier-parts false false b h = absurd (cc)
 by-stamp : (r s : Stamp) (m n : ℕ) → before r s ≡ true → earlier r m s n ≡ true
 by-stamp r s m n h = ap (λ v. v || (same_stamp r s && ltb m n)) h
 
-or-right : (a b : Bool) → b ≡ true → (a || b) ≡ true
-or-right true b h = refl
-or-right false b h = h
-
 below : (l m n : ℕ) → ltb l m ≡ true → ltb m n ≡ true → ltb l n ≡ true
 below l m n h k = grind (arith, h, k)
 
 by-index : (r : Stamp) (m n : ℕ) → ltb m n ≡ true → earlier r m r n ≡ true
-by-index r m n h = or-right (before r r) (same_stamp r r && ltb m n) (ap (λ v. v && ltb m n) (same_stamp-itself r) ∙ h)
+by-index r m n h = or_right (before r r) (same_stamp r r && ltb m n) (ap (λ v. v && ltb m n) (same_stamp-itself r) ∙ h)
 
 earlier-through : (r s t : Stamp) (l m n : ℕ) → earlier r l s m ≡ true → earlier s m t n ≡ true → earlier r l t n ≡ true
 earlier-through r s t l m n h k =
@@ -84,13 +77,6 @@ earlier-same : (r s t : Stamp) (m n k : ℕ) → (same_stamp r s && eqb m n) ≡
 earlier-same r s t m n k h e =
     let p = and_parts (same_stamp r s) (eqb m n) h in
     ap (λ q. earlier q n t k) (sym (same_stamp-true r s p.0)) ∙ ap (λ i. earlier r i t k) (sym (same-index m n p.1)) ∙ e
-
-some-inside : {X : Type 0} (x y : X) → Some x ≡ Some y → x ≡ y
-some-inside {X = X} x y e = ap (value x) e
-  where
-    value : X → Option X → X
-    value d None = d
-    value d (Some z) = z
 
 module _ (X : Type 0) (name : X → Name) where
   abbrev stamp : X → Stamp
@@ -133,7 +119,7 @@ module _ (X : Type 0) (name : X → Name) where
       let b = not-earlier y x ys xs p (sym (e (stamp y) (index y))) in
       let same : named (stamp x) (index x) y ≡ true = linear (stamp x) (stamp y) (index x) (index y) a b in
       let there : find (named (stamp x) (index x)) (y ∷ ys) ≡ Some y = rw same refl in
-      some-inside x y (sym (find-first x xs) ∙ e (stamp x) (index x) ∙ there)
+      some_is x y (sym (find-first x xs) ∙ e (stamp x) (index x) ∙ there)
 
   -- behind the first members each name finds the same too
   same-rest : (x y : X) (xs ys : List X) → x ≡ y → NamesRise name (x ∷ xs) → NamesRise name (y ∷ ys) → ((s : Stamp) (n : ℕ) → find (named s n) (x ∷ xs) ≡ find (named s n) (y ∷ ys)) → (s : Stamp) (n : ℕ) → find (named s n) xs ≡ find (named s n) ys

@@ -10,6 +10,7 @@ use Rattle.zed_types.specs.Stamp.{before, same_stamp}
 use Rattle.zed_types.specs.Names.{name_of, board_of, stat_of, same_name, same_board, same_stat}
 use Rattle.zed_types.specs.Table.{map_from}
 use Rattle.zed_types.proofs.StampOrder.{same_stamp-true, same_stamp-itself, same_name-true, before_differs, before_differs_after}
+use Rattle.zed_types.proofs.Facts.{all_joined, all_weaker}
 use Rattle.zed_world.specs.Contents.{Contents}
 use Rattle.zed_world.specs.Reading.{world_at}
 use Rattle.zed_world.specs.declared.error.WorldError.{WorldError}
@@ -29,8 +30,7 @@ use Rattle.zed_edit.specs.Document.{empty_document, change_such, change_stats_of
 use Rattle.zed_edit.specs.Genesis.{opened_stat, opened_stats, opened_boards_from, opened_boards, programs_before}
 use Rattle.zed_edit.specs.Replay.{can, do_op, do_edit, hold, open_world, step, replay_on, replay}
 use Rattle.zed_laws.specs.NameOrder.{is_earlier, NamesRise, IsOrdered}
-use Rattle.zed_laws.proofs.AllBoards.{all_joined}
-use Rattle.zed_laws.proofs.NamesInOrder.{All-weaken, All-both, All-map, StampsAre, NamesPass, IsBoardOf, pass-opened_boards, above-opened_stats, set_stat-stamp, order-step, IsBefore, before-next, none-before, replay_ordered}
+use Rattle.zed_laws.proofs.NamesInOrder.{All-both, All-map, StampsAre, NamesPass, IsBoardOf, pass-opened_boards, above-opened_stats, set_stat-stamp, order-step, IsBefore, before-next, none-before, replay_ordered}
 use Rattle.zed_settle.specs.Registers.{stats_of}
 use Rattle.zed_settle.specs.OwnNames.{NamesDiffer, BoardsHaveOwnNames, StatsHaveOwnNames, TextsHaveOwnNames}
 use Rattle.zed_settle.proofs.Fresh.{stats-pass}
@@ -44,7 +44,7 @@ earlier-other a b h = grind (arith, h)
 rise-differ : {X : Type 0} (name : X → Name) (xs : List X) → NamesRise name xs → NamesDiffer name xs
 rise-differ name [] r = tt
 rise-differ name (x ∷ xs) r = (
-  All-weaken (λ y. is_earlier (name x) (name y) ≡ true) (λ y. same_name (name x) (name y) ≡ false) xs (λ y h. earlier-other (name x) (name y) h) r.0,
+  all_weaker (λ y. is_earlier (name x) (name y) ≡ true) (λ y. same_name (name x) (name y) ≡ false) xs (λ y h. earlier-other (name x) (name y) h) r.0,
   rise-differ name xs r.1,
 )
 
@@ -104,8 +104,8 @@ earlier-apart a b s h k =
 -- stats before a stamp, and stats of that stamp
 across-stamps : (s : Stamp) (xs ys : List Stat) → StampsAre (λ (x : Stat). x.id.name.stamp) (λ q. before q s) xs → StampsAre (λ (x : Stat). x.id.name.stamp) (λ q. same_stamp q s) ys → AllByRecursion (λ (x : Stat). Apart x.id.name ys) xs
 across-stamps s xs ys a b =
-    All-weaken (λ (x : Stat). before x.id.name.stamp s ≡ true) (λ (x : Stat). Apart x.id.name ys) xs
-    (λ x h. All-weaken (λ (y : Stat). same_stamp y.id.name.stamp s ≡ true) (λ (y : Stat). same_name x.id.name y.id.name ≡ false) ys (λ y k. earlier-apart x.id.name y.id.name s h k) b)
+    all_weaker (λ (x : Stat). before x.id.name.stamp s ≡ true) (λ (x : Stat). Apart x.id.name ys) xs
+    (λ x h. all_weaker (λ (y : Stat). same_stamp y.id.name.stamp s ≡ true) (λ (y : Stat). same_name x.id.name y.id.name ≡ false) ys (λ y k. earlier-apart x.id.name y.id.name s h k) b)
     a
 
 -- ---- the stats of a world file
@@ -171,7 +171,7 @@ added n d (b ∷ bs) boards differ before_it behind_it = go (same_board b.id d) 
     aparts = all-parts (λ (x : Stat). same_name n.id.name x.id.name ≡ false) b.stats (stats_of bs) behind_it
 
     with_it : Differ (b.stats ++ n ∷ [])
-    with_it = differ-joined b.stats (n ∷ []) left (tt, tt) (All-weaken (λ (x : Stat). same_name x.id.name n.id.name ≡ false) (λ (x : Stat). Apart x.id.name (n ∷ [])) b.stats (λ x h. (h, tt)) others.0)
+    with_it = differ-joined b.stats (n ∷ []) left (tt, tt) (all_weaker (λ (x : Stat). same_name x.id.name n.id.name ≡ false) (λ (x : Stat). Apart x.id.name (n ∷ [])) b.stats (λ x h. (h, tt)) others.0)
 
     go : (v : Bool) → same_board b.id d ≡ v → Differ (stats_of (change_such (λ c. same_board c.id d) (add_stat n) bs)) → Differ ((cond v (add_stat n b) b).stats ++ stats_of (change_such (λ c. same_board c.id d) (add_stat n) bs))
     go true v more =
@@ -181,7 +181,7 @@ added n d (b ∷ bs) boards differ before_it behind_it = go (same_board b.id d) 
         subst (λ (cs : List Board). Differ ((b.stats ++ n ∷ []) ++ stats_of cs)) (sym rest) whole
     go false v more =
         differ-joined b.stats (stats_of (change_such (λ c. same_board c.id d) (add_stat n) bs)) left more
-        (All-weaken (λ (x : Stat). Apart x.id.name (stats_of bs) × (same_name x.id.name n.id.name ≡ false)) (λ (x : Stat). Apart x.id.name (stats_of (change_such (λ c. same_board c.id d) (add_stat n) bs))) b.stats
+        (all_weaker (λ (x : Stat). Apart x.id.name (stats_of bs) × (same_name x.id.name n.id.name ≡ false)) (λ (x : Stat). Apart x.id.name (stats_of (change_such (λ c. same_board c.id d) (add_stat n) bs))) b.stats
         (λ x h. all-added (λ (y : Stat). same_name x.id.name y.id.name ≡ false) (λ c. same_board c.id d) n bs h.1 h.0)
         (All-both (λ (x : Stat). Apart x.id.name (stats_of bs)) (λ (x : Stat). same_name x.id.name n.id.name ≡ false) b.stats across others.0))
 
@@ -217,8 +217,8 @@ own-op s (StatAdd c fields) p a b d =
     let n = new_stat (stat_of s 0) false fields in
     let earlier = stats-pass (λ q. before q s) p.boards a.boards in
     added n c p.boards b d
-    (All-weaken (λ (x : Stat). before x.id.name.stamp s ≡ true) (λ (x : Stat). same_name x.id.name (name_of s 0) ≡ false) (stats_of p.boards) (λ x h. other-stamp x.id.name (name_of s 0) (before_differs x.id.name.stamp s h)) earlier)
-    (All-weaken (λ (x : Stat). before x.id.name.stamp s ≡ true) (λ (x : Stat). same_name (name_of s 0) x.id.name ≡ false) (stats_of p.boards) (λ x h. other-stamp (name_of s 0) x.id.name (before_differs_after x.id.name.stamp s h)) earlier)
+    (all_weaker (λ (x : Stat). before x.id.name.stamp s ≡ true) (λ (x : Stat). same_name x.id.name (name_of s 0) ≡ false) (stats_of p.boards) (λ x h. other-stamp x.id.name (name_of s 0) (before_differs x.id.name.stamp s h)) earlier)
+    (all_weaker (λ (x : Stat). before x.id.name.stamp s ≡ true) (λ (x : Stat). same_name (name_of s 0) x.id.name ≡ false) (stats_of p.boards) (λ x h. other-stamp (name_of s 0) x.id.name (before_differs_after x.id.name.stamp s h)) earlier)
 own-op s (StatRemove y) p a b d = kept-names y remove_stat (λ x. refl) p.boards d
 own-op s (SetStat y setting) p a b d = kept-names y (set_stat setting) (set_stat-stamp setting) p.boards d
 own-op s _ p a b d = d

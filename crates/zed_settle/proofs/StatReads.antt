@@ -14,6 +14,7 @@ use Rattle.zed_types.specs.declared.names.Name.{Name}
 use Rattle.zed_types.specs.Stamp.{before}
 use Rattle.zed_types.specs.Names.{board_of, stat_of, same_name, same_board, same_stat}
 use Rattle.zed_types.proofs.StampOrder.{same_name-true, same_name-apart}
+use Rattle.zed_types.proofs.Facts.{all_joined}
 use Rattle.zed_world.specs.Contents.{Contents}
 use Rattle.zed_world.specs.Reading.{world_at}
 use Rattle.zed_world.specs.declared.error.WorldError.{WorldError}
@@ -30,7 +31,6 @@ use Rattle.zed_edit.specs.Document.{change_such, change_boards, change_stats_of,
 use Rattle.zed_edit.specs.Genesis.{opened_boards}
 use Rattle.zed_edit.specs.Replay.{has_all, open_world, do_op}
 use Rattle.zed_laws.specs.Registers.{overwritten}
-use Rattle.zed_laws.proofs.AllBoards.{all_joined}
 use Rattle.zed_laws.proofs.MadeThings.{find-any, set_stat-id}
 use Rattle.zed_laws.proofs.NamesInOrder.{NamesPass}
 use Rattle.zed_settle.specs.Fields.{Field}
@@ -69,7 +69,7 @@ pub any-stat : (q : Stat → Bool) (bs : List Board) → list_any q (stats_of bs
 any-stat q [] = refl
 any-stat q (b ∷ bs) = list_any-append q b.stats (stats_of bs) ∙ ap (λ v. list_any q b.stats || v) (any-stat q bs)
 
-whole-stats : (bs : List Board) → AllByRecursion IsWholeBoard bs → AllByRecursion IsWholeStat (stats_of bs)
+pub whole-stats : (bs : List Board) → AllByRecursion IsWholeBoard bs → AllByRecursion IsWholeStat (stats_of bs)
 whole-stats [] h = tt
 whole-stats (b ∷ bs) h = all_joined IsWholeStat b.stats (stats_of bs) h.0.stats (whole-stats bs h.1)
 

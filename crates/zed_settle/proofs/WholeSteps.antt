@@ -18,6 +18,7 @@ use Rattle.zed_types.specs.Board.{board_byte_index, board_flag_index, side_index
 use Rattle.zed_types.specs.Stat.{stat_byte_index, stat_number_index}
 use Rattle.zed_types.specs.Names.{board_of, stat_of, same_board, same_stat}
 use Rattle.zed_types.specs.Table.{map_from, is_inside, place_at}
+use Rattle.zed_types.proofs.Facts.{all_joined, length-map_from}
 use Rattle.zed_world.specs.Contents.{Contents}
 use Rattle.zed_world.specs.Reading.{world_at}
 use Rattle.zed_world.specs.Normal.{HasNormalParts, IsNormalBoard}
@@ -38,8 +39,8 @@ use Rattle.zed_edit.specs.Stat.{with_number, set_stat, new_stat, remove_stat}
 use Rattle.zed_edit.specs.Genesis.{opened_stat, opened_boards_from, opened_boards, programs_before}
 use Rattle.zed_edit.specs.Document.{empty_document, change_such}
 use Rattle.zed_edit.specs.Replay.{can, step, do_op, do_edit, hold, open_world, replay_on}
-use Rattle.zed_laws.proofs.AllBoards.{each_changed, all_mapped, all_joined}
-use Rattle.zed_laws.proofs.RegularSteps.{ReadIsNormal, length_map_from, length_new_table}
+use Rattle.zed_laws.proofs.AllBoards.{each_changed, all_mapped}
+use Rattle.zed_laws.proofs.RegularSteps.{ReadIsNormal, length_new_table}
 use Rattle.zed_settle.specs.Whole.{IsWholeHeader, IsWholeStat, IsWholeBoard, IsWhole, ReplayIsWhole}
 
 -- ---- the header
@@ -62,7 +63,7 @@ property_whole (property.Exit f o) b r = record { tiles = r.tiles; bytes = r.byt
 property_whole (property.Text f s) b r = record { tiles = r.tiles; bytes = r.bytes; flags = r.flags; exits = r.exits; texts = length-set b.properties.texts (board_text_index f) s ∙ r.texts; stats = r.stats }
 
 cells_whole : (cells : Rectangle) (tile : Tile) (b : Board) → IsWholeBoard b → IsWholeBoard (set_board_cells cells tile b)
-cells_whole cells tile b r = record { tiles = length_map_from (λ i old. cond (is_inside cells (place_at i)) tile old) 0 b.tiles ∙ r.tiles; bytes = r.bytes; flags = r.flags; exits = r.exits; texts = r.texts; stats = r.stats }
+cells_whole cells tile b r = record { tiles = length-map_from (λ i old. cond (is_inside cells (place_at i)) tile old) 0 b.tiles ∙ r.tiles; bytes = r.bytes; flags = r.flags; exits = r.exits; texts = r.texts; stats = r.stats }
 
 removed_whole : (b : Board) → IsWholeBoard b → IsWholeBoard (remove_board b)
 removed_whole b r = record { tiles = r.tiles; bytes = r.bytes; flags = r.flags; exits = r.exits; texts = r.texts; stats = r.stats }

@@ -202,7 +202,7 @@ whole_values (setting.Follower o) v b m = (b, m)
 whole_values (setting.Leader o) v b m = (b, m)
 whole_values (setting.Text o) v b m = (b, m)
 
-whole_write : (at : Stamp) (w : StatSetting) (s : LiveStat) → IsWhole s → IsWhole (write at w s)
+pub whole_write : (at : Stamp) (w : StatSetting) (s : LiveStat) → IsWhole s → IsWhole (write at w s)
 whole_write at w s h = go (before (stamp_of (field_of w) s) at)
   where
     go : (b : Bool) → IsWhole (cond b (overwrite at w s) s)

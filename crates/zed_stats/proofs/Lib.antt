@@ -1,3 +1,3 @@
-mod FieldWrites
+pub mod FieldWrites
 mod Known
 mod Numbers

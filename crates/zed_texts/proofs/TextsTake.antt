@@ -11,6 +11,7 @@ use Rattle.zed_types.specs.Stamp.{before, same_stamp}
 use Rattle.zed_types.specs.Names.{byte_of, same_text}
 use Rattle.zed_types.specs.Text.{run_from, put_after, put_late, kill}
 use Rattle.zed_types.proofs.StampOrder.{same_text-true, same_text-itself, same_stamp-itself, before_differs, before_differs_after}
+use Rattle.zed_types.proofs.Facts.{none_is, all_weaker}
 use Rattle.zed_world.specs.Contents.{Contents}
 use Rattle.zed_world.specs.Reading.{world_at}
 use Rattle.zed_world.specs.declared.error.WorldError.{WorldError}
@@ -35,7 +36,7 @@ use Rattle.zed_laws.proofs.LateEdits.{late_insertion, late_deletion}
 use Rattle.zed_laws.proofs.LateInsertion.{rising-low, rising-high}
 use Rattle.zed_laws.proofs.MadeThings.{find-any}
 use Rattle.zed_laws.proofs.MadeElements.{elements_are_of_edits}
-use Rattle.zed_laws.proofs.NamesInOrder.{All-weaken, StampsAre, pass-opened_texts}
+use Rattle.zed_laws.proofs.NamesInOrder.{StampsAre, pass-opened_texts}
 use Rattle.zed_laws.proofs.TakenAlone.{late_edit_holds_none}
 use Rattle.zed_settle.specs.Making.{texts_from, made_texts, makes}
 use Rattle.zed_settle.proofs.EarlierThings.{earlier_decide}
@@ -190,13 +191,9 @@ others-pass e low high rises = joined low (rising-low e low high rises)
     joined [] a = behind high (rising-high e low high rises)
     joined (f ∷ es) a = (ap not (before_differs f.stamp e.stamp a.0), joined es a.1)
 
-none-of : {X : Type 0} (o : Option X) → is_some o ≡ false → o ≡ None
-none-of None h = refl
-none-of (Some x) h = absurd (true≢false h)
-
 -- so no other edit makes it
 made-by-none : (t : TextId) (e : Edit) (low high : List Edit) (x : Text) → IsRising (low ++ e ∷ high) → find_text t (made_texts e.stamp e.op) ≡ Some x → find_text t (replay (low ++ high)).texts ≡ None
-made-by-none t e low high x rises is = none-of (find_text t (replay (low ++ high)).texts) (go (has (replay (low ++ high)) (thing.Text t)) refl)
+made-by-none t e low high x rises is = none_is (find_text t (replay (low ++ high)).texts) (go (has (replay (low ++ high)) (thing.Text t)) refl)
   where
     go : (v : Bool) → has (replay (low ++ high)) (thing.Text t) ≡ v → is_some (find_text t (replay (low ++ high)).texts) ≡ false
     go false v = sym (text-there t (replay (low ++ high))) ∙ v
@@ -327,7 +324,7 @@ stands s u (Some a) bytes p h k =
 op-ready : (s : Stamp) (op : Op) (low high : List Edit) (xs : Elements) → IsRising (low ++ edit_of s op ∷ high) → AllFit (edit_of s op ∷ high) → can (replay (low ++ high)) (edit_of s op) ≡ true → TextsShow (low ++ high) xs → IsReady s op xs
 op-ready s (TextInsert u after bytes) low high xs rises fit h was =
     subst (λ ys. StandsAfter after s ys × IsNewStamp s ys) (sym (ap elements_or_none (was.each u ∙ made-there u p k.0)))
-    (stands s u after bytes p ((fit_is_each_part e).0 fit.0).2 k.1, All-weaken (λ (x : TextByte). not (same_stamp x.id.name.stamp s) ≡ true) (λ (x : TextByte). same_stamp x.id.name.stamp s ≡ false) (elements p u) (λ x l. not-true (same_stamp x.id.name.stamp s) l) (elements_are_of_edits (λ q. not (same_stamp q s)) (low ++ high) u (others-pass e low high rises)))
+    (stands s u after bytes p ((fit_is_each_part e).0 fit.0).2 k.1, all_weaker (λ (x : TextByte). not (same_stamp x.id.name.stamp s) ≡ true) (λ (x : TextByte). same_stamp x.id.name.stamp s ≡ false) (elements p u) (λ x l. not-true (same_stamp x.id.name.stamp s) l) (elements_are_of_edits (λ q. not (same_stamp q s)) (low ++ high) u (others-pass e low high rises)))
   where
     e : Edit
     e = edit_of s (TextInsert u after bytes)

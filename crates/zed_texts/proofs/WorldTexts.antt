@@ -5,6 +5,7 @@ use Rattle.zed_types.specs.declared.stamp.Stamp.{Stamp}
 use Rattle.zed_types.specs.declared.tile.Tile.{Tile}
 use Rattle.zed_types.specs.Text.{run_from}
 use Rattle.zed_types.proofs.StampOrder.{same_stamp-true}
+use Rattle.zed_types.proofs.Facts.{all_joined}
 use Rattle.zed_world.specs.Contents.{Contents}
 use Rattle.zed_world.specs.Reading.{world_at}
 use Rattle.zed_world.specs.Normal.{IsNormalCode, AreNormalStats, IsNormalBoard}
@@ -22,7 +23,6 @@ use Rattle.zed_edit.specs.declared.plain.Plain.{Plain}
 use Rattle.zed_edit.specs.Document.{empty_document}
 use Rattle.zed_edit.specs.Genesis.{own_program, programs_of, texts_from as texts_numbered}
 use Rattle.zed_edit.specs.Replay.{can, do_edit, hold, open_world, step}
-use Rattle.zed_laws.proofs.AllBoards.{all_joined}
 use Rattle.zed_laws.proofs.TakenAlone.{good_own}
 use Rattle.zed_settle.specs.Making.{texts_from, made_texts}
 use Rattle.zed_code.specs.Text.{genesis}

@@ -1,5 +1,5 @@
 -- What the tests on stamps and names say.
-use Rattle.std.proofs.Common.{◌≡◌, ℕ, Bool, true, false, ◌&&◌, eqb, eq-eqb, refl, ap, ◌∙◌, arith}
+use Rattle.std.proofs.Common.{◌≡◌, ◌<◌, ℕ, Bool, true, false, ◌&&◌, eqb, eq-eqb, refl, ap, ◌∙◌, arith}
 use Rattle.std.proofs.lemmas.Bool.{eqb-true, and_parts, and_from}
 use Rattle.zed_types.specs.declared.stamp.Stamp.{Stamp}
 use Rattle.zed_types.specs.declared.names.BoardId.{BoardId}
@@ -39,6 +39,9 @@ same_text-true a b h = ap text_at (same_name-true a.name b.name h)
 pub same_text-itself : (a : TextId) → same_text a a ≡ true
 same_text-itself a = same_name-itself a.name
 
+pub same_stamp-sym : (a b : Stamp) → same_stamp a b ≡ same_stamp b a
+same_stamp-sym a b = grind (arith)
+
 -- the order of stamps
 pub before_irrefl : (a : Stamp) → before a a ≡ false
 before_irrefl a = grind (arith)
@@ -55,6 +58,9 @@ before_total a b p q = grind (arith)
 -- of two different stamps, one is before the other
 pub before_other : (a b : Stamp) → before a b ≡ false → same_stamp a b ≡ false → before b a ≡ true
 before_other a b p q = grind (arith)
+
+pub before_later : (a b : Stamp) → a.time < b.time → before a b ≡ true
+before_later a b h = grind (arith)
 
 pub before_differs : (a b : Stamp) → before a b ≡ true → same_stamp a b ≡ false
 before_differs a b p = grind (arith)

@@ -7,6 +7,10 @@ use Rattle.zed_types.specs.declared.tile.Rectangle.{Rectangle}
 abbrev pub is_inside : Rectangle → Place → Bool
 is_inside r p = (nat_le r.left p.x && nat_le p.x r.right) && (nat_le r.top p.y && nat_le p.y r.bottom)
 
+-- a rectangle of at least one cell, inside the table
+abbrev pub is_in_table : Rectangle → Bool
+is_in_table r = (nat_le 1 r.left && nat_le r.left r.right && nat_le r.right 60) && (nat_le 1 r.top && nat_le r.top r.bottom && nat_le r.bottom 25)
+
 -- the place of tile i of a table
 abbrev pub place_at : ℕ → Place
 place_at i = record { x = i % 60 + 1; y = i / 60 + 1 }

@@ -2,9 +2,7 @@
 use Rattle.std.proofs.Common.{◌≡◌, ◌∙◌, ◌<◌, ◌+◌, ℕ, List, [], ◌∷◌, length, map, get_or, slice_get, take, Some, refl, ap, sym, arith}
 use Rattle.std.proofs.lemmas.List.{take_more_same, length-map}
 use Rattle.std.proofs.lemmas.Option.{slice_get-get_or, slice_get-map, slice_get_read}
-
-same : {X : Type 0} (v x : X) → Some v ≡ Some x → v ≡ x
-same v x h = cc
+use Rattle.zed_types.proofs.Facts.{some_is}
 
 -- lists that are alike up to an item, and at it, are alike past it
 pub more_alike : {X : Type 0} (xs ys : List X) (i : ℕ) → i < length xs → i < length ys
@@ -12,7 +10,7 @@ pub more_alike : {X : Type 0} (xs ys : List X) (i : ℕ) → i < length xs → i
 more_alike [] ys i h k t e = absurd (omega (arith, h))
 more_alike (x ∷ xs) ys i h k t e =
     take_more_same (x ∷ xs) ys i x h k t
-    (same (get_or (x ∷ xs) i x) (get_or ys i x) (sym (slice_get-get_or (x ∷ xs) i x h) ∙ e ∙ slice_get-get_or ys i x k))
+    (some_is (get_or (x ∷ xs) i x) (get_or ys i x) (sym (slice_get-get_or (x ∷ xs) i x h) ∙ e ∙ slice_get-get_or ys i x k))
 
 -- an item of a table shows what stands there among what the table shows
 shown_at : {X Y : Type 0} (f : X → Y) (xs : List X) (i : ℕ) (x : X)
@@ -28,8 +26,8 @@ more_shown f xs ys i x y h k at there e t =
     let k' : i < length (map f ys) = rw (length-map ys f) k in
     more_alike (map f xs) (map f ys) i h' k' t (shown_at f xs i x h at ∙ ap Some e ∙ sym (shown_at f ys i y k there))
 
--- tables that show the same show the same at each place
+-- tables that show the some_is show the some_is at each place
 pub same_shown : {X Y : Type 0} (f : X → Y) (xs ys : List X) (i : ℕ) (x y : X)
     → i < length xs → i < length ys → x ≡ get_or xs i x → y ≡ get_or ys i y
     → map f xs ≡ map f ys → f x ≡ f y
-same_shown f xs ys i x y h k at there e = same (f x) (f y) (sym (shown_at f xs i x h at) ∙ ap (λ zs. slice_get zs i) e ∙ shown_at f ys i y k there)
+same_shown f xs ys i x y h k at there e = some_is (f x) (f y) (sym (shown_at f xs i x h at) ∙ ap (λ zs. slice_get zs i) e ∙ shown_at f ys i y k there)

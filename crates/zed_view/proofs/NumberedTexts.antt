@@ -5,6 +5,7 @@ use Rattle.std.specs.List.{position_or_len}
 use Rattle.zed_types.specs.declared.names.TextId.{TextId}
 use Rattle.zed_types.specs.Names.{same_text}
 use Rattle.zed_types.proofs.StampOrder.{same_text-true, same_text-itself}
+use Rattle.zed_types.proofs.Facts.{some_is}
 use Rattle.zed_edit.specs.declared.plain.Text.{Text}
 use Rattle.zed_edit.specs.Document.{find_text}
 use Rattle.zed_code.specs.Pieces.{Shown}
@@ -75,14 +76,11 @@ no_place t (y ∷ ys) h =
         let w : same_text y.0 t ≡ false = apart text_name t y.0 v in
         rw w (more (sym (fewer (place t ys) (length (names ys))) ∙ none))
 
-same : {X : Type 0} (v x : X) → Some v ≡ Some x → v ≡ x
-same v x h = cc
-
 pub of_number : (t : TextId) (ys : Texts) (k : ℕ) (d : Text) → number_of t ys ≡ Some k → find_text t (plain ys) ≡ Some (get_or (plain ys) k d)
 of_number t ys k d h = go (nat_lt (place t ys) (length (names ys))) refl h
   where
     go : (v : Bool) → nat_lt (place t ys) (length (names ys)) ≡ v → cond v (Some (place t ys)) None ≡ Some k → find_text t (plain ys) ≡ Some (get_or (plain ys) k d)
-    go true there is = at_place t ys d there ∙ ap (λ n. Some (get_or (plain ys) n d)) (same (place t ys) k is)
+    go true there is = at_place t ys d there ∙ ap (λ n. Some (get_or (plain ys) n d)) (some_is (place t ys) k is)
     go false there is = absurd (cc)
 
 pub of_none : (t : TextId) (ys : Texts) → number_of t ys ≡ None → find_text t (plain ys) ≡ None
@@ -99,7 +97,7 @@ text_there ys k t v d h =
   where
     listed : (zs : Texts) (j : ℕ) → slice_get zs j ≡ Some (t, v) → slice_get (elements_of zs) j ≡ Some (t, elements v)
     listed [] j e = absurd (cc)
-    listed (z ∷ zs) zero e = ap (λ x. Some (x.0, elements x.1)) (same z (t, v) e)
+    listed (z ∷ zs) zero e = ap (λ x. Some (x.0, elements x.1)) (some_is z (t, v) e)
     listed (z ∷ zs) (suc j) e = listed zs j e
 
 -- a number is below the count of texts
@@ -112,7 +110,7 @@ within t ys k h = go (nat_lt (place t ys) (length (names ys))) refl h
 
     go : (v : Bool) → nat_lt (place t ys) (length (names ys)) ≡ v → cond v (Some (place t ys)) None ≡ Some k → k < length (plain ys)
     go true there is =
-        let n : place t ys ≡ k = same (place t ys) k is in
+        let n : place t ys ≡ k = some_is (place t ys) k is in
         let l : length (names ys) ≡ length (plain ys) = as_long ys in
         let b : place t ys < length (names ys) = grind (arith, nat_tests) in
         subst (λ m. m < length (plain ys)) n (subst (λ m. place t ys < m) l b)

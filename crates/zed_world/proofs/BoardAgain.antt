@@ -22,6 +22,7 @@ use Rattle.zed_world.proofs.FieldsAgain.{integer_again, length_integer, board_ag
 use Rattle.zed_world.proofs.StatAgain.{stat_again}
 use Rattle.zed_world.proofs.ItemsAgain.{Follow, items_again}
 use Rattle.zed_world.proofs.Tiles.{GreedyIsRead}
+use Rattle.zed_world.proofs.Sizes.{length_properties}
 
 -- ---- at a place behind a front
 
@@ -59,10 +60,6 @@ length_front p le = omega (arith, length_string 58 p.message le)
 length_back : (p : Properties) → length (back_of p) ≡ 20
 unfolding back_of integer zeros
 length_back p = refl
-
-pub length_properties : (p : Properties) → length p.message ≤ 58 → length (properties_text p) ≡ 86
-length_properties p le =
-    ap length (sym (append-nil (properties_text p)) ∙ parts_of p []) ∙ omega (arith, length-append (front_of p) (back_of p ++ []), length-append (back_of p) [], length_front p le, length_back p)
 
 built : Properties → Bool → ℕ → ℕ → ℕ → ℕ → Bool → List ℕ → ℕ → ℕ → ℤ → Properties
 built p dark north south west east re_enter message start_x start_y time_limit =

@@ -1,8 +1,8 @@
 use Rattle.std.proofs.Common.{arith, cond}
 use Rattle.zed_types.specs.Names.{same_board}
+use Rattle.zed_types.proofs.Facts.{map_over_at}
 use Rattle.zed_edit.specs.declared.plain.Board.{Board}
 use Rattle.zed_edit.specs.Board.{add_stat}
-use Rattle.zed_edit.proofs.Tables.{map_over_at}
 use Rattle.zed_edit.proofs.board.add_to_boards.Goals as goal
 
 pub loop-x-preserved : goal.loop-x-preserved

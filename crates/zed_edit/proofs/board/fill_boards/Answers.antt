@@ -1,8 +1,8 @@
 use Rattle.std.proofs.Common.{arith, cond}
 use Rattle.zed_types.specs.Names.{same_board}
+use Rattle.zed_types.proofs.Facts.{map_over_at}
 use Rattle.zed_edit.specs.declared.plain.Board.{Board}
 use Rattle.zed_edit.specs.Board.{set_board_cells}
-use Rattle.zed_edit.proofs.Tables.{map_over_at}
 use Rattle.zed_edit.proofs.board.fill_boards.Goals as goal
 
 pub loop-x-preserved : goal.loop-x-preserved

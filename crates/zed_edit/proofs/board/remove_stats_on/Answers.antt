@@ -1,9 +1,9 @@
 use Rattle.std.proofs.Common.{arith}
 use Rattle.zed_types.specs.Names.{same_stat}
+use Rattle.zed_types.proofs.Facts.{map_over_at}
 use Rattle.zed_edit.specs.Board.{change_stats}
 use Rattle.zed_edit.specs.Document.{change_such}
 use Rattle.zed_edit.specs.Stat.{remove_stat}
-use Rattle.zed_edit.proofs.Tables.{map_over_at}
 use Rattle.zed_edit.proofs.board.remove_stats_on.Goals as goal
 
 pub loop-x-preserved : goal.loop-x-preserved

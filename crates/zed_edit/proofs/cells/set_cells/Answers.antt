@@ -1,5 +1,6 @@
 use Rattle.std.proofs.Common.{◌≡◌, ◌-◌, ◌+◌, ◌*◌, ◌∙◌, arith}
-use Rattle.zed_edit.proofs.Rows.{set_cells-none, set_cells-more, in_table}
+use Rattle.zed_types.proofs.TableRows.{in_table}
+use Rattle.zed_edit.proofs.Rows.{set_cells-none, set_cells-more}
 use Rattle.zed_edit.proofs.cells.set_cells.Goals as goal
 
 pub loop-row-init : goal.loop-row-init

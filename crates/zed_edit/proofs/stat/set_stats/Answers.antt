@@ -1,8 +1,8 @@
 use Rattle.std.proofs.Common.{arith, cond}
 use Rattle.zed_types.specs.Names.{same_stat}
+use Rattle.zed_types.proofs.Facts.{map_over_at}
 use Rattle.zed_edit.specs.declared.plain.Stat.{Stat}
 use Rattle.zed_edit.specs.Stat.{set_stat}
-use Rattle.zed_edit.proofs.Tables.{map_over_at}
 use Rattle.zed_edit.proofs.stat.set_stats.Goals as goal
 
 pub loop-x-preserved : goal.loop-x-preserved

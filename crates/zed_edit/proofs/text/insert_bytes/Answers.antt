@@ -1,9 +1,9 @@
 use Rattle.std.proofs.Common.{arith, cond}
 use Rattle.zed_types.specs.Names.{same_text}
 use Rattle.zed_types.specs.Text.{put_after, run_from}
+use Rattle.zed_types.proofs.Facts.{map_over_at}
 use Rattle.zed_edit.specs.declared.plain.Text.{Text}
 use Rattle.zed_edit.specs.Document.{change_elements}
-use Rattle.zed_edit.proofs.Tables.{map_over_at}
 use Rattle.zed_edit.proofs.text.insert_bytes.Goals as goal
 
 pub loop-x-preserved : goal.loop-x-preserved

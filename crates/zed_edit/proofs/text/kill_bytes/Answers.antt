@@ -1,6 +1,6 @@
 use Rattle.std.proofs.Common.{arith}
 use Rattle.zed_types.specs.Text.{kill_within}
-use Rattle.zed_edit.proofs.Tables.{map_over_at}
+use Rattle.zed_types.proofs.Facts.{map_over_at}
 use Rattle.zed_edit.proofs.text.kill_bytes.Goals as goal
 
 pub loop-x-preserved : goal.loop-x-preserved

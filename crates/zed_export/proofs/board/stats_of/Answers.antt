@@ -2,11 +2,11 @@ use Rattle.std.proofs.Common.{◌≡◌, ◌+◌, ◌<◌, true, false, not, Lis
 use Rattle.std.specs.Prelude.{filter}
 use Rattle.std.proofs.lemmas.List.{length_push}
 use Rattle.zed_types.specs.declared.names.TextId.{TextId}
+use Rattle.zed_types.proofs.Facts.{all_joined}
 use Rattle.zed_world.specs.declared.stat.StatData.{StatData}
 use Rattle.zed_edit.specs.declared.plain.Stat.{Stat}
 use Rattle.zed_view.specs.View.{board_at, stat_at, no_stat}
 use Rattle.zed_export.specs.World.{exported_code, exported_stat, exported_above, stat_with}
-use Rattle.zed_laws.proofs.MadeElements.{All-append}
 use Rattle.zed_export.specs.Fields.{FitsStat}
 use Rattle.zed_export.proofs.Live.{next_passes, next_fails}
 use Rattle.zed_export.proofs.Shares.{owned_more}
@@ -40,7 +40,7 @@ loop-j-preserved c =
             room = rw items (omega (arith, length_push before s.fields.text, ap length next, c.loop-j.invariant.room));
             each = rw (items, out) (omega (arith, length_push before s.fields.text, length_push done x, c.loop-j.invariant.each));
             owned = rw (items, out) (owned_more p before done s.fields.text x c.loop-j.invariant.each (ap (λ (y : StatData). y.code) is) c.loop-j.invariant.owned);
-            fits = rw out (All-append FitsStat done (x ∷ []) c.loop-j.invariant.fits (w.stat_of.ensures.fits, tt));
+            fits = rw out (all_joined FitsStat done (x ∷ []) c.loop-j.invariant.fits (w.stat_of.ensures.fits, tt));
           }
       | else-is_there w ↦
           let gone : not s.removed ≡ false = sym c.is_there.ensures ∙ w.if-is_there.false in

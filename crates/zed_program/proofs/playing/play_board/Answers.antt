@@ -1,6 +1,7 @@
 use Rattle.std.proofs.Common.{◌≡◌, ◌+◌, ◌≤◌, ◌∙◌, ap, arith, Err, Ok, [], inl, inr, refl, sym}
 use Rattle.std.proofs.lemmas.Result.{err_from_is_err_and}
 use Rattle.std.specs.Prelude.{is_some}
+use Rattle.zed_types.proofs.Facts.{none_is}
 use Rattle.zed_play.specs.Playtest.{Playtest}
 use Rattle.zed_program.specs.declared.refusal.Refusal.TheVariants.{TooManyTurns}
 use Rattle.zed_program.specs.Devices.{Devices, devices}
@@ -8,7 +9,7 @@ use Rattle.zed_program.specs.Lines.{told_of}
 use Rattle.zed_program.specs.Shown.{Course, course, most_keys}
 use Rattle.zed_program.specs.Refusals.{session_refusal}
 use Rattle.zed_session.specs.declared.playing.Playing.{Playing}
-use Rattle.zed_program.proofs.Played.{key_refused, key_steps, lent_is, no_key, not_some, play_begins, same_told, shown_of, still_lent}
+use Rattle.zed_program.proofs.Played.{key_refused, key_steps, lent_is, no_key, play_begins, same_told, shown_of, still_lent}
 use Rattle.zed_program.proofs.Stepping.{at_start, none_more, one_more}
 use Rattle.zed_program.proofs.playing.play_board.Goals as goal
 
@@ -112,7 +113,7 @@ loop-preserved g c =
       now = now;
       at = step.2;
       words = c.split_at.ensures.back ∙ sym step.3;
-      going = sym ending ∙ not_some c.ending.result (sym c.is_some.ensures ∙ c.if-is_some.false);
+      going = sym ending ∙ none_is c.ending.result (sym c.is_some.ensures ∙ c.if-is_some.false);
       few = omega (arith, below);
       leads = one_more c.loop.counter old.first old.now now old.leads step.1;
       comes = old.comes;

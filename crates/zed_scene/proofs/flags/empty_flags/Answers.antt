@@ -1,7 +1,7 @@
 use Rattle.std.proofs.Common.{arith, cond, ℕ, List, []}
 use Rattle.std.specs.Str.{bytes_eq}
+use Rattle.zed_types.proofs.Facts.{map_over_at}
 use Rattle.zed_scene.specs.Flags.{unflagged}
-use Rattle.zed_scene.proofs.Tables.{map_over_at}
 use Rattle.zed_scene.proofs.flags.empty_flags.Goals as goal
 
 pub loop-f-preserved : goal.loop-f-preserved

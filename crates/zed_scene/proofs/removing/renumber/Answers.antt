@@ -1,6 +1,6 @@
 use Rattle.std.proofs.Common.{arith}
+use Rattle.zed_types.proofs.Facts.{map_over_at}
 use Rattle.zed_scene.specs.Removing.{renumbered}
-use Rattle.zed_scene.proofs.Tables.{map_over_at}
 use Rattle.zed_scene.proofs.removing.renumber.Goals as goal
 
 pub loop-a-preserved : goal.loop-a-preserved

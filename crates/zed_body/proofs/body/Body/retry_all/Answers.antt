@@ -1,4 +1,5 @@
-use Rattle.std.proofs.Common.{◌≡◌, ◌+◌, List, [], ◌∷◌, length, suc, refl, ap, subst, rules, arith}
+use Rattle.std.proofs.Common.{◌≡◌, ◌+◌, List, [], ◌∷◌, length, suc, ap, subst, rules, arith}
+use Rattle.zed_types.proofs.Facts.{none_of_length}
 use Rattle.zed_op.specs.declared.op.Edit.{Edit}
 use Rattle.zed_body.specs.Steps.{AreTried}
 use Rattle.zed_body.specs.Stirring.{Stirs}
@@ -34,15 +35,11 @@ loop-edit-preserved c = record {
       omega (arith, c.loop-edit.invariant.few);
 }
 
-no_edits : (es : List Edit) → length es ≡ 0 → es ≡ []
-no_edits [] h = refl
-no_edits (e ∷ es) h = absurd (omega (arith, h))
-
 pub returns-clause-ok : goal.returns-clause-ok
 returns-clause-ok c =
     let none = c.in-None.ensures.steps.0 in
     let count : length c.loop-edit.edit-iterator.rest.items ≡ 0 = search rules in
-    let ends : c.loop-edit.edit-iterator.rest.items ≡ [] = no_edits c.loop-edit.edit-iterator.rest.items count in
+    let ends : c.loop-edit.edit-iterator.rest.items ≡ [] = none_of_length c.loop-edit.edit-iterator.rest.items count in
     let P : List Edit → Type 0 = λ es. AreTried c.args.edits.items c.args.self.now c.args.done.now.items es c.loop-edit.self c.loop-edit.done.items in
     subst P ends c.loop-edit.invariant.tried
 
