@@ -106,6 +106,7 @@ fn read_some(link: &mut dyn Link, into: &mut [u8]) -> Result<usize, LinkError>
     ensures reads { Counted 1 (reads link.old) (reads link.new) }
     ensures failures { Counts (is_fault result) (failed link.old) (failed link.new) }
     ensures stalls { stalls link.new ≡ stalls link.old }
+    ensures accepts { accepts link.new ≡ accepts link.old }
 {
     match link.read(into) {
         Ok(count) => Ok(count),
@@ -128,6 +129,7 @@ fn receive_into(
     ensures reads { reads link.new ≤ reads link.old + most_reads }
     ensures failures { Counts (is_fault result) (failed link.old) (failed link.new) }
     ensures stalls { stalls link.new ≡ stalls link.old }
+    ensures accepts { accepts link.new ≡ accepts link.old }
 {
     // no fault in the midst is taken for a cut end
     fronts_are_read();
@@ -169,6 +171,7 @@ pub fn receive(
     ensures reads { reads link.new ≤ reads link.old + most_reads }
     ensures failures { Counts (is_fault result) (failed link.old) (failed link.new) }
     ensures stalls { stalls link.new ≡ stalls link.old }
+    ensures accepts { accepts link.new ≡ accepts link.old }
 {
     if document.view().is_err() {
         return Err(LinkError::Stale);

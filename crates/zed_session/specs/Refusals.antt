@@ -1,5 +1,5 @@
 -- Refusals of the layers below as those of a session, and which of these are faults of a device.
-use Rattle.std.specs.Prelude.{◌≡◌, List, Option, Some, None, is_some, Bool, true, false, Result, Ok, Err}
+use Rattle.std.specs.Prelude.{◌≡◌, List, Option, is_some, Bool, true, false, Result, Ok, Err}
 use Rattle.zed_export.specs.declared.error.ExportError.{ExportError}
 use Rattle.zed_export.specs.declared.error.ExportError.TheVariants as export
 use Rattle.zed_play.specs.declared.error.PlayError.{PlayError}

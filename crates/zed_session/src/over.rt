@@ -39,6 +39,7 @@ pub(crate) fn receive_over(
         → document.new.is_stale ≡ document.old.is_stale }
     ensures calm { OnOk result
         ((failed link.new ≡ failed link.old) × (stalls link.new ≡ stalls link.old)) }
+    ensures accepts { accepts link.new ≡ accepts link.old }
 {
     receive(alloc, link.as_mut(), document)
 }

@@ -183,6 +183,10 @@ impl Session {
             ≡ map (λ link. failed link) self.old.links.items) }
         ensures stalls { OnOk result (map (λ link. stalls link) self.new.links.items
             ≡ map (λ link. stalls link) self.old.links.items) }
+        ensures reads { OnOk result (map (λ link. reads link) self.new.links.items
+            ≡ map (λ link. reads link) self.old.links.items) }
+        ensures accepts { OnOk result (map (λ link. accepts link) self.new.links.items
+            ≡ map (λ link. accepts link) self.old.links.items) }
         ensures err { IfErr result (λ e. (e ≡ SessionError.NoLink)
             ⊎ (e ≡ SessionError.Memory) ⊎ (e ≡ SessionError.LinkFault)) }
         ensures kept { OnErr result ((result ≢ Err SessionError.LinkFault)
@@ -231,6 +235,8 @@ impl Session {
             ≡ map (λ link. failed link) self.old.links.items) }
         ensures stalls { OnOk result (map (λ link. stalls link) self.new.links.items
             ≡ map (λ link. stalls link) self.old.links.items) }
+        ensures accepts { OnOk result (map (λ link. accepts link) self.new.links.items
+            ≡ map (λ link. accepts link) self.old.links.items) }
         ensures kept { (result ≡ Err SessionError.NoLink) ⊎ (result ≡ Err SessionError.Stale)
             → (self.new.links.items ≡ self.old.links.items)
             × (self.new.document ≡ self.old.document) }

@@ -76,6 +76,7 @@ loop-reads-preserved g c =
           c.in_ok-take_piece.ensures.asked piece.2 c.in_ok-take_piece.ensures.world (c.in_ok-take_piece.ensures.stale (λ bad. cc)) c.plus-pulled.ensures;
       calm = c.in_ok-count.ensures.failures ∙ old.calm;
       flowing = c.in_ok-count.ensures.stalls ∙ old.flowing;
+      steady = c.in_ok-count.ensures.accepts ∙ old.steady;
     }
 
 pub returns-in_err-count-clause-reads : goal.returns-in_err-count-clause-reads

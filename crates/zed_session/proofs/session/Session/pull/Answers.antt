@@ -34,6 +34,7 @@ returns-in-Err g c =
       others = tt;
       calm = tt;
       stalls = tt;
+      accepts = tt;
       kept = λ which. absurd (elim which [
         | inl same ↦ there cc
         | inr same ↦ fresh cc
