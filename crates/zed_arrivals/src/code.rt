@@ -27,21 +27,6 @@ fn letters(alloc: Global) -> Result<Text, CodeError>
 }
 
 #[test]
-fn two_insertions_come_in_either_order(rt: HostRuntime) -> Result<(), Fail> {
-    let a = first_of(Stamp::GENESIS);
-    let mut text = letters(rt.alloc())?;
-    text.insert(a, X, b"x")?;
-    text.insert(a, Y, b"y")?;
-    let mut other = letters(rt.alloc())?;
-    other.insert(a, Y, b"y")?;
-    other.insert(a, X, b"x")?;
-    assert_eq!(rt; text.text()?.as_slice(), b"AyxB".as_slice());
-    assert_eq!(rt; other.text()?.as_slice(), b"AyxB".as_slice());
-    assert!(rt; text.same(&other));
-    Ok(())
-}
-
-#[test]
 fn later_insertions_are_passed_with_what_stands_behind_them(rt: HostRuntime) -> Result<(), Fail> {
     let a = first_of(Stamp::GENESIS);
     let mut text = letters(rt.alloc())?;

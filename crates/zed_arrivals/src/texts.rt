@@ -140,16 +140,6 @@ fn three_authors_come_in_any_order(rt: HostRuntime) -> Result<(), Fail> {
     insert(rt.alloc(), &mut other, THIRD, a, b"y")?;
     insert(rt.alloc(), &mut other, SECOND, a, b"x")?;
     assert!(rt; same(&texts, &other));
-    Ok(())
-}
-
-#[test]
-fn insertions_come_before_and_after_a_deletion(rt: HostRuntime) -> Result<(), Fail> {
-    let a = first_of(FIRST);
-    let mut texts = started(rt.alloc())?;
-    insert(rt.alloc(), &mut texts, THIRD, a, b"y")?;
-    delete(rt.alloc(), &mut texts, LAST, first_byte())?;
-    insert(rt.alloc(), &mut texts, SECOND, a, b"x")?;
     match texts.get(CODE) {
         Some(text) => assert_eq!(rt; text.text()?.as_slice(), b"yxb".as_slice()),
         None => return Err(TextsError::Memory.into()),
