@@ -166,37 +166,24 @@ const AT_THE_ENDS: &[(Act, Comes)] = &[
     TEXT,
     ABC,
     NO_B,
-    (Act::Types(2, T, 0, "x"), Comes::Made(5, 2)),
-    (Act::Finds(Fact::Text(T, "xAC")), YES),
-    (Act::Types(2, T, 3, "yz"), Comes::Made(6, 2)),
-    (Act::Finds(Fact::Text(T, "xACyz")), YES),
+    (Act::Types(2, T, 3, "x"), OUT_OF_RANGE),
+    (Act::Finds(Fact::Edits(3, 0)), YES),
+    (Act::Types(2, T, 2, "x"), Comes::Made(5, 2)),
+    (Act::Finds(Fact::Text(T, "ACx")), YES),
+    (Act::Types(2, T, 0, "yz"), Comes::Made(6, 2)),
+    (Act::Finds(Fact::Text(T, "yzACx")), YES),
     (Act::Types(2, T, 6, "w"), OUT_OF_RANGE),
     (Act::Types(2, T, 1, ""), REFUSED_RANGE),
     (Act::Types(0, T, 1, "w"), REFUSED_STAMP),
     (Act::Types(2, FIRST, 9, "w"), NO_SUCH),
-    (Act::Deletes(1, T, 3, 5), Comes::Deleted(1)),
-    (Act::Finds(Fact::Text(T, "xAC")), YES),
+    (Act::Deletes(1, T, 0, 2), Comes::Deleted(1)),
+    (Act::Finds(Fact::Text(T, "ACx")), YES),
     (Act::Finds(Fact::Edits(6, 0)), YES),
 ];
 
 #[test]
 fn bytes_go_to_the_ends(rt: HostRuntime) -> Result<(), Fail> {
     plays(rt.alloc(), AT_THE_ENDS)
-}
-
-const AT_THE_END: &[(Act, Comes)] = &[
-    TEXT,
-    ABC,
-    NO_B,
-    (Act::Types(2, T, 3, "x"), OUT_OF_RANGE),
-    (Act::Finds(Fact::Edits(3, 0)), YES),
-    (Act::Types(2, T, 2, "x"), Comes::Made(5, 2)),
-    (Act::Finds(Fact::Text(T, "ACx")), YES),
-];
-
-#[test]
-fn bytes_go_behind_the_last_alive_byte(rt: HostRuntime) -> Result<(), Fail> {
-    plays(rt.alloc(), AT_THE_END)
 }
 
 const WORLD: Does = Does::World(WITH_PROGRAM);

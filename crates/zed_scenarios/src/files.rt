@@ -1,6 +1,6 @@
 //! What a test asks of the file of a document.
 use crate::desk::Desk;
-use zed_export::{ExportError, Warning, export, save, warnings};
+use zed_export::{ExportError, export, save};
 use zed_types::BODY_LIMIT;
 
 /// What the file of a document is.
@@ -14,7 +14,6 @@ pub(crate) enum Saved {
     Refused(ExportError),
     /// It can't be made at a lower limit.
     Over(usize, ExportError),
-    Warns(&'static [Warning]),
 }
 
 fn is_world(desk: &Desk, boards: usize, len: usize) -> bool {
@@ -46,16 +45,6 @@ fn is_over(desk: &Desk, limit: usize, error: ExportError) -> bool {
     limit <= BODY_LIMIT && save(desk.alloc, &desk.document, limit).err() == Some(error)
 }
 
-fn warns(desk: &Desk, wanted: &[Warning]) -> bool {
-    let Ok(world) = export(desk.alloc, &desk.document, BODY_LIMIT) else {
-        return false;
-    };
-    match warnings(desk.alloc, &world) {
-        Ok(found) => found.as_slice() == wanted,
-        Err(_) => false,
-    }
-}
-
 /// Whether this holds of the file of a document.
 pub(crate) fn saves(desk: &Desk, saved: Saved) -> bool {
     match saved {
@@ -63,7 +52,6 @@ pub(crate) fn saves(desk: &Desk, saved: Saved) -> bool {
         Saved::Bytes(place, wanted) => has_bytes(desk, place, wanted),
         Saved::Refused(error) => is_refused(desk, error),
         Saved::Over(limit, error) => is_over(desk, limit, error),
-        Saved::Warns(wanted) => warns(desk, wanted),
     }
 }
 

@@ -46,27 +46,6 @@ fn each_growth_of_an_early_delivery_refused(rt: HostRuntime) -> Result<(), Fail>
     each_growth_refused(rt.alloc(), WAITING)
 }
 
-const LATE: Scene = Scene {
-    before: &[
-        Step::Takes(Who::One, &[WORLD]),
-        Step::Gives(Who::One, Z, Told::Held),
-    ],
-    call: Call::Deliver(X),
-    kept: &[
-        Step::Finds(Who::One, Fact::Edits(2, 1)),
-        Step::Finds(Who::One, Fact::Waits((3, 3, 0), true)),
-    ],
-    after: &[
-        Step::Finds(Who::One, Fact::Edits(3, 0)),
-        Step::Finds(Who::One, Fact::Text(FIRST, "AxzB")),
-    ],
-};
-
-#[test]
-fn each_growth_of_a_late_delivery_refused(rt: HostRuntime) -> Result<(), Fail> {
-    each_growth_refused(rt.alloc(), LATE)
-}
-
 /// What waits for that board: its exit and that of the title to it, cells, and its stat; and what waits for that stat.
 const EXIT: Row = (3, 1, Does::ExitOf((2, 1, 0), Side::North, FIRST));
 

@@ -153,7 +153,10 @@ const CELLS: &[Step] = &[
     Step::Saves(Who::One, Saved::World(1, 713)),
     Step::Saves(
         Who::One,
-        Saved::Bytes(565, b"\xf4\0\0\x01\x13\x9f\xff\0\0\xbd\0\0"),
+        Saved::Bytes(
+            565,
+            b"\xf4\0\0\x01\x13\x9f\xff\0\0\xbd\0\0\x01\x04\x1f\xff\0\0",
+        ),
     ),
 ];
 

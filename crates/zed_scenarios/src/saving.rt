@@ -5,8 +5,7 @@ use crate::rows::{Does, FIRST, Name, Row, WATER};
 use crate::steps::{Step, Who, plays};
 use crate::worlds::{EMPTY, TWO_BOARDS, WITH_PROGRAM};
 use std::test::Fail;
-use zed_export::{ExportError, Warning};
-use zed_types::Tile;
+use zed_export::ExportError;
 
 const TITLE: Row = (1, 0, Does::World(EMPTY));
 
@@ -56,25 +55,6 @@ fn a_board_before_its_world(rt: HostRuntime) -> Result<(), Fail> {
     plays(rt.alloc(), WORLD_LAST)
 }
 
-const CELL: Row = (2, 1, Does::Cell(5, 5, WATER));
-
-const ONE_CELL: &[Step] = &[
-    Step::Takes(Who::One, &[TITLE, CELL]),
-    Step::Saves(Who::One, Saved::World(1, 713)),
-    Step::Saves(
-        Who::One,
-        Saved::Bytes(
-            565,
-            b"\xf4\0\0\x01\x13\x9f\xff\0\0\xbd\0\0\x01\x04\x1f\xff\0\0",
-        ),
-    ),
-];
-
-#[test]
-fn one_cell_splits_a_run(rt: HostRuntime) -> Result<(), Fail> {
-    plays(rt.alloc(), ONE_CELL)
-}
-
 const AS_IT_WAS: &[Step] = &[
     Step::Takes(Who::One, &[(1, 0, Does::World(WITH_PROGRAM))]),
     Step::Saves(Who::One, Saved::World(1, 745)),
@@ -119,32 +99,6 @@ const SHARED: &[Step] = &[
 #[test]
 fn a_shared_program(rt: HostRuntime) -> Result<(), Fail> {
     plays(rt.alloc(), SHARED)
-}
-
-const ODD: &[Step] = &[
-    Step::Takes(
-        Who::One,
-        &[
-            TITLE,
-            (2, 1, Does::Cell(30, 12, Tile::EMPTY)),
-            (3, 1, Does::AddStat(0, 5, None)),
-            (4, 1, Does::AddStat(30, 12, None)),
-        ],
-    ),
-    Step::Saves(Who::One, Saved::World(1, 770)),
-    Step::Saves(
-        Who::One,
-        Saved::Warns(&[
-            Warning::PlayerTile(0),
-            Warning::OffBoard(0, 1),
-            Warning::SamePlace(0, 2),
-        ]),
-    ),
-];
-
-#[test]
-fn odd_places(rt: HostRuntime) -> Result<(), Fail> {
-    plays(rt.alloc(), ODD)
 }
 
 /// A board, a text, and two bytes of it, beside a world with a text of its own.

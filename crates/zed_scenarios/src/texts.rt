@@ -56,27 +56,6 @@ fn insertions_nest_and_repeats_are_known(rt: HostRuntime) -> Result<(), Fail> {
     plays(rt.alloc(), NESTED)
 }
 
-const CASCADE: &[Step] = &[
-    Step::Takes(Who::One, &[WORLD]),
-    Step::Gives(Who::One, NO_Z, Told::Held),
-    Step::Finds(Who::One, Fact::Text(FIRST, "AB")),
-    Step::Finds(Who::One, Fact::Waits((4, 3, 0), true)),
-    Step::Finds(Who::One, Fact::Edits(2, 1)),
-    Step::Gives(Who::One, Z, Told::Held),
-    Step::Finds(Who::One, Fact::Text(FIRST, "AB")),
-    Step::Finds(Who::One, Fact::Waits((3, 3, 0), true)),
-    Step::Finds(Who::One, Fact::Edits(3, 2)),
-    Step::Gives(Who::One, X, Told::Taken(2)),
-    Step::Finds(Who::One, Fact::Text(FIRST, "AxB")),
-    Step::Finds(Who::One, Fact::Waits((3, 3, 0), false)),
-    Step::Finds(Who::One, Fact::Edits(4, 0)),
-];
-
-#[test]
-fn waiting_edits_wake_together(rt: HostRuntime) -> Result<(), Fail> {
-    plays(rt.alloc(), CASCADE)
-}
-
 const BEGIN: Step = Step::Takes(Who::One, &[WORLD]);
 
 /// An edit that arrives, and what is answered.
