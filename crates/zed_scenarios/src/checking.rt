@@ -31,15 +31,6 @@ fn is_judged(alloc: Global, verdict: Verdict) -> bool {
     }
 }
 
-fn are_judged(alloc: Global, verdicts: &[Verdict]) -> Result<(), Fail> {
-    for (n, verdict) in verdicts.iter().enumerate() {
-        if !is_judged(alloc, *verdict) {
-            return Err(Fail::new(format_args!("edit {n} is judged otherwise")));
-        }
-    }
-    Ok(())
-}
-
 const STRINGS: &[Verdict] = &[
     (LATE, Shape::WorldName(0), None),
     (LATE, Shape::WorldName(20), None),
@@ -62,11 +53,6 @@ const STRINGS: &[Verdict] = &[
     (LATE, Shape::Insert(FIRST, 32_768), RANGE),
 ];
 
-#[test]
-fn strings_at_their_limits(rt: HostRuntime) -> Result<(), Fail> {
-    are_judged(rt.alloc(), STRINGS)
-}
-
 const RECTANGLES: &[Verdict] = &[
     (LATE, Shape::Cells(1, 1, 60, 25), None),
     (LATE, Shape::Cells(60, 25, 60, 25), None),
@@ -79,11 +65,6 @@ const RECTANGLES: &[Verdict] = &[
     (LATE, Shape::Cells(1, 6, 60, 5), RANGE),
 ];
 
-#[test]
-fn rectangles_at_the_edges_of_the_table(rt: HostRuntime) -> Result<(), Fail> {
-    are_judged(rt.alloc(), RECTANGLES)
-}
-
 const THINGS: &[Verdict] = &[
     (LATE, Shape::RemoveBoard(FIRST), RANGE),
     (LATE, Shape::RemoveBoard((1, 0, 1)), None),
@@ -94,11 +75,6 @@ const THINGS: &[Verdict] = &[
     (LATE, Shape::RemoveStat(FIRST), None),
     (LATE, Shape::AddText, None),
 ];
-
-#[test]
-fn boards_and_ranges_of_bytes(rt: HostRuntime) -> Result<(), Fail> {
-    are_judged(rt.alloc(), THINGS)
-}
 
 const STAMPS: &[Verdict] = &[
     ((2, 1), Shape::AddText, None),
@@ -115,11 +91,6 @@ const STAMPS: &[Verdict] = &[
     (LATE, Shape::RemoveStat((281_474_976_710_656, 1, 0)), STAMP),
 ];
 
-#[test]
-fn stamps_of_authors(rt: HostRuntime) -> Result<(), Fail> {
-    are_judged(rt.alloc(), STAMPS)
-}
-
 /// Stat 1 of the world.
 const SECOND: Name = (1, 0, 1);
 
@@ -133,11 +104,6 @@ const ORDERS: &[Verdict] = &[
     ((2, 2), Shape::Delete(FIRST, (3, 1), 0, 0), ORDER),
 ];
 
-#[test]
-fn what_is_named_is_earlier(rt: HostRuntime) -> Result<(), Fail> {
-    are_judged(rt.alloc(), ORDERS)
-}
-
 const NOTHING: &[Piece] = &[];
 
 const WORLDS: &[Verdict] = &[
@@ -145,11 +111,6 @@ const WORLDS: &[Verdict] = &[
     ((1, 0), Shape::World(LONGER), GENESIS),
     ((1, 0), Shape::World(NOTHING), GENESIS),
 ];
-
-#[test]
-fn a_world_that_is_written_as_it_was_read(rt: HostRuntime) -> Result<(), Fail> {
-    are_judged(rt.alloc(), WORLDS)
-}
 
 const CAUSES: &[Verdict] = &[
     (LATE, Shape::Insert((1, 1, 0), 0), STAMP),
@@ -159,7 +120,25 @@ const CAUSES: &[Verdict] = &[
     ((2, 1), Shape::World(NOTHING), STAMP),
 ];
 
+/// All of these, by what is tried.
+const TABLES: [(&str, &[Verdict]); 7] = [
+    ("strings at their limits", STRINGS),
+    ("rectangles at the edges of the table", RECTANGLES),
+    ("boards and ranges of bytes", THINGS),
+    ("stamps of authors", STAMPS),
+    ("what is named is earlier", ORDERS),
+    ("a world that is written as it was read", WORLDS),
+    ("the first cause is told", CAUSES),
+];
+
 #[test]
-fn the_first_cause_is_told(rt: HostRuntime) -> Result<(), Fail> {
-    are_judged(rt.alloc(), CAUSES)
+fn edits_are_judged(rt: HostRuntime) -> Result<(), Fail> {
+    for (tried, verdicts) in TABLES {
+        for (n, verdict) in verdicts.iter().enumerate() {
+            if !is_judged(rt.alloc(), *verdict) {
+                return Err(Fail::new(format_args!("{tried}: edit {n} is judged otherwise")));
+            }
+        }
+    }
+    Ok(())
 }

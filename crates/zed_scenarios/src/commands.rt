@@ -1,7 +1,5 @@
 //! The program's commands over a host in memory.
-use crate::hosts::{
-    Complaint, Contents, File, Output, Run, come_out, edit_file, is_no_command, is_refused,
-};
+use crate::hosts::{Complaint, Contents, File, Output, Run, come_out, is_no_command, is_refused};
 use crate::rows::{Does, Row, WALL};
 use crate::worlds::{EMPTY, LONGEST, ONE_CELL, TOO_LONG};
 use std::test::Fail;
@@ -10,14 +8,6 @@ use zed_types::Tile;
 const TITLE: Row = (1, 0, Does::World(EMPTY));
 
 const CELL: Row = (2, 1, Does::Cell(5, 5, WALL));
-
-#[test]
-fn an_edit_file_of_a_world(rt: HostRuntime) -> Result<(), Fail> {
-    match edit_file(rt.alloc(), &[TITLE]) {
-        Some(file) if file.len() == 735 => Ok(()),
-        _ => Err(Fail::new("another length")),
-    }
-}
 
 const SAVES: &[Run] = &[
     Run {
@@ -49,11 +39,7 @@ const SAVES: &[Run] = &[
     },
 ];
 
-#[test]
-fn saves_a_world(rt: HostRuntime) -> Result<(), Fail> {
-    come_out(rt.alloc(), SAVES)
-}
-
+/// Up to the limit of a board, and a byte more.
 const LIMITS: &[Run] = &[
     Run {
         files: &[("a", Contents::Edits(&[(1, 0, Does::World(LONGEST))]))],
@@ -73,11 +59,6 @@ const LIMITS: &[Run] = &[
     },
 ];
 
-#[test]
-fn saves_up_to_the_limit(rt: HostRuntime) -> Result<(), Fail> {
-    come_out(rt.alloc(), LIMITS)
-}
-
 /// A cell moves the player tile away; two stats are added, one off the table and one where the player is.
 const ODD: &[Row] = &[
     TITLE,
@@ -96,8 +77,11 @@ const CHECKS: &[Run] = &[Run {
 }];
 
 #[test]
-fn checks_a_world(rt: HostRuntime) -> Result<(), Fail> {
-    come_out(rt.alloc(), CHECKS)
+fn worlds_are_saved_and_checked(rt: HostRuntime) -> Result<(), Fail> {
+    for runs in [SAVES, LIMITS, CHECKS] {
+        come_out(rt.alloc(), runs)?;
+    }
+    Ok(())
 }
 
 /// A file of world 7, and what `save` of it alone is refused with.
@@ -167,9 +151,9 @@ const CLASHING: &[File] = &[
     ("other", Contents::Bytes(b"ZED\x01\x08\0\0\0\0\0\0\0")),
 ];
 
-/// The files of a `save`, and what it is refused with: two edits of one stamp are told before what is wrong with a later file, and
+/// A command on these files, and what it is refused with: two edits of one stamp are told before what is wrong with a later file, and
 /// after what is wrong with an earlier one. Of two clashes the one that comes first is told, whether its stamp is the later one or not.
-const FIRST_TOLD: [(&[&str], &str); 9] = [
+const FIRST_TOLD: [(&[&str], &str); 12] = [
     (&["save", "o", "a", "b"], "zzted: Clash 2 1\n"),
     (&["save", "o", "a", "b", "cut"], "zzted: Clash 2 1\n"),
     (&["save", "o", "a", "b", "none"], "zzted: Clash 2 1\n"),
@@ -179,6 +163,10 @@ const FIRST_TOLD: [(&[&str], &str); 9] = [
     (&["save", "o", "a", "cut", "b"], "zzted: CutShort\n"),
     (&["save", "o", "none", "a", "b"], "zzted: File\n"),
     (&["save", "o", "a", "other", "b"], "zzted: OtherWorld\n"),
+    (&["save", "o", "none"], "zzted: File\n"),
+    (&["check", "none"], "zzted: File\n"),
+    // no link is handed in
+    (&["merge", "o", "7", "a"], "zzted: NoLink\n"),
 ];
 
 #[test]
@@ -187,19 +175,6 @@ fn tells_what_comes_first(rt: HostRuntime) -> Result<(), Fail> {
         is_refused(rt.alloc(), CLASHING, words, line)?;
     }
     Ok(())
-}
-
-#[test]
-fn tells_a_missing_link(rt: HostRuntime) -> Result<(), Fail> {
-    // no link was handed in
-    let words = &["merge", "o", "7", "a"];
-    is_refused(rt.alloc(), CLASHING, words, "zzted: NoLink\n")
-}
-
-#[test]
-fn tells_a_missing_file(rt: HostRuntime) -> Result<(), Fail> {
-    is_refused(rt.alloc(), &[], &["save", "o", "none"], "zzted: File\n")?;
-    is_refused(rt.alloc(), &[], &["check", "none"], "zzted: File\n")
 }
 
 /// Words that are no command.

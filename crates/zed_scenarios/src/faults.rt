@@ -45,84 +45,86 @@ fn needs(alloc: Global, words: &[&str], calls: u64, status: u8) -> bool {
         && host.failures() == 0
 }
 
-/// A command makes one call for each of these, and leaves this where it fails; where none does it ends with this status.
-fn each_call_failing(
-    alloc: Global,
-    words: &[&str],
-    lefts: &[Left],
-    status: u8,
-) -> Result<(), Fail> {
+/// The words of a command, what it leaves where each of its calls fails in turn, and the status with which it ends where none does.
+type Failing = (&'static [&'static str], &'static [Left], u8);
+
+const COMMANDS: [Failing; 5] = [
+    // the write, and the printed line
+    (
+        &["new", "o", "7"],
+        &[
+            (FAULT, Output::Nothing("o")),
+            (FAULT, Output::Length("o", 858)),
+        ],
+        0,
+    ),
+    // the read, the write, and the printed line
+    (
+        &["edit", "a", "1", "board-add", "One"],
+        &[
+            (FAULT, Output::Length("a", 735)),
+            (FAULT, Output::Length("a", 735)),
+            (FAULT, Output::Length("a", 752)),
+        ],
+        0,
+    ),
+    // two reads, the write, and the printed line
+    (
+        &["save", "o", "b", "a"],
+        &[
+            (FAULT, Output::Nothing("o")),
+            (FAULT, Output::Nothing("o")),
+            (FAULT, Output::Nothing("o")),
+            (FAULT, Output::World("o", ONE_CELL)),
+        ],
+        0,
+    ),
+    // two reads, and the printed report
+    (
+        &["check", "a", "b"],
+        &[
+            (FAULT, Output::Nothing("o")),
+            (FAULT, Output::Nothing("o")),
+            (FAULT, Output::Nothing("o")),
+        ],
+        0,
+    ),
+    // three reads, of which the first two clash, so that it doesn't matter whether the third fails; and the complaint
+    (
+        &["save", "o", "b", "c", "a"],
+        &[
+            (FAULT, Output::Nothing("o")),
+            (FAULT, Output::Nothing("o")),
+            ("zzted: Clash 2 1\n", Output::Nothing("o")),
+            ("", Output::Nothing("o")),
+        ],
+        1,
+    ),
+];
+
+/// The first call of a command whose failure comes out otherwise, counted from 0; or how many calls were wanted, where it makes others.
+fn wrong_call(alloc: Global, command: Failing) -> Option<u64> {
+    let (words, lefts, status) = command;
     let mut calls = 0u64;
     for left in lefts {
         if !leaves(alloc, words, calls, *left) {
-            return Err(Fail::new(format_args!("a failure after {calls} calls")));
+            return Some(calls);
         }
         calls = calls.saturating_add(1);
     }
     if needs(alloc, words, calls, status) {
-        Ok(())
+        None
     } else {
-        Err(Fail::new("more or fewer calls"))
+        Some(calls)
     }
 }
 
 #[test]
-fn each_call_of_new_failing(rt: HostRuntime) -> Result<(), Fail> {
-    // The write, and the printed line.
-    let lefts = [
-        (FAULT, Output::Nothing("o")),
-        (FAULT, Output::Length("o", 858)),
-    ];
-    each_call_failing(rt.alloc(), &["new", "o", "7"], &lefts, 0)
-}
-
-#[test]
-fn each_call_of_edit_failing(rt: HostRuntime) -> Result<(), Fail> {
-    // The read, the write, and the printed line.
-    let lefts = [
-        (FAULT, Output::Length("a", 735)),
-        (FAULT, Output::Length("a", 735)),
-        (FAULT, Output::Length("a", 752)),
-    ];
-    each_call_failing(
-        rt.alloc(),
-        &["edit", "a", "1", "board-add", "One"],
-        &lefts,
-        0,
-    )
-}
-
-#[test]
-fn each_call_of_save_failing(rt: HostRuntime) -> Result<(), Fail> {
-    // Two reads, the write, and the printed line.
-    let lefts = [
-        (FAULT, Output::Nothing("o")),
-        (FAULT, Output::Nothing("o")),
-        (FAULT, Output::Nothing("o")),
-        (FAULT, Output::World("o", ONE_CELL)),
-    ];
-    each_call_failing(rt.alloc(), &["save", "o", "b", "a"], &lefts, 0)
-}
-
-#[test]
-fn each_call_of_check_failing(rt: HostRuntime) -> Result<(), Fail> {
-    // Two reads, and the printed report.
-    let lefts = [
-        (FAULT, Output::Nothing("o")),
-        (FAULT, Output::Nothing("o")),
-        (FAULT, Output::Nothing("o")),
-    ];
-    each_call_failing(rt.alloc(), &["check", "a", "b"], &lefts, 0)
-}
-
-#[test]
-fn each_call_of_a_clashing_save_failing(rt: HostRuntime) -> Result<(), Fail> {
-    // Three reads, of which the first two clash, so that it doesn't matter whether the third fails; and the complaint.
-    let lefts = [
-        (FAULT, Output::Nothing("o")),
-        (FAULT, Output::Nothing("o")),
-        ("zzted: Clash 2 1\n", Output::Nothing("o")),
-        ("", Output::Nothing("o")),
-    ];
-    each_call_failing(rt.alloc(), &["save", "o", "b", "c", "a"], &lefts, 1)
+fn each_call_of_a_command_failing(rt: HostRuntime) -> Result<(), Fail> {
+    for (n, command) in COMMANDS.iter().enumerate() {
+        if let Some(call) = wrong_call(rt.alloc(), *command) {
+            return Err(Fail::new(format_args!("call {call} of command {n}")));
+        }
+    }
+    Ok(())
 }

@@ -1,4 +1,5 @@
 //! Calls that take no memory, made while the first growth would be refused.
+use crate::calls::{Call, End, tried};
 use crate::desk::{Desk, Told};
 use crate::growths::{refuse, was_refused};
 use crate::halfway;
@@ -7,9 +8,7 @@ use crate::steps::{Step, Table, Who};
 use crate::worlds::{EMPTY, WITH_PROGRAM};
 use std::alloc::Global;
 use std::test::Fail;
-use zed_document::{Document, DocumentError};
-use zed_export::{ExportError, save};
-use zed_types::BODY_LIMIT;
+use zed_document::Document;
 
 const WORLD: Row = (1, 0, Does::World(WITH_PROGRAM));
 
@@ -81,11 +80,7 @@ fn what_takes_no_memory_refused(rt: HostRuntime) -> Result<(), Fail> {
 
 const T: Name = (2, 1, 0);
 
-const TOO_LONG: ExportError = ExportError::BoardOver {
-    board: 0,
-    bytes: 20_001,
-};
-
+/// A board of 20,001 bytes.
 const LONG: &[Step] = &[Step::Takes(
     Who::One,
     &[
@@ -96,63 +91,39 @@ const LONG: &[Step] = &[Step::Takes(
     ],
 )];
 
-/// Whether it takes no memory to say that a document is over a limit.
-fn is_over_without_memory(table: &mut Table) -> bool {
-    if table.fails_at(LONG).is_some() {
-        return false;
-    }
-    let desk = &table.one;
-    refuse(desk.alloc, 1);
-    let answer = save(desk.alloc, &desk.document, BODY_LIMIT).err();
-    let was_refused = was_refused(desk.alloc);
-    !was_refused && answer == Some(TOO_LONG)
-}
-
-fn is_over_anew(alloc: Global) -> bool {
-    let mut table = Table::new(alloc);
-    is_over_without_memory(&mut table)
-}
-
-#[test]
-fn limits_take_no_memory_refused(rt: HostRuntime) -> Result<(), Fail> {
-    if is_over_anew(rt.alloc()) {
-        Ok(())
-    } else {
-        Err(Fail::new("a limit takes memory, or is told otherwise"))
-    }
-}
-
 /// A deletion of three stretches, after an edit behind which two times are left.
 const FEW_TIMES: &[Step] = &[
     Step::Takes(Who::One, halfway::TEXT),
     Step::Takes(Who::One, &[(281_474_976_710_653, 2, Does::AddText)]),
 ];
 
-/// Whether it takes no memory to say that times are left for a part of a deletion alone.
-fn is_spent_without_memory(table: &mut Table) -> bool {
-    if table.fails_at(FEW_TIMES).is_some() {
+/// What is done, and a call that answers then that a board is over the limit, or that the clock is spent.
+const REFUSED: [(&[Step], Call); 2] = [
+    (LONG, Call::Save),
+    (FEW_TIMES, Call::Delete(halfway::T, 1, 5)),
+];
+
+/// Whether a call is refused, and takes no memory for that.
+fn is_refused_lean(table: &mut Table, steps: &[Step], call: Call) -> bool {
+    if table.fails_at(steps).is_some() {
         return false;
     }
-    let desk = &mut table.one;
-    refuse(desk.alloc, 1);
-    let answer = desk
-        .document
-        .delete_text(1, text_id(halfway::T), 1, 5)
-        .err();
-    let was_refused = was_refused(desk.alloc);
-    !was_refused && answer == Some(DocumentError::ClockSpent)
+    let outcome = tried(table, call, 1);
+    outcome.end == End::Otherwise && !outcome.was_refused
 }
 
-fn is_spent_anew(alloc: Global) -> bool {
+// A function that owns documents is dear to prove, so this one does nothing else.
+fn is_refused_anew(alloc: Global, steps: &[Step], call: Call) -> bool {
     let mut table = Table::new(alloc);
-    is_spent_without_memory(&mut table)
+    is_refused_lean(&mut table, steps, call)
 }
 
 #[test]
-fn a_spent_clock_takes_no_memory_refused(rt: HostRuntime) -> Result<(), Fail> {
-    if is_spent_anew(rt.alloc()) {
-        Ok(())
-    } else {
-        Err(Fail::new("a spent clock takes memory, or is told otherwise"))
+fn limits_take_no_memory_refused(rt: HostRuntime) -> Result<(), Fail> {
+    for (steps, call) in REFUSED {
+        if !is_refused_anew(rt.alloc(), steps, call) {
+            return Err(Fail::new("a limit takes memory, or is told otherwise"));
+        }
     }
+    Ok(())
 }

@@ -13,9 +13,9 @@ mod stages;
 pub(crate) mod wires;
 mod worlds;
 
-use desk::{CALM, Case, Desk, Told, attach, desk_of, outcome_of, wanted_of};
+use desk::{Case, Desk, Told, attach, desk_of, outcome_of, wanted_of};
 use devices::Fails;
-use links::{LINKS, NO_END, NOTHING_PUSHED};
+use links::LINKS;
 use stages::STAGES;
 use wires::wire_over;
 use worlds::GEM_WORLD;
@@ -61,13 +61,20 @@ fn a_document_comes_over_a_link(rt: HostRuntime) -> Result<(), Fail> {
     Ok(())
 }
 
-#[test]
-fn boards_are_shown_and_played(rt: HostRuntime) -> Result<(), Fail> {
-    for case in STAGES {
-        let outcome = outcome_of(rt.alloc(), case)?;
-        assert_eq!(rt; outcome, wanted_of(case), "{}", case.name);
+/// Whether each of these cases comes out as it should.
+fn come_out(alloc: Global, cases: &[Case]) -> Result<(), Fail> {
+    for case in cases {
+        let outcome = outcome_of(alloc, case)?;
+        if outcome != wanted_of(case) {
+            return Err(Fail::new(format_args!("{}: {:?}", case.name, outcome)));
+        }
     }
     Ok(())
+}
+
+#[test]
+fn boards_are_shown_and_played(rt: HostRuntime) -> Result<(), Fail> {
+    come_out(rt.alloc(), STAGES)
 }
 
 /// Whether a screen that fails at its show of this number is told of there, and at no other.
@@ -95,25 +102,6 @@ fn each_show_failing(rt: HostRuntime) -> Result<(), Fail> {
 }
 
 #[test]
-fn nothing_is_pushed(rt: HostRuntime) -> Result<(), Fail> {
-    let outcome = outcome_of(rt.alloc(), &NOTHING_PUSHED)?;
-    assert_eq!(rt; outcome, wanted_of(&NOTHING_PUSHED));
-    Ok(())
-}
-
-#[test]
-fn a_million_reads_of_a_session_are_too_many(rt: HostRuntime) -> Result<(), Fail> {
-    let outcome = outcome_of(rt.alloc(), &NO_END)?;
-    assert_eq!(rt; outcome, wanted_of(&NO_END));
-    Ok(())
-}
-
-#[test]
 fn edits_go_over_links(rt: HostRuntime) -> Result<(), Fail> {
-    for (name, acts) in LINKS {
-        let case = Case { name, acts, ..CALM };
-        let outcome = outcome_of(rt.alloc(), &case)?;
-        assert_eq!(rt; outcome, wanted_of(&case), "{}", name);
-    }
-    Ok(())
+    come_out(rt.alloc(), LINKS)
 }

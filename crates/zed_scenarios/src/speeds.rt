@@ -209,11 +209,7 @@ fn tell_saving(rt: &HostRuntime, boards: u8, programs: Programs) -> Result<(), F
 fn speed_of_saving(rt: HostRuntime) -> Result<(), Fail> {
     tell_saving(&rt, 1, Programs::Shared)?;
     tell_saving(&rt, 10, Programs::Shared)?;
-    tell_saving(&rt, 100, Programs::Shared)
-}
-
-#[test]
-fn speed_of_saving_own_programs(rt: HostRuntime) -> Result<(), Fail> {
+    tell_saving(&rt, 100, Programs::Shared)?;
     tell_saving(&rt, 1, Programs::Own)?;
     tell_saving(&rt, 10, Programs::Own)?;
     tell_saving(&rt, 100, Programs::Own)

@@ -1,5 +1,5 @@
 //! Edits that go over links.
-use super::desk::{Act, CALM, Case, Sees, Step, Told};
+use super::desk::{Act, CALM, Case, Sees, Told};
 use super::wires::{FILE, Wired};
 use zed_op::Cause;
 use zed_session::SessionError;
@@ -86,41 +86,34 @@ const UNKNOWN_OP: Wired = (
 
 const BAD_OP: Told = Told::Refused(SessionError::BadEdit(Cause::Op));
 
-/// A document without edits is pushed: its file is a head alone.
-pub const NOTHING_PUSHED: Case = Case {
-    name: "a document without edits is pushed",
-    edits: &[],
-    acts: &[
-        (Act::Wire(EMPTY), FIRST, Sees::Links(1, 0, 0)),
-        (Act::Push(0), Told::Number(0), Sees::Links(1, 0, 0)),
-        (
-            Act::Detach(0),
-            Told::Done,
-            Sees::Left(b"ZED\x01\x07\0\0\0\0\0\0\0"),
-        ),
-    ],
-    ..CALM
-};
-
-/// A link without an end lets itself go, and no other.
-pub const NO_END: Case = Case {
-    name: "a link has no end",
-    acts: &[
-        (Act::Endless, FIRST, Sees::Links(1, 3, 3)),
-        (Act::Wire(FAST), SECOND, Sees::Links(2, 3, 3)),
-        (Act::Pull(0), TOO_MANY_TURNS, Sees::Links(1, 3, 3)),
-        (Act::Pull(0), NEW, Sees::Links(1, 5, 5)),
-    ],
-    ..CALM
-};
-
-/// What is done with a document of three edits, and its name.
-pub type Exchange = (&'static str, &'static [Step]);
-
-pub const LINKS: &[Exchange] = &[
-    (
-        "later links move down",
-        &[
+pub const LINKS: &[Case] = &[
+    Case {
+        name: "a document without edits is pushed: its file is a head alone",
+        edits: &[],
+        acts: &[
+            (Act::Wire(EMPTY), FIRST, Sees::Links(1, 0, 0)),
+            (Act::Push(0), Told::Number(0), Sees::Links(1, 0, 0)),
+            (
+                Act::Detach(0),
+                Told::Done,
+                Sees::Left(b"ZED\x01\x07\0\0\0\0\0\0\0"),
+            ),
+        ],
+        ..CALM
+    },
+    Case {
+        name: "a link without an end lets itself go, and no other",
+        acts: &[
+            (Act::Endless, FIRST, Sees::Links(1, 3, 3)),
+            (Act::Wire(FAST), SECOND, Sees::Links(2, 3, 3)),
+            (Act::Pull(0), TOO_MANY_TURNS, Sees::Links(1, 3, 3)),
+            (Act::Pull(0), NEW, Sees::Links(1, 5, 5)),
+        ],
+        ..CALM
+    },
+    Case {
+        name: "later links move down",
+        acts: &[
             (
                 Act::Wires(&[EMPTY, EMPTY, FAST]),
                 THIRD,
@@ -134,10 +127,11 @@ pub const LINKS: &[Exchange] = &[
             (Act::Pull(1), NEW, Sees::Links(2, 5, 5)),
             (Act::Wire(EMPTY), THIRD, Sees::Links(3, 5, 5)),
         ],
-    ),
-    (
-        "a push fails after five bytes",
-        &[
+        ..CALM
+    },
+    Case {
+        name: "a push fails after five bytes",
+        acts: &[
             (
                 Act::Wires(&[TAKES_FIVE, SLOW]),
                 SECOND,
@@ -147,26 +141,29 @@ pub const LINKS: &[Exchange] = &[
             (Act::Pull(0), NEW, Sees::Links(1, 5, 5)),
             (Act::Push(1), NO_LINK, Sees::Links(1, 5, 5)),
         ],
-    ),
-    (
-        "a link takes nothing",
-        &[
+        ..CALM
+    },
+    Case {
+        name: "a link takes nothing",
+        acts: &[
             (Act::Wires(&[FAST, DEAF]), SECOND, Sees::Links(2, 3, 3)),
             (Act::Push(1), FAULT, Sees::Left(b"")),
             (Act::Push(0), Told::Number(3), Sees::Links(1, 3, 3)),
         ],
-    ),
-    (
-        "a read fails between two edits",
-        &[
+        ..CALM
+    },
+    Case {
+        name: "a read fails between two edits",
+        acts: &[
             (Act::Wires(&[GIVES_ONE, FAST]), SECOND, Sees::Links(2, 3, 3)),
             (Act::Pull(0), FAULT, Sees::Links(1, 4, 4)),
             (Act::Pull(0), SECOND_NEW, Sees::Links(1, 5, 5)),
         ],
-    ),
-    (
-        "what is no file of the world lets its link go, and no other",
-        &[
+        ..CALM
+    },
+    Case {
+        name: "what is no file of the world lets its link go, and no other",
+        acts: &[
             (
                 Act::Wires(&[NO_FILE, LATER_VERSION, WORLD_8, SHORT_RECORD, FAST]),
                 Told::Number(4),
@@ -178,10 +175,11 @@ pub const LINKS: &[Exchange] = &[
             (Act::Pull(0), RECORD_LENGTH, Sees::Links(1, 3, 3)),
             (Act::Pull(0), NEW, Sees::Links(1, 5, 5)),
         ],
-    ),
-    (
-        "what no document takes lets its link go, and no other",
-        &[
+        ..CALM
+    },
+    Case {
+        name: "what no document takes lets its link go, and no other",
+        acts: &[
             (
                 Act::Wires(&[ANOTHER_SECOND, UNKNOWN_OP, FAST]),
                 THIRD,
@@ -191,15 +189,17 @@ pub const LINKS: &[Exchange] = &[
             (Act::Pull(0), BAD_OP, Sees::Links(1, 3, 3)),
             (Act::Pull(0), NEW, Sees::Links(1, 5, 5)),
         ],
-    ),
-    (
-        "a file comes twice",
-        &[
+        ..CALM
+    },
+    Case {
+        name: "a file comes twice",
+        acts: &[
             (Act::Wires(&[SLOW, FAST]), SECOND, Sees::Links(2, 3, 3)),
             (Act::Pull(0), NEW, Sees::Links(2, 5, 5)),
             (Act::Pull(1), KNOWN, Sees::Links(2, 5, 5)),
             (Act::Pull(1), CUT_SHORT, Sees::Links(1, 5, 5)),
             (Act::Push(0), Told::Number(5), Sees::Links(1, 5, 5)),
         ],
-    ),
+        ..CALM
+    },
 ];
