@@ -1,6 +1,6 @@
 //! Commands whose growths are refused.
 use crate::devices::{DarkScreen, NoKeys};
-use crate::growths::{MOST, refuse, was_refused};
+use crate::growths::{MOST, Turn, refuse, refuse_each, turn_of, was_refused};
 use crate::hosts::{Contents, File, Output, has_written, put_files, words_of};
 use crate::rows::{Does, Row, WALL};
 use crate::worlds::{EMPTY, ONE_CELL};
@@ -17,14 +17,6 @@ const FILES: &[File] = &[
     ("a", Contents::Edits(&[TITLE])),
     ("b", Contents::Edits(&[CELL])),
 ];
-
-/// How a command came out.
-#[derive(Clone, Copy)]
-enum Turn {
-    Refused,
-    NoneRefused,
-    Wrong,
-}
 
 /// A command, what holds of a file after a refusal, and what after its work.
 #[derive(Clone, Copy)]
@@ -75,17 +67,13 @@ fn take_turn(
     let (screen, keys) = devices;
     refuse(alloc, nth);
     let status = run(alloc, words, host, Vec::new(alloc), screen, keys);
-    if was_refused(alloc) {
-        if status == 1 && is_told(alloc, host, command.kept) {
-            Turn::Refused
-        } else {
-            Turn::Wrong
-        }
-    } else if status == 0 && has_written(alloc, host, command.made) {
-        Turn::NoneRefused
+    let was_refused = was_refused(alloc);
+    let is_right = if was_refused {
+        status == 1 && is_told(alloc, host, command.kept)
     } else {
-        Turn::Wrong
-    }
+        status == 0 && has_written(alloc, host, command.made)
+    };
+    turn_of(was_refused, is_right)
 }
 
 fn take_turn_anew(alloc: Global, command: Command, nth: usize) -> Turn {
@@ -107,14 +95,7 @@ fn take_turn_anew(alloc: Global, command: Command, nth: usize) -> Turn {
 }
 
 fn each_growth_refused(alloc: Global, command: Command) -> Result<(), Fail> {
-    for nth in 1..=MOST {
-        match take_turn_anew(alloc, command, nth) {
-            Turn::Refused => {}
-            Turn::NoneRefused => return Ok(()),
-            Turn::Wrong => return Err(Fail::new(format_args!("growth {nth}"))),
-        }
-    }
-    Err(Fail::new("more growths than expected"))
+    refuse_each!(nth in MOST => take_turn_anew(alloc, command, nth))
 }
 
 #[test]

@@ -2,7 +2,7 @@
 use crate::calls::{Call, End, tried};
 use crate::desk::{Desk, Fact};
 use crate::growths::MOST;
-use crate::refusals::{is_stale_throughout, told_of};
+use crate::refusals::is_stale_throughout;
 use crate::rows::{Does, Name, Row, text_id};
 use crate::steps::{Step, Table, Who};
 use std::alloc::Global;
@@ -129,5 +129,8 @@ fn wrong_growth_of(alloc: Global) -> Option<usize> {
 
 #[test]
 fn each_growth_of_several_deletions_refused(rt: HostRuntime) -> Result<(), Fail> {
-    told_of(wrong_growth_of(rt.alloc()))
+    match wrong_growth_of(rt.alloc()) {
+        Some(nth) => Err(Fail::new(format_args!("growth {nth}"))),
+        None => Ok(()),
+    }
 }

@@ -15,9 +15,9 @@ const TOO_MANY: ExportError = ExportError::StatsOver {
 
 const STATS: &[Step] = &[
     Step::Takes(Who::One, &[TITLE]),
-    Step::AddStats(Who::One, 2, 3, 149),
+    Step::Repeats(Who::One, Does::AddStat(1, 1, None), 2, 3, 149),
     Step::Takes(Who::Other, &[TITLE]),
-    Step::AddStats(Who::Other, 2, 3, 149),
+    Step::Repeats(Who::Other, Does::AddStat(1, 1, None), 2, 3, 149),
     Step::Takes(Who::One, &[(151, 1, Does::AddStat(1, 1, None))]),
     Step::Saves(Who::One, Saved::World(1, 5660)),
     Step::Takes(Who::Other, &[(151, 2, Does::AddStat(1, 1, None))]),

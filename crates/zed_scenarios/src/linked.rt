@@ -1,9 +1,8 @@
 //! `merge` over links in memory, of which it is told how many came to their end, and how many of these unread.
 use crate::devices::{DarkScreen, NoKeys};
 use crate::failures::is_told;
-use crate::growths::{MOST, refuse, was_refused};
+use crate::growths::{MOST, Turn, refuse, refuse_each, turn_of, was_refused};
 use crate::hosts::{Output, edit_file, has_written, words_of};
-use crate::refusals::{Turn, told_of};
 use crate::rows::{Does, Row};
 use crate::session::devices::Traces;
 use crate::session::wires::{put_long_record, wire_over};
@@ -224,22 +223,17 @@ const REFUSED: &[Merge] = &[
         complained: "zzted: OtherWorld\n",
         ..FAULT
     },
+    // a million reads without an end
+    Merge {
+        links: &[(Handed::Long, 1, None), (SECOND, 4096, None)],
+        complained: "zzted: TooManyTurns\n",
+        ..FAULT
+    },
 ];
 
 #[test]
 fn links_behind_one_that_fails_are_dropped_unread(rt: HostRuntime) -> Result<(), Fail> {
     come_out(rt.alloc(), REFUSED)
-}
-
-const ENDLESS: &[Merge] = &[Merge {
-    links: &[(Handed::Long, 1, None), (SECOND, 4096, None)],
-    complained: "zzted: TooManyTurns\n",
-    ..FAULT
-}];
-
-#[test]
-fn a_million_reads_are_too_many(rt: HostRuntime) -> Result<(), Fail> {
-    come_out(rt.alloc(), ENDLESS)
 }
 
 /// Runs a `merge` with the growth `nth` refused. Its links come to their end in any case.
@@ -252,17 +246,12 @@ fn take_turn(alloc: Global, host: &mut MemoryHost, traces: &Traces, nth: usize) 
     if traces.ends.get() != WHOLE.ends {
         return Turn::Wrong;
     }
-    if was_refused {
-        if status == Some(1) && is_told(alloc, host, Output::Nothing("o")) {
-            Turn::Refused
-        } else {
-            Turn::Wrong
-        }
-    } else if status == Some(0) && has_written(alloc, host, WHOLE.output) {
-        Turn::NoneRefused
+    let is_right = if was_refused {
+        status == Some(1) && is_told(alloc, host, Output::Nothing("o"))
     } else {
-        Turn::Wrong
-    }
+        status == Some(0) && has_written(alloc, host, WHOLE.output)
+    };
+    turn_of(was_refused, is_right)
 }
 
 fn take_turn_anew(alloc: Global, nth: usize) -> Turn {
@@ -273,19 +262,7 @@ fn take_turn_anew(alloc: Global, nth: usize) -> Turn {
     }
 }
 
-/// The first growth whose refusal comes out otherwise.
-fn wrong_growth(alloc: Global) -> Option<usize> {
-    for nth in 1..=MOST {
-        match take_turn_anew(alloc, nth) {
-            Turn::Refused => {}
-            Turn::NoneRefused => return None,
-            Turn::Wrong => return Some(nth),
-        }
-    }
-    Some(MOST)
-}
-
 #[test]
 fn each_growth_of_merging_links_refused(rt: HostRuntime) -> Result<(), Fail> {
-    told_of(wrong_growth(rt.alloc()))
+    refuse_each!(nth in MOST => take_turn_anew(rt.alloc(), nth))
 }

@@ -2,7 +2,7 @@
 //! comes out as with ample memory.
 use crate::calls::{Call, End, tried};
 use crate::desk::Told;
-use crate::growths::MOST;
+use crate::growths::{MOST, Turn, refuse_each, turn_of};
 use crate::rows::Does;
 use crate::steps::{Step, Table};
 use std::alloc::Global;
@@ -19,14 +19,6 @@ pub(crate) struct Scene {
     /// What holds after a refusal, though the document may be stale.
     pub(crate) kept: &'static [Step],
     pub(crate) after: &'static [Step],
-}
-
-/// How one turn came out.
-#[derive(Clone, Copy)]
-pub(crate) enum Turn {
-    Refused,
-    NoneRefused,
-    Wrong,
 }
 
 /// Whether a stale document answers Stale, and a sound one doesn't.
@@ -57,45 +49,25 @@ fn take_turn(table: &mut Table, scene: Scene, nth: usize) -> Turn {
         return Turn::Wrong;
     }
     let outcome = tried(table, scene.call, nth);
-    if outcome.was_refused {
-        if outcome.end == End::Memory && recovers(table, scene) {
-            Turn::Refused
-        } else {
-            Turn::Wrong
-        }
-    } else if outcome.end == End::Done && table.fails_at(scene.after).is_none() {
-        Turn::NoneRefused
+    let is_right = if outcome.was_refused {
+        outcome.end == End::Memory && recovers(table, scene)
     } else {
-        Turn::Wrong
-    }
+        outcome.end == End::Done && table.fails_at(scene.after).is_none()
+    };
+    turn_of(outcome.was_refused, is_right)
 }
 
-/// The first growth whose refusal comes out otherwise.
-fn wrong_growth(table: &mut Table, scene: Scene) -> Option<usize> {
-    for nth in 1..=MOST {
-        match take_turn(table, scene, nth) {
-            Turn::Refused => {}
-            Turn::NoneRefused => return None,
-            Turn::Wrong => return Some(nth),
-        }
-    }
-    Some(MOST)
+fn sweep(table: &mut Table, scene: Scene, turns: usize) -> Result<(), Fail> {
+    refuse_each!(nth in turns => take_turn(table, scene, nth))
 }
 
+/// Refuses each growth of a call, which comes out with none refused in one of so many turns.
 // A function that owns documents is dear to prove, so this one does nothing else.
-fn wrong_growth_of(alloc: Global, scene: Scene) -> Option<usize> {
+pub(crate) fn few_growths_refused(alloc: Global, scene: Scene, turns: usize) -> Result<(), Fail> {
     let mut table = Table::new(alloc);
-    wrong_growth(&mut table, scene)
-}
-
-/// Nothing, or what a refusal of this growth is called that comes out otherwise.
-pub(crate) fn told_of(growth: Option<usize>) -> Result<(), Fail> {
-    match growth {
-        Some(nth) => Err(Fail::new(format_args!("growth {nth}"))),
-        None => Ok(()),
-    }
+    sweep(&mut table, scene, turns)
 }
 
 pub(crate) fn each_growth_refused(alloc: Global, scene: Scene) -> Result<(), Fail> {
-    told_of(wrong_growth_of(alloc, scene))
+    few_growths_refused(alloc, scene, MOST)
 }

@@ -1,8 +1,8 @@
 //! The repair of a document that want of memory left stale.
 use crate::calls::{Call, End, tried};
-use crate::growths::MOST;
+use crate::growths::{MOST, Turn, refuse_each, turn_of};
 use crate::memory::LAST;
-use crate::refusals::{Turn, is_stale_throughout, told_of};
+use crate::refusals::is_stale_throughout;
 use crate::steps::Table;
 use std::alloc::Global;
 use std::test::Fail;
@@ -43,40 +43,29 @@ fn repair_turn(table: &mut Table, stale: usize, nth: usize) -> Turn {
         return Turn::Wrong;
     }
     let outcome = tried(table, Call::Repair, nth);
-    if outcome.was_refused {
-        if outcome.end == End::Memory && stays_stale(table) {
-            Turn::Refused
-        } else {
-            Turn::Wrong
-        }
-    } else if outcome.end == End::Done && table.fails_at(LAST.kept).is_none() {
-        Turn::NoneRefused
+    let is_right = if outcome.was_refused {
+        outcome.end == End::Memory && stays_stale(table)
     } else {
-        Turn::Wrong
-    }
-}
-
-/// The first growth of a repair whose refusal comes out otherwise, where a delivery leaves a document stale at all.
-fn wrong_repair(table: &mut Table) -> Option<usize> {
-    let Some(stale) = first_stale(table) else {
-        return None;
+        outcome.end == End::Done && table.fails_at(LAST.kept).is_none()
     };
-    for nth in 1..=MOST {
-        match repair_turn(table, stale, nth) {
-            Turn::Refused => {}
-            Turn::NoneRefused => return None,
-            Turn::Wrong => return Some(nth),
-        }
-    }
-    Some(MOST)
+    turn_of(outcome.was_refused, is_right)
 }
 
-fn wrong_repair_of(alloc: Global) -> Option<usize> {
+/// Refuses each growth of a repair, where a delivery leaves a document stale at all.
+fn sweep(table: &mut Table) -> Result<(), Fail> {
+    let Some(stale) = first_stale(table) else {
+        return Ok(());
+    };
+    refuse_each!(nth in MOST => repair_turn(table, stale, nth))
+}
+
+// A function that owns documents is dear to prove, so this one does nothing else.
+fn sweep_anew(alloc: Global) -> Result<(), Fail> {
     let mut table = Table::new(alloc);
-    wrong_repair(&mut table)
+    sweep(&mut table)
 }
 
 #[test]
 fn each_growth_of_repair_refused(rt: HostRuntime) -> Result<(), Fail> {
-    told_of(wrong_repair_of(rt.alloc()))
+    sweep_anew(rt.alloc())
 }

@@ -1,7 +1,7 @@
 //! Scenarios: what two replicas do, one step after the other, and what comes of it.
 use crate::desk::{Desk, Fact, Told};
 use crate::files::{Saved, save_alike, saves};
-use crate::rows::Row;
+use crate::rows::{Does, Row};
 use std::alloc::Global;
 use std::test::Fail;
 use zed_document::DocumentError;
@@ -20,8 +20,8 @@ pub(crate) enum Step {
     Gives(Who, Row, Told),
     /// Edits are delivered, and each is taken.
     Takes(Who, &'static [Row]),
-    /// So many stats are added at (1,1), from this time on by this replica.
-    AddStats(Who, u64, u16, usize),
+    /// The same is done so many times, from this time on by this replica, and each edit is taken.
+    Repeats(Who, Does, u64, u16, usize),
     /// The replica takes in all that the other one has, and this is answered.
     Merges(Who, Result<(), DocumentError>),
     /// The replica begins anew in a world of this number.
@@ -66,11 +66,10 @@ impl Table {
         true
     }
 
-    fn adds_stats(&mut self, who: Who, time: u64, replica: u16, count: usize) -> bool {
+    fn repeats(&mut self, who: Who, does: Does, time: u64, replica: u16, count: usize) -> bool {
         let mut next = time;
         for _ in 0..count {
-            let row = (next, replica, crate::rows::Does::AddStat(1, 1, None));
-            if !self.gives(who, row, Told::Taken(0)) {
+            if !self.gives(who, (next, replica, does), Told::Taken(0)) {
                 return false;
             }
             next = next.saturating_add(1);
@@ -117,8 +116,8 @@ impl Table {
         match step {
             Step::Gives(who, row, told) => self.gives(who, row, told),
             Step::Takes(who, rows) => self.takes(who, rows),
-            Step::AddStats(who, time, replica, count) => {
-                self.adds_stats(who, time, replica, count)
+            Step::Repeats(who, does, time, replica, count) => {
+                self.repeats(who, does, time, replica, count)
             }
             Step::Merges(who, wanted) => self.merges(who, wanted),
             Step::Begins(who, world) => self.begins(who, world),

@@ -1,9 +1,9 @@
 //! What a delivery tells of the runs of texts that were looked at, and how often one delivery grows.
-use crate::calls::{Call, End, tried};
-use crate::desk::{Desk, Fact, Told};
-use crate::refusals::{Turn, is_stale_throughout, told_of};
+use crate::calls::Call;
+use crate::desk::{Desk, Fact};
+use crate::refusals::{Scene, few_growths_refused};
 use crate::rows::{Does, FIRST, Name, Row, edit_of, text_id};
-use crate::steps::{Table, Who};
+use crate::steps::{Step, Who};
 use crate::worlds::{EMPTY, WITH_PROGRAM};
 use std::alloc::Global;
 use std::test::Fail;
@@ -279,75 +279,25 @@ const TITLE: Row = (1, 0, Does::World(EMPTY));
 /// The text that is added behind the boards.
 const LAST: Row = (202, 1, Does::AddText);
 
-/// Most growths of its delivery.
-const MOST_OF_ONE: usize = 64;
+/// A delivery behind 200 boards.
+const BEHIND_BOARDS: Scene = Scene {
+    before: &[
+        Step::Takes(Who::One, &[TITLE]),
+        Step::Repeats(Who::One, Does::AddBoard("Board"), 2, 1, 200),
+    ],
+    call: Call::Deliver(LAST),
+    kept: &[Step::Finds(Who::One, Fact::Edits(201, 0))],
+    after: &[
+        Step::Finds(Who::One, Fact::Edits(202, 0)),
+        Step::Finds(Who::One, Fact::Board(200, Some((201, 1, 0)))),
+        Step::Finds(Who::One, Fact::Text((202, 1, 0), "")),
+    ],
+};
 
-/// Whether the world and 200 boards are taken, and no more.
-fn takes_boards(desk: &mut Desk) -> bool {
-    if !desk.gives(TITLE, Told::Taken(0)) {
-        return false;
-    }
-    for time in 2..=201u64 {
-        if !desk.gives((time, 1, Does::AddBoard("Board")), Told::Taken(0)) {
-            return false;
-        }
-    }
-    desk.document.edits().len() == 201
-}
-
-fn has_all(desk: &mut Desk) -> bool {
-    desk.finds(Fact::Edits(202, 0))
-        && desk.finds(Fact::Board(200, Some((201, 1, 0))))
-        && desk.finds(Fact::Text((202, 1, 0), ""))
-}
-
-/// Whether the edits are as before, and the delivery made again after a repair comes out as with ample memory.
-fn recovers(table: &mut Table) -> bool {
-    table.one.document.edits().len() == 201
-        && is_stale_throughout(table)
-        && table.one.document.repair() == Ok(())
-        && tried(table, Call::Deliver(LAST), 0).end == End::Done
-        && has_all(&mut table.one)
-}
-
-fn take_turn(table: &mut Table, nth: usize) -> Turn {
-    table.clear();
-    if !takes_boards(&mut table.one) {
-        return Turn::Wrong;
-    }
-    let outcome = tried(table, Call::Deliver(LAST), nth);
-    if outcome.was_refused {
-        if outcome.end == End::Memory && recovers(table) {
-            Turn::Refused
-        } else {
-            Turn::Wrong
-        }
-    } else if outcome.end == End::Done && has_all(&mut table.one) {
-        Turn::NoneRefused
-    } else {
-        Turn::Wrong
-    }
-}
-
-/// The first growth whose refusal comes out otherwise, or the first past the most, where so many are met.
-fn wrong_growth(table: &mut Table) -> Option<usize> {
-    for nth in 1..=MOST_OF_ONE.saturating_add(1) {
-        match take_turn(table, nth) {
-            Turn::Refused => {}
-            Turn::NoneRefused => return None,
-            Turn::Wrong => return Some(nth),
-        }
-    }
-    Some(MOST_OF_ONE.saturating_add(1))
-}
-
-// A function that owns documents is dear to prove, so this one does nothing else.
-fn wrong_growth_of(alloc: Global) -> Option<usize> {
-    let mut table = Table::new(alloc);
-    wrong_growth(&mut table)
-}
+/// One turn more than such a delivery has growths at most.
+const TURNS: usize = 64 + 1;
 
 #[test]
 fn growths_of_a_text_behind_boards_refused(rt: HostRuntime) -> Result<(), Fail> {
-    told_of(wrong_growth_of(rt.alloc()))
+    few_growths_refused(rt.alloc(), BEHIND_BOARDS, TURNS)
 }

@@ -2,8 +2,7 @@
 use super::desk::{Act, Desk, Sees, Told, desk_of, is_seen, told_by};
 use super::devices::Fails;
 use super::worlds::{Does, GEM_WORLD, TWO_BOARDS};
-use crate::growths::{MOST, refuse, was_refused};
-use crate::refusals::Turn;
+use crate::growths::{MOST, Turn, refuse, refuse_each, turn_of, was_refused};
 use std::alloc::Global;
 use std::test::Fail;
 use zed_play::Key;
@@ -47,27 +46,21 @@ fn turn_on(desk: &mut Desk, scene: Scene, nth: usize) -> Turn {
     }
     refuse(desk.alloc, nth);
     let told = told_by(desk, scene.call);
-    if !was_refused(desk.alloc) {
-        return if all_seen(desk, scene.after) {
-            Turn::NoneRefused
-        } else {
-            Turn::Wrong
-        };
-    }
-    if told == Told::Refused(SessionError::Memory)
-        && all_seen(desk, scene.kept)
-        && all_told(desk, scene.then)
-        && told_by(desk, scene.call) != told
-        && all_seen(desk, scene.after)
-    {
-        Turn::Refused
+    let was_refused = was_refused(desk.alloc);
+    let is_right = if was_refused {
+        told == Told::Refused(SessionError::Memory)
+            && all_seen(desk, scene.kept)
+            && all_told(desk, scene.then)
+            && told_by(desk, scene.call) != told
+            && all_seen(desk, scene.after)
     } else {
-        Turn::Wrong
-    }
+        all_seen(desk, scene.after)
+    };
+    turn_of(was_refused, is_right)
 }
 
 // A function that owns a desk is dear to prove, so this one does nothing else.
-fn turn_of(alloc: Global, scene: Scene, nth: usize) -> Result<Turn, Fail> {
+fn turn_anew(alloc: Global, scene: Scene, nth: usize) -> Result<Turn, Fail> {
     let mut desk = desk_of(
         alloc,
         scene.edits,
@@ -78,14 +71,7 @@ fn turn_of(alloc: Global, scene: Scene, nth: usize) -> Result<Turn, Fail> {
 }
 
 fn each_growth_refused(alloc: Global, scene: Scene) -> Result<(), Fail> {
-    for nth in 1..=MOST {
-        match turn_of(alloc, scene, nth)? {
-            Turn::Refused => {}
-            Turn::NoneRefused => return Ok(()),
-            Turn::Wrong => return Err(Fail::new(format_args!("growth {nth}"))),
-        }
-    }
-    Err(Fail::new(format_args!("too many growths")))
+    refuse_each!(nth in MOST => turn_anew(alloc, scene, nth)?)
 }
 
 const FIRST: Told = Told::Number(0);
