@@ -19,39 +19,23 @@ const GEM: Tile = Tile {
     colour: 0x0b,
 };
 
-#[test]
-fn a_cell_keeps_the_later_write(rt: HostRuntime) -> Result<(), Fail> {
-    let mut cells = Cells::new(rt.alloc(), [Tile::EMPTY; TILES], Stamp::GENESIS)?;
-    let place = Place { x: 5, y: 5 };
-    let cell = Rectangle {
-        left: 5,
-        top: 5,
-        right: 5,
-        bottom: 5,
-    };
-    cells.set(cell, at(2, 2), LION);
-    cells.set(cell, at(2, 1), GEM);
-    assert_eq!(rt; cells.get(place), LION);
-    Ok(())
+fn cells_from(left: u8, top: u8, right: u8, bottom: u8) -> Rectangle {
+    Rectangle {
+        left,
+        top,
+        right,
+        bottom,
+    }
 }
 
 #[test]
-fn a_rectangle_passes_later_cells(rt: HostRuntime) -> Result<(), Fail> {
+fn a_cell_keeps_the_later_write(rt: HostRuntime) -> Result<(), Fail> {
     let mut cells = Cells::new(rt.alloc(), [Tile::EMPTY; TILES], Stamp::GENESIS)?;
-    let corner = Rectangle {
-        left: 60,
-        top: 25,
-        right: 60,
-        bottom: 25,
-    };
-    let rows = Rectangle {
-        left: 59,
-        top: 24,
-        right: 60,
-        bottom: 25,
-    };
-    cells.set(corner, at(9, 1), LION);
-    cells.set(rows, at(3, 1), GEM);
+    cells.set(cells_from(5, 5, 5, 5), at(2, 2), LION);
+    cells.set(cells_from(5, 5, 5, 5), at(2, 1), GEM);
+    cells.set(cells_from(60, 25, 60, 25), at(9, 1), LION);
+    cells.set(cells_from(59, 24, 60, 25), at(3, 1), GEM);
+    assert_eq!(rt; cells.get(Place { x: 5, y: 5 }), LION);
     let table = cells.table();
     assert_eq!(rt; table[1499], LION);
     assert_eq!(rt; table[1498], GEM);
@@ -109,14 +93,8 @@ fn each_growth_of_registers_refused(rt: HostRuntime) -> Result<(), Fail> {
 fn writing_takes_no_memory_refused(rt: HostRuntime) -> Result<(), Fail> {
     let mut cells = Cells::new(rt.alloc(), [Tile::EMPTY; TILES], Stamp::GENESIS)?;
     let mut numbers = Registers::new(rt.alloc(), 9)?;
-    let all = Rectangle {
-        left: 1,
-        top: 1,
-        right: 60,
-        bottom: 25,
-    };
     refuse(rt.alloc(), 1);
-    cells.set(all, at(2, 1), GEM);
+    cells.set(cells_from(1, 1, 60, 25), at(2, 1), GEM);
     numbers.set(3, at(5, 1), 50i16);
     assert!(rt; !was_refused(rt.alloc()));
     assert_eq!(rt; cells.get(Place { x: 60, y: 25 }), GEM);

@@ -68,24 +68,6 @@ fn each_thing_releases_those_that_name_it(rt: HostRuntime) -> Result<(), Fail> {
     Ok(())
 }
 
-#[test]
-fn what_waits_for_one_thing_comes_in_stamp_order(rt: HostRuntime) -> Result<(), Fail> {
-    let mut inbox = Inbox::new(rt.alloc());
-    for own in [stamp(5, 1), stamp(3, 2), stamp(4, 9), stamp(3, 1)] {
-        inbox.hold(insertion(rt.alloc(), own, stamp(2, 1))?)?;
-        assert!(rt; inbox.is_held(own));
-    }
-    let released = inbox.release(Thing::Text(text()))?;
-    let mut stamps = Vec::new(rt.alloc());
-    for edit in &released {
-        stamps.push(edit.stamp)?;
-    }
-    let want = [stamp(3, 1), stamp(3, 2), stamp(4, 9), stamp(5, 1)];
-    assert_eq!(rt; stamps.as_slice(), want.as_slice());
-    assert_eq!(rt; inbox.held(), 0);
-    Ok(())
-}
-
 /// The removal of a board that an edit of replica 2 made.
 fn removal(own: Stamp, made: u64) -> Edit {
     Edit {
@@ -94,12 +76,13 @@ fn removal(own: Stamp, made: u64) -> Edit {
     }
 }
 
-/// An inbox in which 40 deletions wait for one byte. They came in no order of stamps.
+/// An inbox in which 40 deletions wait for one byte, two of each time. They came in no order of stamps.
 fn crowd(alloc: Global) -> Result<Inbox, Fail> {
     let mut inbox = Inbox::new(alloc);
     for k in 0..40u64 {
-        let time = if k % 2 == 0 { 100 + k } else { 200 - k };
-        inbox.hold(deletion(stamp(time, 1), stamp(2, 1)))?;
+        let place = k * 7 % 40;
+        let replica = if place % 2 == 0 { 2 } else { 1 };
+        inbox.hold(deletion(stamp(100 + place / 2, replica), stamp(2, 1)))?;
     }
     Ok(inbox)
 }

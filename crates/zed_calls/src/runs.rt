@@ -11,59 +11,64 @@ const EMPTY: Tile = Tile {
     colour: 0,
 };
 
-#[test]
-fn writes_equal_tiles(rt: HostRuntime) -> Result<(), Fail> {
-    let mut out = Vec::new(rt.alloc());
-    write_runs(&[EMPTY; TILES], &mut out)?;
-    let want = [
-        255, 0, 0, 255, 0, 0, 255, 0, 0, 255, 0, 0, 255, 0, 0, 225, 0, 0,
-    ];
-    assert_eq!(rt; out.as_slice(), want.as_slice());
-    Ok(())
-}
-
-#[test]
-fn writes_a_board_with_a_player(rt: HostRuntime) -> Result<(), Fail> {
-    let mut tiles = [EMPTY; TILES];
-    tiles[11 * 60 + 29] = Tile {
+/// The player at (30,12), and water at (5,5).
+const PLAYER: (usize, Tile) = (
+    11 * 60 + 29,
+    Tile {
         element: 4,
         colour: 0x1f,
-    };
-    let mut out = b"kept".to_vec(rt.alloc())?;
-    write_runs(&tiles, &mut out)?;
-    let want = [
-        b'k', b'e', b'p', b't', 255, 0, 0, 255, 0, 0, 179, 0, 0, 1, 4, 0x1f, 255, 0, 0, 255, 0, 0,
-        255, 0, 0, 45, 0, 0,
-    ];
-    assert_eq!(rt; out.as_slice(), want.as_slice());
-    Ok(())
-}
+    },
+);
 
-#[test]
-fn writes_one_changed_tile(rt: HostRuntime) -> Result<(), Fail> {
-    let mut tiles = [EMPTY; TILES];
-    tiles[4 * 60 + 4] = Tile {
+const WATER: (usize, Tile) = (
+    4 * 60 + 4,
+    Tile {
         element: 19,
         colour: 0x9f,
-    };
-    tiles[11 * 60 + 29] = Tile {
-        element: 4,
-        colour: 0x1f,
-    };
-    let mut out = Vec::new(rt.alloc());
-    write_runs(&tiles, &mut out)?;
-    let want = [
-        244, 0, 0, 1, 19, 0x9f, 255, 0, 0, 189, 0, 0, 1, 4, 0x1f, 255, 0, 0, 255, 0, 0, 255, 0, 0,
-        45, 0, 0,
-    ];
-    assert_eq!(rt; out.as_slice(), want.as_slice());
+    },
+);
+
+/// What stands on a board that is empty otherwise, and the runs of its tiles.
+const BOARDS: [(&[(usize, Tile)], &[u8]); 3] = [
+    (&[], b"\xff\0\0\xff\0\0\xff\0\0\xff\0\0\xff\0\0\xe1\0\0"),
+    (
+        &[PLAYER],
+        b"\xff\0\0\xff\0\0\xb3\0\0\x01\x04\x1f\xff\0\0\xff\0\0\xff\0\0\x2d\0\0",
+    ),
+    (
+        &[WATER, PLAYER],
+        b"\xf4\0\0\x01\x13\x9f\xff\0\0\xbd\0\0\x01\x04\x1f\xff\0\0\xff\0\0\xff\0\0\x2d\0\0",
+    ),
+];
+
+fn board_with(things: &[(usize, Tile)]) -> [Tile; TILES] {
+    let mut tiles = [EMPTY; TILES];
+    for (place, tile) in things {
+        if *place < TILES {
+            tiles[*place] = *tile;
+        }
+    }
+    tiles
+}
+
+#[test]
+fn boards_are_written(rt: HostRuntime) -> Result<(), Fail> {
+    for (things, runs) in BOARDS {
+        let mut out = b"kept".to_vec(rt.alloc())?;
+        write_runs(&board_with(things), &mut out)?;
+        assert!(rt; out.starts_with(b"kept") && out.ends_with(runs));
+        assert_eq!(rt; out.len(), 4 + runs.len());
+    }
     Ok(())
 }
 
 #[test]
-fn reads_counts_of_zero(rt: HostRuntime) -> Result<(), Fail> {
+fn reading_counts_of_zero_takes_no_memory_refused(rt: HostRuntime) -> Result<(), Fail> {
     let text = [0, 0, 0, 0, 0, 0, 0, 0, 0, 0, 0, 0, 0, 0, 0, 255, 0, 0, 7];
-    let (tiles, used) = read_runs(&text)?;
+    refuse(rt.alloc(), 1);
+    let answer = read_runs(&text);
+    assert!(rt; !was_refused(rt.alloc()));
+    let (tiles, used) = answer?;
     assert_eq!(rt; used, 18);
     for tile in &tiles {
         assert_eq!(rt; *tile, EMPTY);
@@ -91,14 +96,4 @@ fn writing_refused(rt: HostRuntime) -> Result<(), Fail> {
         tiles[place].colour = (place % 2) as u8;
     }
     refuse_each!(nth => write_once(rt.alloc(), &tiles, nth)?)
-}
-
-#[test]
-fn reading_takes_no_memory_refused(rt: HostRuntime) -> Result<(), Fail> {
-    let text = [0, 0, 0, 0, 0, 0, 0, 0, 0, 0, 0, 0, 0, 0, 0, 255, 0, 0, 7];
-    refuse(rt.alloc(), 1);
-    let answer = read_runs(&text);
-    assert!(rt; !was_refused(rt.alloc()));
-    assert!(rt; answer.is_ok());
-    Ok(())
 }

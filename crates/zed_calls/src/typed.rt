@@ -24,21 +24,11 @@ fn text() -> TextId {
     TextId::new(stamp(2, 1), 0)
 }
 
-/// Random numbers by linear congruential steps.
-#[derive(Clone, Copy)]
-struct Dice {
-    state: u64,
-}
-
-impl Dice {
-    /// A number below a bound, or 0 where that is 0.
-    fn below(&mut self, bound: usize) -> usize {
-        self.state = self
-            .state
-            .wrapping_mul(6_364_136_223_846_793_005)
-            .wrapping_add(1_442_695_040_888_963_407);
-        (self.state >> 33) as usize % bound.max(1)
-    }
+/// A number below a bound, by another number and in no order of these; 0 where the bound is 0.
+fn scattered(nth: u64, bound: usize) -> usize {
+    let mixed = nth.wrapping_mul(0x9e37_79b9_7f4a_7c15);
+    let scattered = (mixed ^ (mixed >> 32)).wrapping_mul(0xbf58_476d_1ce4_e5b9);
+    (scattered >> 33) as usize % bound.max(1)
 }
 
 /// A number of a byte. None is greater.
@@ -146,12 +136,12 @@ fn reads_as(document: &Document, listed: &[Listed]) -> Result<bool, Fail> {
 }
 
 /// What the edit does that comes after so many, at the place of a random byte of an earlier stamp.
-fn typed(alloc: Global, dice: &mut Dice, listed: &[Listed], nth: u64) -> Result<Edit, AllocError> {
+fn typed(alloc: Global, listed: &[Listed], nth: u64) -> Result<Edit, AllocError> {
     // all times from 4 on come once, scattered
     let time = nth.saturating_mul(777) % TYPED + 4;
     let stamp = stamp(time, (time % 3) as u16 + 1);
-    let mut name = ElemId::new(self::stamp(3, 1), narrow(dice.below(BEGUN as usize)));
-    if let Some(there) = listed.get(dice.below(listed.len())) {
+    let mut name = ElemId::new(self::stamp(3, 1), narrow(scattered(nth, BEGUN as usize)));
+    if let Some(there) = listed.get(scattered(nth, listed.len())) {
         if there.name.name.stamp.is_before(stamp) {
             name = there.name;
         }
@@ -211,9 +201,8 @@ impl Pair {
 
     /// Takes all edits, and says which is the first that comes out otherwise.
     fn types(&mut self, alloc: Global) -> Result<Option<u64>, Fail> {
-        let mut dice = Dice { state: 20 };
         for nth in 0..TYPED {
-            let edit = typed(alloc, &mut dice, &self.listed, nth)?;
+            let edit = typed(alloc, &self.listed, nth)?;
             // each edit before cut the text into two runs more at most
             let most = nth.saturating_mul(2).saturating_add(2);
             if !self.takes(edit, most)? {

@@ -97,8 +97,6 @@ const LONG: Reads = Reads::Fault(EditFileError::BadEdit(Cause::Long));
 
 const TAG: Reads = Reads::Fault(EditFileError::BadEdit(Cause::Tag));
 
-const OP: Reads = Reads::Fault(EditFileError::BadEdit(Cause::Op));
-
 /// The head of a file of world 7.
 const HEAD: &[u8] = &[b'Z', b'E', b'D', 1, 7, 0, 0, 0, 0, 0, 0, 0];
 
@@ -216,15 +214,4 @@ fn faults_of_each_field(rt: HostRuntime) -> Result<(), Fail> {
         Some(n) => Err(Fail::new(format_args!("record {n} is read otherwise"))),
         None => Ok(()),
     }
-}
-
-#[test]
-fn ops_that_there_are_not(rt: HostRuntime) -> Result<(), Fail> {
-    for op in [0u8, 13, 255] {
-        let body = [9, 0, 0, 0, 0, 0, 1, 0, op];
-        if read_body(rt.alloc(), &body) != OP {
-            return Err(Fail::new(format_args!("op {op} is read otherwise")));
-        }
-    }
-    Ok(())
 }
