@@ -32,6 +32,10 @@ pub(crate) enum Call {
 pub(crate) enum End {
     Done,
     Memory,
+    /// No later time is left.
+    ClockSpent,
+    /// The board of this number has so many bytes, more than a board may have.
+    BoardOver(usize, usize),
     Otherwise,
 }
 
@@ -51,6 +55,7 @@ fn end_of(error: Option<DocumentError>) -> End {
     match error {
         None => End::Done,
         Some(DocumentError::Memory) => End::Memory,
+        Some(DocumentError::ClockSpent) => End::ClockSpent,
         Some(_) => End::Otherwise,
     }
 }
@@ -59,6 +64,7 @@ fn end_of_export(error: Option<ExportError>) -> End {
     match error {
         None => End::Done,
         Some(ExportError::Memory) => End::Memory,
+        Some(ExportError::BoardOver { board, bytes }) => End::BoardOver(board, bytes),
         Some(_) => End::Otherwise,
     }
 }

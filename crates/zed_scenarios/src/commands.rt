@@ -151,8 +151,9 @@ const CLASHING: &[File] = &[
     ("other", Contents::Bytes(b"ZED\x01\x08\0\0\0\0\0\0\0")),
 ];
 
-/// A command on these files, and what it is refused with: two edits of one stamp are told before what is wrong with a later file, and
-/// after what is wrong with an earlier one. Of two clashes the one that comes first is told, whether its stamp is the later one or not.
+/// A command on these files, and what it is refused with. Where two things are wrong, the one that comes first is told: two edits of one
+/// stamp before what is wrong with a later file, and after what is wrong with an earlier one; of two clashes the one that is met first,
+/// whether its stamp is the later one or not.
 const FIRST_TOLD: [(&[&str], &str); 12] = [
     (&["save", "o", "a", "b"], "zzted: Clash 2 1\n"),
     (&["save", "o", "a", "b", "cut"], "zzted: Clash 2 1\n"),

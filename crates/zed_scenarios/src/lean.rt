@@ -97,32 +97,32 @@ const FEW_TIMES: &[Step] = &[
     Step::Takes(Who::One, &[(281_474_976_710_653, 2, Does::AddText)]),
 ];
 
-/// What is done, and a call that answers then that a board is over the limit, or that the clock is spent.
-const REFUSED: [(&[Step], Call); 2] = [
-    (LONG, Call::Save),
-    (FEW_TIMES, Call::Delete(halfway::T, 1, 5)),
+/// What is done, and a call that is refused then, with what.
+const REFUSED: [(&[Step], Call, End); 2] = [
+    (LONG, Call::Save, End::BoardOver(0, 20_001)),
+    (FEW_TIMES, Call::Delete(halfway::T, 1, 5), End::ClockSpent),
 ];
 
-/// Whether a call is refused, and takes no memory for that.
-fn is_refused_lean(table: &mut Table, steps: &[Step], call: Call) -> bool {
+/// Whether a call is refused so, and takes no memory for that.
+fn is_refused_lean(table: &mut Table, steps: &[Step], call: Call, end: End) -> bool {
     if table.fails_at(steps).is_some() {
         return false;
     }
     let outcome = tried(table, call, 1);
-    outcome.end == End::Otherwise && !outcome.was_refused
+    outcome.end == end && !outcome.was_refused
 }
 
 // A function that owns documents is dear to prove, so this one does nothing else.
-fn is_refused_anew(alloc: Global, steps: &[Step], call: Call) -> bool {
+fn is_refused_anew(alloc: Global, steps: &[Step], call: Call, end: End) -> bool {
     let mut table = Table::new(alloc);
-    is_refused_lean(&mut table, steps, call)
+    is_refused_lean(&mut table, steps, call, end)
 }
 
 #[test]
 fn limits_take_no_memory_refused(rt: HostRuntime) -> Result<(), Fail> {
-    for (steps, call) in REFUSED {
-        if !is_refused_anew(rt.alloc(), steps, call) {
-            return Err(Fail::new("a limit takes memory, or is told otherwise"));
+    for (steps, call, end) in REFUSED {
+        if !is_refused_anew(rt.alloc(), steps, call, end) {
+            return Err(Fail::new(format_args!("{:?} takes memory, or isn't told", end)));
         }
     }
     Ok(())

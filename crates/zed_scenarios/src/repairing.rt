@@ -10,22 +10,26 @@ use std::test::Fail;
 /// Whether the refusal of this growth of a delivery leaves the document stale. None where no growth was refused.
 fn leaves_stale(table: &mut Table, nth: usize) -> Option<bool> {
     table.clear();
-    if table.fails_at(LAST.before).is_some() || !tried(table, LAST.call, nth).was_refused {
+    if table.fails_at(LAST.before).is_some() {
+        return Some(false);
+    }
+    if !tried(table, LAST.call, nth).was_refused {
         return None;
     }
     Some(table.one.document.view().is_err())
 }
 
-/// The first growth of a delivery whose refusal leaves the document stale.
-fn first_stale(table: &mut Table) -> Option<usize> {
+/// The first growth of a delivery whose refusal leaves the document stale. None where no growth is ever refused.
+fn first_stale(table: &mut Table) -> Result<Option<usize>, Fail> {
     for nth in 1..=MOST {
         match leaves_stale(table, nth) {
-            None => return None,
-            Some(true) => return Some(nth),
+            None if nth == 1 => return Ok(None),
+            None => break,
+            Some(true) => return Ok(Some(nth)),
             Some(false) => {}
         }
     }
-    None
+    Err(Fail::new("no refused growth leaves the document stale"))
 }
 
 /// Whether a document that stays stale still tells its edits, and is repaired in the end.
@@ -51,9 +55,9 @@ fn repair_turn(table: &mut Table, stale: usize, nth: usize) -> Turn {
     turn_of(outcome.was_refused, is_right)
 }
 
-/// Refuses each growth of a repair, where a delivery leaves a document stale at all.
+/// Refuses each growth of the repair of a document that a delivery left stale.
 fn sweep(table: &mut Table) -> Result<(), Fail> {
-    let Some(stale) = first_stale(table) else {
+    let Some(stale) = first_stale(table)? else {
         return Ok(());
     };
     refuse_each!(nth in MOST => repair_turn(table, stale, nth))
