@@ -19,22 +19,43 @@ const GEM: Tile = Tile {
     colour: 0x0b,
 };
 
-fn cells_from(left: u8, top: u8, right: u8, bottom: u8) -> Rectangle {
-    Rectangle {
-        left,
-        top,
-        right,
-        bottom,
-    }
-}
+const CELL: Rectangle = Rectangle {
+    left: 5,
+    top: 5,
+    right: 5,
+    bottom: 5,
+};
+
+/// The last cell of the table.
+const CORNER: Rectangle = Rectangle {
+    left: 60,
+    top: 25,
+    right: 60,
+    bottom: 25,
+};
+
+/// Two rows with the last cell among them.
+const ROWS: Rectangle = Rectangle {
+    left: 59,
+    top: 24,
+    right: 60,
+    bottom: 25,
+};
+
+const ALL: Rectangle = Rectangle {
+    left: 1,
+    top: 1,
+    right: 60,
+    bottom: 25,
+};
 
 #[test]
 fn a_cell_keeps_the_later_write(rt: HostRuntime) -> Result<(), Fail> {
     let mut cells = Cells::new(rt.alloc(), [Tile::EMPTY; TILES], Stamp::GENESIS)?;
-    cells.set(cells_from(5, 5, 5, 5), at(2, 2), LION);
-    cells.set(cells_from(5, 5, 5, 5), at(2, 1), GEM);
-    cells.set(cells_from(60, 25, 60, 25), at(9, 1), LION);
-    cells.set(cells_from(59, 24, 60, 25), at(3, 1), GEM);
+    cells.set(CELL, at(2, 2), LION);
+    cells.set(CELL, at(2, 1), GEM);
+    cells.set(CORNER, at(9, 1), LION);
+    cells.set(ROWS, at(3, 1), GEM);
     assert_eq!(rt; cells.get(Place { x: 5, y: 5 }), LION);
     let table = cells.table();
     assert_eq!(rt; table[1499], LION);
@@ -94,7 +115,7 @@ fn writing_takes_no_memory_refused(rt: HostRuntime) -> Result<(), Fail> {
     let mut cells = Cells::new(rt.alloc(), [Tile::EMPTY; TILES], Stamp::GENESIS)?;
     let mut numbers = Registers::new(rt.alloc(), 9)?;
     refuse(rt.alloc(), 1);
-    cells.set(cells_from(1, 1, 60, 25), at(2, 1), GEM);
+    cells.set(ALL, at(2, 1), GEM);
     numbers.set(3, at(5, 1), 50i16);
     assert!(rt; !was_refused(rt.alloc()));
     assert_eq!(rt; cells.get(Place { x: 60, y: 25 }), GEM);
