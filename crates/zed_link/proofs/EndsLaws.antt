@@ -1,7 +1,7 @@
 -- What several calls of a link do together.
 use Rattle.std.proofs.Common.{◌≡◌, ◌∙◌, ◌++◌, ◌+◌, ◌<◌, ◌≤◌, ℕ, false, List, [], Option, Some, None, refl, sym, ap, subst, append_assoc, arith}
 use Rattle.zed_link.specs.Counting.{Counted}
-use Rattle.zed_link.specs.Ends.{AtItsEnd, Changed, FailedBehind, HandedAll, HandedOver, LinkEnds, Took, TookFront}
+use Rattle.zed_link.specs.Ends.{AtItsEnd, Changed, FailedBehind, HandedAll, HandedOver, LinkEnds, Promise, Took, TookFront}
 
 -- none was counted yet
 pub none_counted : (a : ℕ) → Counted 0 a a
@@ -60,7 +60,7 @@ pub fails_behind : (xs : List ℕ) (a b c : Option LinkEnds) → Changed (Handed
 fails_behind xs None b c h k = tt
 fails_behind xs (Some t) b c h k =
     let l = subst (λ b. Changed (FailedBehind []) b c) h.2 k in
-    (l.0, ((h.1.0 ∙ ap (λ z. xs ++ z) l.1.0.0, l.1.0.1 ∙ h.1.1, l.1.0.2 ∙ h.1.2), sym h.1.2 ∙ l.1.1), l.2)
+    (l.0, ((h.1.0 ∙ ap (λ z. xs ++ z) l.1.0.0, l.1.0.1 ∙ h.1.1, l.1.0.2 ∙ h.1.2), ap (λ (p : Promise). p.unfailing) (sym h.1.2) ∙ l.1.1), l.2)
 
 -- nothing was handed over yet
 pub none_handed : (a : Option LinkEnds) → Changed (HandedOver []) a a
@@ -88,5 +88,5 @@ failed_over xs None b h = tt
 failed_over xs (Some t) b h = (h.0, h.1.0, h.2)
 
 -- a link whose ends are told failed, and so it may
-pub may_fail : (xs : List ℕ) (t : LinkEnds) (a b : Option LinkEnds) → a ≡ Some t → Changed (FailedBehind xs) a b → t.unfailing ≡ false
+pub may_fail : (xs : List ℕ) (t : LinkEnds) (a b : Option LinkEnds) → a ≡ Some t → Changed (FailedBehind xs) a b → t.promise.unfailing ≡ false
 may_fail xs t a b told h = (subst (λ (o : Option LinkEnds). Changed (FailedBehind xs) o b) told h).1.1

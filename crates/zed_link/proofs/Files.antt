@@ -1,5 +1,5 @@
 -- A pull of a whole file.
-use Rattle.std.proofs.Common.{◌≡◌, ◌∙◌, ◌++◌, ◌≤◌, ◌<◌, ◌^◌, ◌≢◌, ◌⊎◌, eqb, not, false, true, ℕ, List, [], ◌∷◌, Option, Some, None, Ok, Err, refl, ap, sym, subst, arith, length, append_assoc, rules, OnOk}
+use Rattle.std.proofs.Common.{◌≡◌, ◌∙◌, ◌++◌, ◌+◌, ◌*◌, ◌≤◌, ◌<◌, ◌^◌, ◌≢◌, ◌⊎◌, eqb, not, false, true, ℕ, List, [], ◌∷◌, Option, Some, None, Ok, Err, refl, ap, sym, subst, arith, length, append_assoc, rules, OnOk}
 use mathlib.Core.Logic.{inl, inr}
 use Rattle.std.proofs.lemmas.List.{append-nil, length-append}
 use Rattle.zed_op.specs.declared.op.Edit.{Edit}
@@ -15,11 +15,12 @@ use Rattle.zed_link.specs.declared.error.LinkError.TheVariants.{Memory, Magic, N
 use Rattle.zed_link.specs.declared.pulled.Pulled.{Pulled}
 use Rattle.zed_link.specs.Ends.{Changed, HandedAll, HandedOver, LinkEnds}
 use Rattle.zed_link.specs.Laws.{FilesArePulled, PullsFile}
-use Rattle.zed_link.specs.Pull.{AllDelivered, FrontDelivered, LeavesDocument, LeavesLink, reads_made}
+use Rattle.zed_link.specs.Pull.{AllDelivered, FromReads, FrontDelivered, LeavesDocument, LeavesLink, least_read, reads_made}
 use Rattle.zed_link.specs.Tally.{states, tally}
 use Rattle.zed_link.proofs.Deliveries.{all_is_front, refused_before, stop_is_front}
 use Rattle.zed_link.proofs.EndsLaws.{failed_over, handed_over, may_fail}
 use Rattle.zed_link.proofs.Outcomes.{Answer, refused}
+use Rattle.zed_link.proofs.Paces.{is_long}
 
 -- ---- the link
 
@@ -100,16 +101,15 @@ no_cut p calm at_end is = elim (calm_end p file.CutShort calm is) [
 ]
 
 -- what is known of a pull of a whole file, before its answer is looked at
-record Known (d : Replica) (es found : List Edit) (bytes : List ℕ) (n : ℕ) (p : Progress) (r : Answer) : Type 0 where
+record Known (t : LinkEnds) (d : Replica) (es found : List Edit) (bytes : List ℕ) (n : ℕ) (p : Progress) (r : Answer) : Type 0 where
   first : IsFrontOf found es
   calm : IsCalm p
-  short : length bytes ≤ length (file_text d.world es)
-  many : n ≤ length bytes
+  many : n * least_read (Some t) < length t.left + least_read (Some t)
   all : (pulled : Pulled) → r ≡ Ok pulled → AreRecords found → bytes ≡ file_text d.world found → found ≡ es
   end : r ≡ refused CutShort → p.fault ≡ None → ending p ≡ None
 
-comes_to : (t : LinkEnds) (d : Replica) (es found : List Edit) (bytes : List ℕ) (n reads : ℕ) (p : Progress) (r : Answer) (left : List Edit) (old new : Option LinkEnds) → old ≡ Some t → Known d es found bytes n p r
-    → reads ≡ reads_made r n → LeavesLink r reads bytes old new → LeavesDocument d bytes found p r left → PullsFile t.unfailing d es r left
+comes_to : (t : LinkEnds) (d : Replica) (es found : List Edit) (bytes : List ℕ) (n reads : ℕ) (p : Progress) (r : Answer) (left : List Edit) (old new : Option LinkEnds) → old ≡ Some t → Known t d es found bytes n p r
+    → reads ≡ reads_made r n → LeavesLink r reads bytes old new → LeavesDocument d bytes found p r left → PullsFile t d es r left
 comes_to t d es found bytes n reads p (Ok pulled) left old new told k made link (good, text, all, counted) =
     let same : found ≡ es = k.all pulled refl good text in
     subst (λ (fs : List Edit). AllDelivered d fs left × (pulled ≡ tally (states d.edits fs))) same (all, counted)
@@ -122,7 +122,8 @@ comes_to t d es found bytes n reads p (Err Memory) left old new told k made link
 comes_to t d es found bytes n reads p (Err LinkFault) left old new told k made link of =
     (front_of_front d found es left k.first (all_is_front d found left of.1), may_fail bytes t old new told link.0)
 comes_to t d es found bytes n reads p (Err TooManyTurns) left old new told k made link of =
-    (front_of_front d found es left k.first (all_is_front d found left of.1), let few = k.short in let many = k.many in let most = link.1 in omega arith)
+    (front_of_front d found es left k.first (all_is_front d found left of.1),
+    is_long (least_read (Some t)) (length t.left) (subst (λ (n : ℕ). n * least_read (Some t) < length t.left + least_read (Some t)) (sym made ∙ link.1) k.many))
 comes_to t d es found bytes n reads p (Err Magic) left old new told k made link of = absurd (no_refusal p file.Magic (λ h. cc) (λ h. cc) k.calm of.0)
 comes_to t d es found bytes n reads p (Err NewVersion) left old new told k made link of = absurd (no_refusal p file.NewVersion (λ h. cc) (λ h. cc) k.calm of.0)
 comes_to t d es found bytes n reads p (Err OtherWorld) left old new told k made link of = absurd (no_refusal p file.OtherWorld (λ h. cc) (λ h. cc) k.calm of.0)
@@ -132,12 +133,12 @@ comes_to t d es found bytes n reads p (Err CutShort) left old new told k made li
 comes_to t d es found bytes n reads p (Err Stale) left old new told k made link of = absurd of
 
 -- nothing is left where all went well
-leaves_nothing : (d : Replica) (es found : List Edit) (bytes : List ℕ) (n reads : ℕ) (p : Progress) (r : Answer) (left : List Edit) (old new : Option LinkEnds) → Known d es found bytes n p r
+leaves_nothing : (t : LinkEnds) (d : Replica) (es found : List Edit) (bytes : List ℕ) (n reads : ℕ) (p : Progress) (r : Answer) (left : List Edit) (old new : Option LinkEnds) → Known t d es found bytes n p r
     → LeavesLink r reads bytes old new → LeavesDocument d bytes found p r left → OnOk r (Changed (HandedAll (file_text d.world es)) old new)
-leaves_nothing d es found bytes n reads p (Ok pulled) left old new k link (good, text, all, counted) =
+leaves_nothing t d es found bytes n reads p (Ok pulled) left old new k link (good, text, all, counted) =
     let same : bytes ≡ file_text d.world es = text ∙ ap (file_text d.world) (k.all pulled refl good text) in
     subst (λ (t : List ℕ). Changed (HandedAll t) old new) same link.0
-leaves_nothing d es found bytes n reads p (Err e) left old new k link document = tt
+leaves_nothing t d es found bytes n reads p (Err e) left old new k link document = tt
 
 pub files_are_pulled : ReadsOneWay → TextsAreRead → FrontsAreRead → FilesArePulled
 files_are_pulled one texts fronts d es old new count count' r left h pull =
@@ -149,12 +150,12 @@ files_are_pulled one texts fronts d es old new count count' r left h pull =
     let other : is_other p.asked w ≡ false = asked_for p.asked w pull.asks in
     let front = fronts w es pull.edits pull.handed rest.0 p h.number h.records other same pull.spells in
     let sum = length-append pull.handed rest.0 in
-    let long = ap length same in
-    let known : Known d es pull.edits pull.handed pull.pieces p r = record {
+    let long = ap length rest.1 in
+    let size = (subst (λ (o : Option LinkEnds). FromReads (least_read o) pull.pieces pull.handed) h.told pull.size).0 in
+    let known : Known h.ends d es pull.edits pull.handed pull.pieces p r = record {
       first = front.0;
       calm = front.1;
-      short = omega arith;
-      many = pull.size.0;
+      many = omega arith;
       all = λ counts is good text.
           let link = subst (λ (r : Answer). LeavesLink r pull.reads pull.handed old new) is pull.link in
           let whole = all_over pull.handed old new h.ends h.told link.0 in
@@ -164,4 +165,4 @@ files_are_pulled one texts fronts d es old new count count' r left h pull =
           let whole = all_over pull.handed old new h.ends h.told link.0 ∙ h.text in
           whole_end one texts w es pull.edits p h.number h.records other calm (subst (λ (t : List ℕ). Reads t pull.edits p) whole pull.spells);
     } in
-    (comes_to h.ends d es pull.edits pull.handed pull.pieces pull.reads p r left old new h.told known pull.made pull.link pull.document, leaves_nothing d es pull.edits pull.handed pull.pieces pull.reads p r left old new known pull.link pull.document)
+    (comes_to h.ends d es pull.edits pull.handed pull.pieces pull.reads p r left old new h.told known pull.made pull.link pull.document, leaves_nothing h.ends d es pull.edits pull.handed pull.pieces pull.reads p r left old new known pull.link pull.document)

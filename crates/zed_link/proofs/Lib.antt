@@ -4,4 +4,5 @@ pub mod Deliveries
 pub mod Tallies
 pub mod Readings
 pub mod Outcomes
+pub mod Paces
 pub mod Files

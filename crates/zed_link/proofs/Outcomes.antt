@@ -14,13 +14,14 @@ use Rattle.zed_link.specs.declared.error.LinkError.{LinkError}
 use Rattle.zed_link.specs.declared.error.LinkError.TheVariants.{Memory, Magic, NewVersion, OtherWorld, RecordLength, BadEdit, CutShort, Clash, LinkFault, TooManyTurns}
 use Rattle.zed_link.specs.declared.pulled.Pulled.{Pulled}
 use Rattle.zed_link.specs.Counting.{Counted}
-use Rattle.zed_link.specs.Ends.{Changed, FailedBehind, HandedAll, HandedOver, LinkEnds}
+use Rattle.zed_link.specs.Ends.{Changed, FailedBehind, HandedAll, HandedOver, KeepsPace, LinkEnds}
 use Rattle.zed_link.specs.Pieces.{TakesPiece}
-use Rattle.zed_link.specs.Pull.{AllDelivered, FromReads, LeavesDocument, LeavesLink, Pull, most_reads, reads_made}
+use Rattle.zed_link.specs.Pull.{AllDelivered, FromReads, LeavesDocument, LeavesLink, Pull, least_read, most_reads, reads_made}
 use Rattle.zed_link.specs.Refusals.{file_refusal}
 use Rattle.zed_link.specs.Tally.{plus, states, tally}
 use Rattle.zed_link.proofs.Deliveries.{counted_more, delivered_more, stops_more}
 use Rattle.zed_link.proofs.EndsLaws.{handed_all, handed_more, none_counted, none_handed, fails_behind, one_more}
+use Rattle.zed_link.proofs.Paces.{AtPace, at_pace_first, at_pace_more, from_no_reads, more_reads}
 use Rattle.zed_link.proofs.Readings.{asked_world, cut_short, fault_ends, few_edits}
 use Rattle.zed_link.proofs.Tallies.{tally_below}
 
@@ -40,7 +41,8 @@ pub record Going (d : Replica) (old now : Option LinkEnds) (a b n : ℕ) (p : Pr
   pub asks : p.asked ≡ Some d.world
   pub calm : p.fault ≡ None
   pub spells : Reads handed found p
-  pub size : FromReads n handed
+  pub size : FromReads (least_read old) n handed
+  pub pace : AtPace old n handed
   pub made : Counted n a b
   pub link : Changed (HandedOver handed) old now
   pub all : AllDelivered d found m.edits
@@ -57,7 +59,8 @@ start d old a p w counts asks is reads none = record {
   asks = ap (λ (q : Progress). q.asked) is ∙ asks;
   calm = ap (λ (q : Progress). q.fault) is;
   spells = reads;
-  size = (omega arith, omega arith);
+  size = from_no_reads old;
+  pace = at_pace_first old;
   made = none_counted a;
   link = none_handed old;
   all = (refl, refl);
@@ -66,15 +69,11 @@ start d old a p w counts asks is reads none = record {
   sound = refl;
 }
 
--- one more read of some bytes
-pub more_reads : (n : ℕ) (xs ys : List ℕ) → FromReads n xs → 1 ≤ length ys → length ys ≤ 4096 → FromReads (n + 1) (xs ++ ys)
-more_reads n xs ys size some few = let sum = length-append xs ys in let low = size.0 in let high = size.1 in (omega arith, omega arith)
-
 -- the piece of one read was taken
 pub goes_on : (d : Replica) (old mid now : Option LinkEnds) (a b c n : ℕ) (p q : Progress) (m l : Replica) (counts got sum : Pulled) (piece read : List ℕ) (es : List Edit)
-    → Going d old mid a b n p m counts → 1 ≤ length piece → length piece ≤ 4096 → piece ≡ read → Changed (HandedOver read) mid now → Counted 1 b c → Feeds piece [] es p q → q.asked ≡ p.asked
-    → TakesPiece m es q (Ok got) l.edits → l.world ≡ m.world → l.is_stale ≡ m.is_stale → sum ≡ plus counts got → Going d old now a c (n + 1) q l sum
-goes_on d old mid now a b c n p q m l counts got sum piece read es going some few is handed more feeds asked takes world sound sums =
+    → Going d old mid a b n p m counts → 1 ≤ length piece → length piece ≤ 4096 → KeepsPace (length piece) 4096 mid → piece ≡ read → Changed (HandedOver read) mid now → Counted 1 b c
+    → Feeds piece [] es p q → q.asked ≡ p.asked → TakesPiece m es q (Ok got) l.edits → l.world ≡ m.world → l.is_stale ≡ m.is_stale → sum ≡ plus counts got → Going d old now a c (n + 1) q l sum
+goes_on d old mid now a b c n p q m l counts got sum piece read es going some few keeps is handed more feeds asked takes world sound sums =
     let over = subst (λ z. Changed (HandedOver z) mid now) (sym is) handed in
     record {
       handed = going.handed ++ piece;
@@ -82,7 +81,8 @@ goes_on d old mid now a b c n p q m l counts got sum piece read es going some fe
       asks = asked ∙ going.asks;
       calm = takes.0;
       spells = subst (λ z. Reads (going.handed ++ piece) (going.found ++ z) q) (sym feeds.gained) (feeds.reads going.handed going.found going.spells);
-      size = more_reads n going.handed piece going.size some few;
+      size = more_reads old mid now n going.handed piece going.pace going.size going.link over some few;
+      pace = at_pace_more old mid now n going.handed piece going.pace going.link over some keeps;
       made = one_more n a b c going.made more;
       link = handed_more going.handed piece old mid now going.link over;
       all = delivered_more d m going.found es (Ok tt) l.edits going.world going.sound going.all takes.1;
@@ -208,8 +208,11 @@ piece_refused late d old mid now a b c n p q m counts piece read es e left withi
           (by_fault fault.0 fault.2 (delivered_more d m going.found es (Ok tt) left going.world going.sound going.all fault.3))
     ]
   where
+    over : Changed (HandedOver piece) mid now
+    over = subst (λ z. Changed (HandedOver z) mid now) (sym is) handed
+
     leaves : Changed (HandedOver (going.handed ++ piece)) old now
-    leaves = handed_more going.handed piece old mid now going.link (subst (λ z. Changed (HandedOver z) mid now) (sym is) handed)
+    leaves = handed_more going.handed piece old mid now going.link over
 
     up : n + 1 ≤ most_reads
     up = omega arith
@@ -227,7 +230,7 @@ piece_refused late d old mid now a b c n p q m counts piece read es e left withi
       reader = q;
       asks = asked ∙ going.asks;
       spells = spelled;
-      size = more_reads n going.handed piece going.size some few;
+      size = more_reads old mid now n going.handed piece going.pace going.size going.link over some few;
       made = made;
       counted = one_more n a b c going.made more;
       link = link;

@@ -1,5 +1,5 @@
 -- What a pull reads from a link, and what it makes of a document.
-use Rattle.std.specs.Prelude.{◌≡◌, ◌<◌, ◌≤◌, ◌+◌, ◌*◌, ◌⊎◌, ℕ, List, ◌∷◌, ◌++◌, length, Option, Some, None, Result, Ok, Err}
+use Rattle.std.specs.Prelude.{◌≡◌, ◌<◌, ◌≤◌, ◌+◌, ◌*◌, ◌⊎◌, ℕ, min, max, List, ◌∷◌, ◌++◌, length, Option, Some, None, Result, Ok, Err}
 use Rattle.zed_op.specs.declared.op.Edit.{Edit}
 use Rattle.zed_editfile.specs.declared.error.EditFileError.{EditFileError}
 use Rattle.zed_editfile.specs.declared.error.EditFileError.TheVariants as file
@@ -19,9 +19,14 @@ use Rattle.zed_link.specs.Tally.{states, tally}
 abbrev pub most_reads : ℕ
 most_reads = 1048576
 
--- so many reads may hand over these bytes: each at least one of them, and at most 4,096
-abbrev pub FromReads : ℕ → List ℕ → Type 0
-FromReads n bytes = (n ≤ length bytes) × (length bytes ≤ n * 4096)
+-- how many bytes a read of a pull hands over at least, unless fewer are left: as many as the link's pace, if it is told, up to 4,096; one of any
+abbrev pub least_read : Option LinkEnds → ℕ
+least_read None = 1
+least_read (Some t) = max 1 (min 4096 t.promise.pace)
+
+-- n reads may hand over these bytes, where each but the last hands over so many at least, and the last one some: at most 4,096 a read on the whole
+abbrev pub FromReads : ℕ → ℕ → List ℕ → Type 0
+FromReads least n bytes = (n * least < length bytes + least) × (length bytes ≤ n * 4096)
 
 -- how many reads a pull made, of which so many handed over bytes: one more where the last came to the end of input, or failed
 abbrev pub reads_made : Result Pulled LinkError → ℕ → ℕ
@@ -85,7 +90,7 @@ pub record Pull (d : Replica) (old new : Option LinkEnds) (count count' : ℕ) (
   pub reader : Progress
   pub asks : reader.asked ≡ Some d.world
   pub spells : Reads handed edits reader
-  pub size : FromReads pieces handed
+  pub size : FromReads (least_read old) pieces handed
   pub made : reads ≡ reads_made r pieces
   pub counted : Counted reads count count'
   pub link : LeavesLink r reads handed old new

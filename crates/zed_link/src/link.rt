@@ -1,7 +1,7 @@
 //! A link, as whoever hands one in has to make it.
 ghost use Rattle.std.specs.Prelude.{◌≡◌, ◌≢◌, ◌≤◌, ◌||◌, ℕ, Bool, true, false, [], length, take, Option, Ok, IfOk, OnErr, is_err};
 ghost use Rattle.zed_link.specs.Counting.{Counted, Counts, takes_none};
-ghost use Rattle.zed_link.specs.Ends.{LinkEnds, Changed, FailedBehind, HandedOver, Took, TookFront, AtItsEnd};
+ghost use Rattle.zed_link.specs.Ends.{LinkEnds, Changed, FailedBehind, HandedOver, KeepsPace, Took, TookFront, AtItsEnd};
 
 /// A call of a link failed.
 #[derive(Clone, Copy, Debug, PartialEq, Eq)]
@@ -9,7 +9,7 @@ pub struct Failed;
 
 /// A two-way stream of bytes.
 pub trait Link: Drop {
-    /// The bytes that are left to read, those that it took, and whether no read ever fails; or that this isn't told.
+    /// The bytes that are left to read, those that it took, and what it promises of its reads; or that this isn't told.
     ghost ends: { Self → Option LinkEnds };
 
     /// How many reads were made.
@@ -24,13 +24,14 @@ pub trait Link: Drop {
     /// Whether it never refuses bytes: no write fails, nor takes none of some.
     ghost accepts: { Self → Bool };
 
-    /// Puts the next bytes at the front of `into`, and answers how many. Where there is room, none is the end. A read that fails hands
-    /// over nothing and loses nothing: a link that can't promise that doesn't tell its ends.
+    /// Puts the next bytes at the front of `into`, and answers how many, at the pace that it promises, if it does. Where there is room,
+    /// none is the end. A read that fails hands over nothing and loses nothing: a link that can't promise that doesn't tell its ends.
     fn read(&mut self, into: &mut [u8]) -> Result<usize, Failed>
         ensures within { IfOk result (λ n. n ≤ length into.old) }
         ensures ok { IfOk result (λ n.
             Changed (HandedOver (take n into.new)) (ends self.old) (ends self.new)) }
         ensures end { result ≡ Ok 0 → into.old ≢ [] → AtItsEnd (ends self.old) }
+        ensures pace { IfOk result (λ n. KeepsPace n (length into.old) (ends self.old)) }
         ensures half { OnErr result (Changed (FailedBehind []) (ends self.old) (ends self.new)) }
         ensures reads { Counted 1 (reads self.old) (reads self.new) }
         ensures failures { Counts (is_err result) (failed self.old) (failed self.new) }

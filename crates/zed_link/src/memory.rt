@@ -1,5 +1,5 @@
 //! A link over memory, for tests.
-ghost use Rattle.std.specs.Prelude.{◌≡◌, false, is_none, ◌≢◌, ◌-◌, ◌<◌, ◌≤◌, nat_lt, [], ◌++◌, drop, length, take, Some, IfSome, OnErr, OnOk};
+ghost use Rattle.std.specs.Prelude.{◌≡◌, ◌⊎◌, false, is_none, ◌≢◌, ◌-◌, ◌<◌, ◌≤◌, max, nat_lt, [], ◌++◌, drop, length, take, Some, IfSome, OnErr, OnOk};
 ghost use Rattle.zed_link.specs.Counting.{Counted, Rose, most_counted};
 
 use crate::link::{Failed, Link};
@@ -26,7 +26,11 @@ impl MemoryLink {
     /// the one call after `passing` of them, and again after 2^64 - 1 calls more, and so on; or none of its reads ever fails.
     pub fn new(alloc: Global, handed: Vec<u8>, piece: usize, passing: Option<u64>) -> MemoryLink
         ensures ends { ⟦<MemoryLink as Link>⟧.ends result
-            ≡ Some (record { left = handed.items; taken = []; unfailing = is_none passing }) }
+            ≡ Some (record {
+              left = handed.items;
+              taken = [];
+              promise = record { unfailing = is_none passing; pace = max piece 1 };
+            }) }
         ensures reads { ⟦<MemoryLink as Link>⟧.reads result ≡ 0 }
         ensures failures { ⟦<MemoryLink as Link>⟧.failed result ≡ 0 }
         ensures stalls { ⟦<MemoryLink as Link>⟧.stalls result ≡ 0 }
@@ -102,6 +106,7 @@ fn hand_over(left: &[u8], piece: usize, into: &mut [u8]) -> usize
     ensures left { result ≤ length left.now }
     ensures front { take result into.new ≡ take result left.now }
     ensures end { result ≡ 0 → into.old ≢ [] → left.now ≡ [] }
+    ensures pace { (max piece 1 ≤ result) ⊎ (result ≡ length into.old) ⊎ (result ≡ length left.now) }
 {
     let count = piece.max(1).min(into.len()).min(left.len());
     let (front, _) = left.split_at(count);
@@ -113,7 +118,7 @@ impl Link for MemoryLink {
     ghost ends = { λ link. Some (record {
       left = drop link.at link.handed.items;
       taken = link.taken.items;
-      unfailing = is_none link.passing;
+      promise = record { unfailing = is_none link.passing; pace = max link.piece 1 };
     }) };
 
     ghost reads = { λ link. link.reads };

@@ -6,7 +6,7 @@ ghost use Rattle.zed_op.specs.Fit.{Fits};
 ghost use Rattle.zed_op.specs.Set.{AllFit};
 ghost use Rattle.zed_editfile.specs.Stream.{Feeds};
 ghost use Rattle.zed_link.specs.Counting.{Counted, Counts};
-ghost use Rattle.zed_link.specs.Ends.{Changed, FailedBehind, HandedAll, HandedOver};
+ghost use Rattle.zed_link.specs.Ends.{Changed, FailedBehind, HandedAll, HandedOver, KeepsPace};
 ghost use Rattle.zed_link.specs.Pieces.{DeliversCounting, DeliversOne, TakesPiece};
 ghost use Rattle.zed_link.specs.Pull.{Pull, most_reads};
 ghost use Rattle.zed_link.specs.Refusals.{is_fault};
@@ -100,6 +100,7 @@ fn read_some(link: &mut dyn Link, into: &mut [u8]) -> Result<usize, LinkError>
     ensures ok { IfOk result (λ n.
         Changed (HandedOver (take n into.new)) (ends link.old) (ends link.new)) }
     ensures end { result ≡ Ok 0 → Changed (HandedAll []) (ends link.old) (ends link.new) }
+    ensures pace { IfOk result (λ n. KeepsPace n (length into.old) (ends link.old)) }
     ensures half { OnErr result (Changed (FailedBehind []) (ends link.old) (ends link.new)) }
     ensures err { IfErr result (λ e. e ≡ LinkError.LinkFault) }
     ensures length { length into.new ≡ length into.old }

@@ -18,7 +18,7 @@ use Rattle.zed_link.proofs.CountsAside.{pull_aside}
 use Rattle.zed_link.specs.declared.error.LinkError.{LinkError}
 use Rattle.zed_link.specs.declared.error.LinkError.TheVariants as link
 use Rattle.zed_link.specs.Ends.{LinkEnds}
-use Rattle.zed_link.specs.Laws.{DeliveriesGoOn, FilesArePulled, HoldsFile, PullsFile}
+use Rattle.zed_link.specs.Laws.{DeliveriesGoOn, FilesArePulled, HoldsFile, IsLong, MayFail, PullsFile}
 use Rattle.zed_link.specs.Pull.{AllDelivered}
 use Rattle.zed_link.specs.declared.pulled.Pulled.{Pulled}
 use Rattle.zed_link.proofs.Readings.{records_fit}
@@ -29,7 +29,7 @@ use Rattle.zed_program.specs.declared.refusal.Refusal.TheVariants.{Memory, NoLin
 use Rattle.zed_words.specs.Commands.{Merge}
 use Rattle.zed_program.specs.Files.{joined, texts_of_lists}
 use Rattle.zed_program.specs.HostContents.{HostContents}
-use Rattle.zed_program.specs.Joining.{AsksToMerge, IsOfLinks, MergesSet, left_on}
+use Rattle.zed_program.specs.Joining.{AsksToMerge, HasLink, IsOfLinks, MergesSet, left_on}
 use Rattle.zed_program.specs.Lines.{joined_line}
 use Rattle.zed_program.specs.Merged.{IsMerged, PullsEach, empty_document, with_edits}
 use Rattle.zed_program.specs.Outcome.{ComesTo, Effect, EndsCalmly, HasStatus, Writes, writes_joined}
@@ -130,36 +130,38 @@ there : {X : Type 0} (y x : X) (xs : List X) → Contains xs x → Contains (y �
 there y x xs c = let within = c.1 in (suc c.0, omega arith, c.2)
 
 -- a pull of a whole file of the first of these links was refused for what isn't of the file
-refused_so : (d : Replica) (l : LinkSeen) (links : List LinkSeen) (es left : List Edit) (lists : List (List Edit)) (file : HoldsFile d es l.ends) (e : LinkError)
-    → ((s : Stamp) → DeliversEach d es (Err (document.Clash s)) left → ⊥) → PullsFile file.ends.unfailing d es (Err e) left
-    → IsOfLinks d.world (l ∷ links) (es ∷ lists) (link_refusal e)
-refused_so d l links es left lists file link.Memory never pulls = inl refl
-refused_so d l links es left lists file link.LinkFault never pulls = inr (inl (refl, (l, file.ends, here l links, file.told, pulls.1)))
-refused_so d l links es left lists file link.TooManyTurns never pulls = inr (inr (refl, (es, here es lists, pulls.1)))
-refused_so d l links es left lists file (link.Clash s) never pulls = absurd (never s pulls)
-refused_so d l links es left lists file _ never pulls = absurd pulls
+refused_so : (d : Replica) (l : LinkSeen) (links : List LinkSeen) (es left : List Edit) (file : HoldsFile d es l.ends) (e : LinkError)
+    → ((s : Stamp) → DeliversEach d es (Err (document.Clash s)) left → ⊥) → PullsFile file.ends d es (Err e) left
+    → IsOfLinks (l ∷ links) (link_refusal e)
+refused_so d l links es left file link.Memory never pulls = inl refl
+refused_so d l links es left file link.LinkFault never pulls = inr (inl (refl, (l, file.ends, here l links, file.told, pulls.1)))
+refused_so d l links es left file link.TooManyTurns never pulls = inr (inr (refl, (l, file.ends, here l links, file.told, pulls.1)))
+refused_so d l links es left file (link.Clash s) never pulls = absurd (never s pulls)
+refused_so d l links es left file _ never pulls = absurd pulls
 
--- what is of some links and lists is of more
-of_more : (world : ℕ) (l : LinkSeen) (links : List LinkSeen) (es : List Edit) (lists : List (List Edit)) (e : Refusal) → IsOfLinks world links lists e → IsOfLinks world (l ∷ links) (es ∷ lists) e
-of_more world l links es lists e (inl memory) = inl memory
-of_more world l links es lists e (inr (inl (is, may))) = inr (inl (is, (may.0, may.1, there l may.0 links may.2, may.3, may.4)))
-of_more world l links es lists e (inr (inr (is, long))) = inr (inr (is, (long.0, there es long.0 lists long.1, long.2)))
+-- what is of some links is of more
+has_more : (P : LinkEnds → Type 0) (l : LinkSeen) (links : List LinkSeen) → HasLink P links → HasLink P (l ∷ links)
+has_more P l links has = (has.0, has.1, there l has.0 links has.2, has.3, has.4)
+
+of_more : (l : LinkSeen) (links : List LinkSeen) (e : Refusal) → IsOfLinks links e → IsOfLinks (l ∷ links) e
+of_more l links e (inl memory) = inl memory
+of_more l links e (inr (inl (is, may))) = inr (inl (is, has_more MayFail l links may))
+of_more l links e (inr (inr (is, long))) = inr (inr (is, has_more IsLong l links long))
 
 -- what pulls over links that hold the files of these lists come to, after other edits were delivered
-abbrev pub JoinedOr : ℕ → List LinkSeen → List Edit → List (List Edit) → Result (List Edit) Refusal → Type 0
-JoinedOr world links before lists r =
-    (r ≡ Ok (set_of (before ++ joined lists))) ⊎ ((e : Refusal) × IsOfLinks world links lists e × (r ≡ Err e))
+abbrev pub JoinedOr : List LinkSeen → List Edit → List (List Edit) → Result (List Edit) Refusal → Type 0
+JoinedOr links before lists r = (r ≡ Ok (set_of (before ++ joined lists))) ⊎ ((e : Refusal) × IsOfLinks links e × (r ≡ Err e))
 
 -- the same with the first of the lists among the edits before
-one_before : (world : ℕ) (l : LinkSeen) (links : List LinkSeen) (before es : List Edit) (lists : List (List Edit)) (r : Result (List Edit) Refusal)
-    → JoinedOr world links (before ++ es) lists r → JoinedOr world (l ∷ links) before (es ∷ lists) r
-one_before world l links before es lists r (inl all) = inl (all ∙ ap (λ (fs : List Edit). Ok (set_of fs)) (append_assoc before es (joined lists)))
-one_before world l links before es lists r (inr why) = inr (why.0, of_more world l links es lists why.0 why.1, why.2)
+one_before : (l : LinkSeen) (links : List LinkSeen) (before es : List Edit) (lists : List (List Edit)) (r : Result (List Edit) Refusal)
+    → JoinedOr links (before ++ es) lists r → JoinedOr (l ∷ links) before (es ∷ lists) r
+one_before l links before es lists r (inl all) = inl (all ∙ ap (λ (fs : List Edit). Ok (set_of fs)) (append_assoc before es (joined lists)))
+one_before l links before es lists r (inr why) = inr (why.0, of_more l links why.0 why.1, why.2)
 
 -- after these edits were delivered, the links hold the files of those lists
 pulls_are : FilesArePulled → DeliveriesGoOn → DeliveriesComeToSets → (d : Replica) (links : List LinkSeen) (lists : List (List Edit)) (before left : List Edit) (r : Result (List Edit) Refusal)
     → d.world < 2 ^ 64 → d.is_stale ≡ false → d.edits ≡ [] → AllDelivered d before left → map left_on links ≡ texts_of_lists d.world lists
-    → AreRecords (before ++ joined lists) → Agrees (before ++ joined lists) → PullsEach (with_edits left d) links r → JoinedOr d.world links before lists r
+    → AreRecords (before ++ joined lists) → Agrees (before ++ joined lists) → PullsEach (with_edits left d) links r → JoinedOr links before lists r
 pulls_are files more sets d [] [] before left r small sound empty all held good agrees pulls =
     let fit = records_fit before (records_left before [] good) in
     inl (pulls ∙ ap (λ x. Ok x) (set_left sets d before left sound empty fit all ∙ ap set_of (sym (append-nil before))))
@@ -177,20 +179,20 @@ pulls_are files more sets d (l ∷ links) (es ∷ lists) before left r small sou
       | inl ok ↦ (
           let pulled = (files (with_edits left d) es l.ends ok.1.ends l.reads ok.1.reads (Ok ok.0) ok.2 holding ok.3).0 in
           let next = more d before es left ok.2 (Ok tt) all pulled.0 in
-          one_before d.world l links before es lists r (pulls_are files more sets d links lists (before ++ es) ok.2 r small sound empty next rest good_all agrees_all ok.4))
+          one_before l links before es lists r (pulls_are files more sets d links lists (before ++ es) ok.2 r small sound empty next rest good_all agrees_all ok.4))
       | inr err ↦ (
           let pulled = (files (with_edits left d) es l.ends err.1.ends l.reads err.1.reads (Err err.0) err.2 holding err.3).0 in
           let fit = records_fit (before ++ es) (records_left (before ++ es) (joined lists) good_all) in
           let agree = agree_left (before ++ es) (joined lists) agrees_all in
           let never : (s : Stamp) → DeliversEach (with_edits left d) es (Err (document.Clash s)) err.2 → ⊥ = λ s clash. never_clash sets d (before ++ es) err.2 s sound empty fit agree
           (more d before es left err.2 (Err (document.Clash s)) all clash) in
-          inr (link_refusal err.0, refused_so (with_edits left d) l links es err.2 lists holding err.0 never pulled, err.4))
+          inr (link_refusal err.0, refused_so (with_edits left d) l links es err.2 holding err.0 never pulled, err.4))
     ]
 
 -- the edits of links that hold files of a world
 merged_are : FilesArePulled → DeliveriesGoOn → DeliveriesComeToSets → (world count : ℕ) (links : List LinkSeen) (lists : List (List Edit)) (r : Result (List Edit) Refusal)
     → world < 2 ^ 64 → count ≤ length links → map left_on (take count links) ≡ texts_of_lists world lists → AreRecords (joined lists) → Agrees (joined lists)
-    → IsMerged world count links r → JoinedOr world (take count links) [] lists r
+    → IsMerged world count links r → JoinedOr (take count links) [] lists r
 merged_are files more sets world count links lists r small enough held good agrees merged =
     let there : MatchBool false (r ≡ Err NoLink) (PullsEach (empty_document world) (take count links) r) =
     subst (λ b. MatchBool b (r ≡ Err NoLink) (PullsEach (empty_document world) (take count links) r)) (not_fewer count (length links) enough) merged in
@@ -203,11 +205,11 @@ as_many_lists count world links lists enough held =
     sym (length-map lists (λ es. Some (file_text world es))) ∙ sym (ap length held) ∙ length-map (take count links) left_on ∙ length-take-le count links enough
 
 has_status : (out : List ℕ) (world count : ℕ) (links : List LinkSeen) (lists : List (List Edit)) (m : Result (List Edit) Refusal) (r : Result Effect Refusal) (t : HostContents) (status : ℕ) (new : Option HostContents)
-    → length lists ≡ count → JoinedOr world (take count links) [] lists m → r ≡ writes_joined out world m → HasStatus r t status new → MergesSet out t world links lists status new
+    → length lists ≡ count → JoinedOr (take count links) [] lists m → r ≡ writes_joined out world m → HasStatus r t status new → MergesSet out t world links lists status new
 has_status out world count links lists m r t status new many is made has =
     elim is [
       | inl all ↦ inl (subst (λ x. HasStatus x t status new) (made ∙ ap (writes_joined out world) all) has)
-      | inr e ↦ inr (e.0, subst (λ n. IsOfLinks world (take n links) lists e.0) (sym many) e.1, subst (λ x. HasStatus x t status new) (made ∙ ap (writes_joined out world) e.2) has)
+      | inr e ↦ inr (e.0, subst (λ n. IsOfLinks (take n links) e.0) (sym many) e.1, subst (λ x. HasStatus x t status new) (made ∙ ap (writes_joined out world) e.2) has)
     ]
 
 -- `run` ends so

@@ -1,11 +1,10 @@
 -- What `merge` makes of links that hold edit files.
-use Rattle.std.specs.Prelude.{◌≡◌, ◌≤◌, ◌<◌, ◌^◌, ◌⊎◌, ℕ, List, Option, Some, Ok, Err, Contains, false, length, map, option_map, take}
+use Rattle.std.specs.Prelude.{◌≡◌, ◌≤◌, ◌<◌, ◌^◌, ◌⊎◌, ℕ, List, Option, Some, Ok, Err, Contains, length, map, option_map, take}
 use Rattle.zed_op.specs.declared.op.Edit.{Edit}
 use Rattle.zed_op.specs.Set.{Agrees, set_of}
-use Rattle.zed_editfile.specs.Spelling.{file_text}
 use Rattle.zed_editfile.specs.Stream.{AreRecords}
 use Rattle.zed_link.specs.Ends.{LinkEnds}
-use Rattle.zed_link.specs.Pull.{most_reads}
+use Rattle.zed_link.specs.Laws.{IsLong, MayFail}
 use Rattle.zed_session.specs.Links.{LinkSeen}
 use Rattle.zed_program.specs.declared.refusal.Refusal.{Refusal}
 use Rattle.zed_program.specs.declared.refusal.Refusal.TheVariants.{Memory, LinkFault, TooManyTurns}
@@ -28,21 +27,17 @@ pub record AsksToMerge (words : List (List ℕ)) (links : List LinkSeen) (out : 
   pub records : AreRecords (joined lists)
   pub agree : Agrees (joined lists)
 
--- a read of one of these links may fail
-abbrev pub MayFail : List LinkSeen → Type 0
-MayFail links = (link : LinkSeen) × (t : LinkEnds) × Contains links link × (link.ends ≡ Some t) × (t.unfailing ≡ false)
+-- the ends of one of these links are so
+abbrev pub HasLink : (LinkEnds → Type 0) → List LinkSeen → Type 0
+HasLink P links = (link : LinkSeen) × (t : LinkEnds) × Contains links link × (link.ends ≡ Some t) × P t
 
--- the file of one of these lists may take more reads than a pull makes: it has as many bytes
-abbrev pub IsLong : ℕ → List (List Edit) → Type 0
-IsLong world lists = (es : List Edit) × Contains lists es × (most_reads ≤ length (file_text world es))
+-- memory ran out, a link failed that may, or one whose file is long took too many reads
+abbrev pub IsOfLinks : List LinkSeen → Refusal → Type 0
+IsOfLinks links e = (e ≡ Memory) ⊎ ((e ≡ LinkFault) × HasLink MayFail links) ⊎ ((e ≡ TooManyTurns) × HasLink IsLong links)
 
--- memory ran out, a link failed that may, or a long file took too many reads
-abbrev pub IsOfLinks : ℕ → List LinkSeen → List (List Edit) → Refusal → Type 0
-IsOfLinks world links lists e = (e ≡ Memory) ⊎ ((e ≡ LinkFault) × MayFail links) ⊎ ((e ≡ TooManyTurns) × IsLong world lists)
-
--- the edit file of the set of all edits of these lists is written; or memory ran out, a link of these files failed that may, or a long file
--- took too many reads
+-- the edit file of the set of all edits of these lists is written; or memory ran out, a link of these files failed that may, or one whose file
+-- is long took too many reads
 abbrev pub MergesSet : List ℕ → HostContents → ℕ → List LinkSeen → List (List Edit) → ℕ → Option HostContents → Type 0
 MergesSet out t world links lists status new =
     HasStatus (writes_joined out world (Ok (set_of (joined lists)))) t status new
-    ⊎ ((e : Refusal) × IsOfLinks world (take (length lists) links) lists e × HasStatus (Err e) t status new)
+    ⊎ ((e : Refusal) × IsOfLinks (take (length lists) links) e × HasStatus (Err e) t status new)

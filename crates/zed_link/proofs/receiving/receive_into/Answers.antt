@@ -5,6 +5,7 @@ use Rattle.zed_link.specs.Refusals.{file_refusal}
 use Rattle.zed_link.specs.Pull.{most_reads}
 use Rattle.zed_link.proofs.EndsLaws.{one_within}
 use Rattle.zed_link.proofs.Outcomes.{ends_cut, ends_well, goes_on, piece_refused, read_failed, refused, room}
+use Rattle.zed_link.proofs.Paces.{piece_keeps_pace}
 use Rattle.zed_link.proofs.receiving.receive_into.Goals as goal
 
 pub returns-in_err-count-clause-pull : goal.returns-in_err-count-clause-pull
@@ -69,10 +70,12 @@ loop-reads-preserved g c =
     let old = c.loop-reads.invariant in
     let some : 1 ≤ length c.split_at.result.0.now = search rules in
     let few : length c.split_at.result.0.now ≤ 4096 = search rules in
+    let long : length c.split_at.result.0.now ≡ c.in_ok-count.count = search rules in
+    let full : length c.loop-reads.buffer ≡ 4096 = search rules in
     let piece = c.in_ok-take_piece.ensures.result in
     record {
       going = goes_on c.args.intake.now _ _ _ _ _ _ c.loop-reads.reads c.loop-reads.reader c.take_piece.new.reader c.loop-reads.intake c.take_piece.new.intake c.loop-reads.pulled
-          c.in_ok-take_piece.field-0 c.plus-pulled.result c.split_at.result.0.now _ piece.0 old.going some few c.split_at.ensures.front c.in_ok-count.ensures.ok c.in_ok-count.ensures.reads piece.1
+          c.in_ok-take_piece.field-0 c.plus-pulled.result c.split_at.result.0.now _ piece.0 old.going some few (piece_keeps_pace c.in_ok-count.count _ _ _ long full c.in_ok-count.ensures.pace) c.split_at.ensures.front c.in_ok-count.ensures.ok c.in_ok-count.ensures.reads piece.1
           c.in_ok-take_piece.ensures.asked piece.2 c.in_ok-take_piece.ensures.world (c.in_ok-take_piece.ensures.stale (λ bad. cc)) c.plus-pulled.ensures;
       calm = c.in_ok-count.ensures.failures ∙ old.calm;
       flowing = c.in_ok-count.ensures.stalls ∙ old.flowing;
