@@ -1,3 +1,4 @@
 pub mod Places
 pub mod Answered
 pub mod Given
+pub mod Gained

@@ -4,3 +4,4 @@ pub mod Boards
 pub mod Play
 pub mod Told
 pub mod Links
+pub mod Gains
