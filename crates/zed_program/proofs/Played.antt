@@ -1,5 +1,5 @@
 -- What a session answers, as a command tells it.
-use Rattle.std.proofs.Common.{◌≡◌, ◌∙◌, ◌≢◌, ℕ, Bool, List, [], ◌∷◌, drop, true, false, Option, Some, None, Result, Ok, Err, MatchResult, ap, ap₂, refl, slice_get, subst, sym, inl, inr}
+use Rattle.std.proofs.Common.{◌≡◌, ◌∙◌, ◌≢◌, ◌<◌, ℕ, Bool, List, [], ◌∷◌, drop, true, false, Option, Some, None, Result, Ok, Err, MatchResult, ap, ap₂, refl, slice_get, subst, sym, inl, inr}
 use Rattle.std.specs.Prelude.{◌⊎◌, option_map}
 use Rattle.zed_world.specs.declared.board.BoardData.{BoardData}
 use Rattle.zed_world.specs.declared.header.Header.{Header}
@@ -27,7 +27,7 @@ use Rattle.zed_program.specs.declared.refusal.Refusal.{Refusal}
 use Rattle.zed_program.specs.declared.refusal.Refusal.TheVariants.{Memory}
 use Rattle.zed_program.specs.Refusals.{session_refusal}
 use Rattle.zed_program.specs.Devices.{Devices}
-use Rattle.zed_program.specs.Shown.{Course, EndsPlay, IsOver, IsPlayed, IsShown, Advances, OfBoard, OfSet, OfWorld, Plays, TakesKey, course}
+use Rattle.zed_program.specs.Shown.{Course, EndsPlay, IsOver, IsPlayed, IsShown, Advances, OfBoard, OfSet, OfWorld, Plays, TakesKey, course, most_keys}
 
 -- what is told of one thing is told of the same
 pub same_told : {X Y : Type 0} (x y : X) (tell : X → Y) → x ≡ y → tell x ≡ tell y
@@ -186,15 +186,15 @@ key_steps used words old new keys left source later screen after c at same going
     step_made false used words old new keys left source later screen after c at same plays (asked false old keys source later screen c at going asks) shows
 
 -- no key was left
-pub no_key : (words : List ℕ) (old new : Playing) (keys left : Option (List Key)) (source later screen : Option (List Bool)) (c : Course) → IsAt c old keys source screen
+pub no_key : (n : ℕ) (words : List ℕ) (old new : Playing) (keys left : Option (List Key)) (source later screen : Option (List Bool)) (c : Course) → IsAt c old keys source screen
     → c.play.ending ≡ None → PlaysKey (Ok None) words old keys new left → (goes_on old.playtest ≡ true → AsksOnce old.kept false source later)
-    → (new.playtest ≡ Some c.play) × IsOver c
-no_key words old new keys left source later screen c at going plays asks =
+    → n < most_keys → (new.playtest ≡ Some c.play) × IsOver n c
+no_key n words old new keys left source later screen c at going plays asks few =
     let none = kept_none old c.play at.0 in
     let takes : Takes None c.keys None left = rw (none, at.1) at plays.1 in
     let stays : left ≡ c.keys = no_more c.keys left takes in
     let over : TakesKey c None c.keys later = (rw stays at takes, asked false old keys source later screen c at going asks) in
-    (ap (λ (x : Playing). x.playtest) (plays.2 ∙ at.0), inr (later, over))
+    (ap (λ (x : Playing). x.playtest) (plays.2 ∙ at.0), inr ((few, going), (later, over)))
 
 still_on : (o : Option Playtest) (p : Playtest) → o ≡ Some p → p.ending ≡ None → goes_on o ≢ false
 still_on o p is going off = let bad : true ≡ false = rw (is, going) at off in cc
@@ -203,13 +203,13 @@ still_on o p is going off = let bad : true ≡ false = rw (is, going) at off in 
 pub key_refused : (e : SessionError) (n : ℕ) (words : List ℕ) (old new : Playing) (keys left : Option (List Key)) (source later screen after : Option (List Bool)) (c : Course)
     → IsAt c old keys source screen → words ≡ c.words → c.play.ending ≡ None → PlaysKey (Err e) words old keys new left
     → (goes_on old.playtest ≡ true → AsksOnce old.kept (is_key_fault {X = Option ℕ} (Err e)) source later) → ShowsStep (Err e) screen after
-    → (session_refusal e ≡ Memory) ⊎ EndsPlay n c (Err (session_refusal e))
-key_refused session.Over n words old new keys left source later screen after c at same going plays asks shows =
+    → n < most_keys → (session_refusal e ≡ Memory) ⊎ EndsPlay n c (Err (session_refusal e))
+key_refused session.Over n words old new keys left source later screen after c at same going plays asks shows few =
     absurd (still_on old.playtest c.play (ap (λ (o : Playing). o.playtest) at.0) going plays.0)
-key_refused session.KeyFault n words old new keys left source later screen after c at same going plays asks shows =
+key_refused session.KeyFault n words old new keys left source later screen after c at same going plays asks shows few =
     let fault = asked true old keys source later screen c at going asks in
-    inr (inr (inr (inl (refl, fault.0, going))))
-key_refused session.NoWords n words old new keys left source later screen after c at same going plays asks shows =
+    inr (inr (inr (inl (refl, (few, going), fault.0))))
+key_refused session.NoWords n words old new keys left source later screen after c at same going plays asks shows few =
     let key = plays.0 in
     let step = plays.2 in
     let p = step.0 in
@@ -220,13 +220,13 @@ key_refused session.NoWords n words old new keys left source later screen after 
     let by_words : Steps (Err step_error.NoWords) key c.play words q = subst (λ x. Steps (Err step_error.NoWords) key x words q) is step.4 in
     let made : Steps (Err step_error.NoWords) key c.play c.words q = subst (λ ws. Steps (Err step_error.NoWords) key c.play ws q) same by_words in
     let stays : Steps (Err step_error.NoWords) key c.play c.words c.play = (made.0, (made.1.0, refl)) in
-    inr (inr (inl (refl, (key, left, later, (takes, asked false old keys source later screen c at going asks), stays))))
-key_refused session.Memory n words old new keys left source later screen after c at same going plays asks shows = inl refl
-key_refused session.ScreenFault n words old new keys left source later screen after c at same going plays asks shows =
+    inr (inr (inl (refl, (few, going), (key, left, later, (takes, asked false old keys source later screen c at going asks), stays))))
+key_refused session.Memory n words old new keys left source later screen after c at same going plays asks shows few = inl refl
+key_refused session.ScreenFault n words old new keys left source later screen after c at same going plays asks shows few =
     let asks_once = asked false old keys source later screen c at going asks in
     let made = step_made true plays.0 words old new keys left source later screen after c at same plays.1 asks_once shows in
-    inr (inr (inr (inr (inl (refl, (made.0, made.1))))))
-key_refused _ n words old new keys left source later screen after c at same going plays asks shows = absurd plays
+    inr (inr (inr (inr (inl (refl, (few, going), (made.0, made.1))))))
+key_refused _ n words old new keys left source later screen after c at same going plays asks shows few = absurd plays
 
 -- the playtest that is lent is the one that was started
 pub lent_is : {X : Type 0} (now : X → Playtest) (play : X) (o : Option X) (started : Option Playtest) (q : Playtest) → option_map now o ≡ started → o ≡ Some play

@@ -134,7 +134,7 @@ abbrev pub writes_joined : List ℕ → ℕ → Result (List Edit) Refusal → R
 writes_joined out world (Ok es) = Ok (Writes out (file_text world es) (joined_line es))
 writes_joined out world (Err e) = Err e
 
--- a picture is on the screen
+-- a board was shown, which leaves the host as it is
 abbrev pub leaves_all : Result (Unit {0}) Refusal → Result Effect Refusal
 leaves_all (Ok u) = Ok Leaves
 leaves_all (Err e) = Err e

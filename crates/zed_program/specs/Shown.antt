@@ -1,5 +1,5 @@
 -- What comes of a board that is shown or played.
-use Rattle.std.specs.Prelude.{◌≡◌, ◌⊎◌, ◌≤◌, ◌+◌, ◌*◌, ℕ, zero, suc, Bool, true, false, List, [], ◌∷◌, drop, Option, Some, None, is_some, slice_get, Result, Ok, Err}
+use Rattle.std.specs.Prelude.{◌≡◌, ◌⊎◌, ◌≤◌, ◌<◌, ◌+◌, ◌*◌, ℕ, zero, suc, Bool, true, false, List, [], ◌∷◌, drop, Option, Some, None, is_some, slice_get, Result, Ok, Err}
 use Rattle.zed_world.specs.declared.board.BoardData.{BoardData}
 use Rattle.zed_world.specs.declared.header.Header.{Header}
 use Rattle.zed_world.specs.Contents.{Contents}
@@ -39,7 +39,7 @@ abbrev pub OfSet : {X : Type 0} → Result (List Edit) Refusal → ℕ → OnBoa
 OfSet (Err e) n Does r = r ≡ Err e
 OfSet (Ok es) n Does r = OfWorld (exported 20000 (replay es)) n Does r
 
--- a board is shown, or the screen fails, as it foretold of its first call
+-- what is told of a board that is shown: the screen took it, or failed, as it foretold of its first call
 abbrev pub IsShown : Option (List Bool) → OnBoard (Unit {0})
 IsShown screen header board r = ((r ≡ Ok tt) × ComesAs false screen) ⊎ ((r ≡ Err ScreenFault) × ComesAs true screen)
 
@@ -77,9 +77,13 @@ abbrev pub StepsTo : ℕ → Course → Course → Type 0
 StepsTo zero c d = d ≡ c
 StepsTo (suc n) c d = (next : Course) × Advances false c next × StepsTo n next d
 
--- a playtest is at its end, or no key is left
-abbrev pub IsOver : Course → Type 0
-IsOver c = (is_some c.play.ending ≡ true) ⊎ ((source : Option (List Bool)) × TakesKey c None c.keys source)
+-- after so many steps a playtest goes on, and one key more may be asked for
+abbrev pub GoesOn : ℕ → Course → Type 0
+GoesOn n c = (n < most_keys) × (c.play.ending ≡ None)
+
+-- after so many steps a playtest is at its end, or no key is left
+abbrev pub IsOver : ℕ → Course → Type 0
+IsOver n c = (is_some c.play.ending ≡ true) ⊎ (GoesOn n c × ((source : Option (List Bool)) × TakesKey c None c.keys source))
 
 -- the step by the next key lacks words
 abbrev pub LacksWords : Course → Type 0
@@ -91,10 +95,10 @@ LacksWords c =
 -- or of the screen at one step more, where these foretold it if they did; or since no more keys may be played
 abbrev pub EndsPlay : ℕ → Course → Result (List ℕ) Refusal → Type 0
 EndsPlay n c r =
-    ((r ≡ Ok (told_of c.play)) × IsOver c)
-    ⊎ ((r ≡ Err NoWords) × LacksWords c)
-    ⊎ ((r ≡ Err KeyFault) × ComesAs true c.source × (c.play.ending ≡ None))
-    ⊎ ((r ≡ Err ScreenFault) × ((next : Course) × Advances true c next))
+    ((r ≡ Ok (told_of c.play)) × IsOver n c)
+    ⊎ ((r ≡ Err NoWords) × GoesOn n c × LacksWords c)
+    ⊎ ((r ≡ Err KeyFault) × GoesOn n c × ComesAs true c.source)
+    ⊎ ((r ≡ Err ScreenFault) × GoesOn n c × ((next : Course) × Advances true c next))
     ⊎ ((r ≡ Err TooManyTurns) × (n ≡ most_keys) × (c.play.ending ≡ None))
 
 -- a playtest is played on, by the words and keys that are left

@@ -61,7 +61,7 @@ returns-in_err-used g c =
     let old = c.loop.invariant in
     let e = c.in_err-used.field-0.0 in
     let ends = key_refused e c.loop.counter c.loop.left.now _ _ _ _ _ _ _ _ old.now old.at old.words old.going
-    c.in_err-used.ensures.result c.in_err-used.ensures.key_foretold c.in_err-used.ensures.screen_foretold in
+    c.in_err-used.ensures.result c.in_err-used.ensures.key_foretold c.in_err-used.ensures.screen_foretold c.loop-test.true in
     rw (p.1, same) (elim ends [
       | inl memory ↦ inl memory
       | inr how ↦ inr (old.comes (Err (session_refusal e)) (c.loop.counter, old.now, old.few, none_more c.loop.counter old.first old.now old.leads, how))
@@ -71,7 +71,7 @@ returns-in_err-used g c =
 pub returns-in_default-used : goal.returns-in_default-used
 returns-in_default-used g c =
     let old = c.loop.invariant in
-    let stays = no_key c.loop.left.now _ _ _ _ _ _ _ old.now old.at old.going (rw c.in_default-used.is at c.in_ok-used.ensures.result) c.in_ok-used.ensures.key_foretold in
+    let stays = no_key c.loop.counter c.loop.left.now _ _ _ _ _ _ _ old.now old.at old.going (rw c.in_default-used.is at c.in_ok-used.ensures.result) c.in_ok-used.ensures.key_foretold c.loop-test.true in
     let play : c.in-Some.play.now ≡ old.now.play = lent_is (λ p. p.now) c.in-Some.play c.playtest.result _ old.now.play c.playtest.ensures.result c.in-Some.is stays.0 in
     let text : c.in_ok-told.field-0.items ≡ told_of old.now.play = c.in_ok-told.ensures ∙ ap told_of play in
     old.comes (Ok c.in_ok-told.field-0.items)
