@@ -28,12 +28,32 @@ impl Screen for DarkScreen {
     }
 }
 
-/// A source without keys.
+/// A screen that nobody sees, and that never fails.
+#[derive(Drop)]
+pub(crate) struct HiddenScreen;
+
+impl Screen for HiddenScreen {
+    ghost shown = { λ _. None };
+
+    ghost screen_failures = { λ _. 0 };
+
+    ghost screen_foretells = { λ _. Some [] };
+
+    fn show(&mut self, _frame: &Frame) -> Result<(), Failed> {
+        Ok(())
+    }
+
+    fn failures(&self) -> u64 {
+        0
+    }
+}
+
+/// A source without keys, which says so.
 #[derive(Drop)]
 pub(crate) struct NoKeys;
 
 impl Keys for NoKeys {
-    ghost left = { λ _. None };
+    ghost left = { λ _. Some [] };
 
     ghost key_failures = { λ _. 0 };
 

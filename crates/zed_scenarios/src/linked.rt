@@ -1,5 +1,5 @@
 //! `merge` over links in memory, of which it is told how many came to their end, and how many of these unread.
-use crate::devices::{DarkScreen, NoKeys};
+use crate::devices::{HiddenScreen, NoKeys};
 use crate::failures::is_told;
 use crate::growths::{MOST, Turn, refuse, refuse_each, turn_of, was_refused};
 use crate::hosts::{Output, edit_file, has_written, words_of};
@@ -85,7 +85,7 @@ fn status_of(
     links: Vec<Box<dyn Link>>,
     nth: usize,
 ) -> Option<u8> {
-    let screen = Box::new(alloc, DarkScreen { failures: 0 });
+    let screen = Box::new(alloc, HiddenScreen);
     let keys = Box::new(alloc, NoKeys);
     match (words_of(alloc, words), screen, keys) {
         (Ok(words), Ok(screen), Ok(keys)) => {
@@ -96,7 +96,15 @@ fn status_of(
     }
 }
 
-/// Whether a `merge` comes out as it should.
+/// Whether the link that came to its end last was given nothing.
+fn gave_nothing(traces: &Traces) -> bool {
+    match traces.left.take() {
+        Some(left) => left.is_empty(),
+        None => false,
+    }
+}
+
+/// Whether a `merge` comes out as it should, and writes nothing to its links.
 fn comes_out(alloc: Global, host: &mut MemoryHost, traces: &Traces, wanted: Merge) -> bool {
     let Some(links) = links_of(alloc, wanted.links, traces) else {
         return false;
@@ -107,6 +115,7 @@ fn comes_out(alloc: Global, host: &mut MemoryHost, traces: &Traces, wanted: Merg
         && has_written(alloc, host, wanted.output)
         && traces.ends.get() == wanted.ends
         && traces.unread.get() == wanted.unread
+        && gave_nothing(traces)
 }
 
 fn comes_out_anew(alloc: Global, wanted: Merge) -> bool {
@@ -142,6 +151,12 @@ const SECOND: Handed = Handed::Edits(&[
     (3, 2, Does::Exit(Side::South, (2, 2, 0))),
 ]);
 
+/// The second author's edits without the world: the exit waits for the title.
+const LATE: Handed = Handed::Edits(&[
+    (2, 2, Does::AddBoard("Two")),
+    (3, 2, Does::Exit(Side::South, (2, 2, 0))),
+]);
+
 const FILES: &[&str] = &["merge", "o", "7", "a", "b"];
 
 /// Two links that hand over their files.
@@ -167,6 +182,19 @@ const JOINED: &[Merge] = &[
         links: &[(FIRST, 50, None), (SECOND, 50, None), (FIRST, 50, None)],
         ends: 3,
         unread: 1,
+        ..WHOLE
+    },
+    // an edit that waits is written too, and waits no more where the world comes behind it
+    Merge {
+        words: &["merge", "o", "7", "a"],
+        links: &[(LATE, 50, None)],
+        printed: "2 edits, 1 held\n",
+        output: Output::Length("o", 68),
+        ends: 1,
+        ..WHOLE
+    },
+    Merge {
+        links: &[(LATE, 50, None), (FIRST, 50, None)],
         ..WHOLE
     },
 ];

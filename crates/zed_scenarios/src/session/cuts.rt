@@ -19,20 +19,21 @@ fn all_hold(desk: &mut Desk, acts: &[Step]) -> bool {
     acts_that_hold(desk, acts) == acts.len()
 }
 
-/// The edits that the document has once so many reads of seven bytes passed, and what a pull of the whole file answers then. The
+/// The edits that the document has once so many bytes of the file were read, and what a pull of the whole file answers then. The
 /// file's first edit ends at its byte 43, its second at 56.
-fn came_by(passing: u64) -> (usize, Told) {
-    match passing {
-        0..=6 => (3, NEW),
-        7 => (4, SECOND_NEW),
+fn came_by(bytes: usize) -> (usize, Told) {
+    match bytes {
+        0..=42 => (3, NEW),
+        43..=55 => (4, SECOND_NEW),
         _ => (5, KNOWN),
     }
 }
 
-/// Whether a link that fails after so many reads, between two others, goes alone, once, and leaves the edits before that.
-fn reads_until(desk: &mut Desk, passing: u64) -> bool {
-    let (came, rest) = came_by(passing);
-    let cut = Act::Wire((FILE, 7, Some(passing)));
+/// Whether a link that fails after so many reads of so many bytes, between two others, goes alone, once, and leaves the edits before
+/// that.
+fn reads_until(desk: &mut Desk, piece: usize, passing: u64) -> bool {
+    let (came, rest) = came_by(piece.saturating_mul(passing as usize));
+    let cut = Act::Wire((FILE, piece, Some(passing)));
     let acts = [
         (Act::Wire(SLOW), FIRST, Sees::Ended(0)),
         (cut, SECOND, Sees::Links(2, 3, 3)),
@@ -47,26 +48,27 @@ fn reads_until(desk: &mut Desk, passing: u64) -> bool {
 }
 
 // A function that owns a desk is dear to prove, so this one does little else.
-fn reads_until_anew(alloc: Global, passing: u64) -> Result<bool, Fail> {
+fn reads_until_anew(alloc: Global, piece: usize, passing: u64) -> Result<bool, Fail> {
     let mut desk = new_desk(alloc)?;
-    Ok(reads_until(&mut desk, passing) && ends_of(desk) == ENDS)
+    Ok(reads_until(&mut desk, piece, passing) && ends_of(desk) == ENDS)
 }
 
 #[test]
 fn each_read_of_a_pull_failing(rt: HostRuntime) -> Result<(), Fail> {
-    // the last is the one of the file's end
-    for passing in 0..=8 {
-        assert_eq!(rt; reads_until_anew(rt.alloc(), passing)?, true);
+    for piece in 1..=50_u64 {
+        // the last is the one of the file's end
+        for passing in 0..=56_u64.div_ceil(piece) {
+            if !reads_until_anew(rt.alloc(), piece as usize, passing)? {
+                return Err(Fail::new(format_args!("read {passing} of {piece} bytes")));
+            }
+        }
     }
     Ok(())
 }
 
-/// How many bytes the links below take by a write.
-const PIECE: usize = 50;
-
-/// Whether a link that fails after so many writes, between two others, goes alone, and once.
-fn writes_until(desk: &mut Desk, passing: u64) -> bool {
-    let cut = Act::Wire((b"", PIECE, Some(passing)));
+/// Whether a link that fails after so many writes of so many bytes, between two others, goes alone, and once.
+fn writes_until(desk: &mut Desk, piece: usize, passing: u64) -> bool {
+    let cut = Act::Wire((b"", piece, Some(passing)));
     let acts = [
         (Act::Wire(FAST), FIRST, Sees::Ended(0)),
         (cut, SECOND, Sees::Links(2, 3, 3)),
@@ -94,10 +96,15 @@ fn has_left_front(desk: &Desk, whole: &[u8], count: usize) -> bool {
     }
 }
 
-fn writes_until_anew(alloc: Global, whole: &[u8], passing: u64) -> Result<bool, Fail> {
+fn writes_until_anew(
+    alloc: Global,
+    whole: &[u8],
+    piece: usize,
+    passing: u64,
+) -> Result<bool, Fail> {
     let mut desk = new_desk(alloc)?;
-    let count = PIECE.saturating_mul(passing as usize);
-    let is_so = writes_until(&mut desk, passing)
+    let count = piece.saturating_mul(passing as usize);
+    let is_so = writes_until(&mut desk, piece, passing)
         && has_left_front(&desk, whole, count)
         && others_go_on(&mut desk);
     Ok(is_so && ends_of(desk) == ENDS)
@@ -106,7 +113,7 @@ fn writes_until_anew(alloc: Global, whole: &[u8], passing: u64) -> Result<bool, 
 /// What a link takes to which the document is pushed, if so many writes of it are enough.
 fn pushed_by(alloc: Global, writes: u64) -> Result<Option<Vec<u8>>, Fail> {
     let mut desk = new_desk(alloc)?;
-    let link = Act::Wire((b"", PIECE, Some(writes)));
+    let link = Act::Wire((b"", 50, Some(writes)));
     let acts = [
         (link, FIRST, Sees::Links(1, 3, 3)),
         (Act::Push(0), Told::Number(3), Sees::Links(1, 3, 3)),
@@ -125,8 +132,12 @@ fn each_write_of_a_push_failing(rt: HostRuntime) -> Result<(), Fail> {
         return Err(Fail::new("a push takes more than sixteen writes"));
     };
     assert_eq!(rt; whole.len(), 782);
-    for passing in 0..16 {
-        assert_eq!(rt; writes_until_anew(rt.alloc(), &whole, passing)?, true);
+    for piece in 1..=50_u64 {
+        for passing in 0..782_u64.div_ceil(piece) {
+            if !writes_until_anew(rt.alloc(), &whole, piece as usize, passing)? {
+                return Err(Fail::new(format_args!("write {passing} of {piece} bytes")));
+            }
+        }
     }
     Ok(())
 }

@@ -162,6 +162,20 @@ pub const LINKS: &[Case] = &[
         ..CALM
     },
     Case {
+        name: "a link that a pull lets go was given nothing",
+        acts: &[
+            (
+                Act::Wires(&[GIVES_ONE, NO_FILE, ANOTHER_SECOND]),
+                THIRD,
+                Sees::Links(3, 3, 3),
+            ),
+            (Act::Pull(0), FAULT, Sees::Left(b"")),
+            (Act::Pull(0), MAGIC, Sees::Left(b"")),
+            (Act::Pull(0), CLASH, Sees::Left(b"")),
+        ],
+        ..CALM
+    },
+    Case {
         name: "what is no file of the world lets its link go, and no other",
         acts: &[
             (

@@ -152,6 +152,30 @@ pub const STAGES: &[Case] = &[
         ..CALM
     },
     Case {
+        name: "a screen fails at its first frame",
+        keys: &[Key::East, Key::East],
+        screen: Fails::At(1),
+        acts: &[
+            BEGINS,
+            (Act::Press(&[]), SCREEN_FAULT, Sees::Playtest(1, 2)),
+            (Act::Press(&[]), Told::Number(0), Sees::At(31, 11, b'@')),
+        ],
+        ..CALM
+    },
+    Case {
+        name: "a screen fails at its third frame",
+        keys: &[Key::East, Key::East, Key::East],
+        screen: Fails::At(3),
+        acts: &[
+            (Act::Show(0), Told::Done, Sees::At(29, 11, b'@')),
+            BEGINS,
+            (Act::Press(&[]), Told::Number(0), Sees::At(30, 11, b'@')),
+            (Act::Press(&[]), SCREEN_FAULT, Sees::At(30, 11, b'@')),
+            (Act::Press(&[]), Told::Number(0), Sees::At(32, 11, b'@')),
+        ],
+        ..CALM
+    },
+    Case {
         name: "a screen fails at its second frame",
         keys: &[Key::East, Key::East],
         screen: Fails::At(2),
