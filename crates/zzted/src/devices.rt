@@ -1,5 +1,7 @@
 //! Real links, screen and keys.
-ghost use Rattle.std.specs.Prelude.{◌≡◌, ◌≤◌, None, IfOk, false, length};
+ghost use Rattle.std.specs.Prelude.{◌≡◌, ◌≢◌, ◌≤◌, None, IfOk, IfSome, false, length};
+ghost use Rattle.zed_play.specs.declared.key.Key.{Key as TheKey};
+ghost use Rattle.zzted.specs.Typing.{byte_of};
 
 use std::fs::{self, File};
 use std::io::{self, ErrorKind, Read, Write};
@@ -160,8 +162,11 @@ pub struct Typed {
     failures: u64,
 }
 
-// What a byte asks for; nothing where it is no key.
-fn key_of(byte: u8) -> Option<Key> {
+// The key that is typed by a byte, if that is typed for one.
+fn key_of(byte: u8) -> Option<Key>
+    ensures key { IfSome result (λ key. byte_of key ≡ byte) }
+    ensures none { result ≡ None → (key : TheKey) → byte_of key ≢ byte }
+{
     match byte {
         b'.' => Some(Key::Wait),
         b'n' => Some(Key::North),
