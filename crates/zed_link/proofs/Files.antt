@@ -121,9 +121,10 @@ comes_to t d es found bytes n reads p (Err Memory) left old new told k made link
 ])
 comes_to t d es found bytes n reads p (Err LinkFault) left old new told k made link of =
     (front_of_front d found es left k.first (all_is_front d found left of.1), may_fail bytes t old new told link.0)
-comes_to t d es found bytes n reads p (Err TooManyTurns) left old new told k made link of =
-    (front_of_front d found es left k.first (all_is_front d found left of.1),
-    is_long (least_read (Some t)) (length t.left) (subst (λ (n : ℕ). n * least_read (Some t) < length t.left + least_read (Some t)) (sym made ∙ link.1) k.many))
+comes_to t d es found bytes n reads p (Err TooManyTurns) left old new told k made link of = (
+  front_of_front d found es left k.first (all_is_front d found left of.1),
+  is_long (least_read (Some t)) (length t.left) (subst (λ (n : ℕ). n * least_read (Some t) < length t.left + least_read (Some t)) (sym made ∙ link.1) k.many),
+)
 comes_to t d es found bytes n reads p (Err Magic) left old new told k made link of = absurd (no_refusal p file.Magic (λ h. cc) (λ h. cc) k.calm of.0)
 comes_to t d es found bytes n reads p (Err NewVersion) left old new told k made link of = absurd (no_refusal p file.NewVersion (λ h. cc) (λ h. cc) k.calm of.0)
 comes_to t d es found bytes n reads p (Err OtherWorld) left old new told k made link of = absurd (no_refusal p file.OtherWorld (λ h. cc) (λ h. cc) k.calm of.0)
