@@ -3,7 +3,6 @@ use Rattle.std.proofs.Common.{◌≡◌, ◌≤◌, ◌∙◌, ℕ, Bool, true, 
 use Rattle.std.specs.Prelude.{⊤, IfSome}
 use Rattle.std.specs.Str.{bytes_eq}
 use Rattle.std.specs.Global.{Vec}
-use Rattle.std.proofs.lemmas.Bool.{cases_lt}
 use mathlib.Core.Logic.{◌⊎◌, inl, inr}
 use Rattle.zed_op.specs.declared.op.Edit.{Edit}
 use Rattle.zed_program.specs.declared.host.WriteError.{WriteError}
@@ -15,29 +14,15 @@ use Rattle.zed_program.specs.Devices.{Devices, devices, links_alone}
 use Rattle.zed_words.specs.Commands.{Command, Save, Check, New, Edit as EditFile, Merge, Show, Play}
 use Rattle.zed_program.specs.Shown.{IsPlayed, IsShown, OfSet, PlaysFile, words_in}
 use Rattle.zed_program.specs.Edited.{FileEdits, IsEdited}
-use Rattle.zed_link.specs.Counting.{Counts, Rose, most_counted}
+use Rattle.zed_link.specs.Counting.{Counts, Rose}
 use Rattle.zed_program.specs.HostContents.{AreRead, HalfComplained, HalfPrinted, HalfWritten, HostContents, IsRead, NothingFailed, StillTells, file_in, with_complaint, with_file}
 use Rattle.zed_program.specs.Fresh.{refused_as, rewritten}
 use Rattle.zed_world.specs.Reading.{world_at}
 use Rattle.zed_program.specs.Lines.{line_of}
+use Rattle.zed_program.proofs.Failures.{memory_is_other, rose_before, rose_later}
 use Rattle.zed_program.specs.Outcome.{Collects, ComesTo, Effect, Ends, EndsCalmly, EndsRun, HalfDone, HasStatus, IsComplained, IsFirstWorld, IsMade, IsPlayedOf, IsRefused, IsTold, RefusedRun, Writes, Leaves, after, file_of, report_on}
 
 -- ---- the count of faults
-
--- a rise that comes later
-pub rose_later : (old middle now : ℕ) → old ≤ middle → Rose middle now → Rose old now
-rose_later old middle now up rose =
-    let more = rose.0 in (
-      omega arith,
-      λ low. elim (cases_lt middle most_counted) [
-        | inl below ↦ (let rises = rose.1 below in omega arith)
-        | inr above ↦ omega arith
-      ],
-    )
-
--- a rise that came before
-pub rose_before : (old middle now : ℕ) → middle ≤ now → Rose old middle → Rose old now
-rose_before old middle now up rose = let more = rose.0 in (omega arith, λ low. let rises = rose.1 low in omega arith)
 
 -- where nothing failed, nothing rose
 pub no_rise : (old middle now : ℕ) → middle ≤ now → NothingFailed old now → Rose old middle → ⊥
@@ -211,16 +196,16 @@ complained (Ok u) old new text t before after at told half count = inl told
 complained (Err e) old new text t before after at told half count = inr (count, rw at at half)
 
 -- a refusal, and then its line
-pub refused_run : (devices : Devices) (command : Command) (t u : HostContents) (e : Refusal) (old middle now : ℕ) (new : Option HostContents) → old ≤ middle → middle ≤ now
-    → IsRefused (Rose old middle) devices command t e u → IsTold (Rose middle now) e u new → EndsRun devices (Some command) t old now 1 new
-refused_run devices command t u e old middle now new up more refused told =
-    inr (refl, record { refusal = e; left = u; middle = middle; refused = refused; told = told; rises = (up, more) })
+pub refused_run : (devices : Devices) (command : Command) (t u : HostContents) (e : Refusal) (old middle now : ℕ) (counted : Type 0) (new : Option HostContents) → old ≤ middle → middle ≤ now
+    → IsRefused (Rose old middle) devices command t e u → IsTold (Rose middle now) e u new → (e ≡ File → counted) → EndsRun devices (Some command) t old now counted 1 new
+refused_run devices command t u e old middle now counted new up more refused told file =
+    inr (refl, record { refusal = e; left = u; middle = middle; refused = refused; told = told; rises = (up, more); file_only_when = file })
 
 -- want of memory, whatever was asked for
-pub memory_run : (devices : Devices) (command : Option Command) (t : HostContents) (old now : ℕ) (new : Option HostContents) → old ≤ now
-    → IsComplained (Rose old now) (line_of Memory) t new → EndsRun devices command t old now 1 new
-memory_run devices None t old now new up told = inr (refl, told)
-memory_run devices (Some command) t old now new up told =
+pub memory_run : (devices : Devices) (command : Option Command) (t : HostContents) (old now : ℕ) (counted : Type 0) (new : Option HostContents) → old ≤ now
+    → IsComplained (Rose old now) (line_of Memory) t new → EndsRun devices command t old now counted 1 new
+memory_run devices None t old now counted new up told = inr (refl, told)
+memory_run devices (Some command) t old now counted new up told =
     inr (
       refl,
       record {
@@ -230,6 +215,7 @@ memory_run devices (Some command) t old now new up told =
         refused = inl (refl, inl refl);
         told = (line_of Memory, inl refl, told);
         rises = (omega arith, up);
+        file_only_when = λ is. absurd (memory_is_other Memory refl is);
       },
     )
 
@@ -238,8 +224,8 @@ memory_run devices (Some command) t old now new up told =
 told_calmly : (old now : ℕ) (text : List ℕ) (t : HostContents) (new : Option HostContents) → NothingFailed old now → IsComplained (Rose old now) text t new → new ≡ Some (with_complaint text t)
 told_calmly old now text t new calm told = elim told [ inl is ↦ is | inr failed ↦ absurd (no_rise old now now (omega arith) calm failed.0) ]
 
-refused_calmly : (devices : Devices) (command : Command) (t : HostContents) (old now : ℕ) (new : Option HostContents) → NothingFailed old now → RefusedRun devices command t old now new → EndsCalmly devices command t 1 new
-refused_calmly devices command t old now new calm run =
+refused_calmly : (devices : Devices) (command : Command) (t : HostContents) (old now : ℕ) (counted : Type 0) (new : Option HostContents) → NothingFailed old now → RefusedRun devices command t old now counted new → EndsCalmly devices command t 1 new
+refused_calmly devices command t old now counted new calm run =
     let first = run.rises.0 in
     let second = run.rises.1 in
     let same = calm.0 in
@@ -260,12 +246,12 @@ refused_calmly devices command t old now new calm run =
           ])
     ]
 
-pub run_calmly : (devices : Devices) (command : Command) (t : HostContents) (old now status : ℕ) (new : Option HostContents) → NothingFailed old now
-    → EndsRun devices (Some command) t old now status new → EndsCalmly devices command t status new
-run_calmly devices command t old now status new calm run =
+pub run_calmly : (devices : Devices) (command : Command) (t : HostContents) (old now : ℕ) (counted : Type 0) (status : ℕ) (new : Option HostContents) → NothingFailed old now
+    → EndsRun devices (Some command) t old now counted status new → EndsCalmly devices command t status new
+run_calmly devices command t old now counted status new calm run =
     elim run [
       | inl done ↦ inl (Ok done.0, comes_so devices (Rose old now) ⊥ command t (Ok done.0) (no_rise old now now (omega arith) calm) done.1, (done.2, done.3))
-      | inr refused ↦ elim (refused_calmly devices command t old now new calm refused.1) [
+      | inr refused ↦ elim (refused_calmly devices command t old now counted new calm refused.1) [
         | inl done ↦ inl (done.0, done.1, with_status done.0 refused.0 done.2)
         | inr memory ↦ inr (refused.0, memory.1)
       ]

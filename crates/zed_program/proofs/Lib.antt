@@ -1,6 +1,7 @@
 pub mod Chances
 pub mod Opened
 pub mod Entries
+pub mod Failures
 pub mod Deliveries
 pub mod Endings
 pub mod FileEnds

@@ -195,22 +195,23 @@ abbrev pub IsTold : Type 0 → Refusal → HostContents → Option HostContents 
 IsTold failed e t new = (line : List ℕ) × IsLineOf e line × IsComplained failed line t new
 
 -- a command is refused and the user is told; the faults are counted from `old`, to `middle` before the
--- user is told, and to `now`
-pub record RefusedRun (devices : Devices) (command : Command) (t : HostContents) (old now : ℕ) (new : Option HostContents) : Type 0 where
+-- user is told, and to `now`; and `counted` says that the host counts a call more that failed, which `File` shows
+pub record RefusedRun (devices : Devices) (command : Command) (t : HostContents) (old now : ℕ) (counted : Type 0) (new : Option HostContents) : Type 0 where
   pub refusal : Refusal
   pub left : HostContents
   pub middle : ℕ
   pub refused : IsRefused (Rose old middle) devices command t refusal left
   pub told : IsTold (Rose middle now) refusal left new
   pub rises : (old ≤ middle) × (middle ≤ now)
+  pub file_only_when : refusal ≡ File → counted
 
 -- a command is carried out with status 0, or refused with status 1. Words that are refused change no
 -- file; the status is 2, or 1 where memory ran out
-abbrev pub EndsRun : Devices → Option Command → HostContents → ℕ → ℕ → ℕ → Option HostContents → Type 0
-EndsRun devices (Some command) t old now status new =
+abbrev pub EndsRun : Devices → Option Command → HostContents → ℕ → ℕ → Type 0 → ℕ → Option HostContents → Type 0
+EndsRun devices (Some command) t old now counted status new =
     ((x : Effect) × ComesTo (Rose old now) devices command t (Ok x) × (status ≡ 0) × (new ≡ Some (after x t)))
-    ⊎ ((status ≡ 1) × RefusedRun devices command t old now new)
-EndsRun devices None t old now status new =
+    ⊎ ((status ≡ 1) × RefusedRun devices command t old now counted new)
+EndsRun devices None t old now counted status new =
     ((status ≡ 2) × ((text : List ℕ) × IsComplained (Rose old now) text t new))
     ⊎ ((status ≡ 1) × IsComplained (Rose old now) (line_of Memory) t new)
 

@@ -6,6 +6,7 @@ ghost use Rattle.zed_op.specs.Set.{Agrees, AllFit, set_of};
 ghost use Rattle.zed_document.specs.Delivery.{IsFirstClash};
 ghost use Rattle.zed_program.specs.Files.{IsFile, edits_then, end_of as no_world};
 ghost use Rattle.zed_program.specs.Outcome.{Collects, IsStreamIn, texts_of};
+ghost use Rattle.zed_program.specs.Faults.{TellsFile};
 ghost use Rattle.zed_program.specs.Refusals.{is_file_refusal};
 ghost use Rattle.zed_link.specs.Counting.{Counts, Rose};
 ghost use Rattle.zed_program.specs.HostContents.{HostContents, IsRead, file_in};
@@ -39,6 +40,7 @@ pub(crate) fn read_one<H: Host>(host: &mut H, name: &str) -> Result<Vec<u8>, Ref
     ensures failures { Counts (is_file_refusal result) (H.failed host.old) (H.failed host.new) }
     ensures calm { OnOk result (H.faults host.new ≡ H.faults host.old) }
     ensures rises { H.faults host.old ≤ H.faults host.new }
+    ensures file_only_when { TellsFile result (H.failed host.old) (H.failed host.new) }
 {
     match host.read(name) {
         Ok(bytes) => Ok(bytes),
@@ -105,6 +107,9 @@ fn read_all<H: Host>(alloc: Global, host: &mut H, names: &[&str]) -> Result<Stre
     ensures kept { H.contents host.new ≡ H.contents host.old }
     ensures err { IfErr result (λ e. e ≡ Refusal.Memory) }
     ensures rises { H.faults host.old ≤ H.faults host.new }
+    ensures file_only_when { IfOk result (λ s. s.refusal ≡ Some Refusal.File
+        → Rose (H.failed host.old) (H.failed host.new)) }
+    ensures failures { H.failed host.old ≤ H.failed host.new }
 {
     let mut asked = None;
     let mut edits = Vec::new(alloc);
@@ -155,6 +160,7 @@ pub(crate) fn load<H: Host>(
     ensures sound { IfOk result (λ d. d.is_stale ≡ false) }
     ensures kept { H.contents host.new ≡ H.contents host.old }
     ensures rises { H.faults host.old ≤ H.faults host.new }
+    ensures file_only_when { TellsFile result (H.failed host.old) (H.failed host.new) }
 {
     let Stream {
         world,

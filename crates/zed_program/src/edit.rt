@@ -8,6 +8,7 @@ ghost use Rattle.zed_program.specs.Edited.{HasEdits, IsEdited, IsOpened, OpensAs
 ghost use Rattle.zed_program.specs.Devices.{no_devices};
 ghost use Rattle.zed_program.specs.Outcome.{Ends, texts_of};
 ghost use Rattle.zed_link.specs.Counting.{Rose};
+ghost use Rattle.zed_program.specs.Faults.{TellsFile};
 ghost use Rattle.zed_program.specs.HostContents.{HostContents};
 ghost use Rattle.zed_words.specs.Commands.{Edit as EditFile};
 
@@ -61,6 +62,7 @@ fn open<H: Host>(alloc: Global, host: &mut H, file: &str) -> Result<Document, Re
     ensures sound { IfOk result (λ d. d.is_stale ≡ false) }
     ensures kept { H.contents host.new ≡ H.contents host.old }
     ensures rises { H.faults host.old ≤ H.faults host.new }
+    ensures file_only_when { TellsFile result (H.failed host.old) (H.failed host.new) }
 {
     let bytes = read_one(host, file)?;
     opened(alloc, bytes.as_slice())
@@ -81,6 +83,7 @@ fn edited<H: Host>(
         ⊎ IsEdited failed t file.now replica (texts_of words.now) (Err e)) }
     ensures kept { H.contents host.new ≡ H.contents host.old }
     ensures rises { H.faults host.old ≤ H.faults host.new }
+    ensures file_only_when { TellsFile result (H.failed host.old) (H.failed host.new) }
 {
     if replica == 0 {
         return Err(Refusal::BadEdit(Cause::Stamp));
@@ -113,6 +116,7 @@ pub(crate) fn edit<H: Host>(
         Ends failed no_devices (EditFile file.now replica (texts_of words.now)) t
         result (H.contents host.new) }
     ensures rises { H.faults host.old ≤ H.faults host.new }
+    ensures file_only_when { TellsFile result (H.failed host.old) (H.failed host.new) }
 {
     let document = edited(alloc, host, file, replica, words)?;
     let text = file_of(alloc, &document)?;

@@ -3,6 +3,7 @@ ghost use Rattle.std.specs.Prelude.{◌≡◌, ◌≤◌, ◌<◌, Err, IfOk, Ma
 ghost use Rattle.zed_session.specs.Links.{PullsOver, seen};
 ghost use Rattle.zed_words.specs.Commands.{Merge};
 ghost use Rattle.zed_link.specs.Counting.{Rose};
+ghost use Rattle.zed_program.specs.Faults.{TellsFile};
 ghost use Rattle.zed_program.specs.HostContents.{HostContents};
 ghost use Rattle.zed_program.specs.Merged.{IsMerged};
 ghost use Rattle.zed_program.specs.Devices.{links_alone};
@@ -76,6 +77,7 @@ pub(crate) fn merge<H: Host>(
         (Merge out.now world (texts_of files.now)) t result (H.contents host.new) }
     ensures no_link { length links.items < length files.now → result ≡ Err Refusal.NoLink }
     ensures rises { H.faults host.old ≤ H.faults host.new }
+    ensures file_only_when { TellsFile result (H.failed host.old) (H.failed host.new) }
 {
     let document = pulled_from(alloc, world, files.len(), links)?;
     let text = file_of(alloc, &document)?;

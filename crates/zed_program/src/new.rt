@@ -9,6 +9,7 @@ ghost use Rattle.zed_world.specs.Reading.{world_at};
 ghost use Rattle.zed_program.specs.Devices.{no_devices};
 ghost use Rattle.zed_program.specs.Outcome.{Ends, IsFirstWorld, text_in};
 ghost use Rattle.zed_link.specs.Counting.{Rose};
+ghost use Rattle.zed_program.specs.Faults.{TellsFile};
 ghost use Rattle.zed_program.specs.HostContents.{HostContents};
 ghost use Rattle.zed_words.specs.Commands.{New};
 
@@ -167,6 +168,7 @@ fn first<H: Host>(
     ensures canonical { IfOk result (λ bytes. IsCanonical bytes.items) }
     ensures kept { H.contents host.new ≡ H.contents host.old }
     ensures rises { H.faults host.old ≤ H.faults host.new }
+    ensures file_only_when { TellsFile result (H.failed host.old) (H.failed host.new) }
 {
     match from {
         Some(file) => {
@@ -207,6 +209,7 @@ pub(crate) fn make_new<H: Host>(
         Ends failed no_devices (New out.now world (text_in from.entry) (text_in name.entry)) t
         result (H.contents host.new) }
     ensures rises { H.faults host.old ≤ H.faults host.new }
+    ensures file_only_when { TellsFile result (H.failed host.old) (H.failed host.new) }
 {
     let bytes = first(alloc, host, from, name)?;
     let file = file_of(alloc, world, bytes)?;

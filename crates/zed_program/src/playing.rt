@@ -3,6 +3,7 @@ ghost use Rattle.std.specs.Prelude.{[], ◌≡◌, ◌≤◌, ◌<◌, ◌⊎◌
 ghost use Rattle.std.specs.List.{flat_map};
 ghost use Rattle.zed_words.specs.Commands.{Play as PlayBoard};
 ghost use Rattle.zed_link.specs.Counting.{Rose};
+ghost use Rattle.zed_program.specs.Faults.{TellsFile};
 ghost use Rattle.zed_program.specs.HostContents.{HostContents};
 ghost use Rattle.zed_program.specs.Lines.{message_line, standing_line, told_of};
 ghost use Rattle.zed_program.specs.Devices.{devices};
@@ -142,6 +143,7 @@ fn played<H: Host>(
         ⊎ IsPlayedOf failed stage t board chance.now (texts_of files.now) (Err e)) }
     ensures kept { H.contents host.new ≡ H.contents host.old }
     ensures rises { H.faults host.old ≤ H.faults host.new }
+    ensures file_only_when { TellsFile result (H.failed host.old) (H.failed host.new) }
 {
     let bytes = read_one(host, chance)?;
     let words = words_of(alloc, bytes.as_slice())?;
@@ -171,6 +173,7 @@ pub(crate) fn play<H: Host>(
         Ends failed (devices [] (screen_foretells screen) (left keys) (keys_foretell keys))
         (PlayBoard board chance.now (texts_of files.now)) t result (H.contents host.new) }
     ensures rises { H.faults host.old ≤ H.faults host.new }
+    ensures file_only_when { TellsFile result (H.failed host.old) (H.failed host.new) }
 {
     let text = played(alloc, host, board, chance, files, screen, keys)?;
     print_out(host, text.as_slice())

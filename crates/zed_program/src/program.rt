@@ -9,6 +9,7 @@ ghost use Rattle.zed_program.specs.Devices.{devices, no_devices};
 ghost use Rattle.zed_program.specs.Outcome.{Ends, EndsCalmly, EndsRun, IsMade, IsTold, product_of, texts_of};
 ghost use Rattle.zed_program.specs.Saving.{AsksToSave, SavedReadsBack, SavesSet};
 ghost use Rattle.zed_link.specs.Counting.{Rose};
+ghost use Rattle.zed_program.specs.Faults.{TellsFile};
 ghost use Rattle.zed_program.specs.HostContents.{HostContents, NothingFailed};
 ghost use Rattle.zed_words.specs.Commands.{Check, Command as Asked, Save, command_of, is_plain, meaning_of};
 
@@ -65,6 +66,7 @@ fn made_from<H: Host>(
         ⊎ IsMade failed t (texts_of files.now) (product_of product) (Err e)) }
     ensures kept { H.contents host.new ≡ H.contents host.old }
     ensures rises { H.faults host.old ≤ H.faults host.new }
+    ensures file_only_when { TellsFile result (H.failed host.old) (H.failed host.new) }
 {
     let document = load(alloc, host, files)?;
     product_of(alloc, product, &document)
@@ -76,6 +78,7 @@ fn save<H: Host>(alloc: Global, host: &mut H, out: &str, files: &[&str]) -> Resu
         → let failed = Rose (H.faults host.old) (H.faults host.new) in
         Ends failed no_devices (Save out.now (texts_of files.now)) t result (H.contents host.new) }
     ensures rises { H.faults host.old ≤ H.faults host.new }
+    ensures file_only_when { TellsFile result (H.failed host.old) (H.failed host.new) }
 {
     let bytes = made_from(alloc, host, Product::WorldFile, files)?;
     let line = bytes_told(alloc, bytes.len())?;
@@ -88,6 +91,7 @@ fn check<H: Host>(alloc: Global, host: &mut H, files: &[&str]) -> Result<(), Ref
         → let failed = Rose (H.faults host.old) (H.faults host.new) in
         Ends failed no_devices (Check (texts_of files.now)) t result (H.contents host.new) }
     ensures rises { H.faults host.old ≤ H.faults host.new }
+    ensures file_only_when { TellsFile result (H.failed host.old) (H.failed host.new) }
 {
     let text = made_from(alloc, host, Product::Report, files)?;
     print_out(host, text.as_slice())
@@ -101,6 +105,7 @@ fn complain_of<H: Host>(alloc: Global, host: &mut H, refusal: &Refusal)
         → let failed = Rose (H.faults host.old) (H.faults host.new) in
         IsTold failed refusal.now t (H.contents host.new) }
     ensures rises { H.faults host.old ≤ H.faults host.new }
+    ensures failures { H.failed host.old ≤ H.failed host.new }
 {
     let _ = match plain_line(refusal) {
         Some(text) => host.complain(text.as_bytes()),
@@ -125,6 +130,7 @@ fn act<H: Host>(
         (screen_foretells screen) (left keys) (keys_foretell keys))
         (meaning_of command.now) t result (H.contents host.new) }
     ensures rises { H.faults host.old ≤ H.faults host.new }
+    ensures file_only_when { TellsFile result (H.failed host.old) (H.failed host.new) }
 {
     match command {
         Command::Save { out, files } => save(alloc, host, out, files.as_slice()),
@@ -170,7 +176,8 @@ fn run_words<H: Host>(
         → EndsRun (devices (map (λ link. seen (ends link) (reads link)) links.items)
         (screen_foretells screen) (left keys) (keys_foretell keys))
         (command_of (map string_bytes words.now)) t
-        (H.faults host.old) (H.faults host.new) result (H.contents host.new) }
+        (H.faults host.old) (H.faults host.new) (Rose (H.failed host.old) (H.failed host.new))
+        result (H.contents host.new) }
     ensures accepted { IsSome (command_of (map string_bytes words.now))
         → (result ≡ 0) ⊎ (result ≡ 1) }
     ensures refused { command_of (map string_bytes words.now) ≡ None
@@ -221,7 +228,8 @@ pub fn run<H: Host>(
         → EndsRun (devices (map (λ link. seen (ends link) (reads link)) links.items)
         (screen_foretells screen) (left keys) (keys_foretell keys))
         (command_of (map string_bytes words.now)) t
-        (H.faults host.old) (H.faults host.new) result (H.contents host.new) }
+        (H.faults host.old) (H.faults host.new) (Rose (H.failed host.old) (H.failed host.new))
+        result (H.contents host.new) }
 
     // Where nothing fails.
     ensures ends_calmly { (t : HostContents) (command : Asked)

@@ -2,6 +2,7 @@
 ghost use Rattle.std.specs.Prelude.{[], ◌≡◌, ◌≤◌, ◌⊎◌, Err, MatchResult, Ok, Some, false};
 ghost use Rattle.zed_words.specs.Commands.{Show};
 ghost use Rattle.zed_link.specs.Counting.{Rose};
+ghost use Rattle.zed_program.specs.Faults.{TellsFile};
 ghost use Rattle.zed_program.specs.HostContents.{HostContents};
 ghost use Rattle.zed_program.specs.Devices.{devices};
 ghost use Rattle.zed_program.specs.Outcome.{Ends, texts_of};
@@ -47,6 +48,7 @@ pub(crate) fn show<H: Host>(
         Ends failed (devices [] (screen_foretells screen) (left keys) (keys_foretell keys))
         (Show board (texts_of files.now)) t result (H.contents host.new) }
     ensures rises { H.faults host.old ≤ H.faults host.new }
+    ensures file_only_when { TellsFile result (H.failed host.old) (H.failed host.new) }
 {
     let document = load(alloc, host, files)?;
     show_board(alloc, document, usize::from(board), screen, keys)

@@ -4,7 +4,8 @@ use Rattle.zed_link.specs.Counting.{Rose}
 use Rattle.zed_program.specs.HostContents.{file_in}
 use Rattle.zed_program.specs.declared.refusal.Refusal.TheVariants.{File}
 use Rattle.zed_program.specs.Outcome.{IsStreamIn, texts_of}
-use Rattle.zed_program.proofs.Endings.{read_so, rose_later}
+use Rattle.zed_program.proofs.Endings.{read_so}
+use Rattle.zed_program.proofs.Failures.{file_is_other, no_world_is_other, rose_later}
 use Rattle.zed_program.proofs.Streams.{all_read, as_held, file_fits, fit_append, last_file, next_file, next_read, none_left, unread_file}
 use Rattle.zed_program.proofs.collect.read_all.Goals as goal
 
@@ -12,6 +13,7 @@ pub loop-name-init : goal.loop-name-init
 loop-name-init g c = record {
   same = refl;
   calm = refl;
+  uncounted = refl;
   fit = search rules;
   read = λ t now rest at reads s is. (rest, reads, search rules);
 }
@@ -24,6 +26,7 @@ loop-name-preserved g c =
     record {
       same = c.in-Ok.ensures.kept ∙ old.same;
       calm = c.in-Ok.ensures.calm ∙ old.calm;
+      uncounted = c.in-Ok.ensures.failures ∙ old.uncounted;
       fit = rw file.2 (fit_append _ _ old.fit (file_fits _ _ _ _ file.1));
       read = λ t now rest at reads s is.
           let first = c.in-Ok.ensures.bytes t (old.same ∙ at) in
@@ -51,6 +54,8 @@ returns-in_default g c =
         kept = c.in-Ok.ensures.kept ∙ old.same;
         err = tt;
         rises = let same = c.in-Ok.ensures.calm in let calm = old.calm in omega arith;
+        file_only_when = λ is. absurd (file_is_other c.in-Err-read_file.error (let same = c.from.ensures in cc));
+        failures = let same = c.in-Ok.ensures.failures in let before = old.uncounted in omega arith;
       }
     ]
 
@@ -75,4 +80,9 @@ returns-in-Err-File g c =
       kept = c.in-Err-File.ensures.kept ∙ old.same;
       err = tt;
       rises = up;
+      file_only_when = λ is. rw (← old.uncounted) (c.in-Err-File.ensures.file_only_when.1 (search rules));
+      failures = let count = c.in-Err-File.ensures.file_only_when.0 in let before = old.uncounted in omega arith;
     }
+
+pub returns-clause-file_only_when : goal.returns-clause-file_only_when
+returns-clause-file_only_when g c = λ is. absurd (no_world_is_other c.loop-name.asked (let same = c.end_of.ensures in cc))

@@ -11,6 +11,7 @@ abbrev pub invariant-loop-name : goal.invariant-loop-name
 invariant-loop-name g l = record {
   same : g.H.Host.contents l.host ≡ g.H.Host.contents l.fn.host;
   calm : g.H.Host.faults l.host ≡ g.H.Host.faults l.fn.host;
+  uncounted : g.H.Host.failed l.host ≡ g.H.Host.failed l.fn.host;
   fit : AllFit l.edits.items;
   read : (t : HostContents) (now : ℕ) (rest : List (Option (List ℕ))) → g.H.Host.contents l.fn.host ≡ Some t
       → AreRead (Rose (g.H.Host.faults l.fn.host) now) t (texts_of (drop l.name-index l.names)) rest

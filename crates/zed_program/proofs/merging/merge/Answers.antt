@@ -8,6 +8,7 @@ use Rattle.zed_session.specs.Links.{seen}
 use Rattle.zed_words.specs.Commands.{Merge}
 use Rattle.zed_program.proofs.Endings.{counted_up, effect_ends, refused_ends}
 use Rattle.zed_program.proofs.Joined.{as_many, each_of, merge_comes, not_merged}
+use Rattle.zed_program.proofs.Failures.{memory_is_other, merged_is_other, write_tells}
 use Rattle.zed_program.proofs.merging.merge.Goals as goal
 
 pub returns-clause-ends : goal.returns-clause-ends
@@ -43,3 +44,26 @@ returns-in_err-line-clause-ends g c = λ t at.
     let links = links_alone (each_of c.args.links.items (λ link. seen ((goal.Link-dyn g (link.vtable, link.value)).ends link.value) ((goal.Link-dyn g (link.vtable, link.value)).reads link.value))) in
     let p = err_from_is_err_and c.from_residual-in_err-line.result c.from_residual-in_err-line.ensures.1 in
     rw p.1 (refused_ends links _ (Merge c.args.out.now c.args.world (texts_of c.args.files.now)) t p.0 _ at (inl p.2))
+
+pub returns-in_err-document-clause-file_only_when : goal.returns-in_err-document-clause-file_only_when
+returns-in_err-document-clause-file_only_when g c =
+    let p = err_from_is_err_and c.from_residual.result c.from_residual.ensures.1 in
+    let same : p.0 ≡ c.in_err-document.field-0.0 = p.2 in
+    let still : g.H.Host.failed c.args.host.now ≤ g.H.Host.failed c.args.host.now = omega arith in
+    rw (p.1, same) (still, λ is. absurd (merged_is_other c.args.world _ _ c.in_err-document.field-0.0 c.in_err-document.ensures.pulled is))
+
+pub returns-in_err-text-clause-file_only_when : goal.returns-in_err-text-clause-file_only_when
+returns-in_err-text-clause-file_only_when g c =
+    let p = err_from_is_err_and c.from_residual-in_err-text.result c.from_residual-in_err-text.ensures.1 in
+    let still : g.H.Host.failed c.args.host.now ≤ g.H.Host.failed c.args.host.now = omega arith in
+    rw p.1 (still, λ is. absurd (memory_is_other p.0 (p.2 ∙ c.in_err-text.ensures.err) is))
+
+pub returns-in_err-line-clause-file_only_when : goal.returns-in_err-line-clause-file_only_when
+returns-in_err-line-clause-file_only_when g c =
+    let p = err_from_is_err_and c.from_residual-in_err-line.result c.from_residual-in_err-line.ensures.1 in
+    let still : g.H.Host.failed c.args.host.now ≤ g.H.Host.failed c.args.host.now = omega arith in
+    rw p.1 (still, λ is. absurd (memory_is_other p.0 p.2 is))
+
+pub returns-clause-file_only_when : goal.returns-clause-file_only_when
+returns-clause-file_only_when g c =
+    write_tells c.write_out.result _ _ c.write_out.ensures.failures

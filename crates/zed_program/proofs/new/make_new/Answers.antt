@@ -7,6 +7,7 @@ use Rattle.zed_program.specs.Devices.{no_devices}
 use Rattle.zed_program.specs.Outcome.{ComesTo, Writes, text_in}
 use Rattle.zed_words.specs.Commands.{New}
 use Rattle.zed_program.proofs.Endings.{counted_up, effect_ends, not_begun, refused_ends}
+use Rattle.zed_program.proofs.Failures.{memory_is_other, tells_later, write_tells}
 use Rattle.zed_program.proofs.new.make_new.Goals as goal
 
 pub returns-clause-ends : goal.returns-clause-ends
@@ -35,3 +36,23 @@ pub returns-in_err-line-clause-ends : goal.returns-in_err-line-clause-ends
 returns-in_err-line-clause-ends g c = λ t at.
     let p = err_from_is_err_and c.from_residual-in_err-line.result c.from_residual-in_err-line.ensures.1 in
     rw p.1 (refused_ends no_devices _ (New c.args.out.now c.args.world (text_in c.args.from) (text_in c.args.name)) t p.0 _ (c.in_ok-bytes.ensures.kept ∙ at) (inl (p.2)))
+
+pub returns-in_err-bytes-clause-file_only_when : goal.returns-in_err-bytes-clause-file_only_when
+returns-in_err-bytes-clause-file_only_when g c =
+    let p = err_from_is_err_and c.from_residual.result c.from_residual.ensures.1 in
+    let same : p.0 ≡ c.in_err-bytes.field-0.0 = p.2 in
+    rw (p.1, same) c.in_err-bytes.ensures.file_only_when
+
+pub returns-in_err-file-clause-file_only_when : goal.returns-in_err-file-clause-file_only_when
+returns-in_err-file-clause-file_only_when g c =
+    let p = err_from_is_err_and c.from_residual-in_err-file.result c.from_residual-in_err-file.ensures.1 in
+    rw p.1 (c.in_ok-bytes.ensures.file_only_when.0, λ is. absurd (memory_is_other p.0 (p.2 ∙ c.in_err-file.ensures.err) is))
+
+pub returns-in_err-line-clause-file_only_when : goal.returns-in_err-line-clause-file_only_when
+returns-in_err-line-clause-file_only_when g c =
+    let p = err_from_is_err_and c.from_residual-in_err-line.result c.from_residual-in_err-line.ensures.1 in
+    rw p.1 (c.in_ok-bytes.ensures.file_only_when.0, λ is. absurd (memory_is_other p.0 p.2 is))
+
+pub returns-clause-file_only_when : goal.returns-clause-file_only_when
+returns-clause-file_only_when g c =
+    tells_later c.write_out.result _ _ _ c.in_ok-bytes.ensures.file_only_when.0 (write_tells c.write_out.result _ _ c.write_out.ensures.failures)

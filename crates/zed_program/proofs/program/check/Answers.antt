@@ -4,6 +4,7 @@ use Rattle.zed_program.specs.Devices.{no_devices}
 use Rattle.zed_program.specs.Outcome.{ComesTo, Prints, texts_of}
 use Rattle.zed_words.specs.Commands.{Check}
 use Rattle.zed_program.proofs.Endings.{counted_up, effect_ends, not_reported, refused_ends}
+use Rattle.zed_program.proofs.Failures.{tells_later, write_tells}
 use Rattle.zed_program.proofs.program.check.Goals as goal
 
 pub returns-clause-ends : goal.returns-clause-ends
@@ -20,3 +21,13 @@ returns-in_err-text-clause-ends g c = λ t at.
     let same : p.0 ≡ c.in_err-text.field-0.0 = p.2 in
     rw (p.1, same) (refused_ends no_devices _ (Check (texts_of c.args.files.now)) t c.in_err-text.field-0.0 _ (c.in_err-text.ensures.kept ∙ at)
     (not_reported no_devices _ (texts_of c.args.files.now) t c.in_err-text.field-0.0 (c.in_err-text.ensures.made t at)))
+
+pub returns-in_err-text-clause-file_only_when : goal.returns-in_err-text-clause-file_only_when
+returns-in_err-text-clause-file_only_when g c =
+    let p = err_from_is_err_and c.from_residual.result c.from_residual.ensures.1 in
+    let same : p.0 ≡ c.in_err-text.field-0.0 = p.2 in
+    rw (p.1, same) c.in_err-text.ensures.file_only_when
+
+pub returns-clause-file_only_when : goal.returns-clause-file_only_when
+returns-clause-file_only_when g c =
+    tells_later c.print_out.result _ _ _ c.in_ok-text.ensures.file_only_when.0 (write_tells c.print_out.result _ _ c.print_out.ensures.failures)

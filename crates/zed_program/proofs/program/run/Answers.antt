@@ -10,7 +10,7 @@ use Rattle.zed_program.proofs.program.run.Goals as goal
 
 pub returns-clause-ends_calmly : goal.returns-clause-ends_calmly
 returns-clause-ends_calmly g c = λ t command asked at calm.
-    run_calmly _ command t _ _ c.run_words.result _ calm (rw asked at (c.run_words.ensures.ends t at))
+    run_calmly _ command t _ _ _ c.run_words.result _ calm (rw asked at (c.run_words.ensures.ends t at))
 
 pub returns-clause-saves : goal.returns-clause-saves
 returns-clause-saves g c = λ t out file files spelled plain at calm.

@@ -1,15 +1,17 @@
 use Rattle.std.proofs.Common.{map, string_bytes}
 use Rattle.zed_words.specs.Commands.{meaning_of, command_of}
 use Rattle.zed_program.proofs.Endings.{complained, counted_up, memory_run, refused_run}
+use Rattle.zed_program.proofs.Failures.{rose_before}
 use Rattle.zed_program.proofs.program.run_words.Goals as goal
 
 pub returns-in-Ok-clause-ends : goal.returns-in-Ok-clause-ends
 returns-in-Ok-clause-ends g c = λ t at.
     let ended = c.in-Err.ensures.ends t at in
-    rw c.in-Ok.ensures (refused_run _ (meaning_of c.in-Ok.command) t ended.0 c.in-Err.refusal _ _ _ _ c.in-Err.ensures.rises c.complain_of.ensures.rises
-    ended.1 (c.complain_of.ensures.told ended.0 ended.2))
+    rw c.in-Ok.ensures (refused_run _ (meaning_of c.in-Ok.command) t ended.0 c.in-Err.refusal _ _ _ _ _ c.in-Err.ensures.rises c.complain_of.ensures.rises
+    ended.1 (c.complain_of.ensures.told ended.0 ended.2)
+    (λ is. rose_before _ _ _ c.complain_of.ensures.failures (c.in-Err.ensures.file_only_when.1 is)))
 
 pub returns-in-Err-Memory-clause-ends : goal.returns-in-Err-Memory-clause-ends
 returns-in-Err-Memory-clause-ends g c = λ t at.
-    memory_run _ (command_of (map string_bytes c.args.words.now)) t _ _ _ (counted_up _ _ _ c.complain.ensures.faults)
+    memory_run _ (command_of (map string_bytes c.args.words.now)) t _ _ _ _ (counted_up _ _ _ c.complain.ensures.faults)
     (complained c.complain.result _ _ _ t _ _ at (rw at at c.complain.ensures.complained) c.complain.ensures.half c.complain.ensures.faults)

@@ -4,6 +4,7 @@ use Rattle.zed_words.specs.Commands.{Show}
 use Rattle.zed_program.specs.Devices.{Devices, devices}
 use Rattle.zed_program.specs.Outcome.{texts_of}
 use Rattle.zed_program.proofs.Endings.{not_shown, refused_ends, show_ends}
+use Rattle.zed_program.proofs.Failures.{other_tells, shown_is_other}
 use Rattle.zed_program.proofs.showing.show.Goals as goal
 
 pub returns-in_err-document-clause-ends : goal.returns-in_err-document-clause-ends
@@ -25,3 +26,13 @@ returns-clause-ends g c = λ t at.
     ((goal.Keys-dyn g (c.args.keys.vtable, c.args.keys.value)).keys_foretell c.args.keys.value) in
     show_ends _ stage c.show_board.result c.from.result c.args.board (texts_of c.args.files.now) t c.in_ok-document.document.edits _ (c.in_ok-document.ensures.kept ∙ at)
     c.from.ensures (c.in_ok-document.ensures.collected t at) c.show_board.ensures
+
+pub returns-in_err-document-clause-file_only_when : goal.returns-in_err-document-clause-file_only_when
+returns-in_err-document-clause-file_only_when g c =
+    let p = err_from_is_err_and c.from_residual.result c.from_residual.ensures.1 in
+    let same : p.0 ≡ c.in_err-document.field-0.0 = p.2 in
+    rw (p.1, same) c.in_err-document.ensures.file_only_when
+
+pub returns-clause-file_only_when : goal.returns-clause-file_only_when
+returns-clause-file_only_when g c =
+    other_tells _ _ c.show_board.result _ _ c.in_ok-document.ensures.file_only_when.0 c.show_board.ensures (shown_is_other c.in_ok-document.document.edits c.from.result _)
