@@ -74,6 +74,12 @@ exit_in p b side to = do
   target ← target_in p to
   Ok (Make (op.SetBoard board (board_setting.Exit side target)))
 
+-- a board gets a rank
+abbrev pub rank_in : Plain → ℕ → ℕ → Result Deed DocumentError
+rank_in p b rank = do
+  board ← board_in p b
+  Ok (Make (op.SetBoard board (board_setting.Rank rank)))
+
 -- a new stat at a place, with a cycle, and without a text
 abbrev pub fields_of : ℕ → ℕ → ℤ → StatFields
 fields_of x y cycle = record {
@@ -114,6 +120,7 @@ deed_of p (action.BoardRemove b) = do
   Ok (Make (op.BoardRemove board))
 deed_of p (action.BoardName b name) = name_in p b name
 deed_of p (action.Exit b side to) = exit_in p b side to
+deed_of p (action.Rank b rank) = rank_in p b rank
 deed_of p (action.Cells b cells tile) = do
   board ← board_in p b
   Ok (Make (op.SetCells board cells tile))

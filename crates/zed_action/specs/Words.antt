@@ -13,7 +13,7 @@ use Rattle.zed_action.specs.declared.error.ActionError.{ActionError}
 use Rattle.zed_action.specs.declared.error.ActionError.TheVariants.{BadAction}
 use Rattle.zed_action.specs.Refusals.{memory}
 use Rattle.zed_action.specs.declared.action.Action.{Action}
-use Rattle.zed_action.specs.declared.action.Action.TheVariants.{BoardAdd, BoardRemove, BoardName, Exit, Cells, StatAdd, StatRemove, Insert, Delete}
+use Rattle.zed_action.specs.declared.action.Action.TheVariants.{BoardAdd, BoardRemove, BoardName, Exit, Rank, Cells, StatAdd, StatRemove, Insert, Delete}
 
 infixl 10 ◌>>=◌
 -- what follows of a value, if there is one
@@ -42,7 +42,7 @@ number_of most word = if is_number word && nat_le (digits_value 10 word) most th
 abbrev pub byte_of : Word → Option ℕ
 byte_of word = number_of 255 word
 
--- the number of a board or a stat
+-- the number of a board or a stat, or a rank
 abbrev pub short_of : Word → Option ℕ
 short_of word = number_of 65535 word
 
@@ -120,6 +120,14 @@ exit_of (b ∷ s ∷ t ∷ []) = do
   Some (Exit board side to)
 exit_of _ = None
 
+-- `rank`: a board, and the rank that it gets
+abbrev pub rank_of : List Word → Option Action
+rank_of (b ∷ v ∷ []) = do
+  board ← short_of b
+  value ← short_of v
+  Some (Rank board value)
+rank_of _ = None
+
 -- `cells`: a board, a rectangle, and the tile that fills it
 abbrev pub cells_of : List Word → Option Action
 cells_of (b ∷ x0 ∷ y0 ∷ x1 ∷ y1 ∷ element ∷ colour ∷ []) = do
@@ -169,6 +177,7 @@ abbrev pub numbered_of : Word → List Word → Option Action
 numbered_of verb rest =
     if bytes_eq verb (codes "board-remove") then board_remove_of rest else
     if bytes_eq verb (codes "exit") then exit_of rest else
+    if bytes_eq verb (codes "rank") then rank_of rest else
     if bytes_eq verb (codes "cells") then cells_of rest else
     if bytes_eq verb (codes "stat-add") then stat_add_of rest else
     if bytes_eq verb (codes "stat-remove") then stat_remove_of rest else

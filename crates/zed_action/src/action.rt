@@ -13,6 +13,8 @@ pub enum Action {
     BoardName(u16, Bytes),
     /// The board's exit on a side leads to another board, or nowhere where that is 0.
     Exit(u16, Side, u16),
+    /// The board gets this rank.
+    Rank(u16, u16),
     /// Each cell of a rectangle gets this tile.
     Cells(u16, Rectangle, Tile),
     /// A new stat at a column and a row, with this cycle.

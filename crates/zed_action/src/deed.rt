@@ -1,7 +1,7 @@
 //! What an action comes to, by the names of the things that it speaks of.
 ghost use Rattle.std.specs.Prelude.{◌≡◌, false};
 ghost use Rattle.zed_edit.specs.Replay.{replay};
-ghost use Rattle.zed_action.specs.Deeds.{board_in, deed_of, exit_in, fields_of, insertion_of, name_in, stat_in, target_in};
+ghost use Rattle.zed_action.specs.Deeds.{board_in, deed_of, exit_in, fields_of, insertion_of, name_in, rank_in, stat_in, target_in};
 
 use crate::action::Action;
 use zed_document::{Document, DocumentError};
@@ -89,6 +89,16 @@ fn exit_of(document: &Document, board: u16, side: Side, to: u16) -> Result<Deed,
     Ok(Deed::Make(Op::SetBoard(board, setting)))
 }
 
+/// A board gets a rank.
+fn rank_of(document: &Document, board: u16, rank: u16) -> Result<Deed, DocumentError>
+    requires { document.now.is_stale ≡ false }
+    ensures { result ≡ rank_in (replay document.now.edits) board rank }
+{
+    let board = board_in(document, board)?;
+    let setting = BoardSetting::Rank(rank);
+    Ok(Deed::Make(Op::SetBoard(board, setting)))
+}
+
 /// Bytes go into the text of a stat, or into a new one.
 fn insertion_of(
     stat: StatId,
@@ -123,6 +133,7 @@ pub(crate) fn deed_of(document: &Document, action: Action) -> Result<Deed, Docum
         }
         Action::BoardName(board, name) => name_of(document, board, name),
         Action::Exit(board, side, to) => exit_of(document, board, side, to),
+        Action::Rank(board, rank) => rank_of(document, board, rank),
         Action::Cells(board, cells, tile) => {
             let board = board_in(document, board)?;
             Ok(Deed::Make(Op::SetCells(board, cells, tile)))

@@ -31,7 +31,7 @@ pub(crate) fn byte(word: &str) -> Option<u8>
     Some(n as u8)
 }
 
-/// The number of a board or a stat.
+/// The number of a board or a stat, or a rank.
 pub(crate) fn short(word: &str) -> Option<u16>
     ensures { result ≡ number_of 65535 word.now }
 {

@@ -1,6 +1,6 @@
 //! Actions read from words.
 ghost use Rattle.std.specs.Prelude.{◌≡◌, ◌⊎◌, MatchResult, None, Some};
-ghost use Rattle.zed_action.specs.Words.{Says, action_of, board_add_of, board_name_of, board_remove_of, cells_of, delete_of, exit_of, insert_of, numbered_of, spot_of, stat_add_of, stat_remove_of, words_of};
+ghost use Rattle.zed_action.specs.Words.{Says, action_of, board_add_of, board_name_of, board_remove_of, cells_of, delete_of, exit_of, insert_of, numbered_of, rank_of, spot_of, stat_add_of, stat_remove_of, words_of};
 
 use crate::action::Action;
 use crate::error::ActionError;
@@ -76,6 +76,15 @@ fn exit(rest: &[&str]) -> Option<Action>
     Some(Action::Exit(board, direction, to))
 }
 
+fn rank(rest: &[&str]) -> Option<Action>
+    ensures { result ≡ rank_of (words_of rest.now) }
+{
+    let [board, value] = rest else { return None };
+    let board = short(board)?;
+    let value = short(value)?;
+    Some(Action::Rank(board, value))
+}
+
 fn cells(rest: &[&str]) -> Option<Action>
     ensures { result ≡ cells_of (words_of rest.now) }
 {
@@ -134,6 +143,8 @@ fn numbered(verb: &str, rest: &[&str]) -> Option<Action>
         board_remove(rest)
     } else if verb == "exit" {
         exit(rest)
+    } else if verb == "rank" {
+        rank(rest)
     } else if verb == "cells" {
         cells(rest)
     } else if verb == "stat-add" {
@@ -148,8 +159,8 @@ fn numbered(verb: &str, rest: &[&str]) -> Option<Action>
 }
 
 /// Reads the words of an action: `board-add NAME`, `board-remove B`, `board-name B NAME`, `exit B north|south|west|east TO`,
-/// `cells B X0 Y0 X1 Y1 ELEMENT COLOUR`, `stat-add B X Y CYCLE`, `stat-remove B S`, `insert B S POS TEXT` where `|` stands for the
-/// end of a line, and `delete B S FROM TO`. Numbers are digits alone.
+/// `rank B VALUE`, `cells B X0 Y0 X1 Y1 ELEMENT COLOUR`, `stat-add B X Y CYCLE`, `stat-remove B S`, `insert B S POS TEXT` where `|`
+/// stands for the end of a line, and `delete B S FROM TO`. Numbers are digits alone.
 ///
 /// # Errors
 /// `BadAction` exactly where the words are none of these, or a number is unreadable or too large for its field; `Memory`.

@@ -1,5 +1,5 @@
 //! A body takes many edits.
-ghost use Rattle.std.specs.Prelude.{◌≡◌, IfOk, IfErr, OnOk, OnErr};
+ghost use Rattle.std.specs.Prelude.{◌≡◌, ◌<◌, length, IfOk, IfErr, OnOk, OnErr};
 ghost use Rattle.zed_op.specs.Set.{AllFit, set_of};
 ghost use Rattle.zed_body.specs.Counts.{NoneFalls};
 ghost use Rattle.zed_body.specs.Shows.{BodyShows};
@@ -21,6 +21,7 @@ impl Body {
         ensures err { IfErr result (λ e. e ≡ BodyError.Memory) }
         ensures emptied { OnErr result (IsEmpty self.new) }
         ensures visits { OnOk result (NoneFalls self.old.texts self.new.texts) }
+        ensures memory_only_when { OnErr result (0 < length edits.now) }
     {
         for edit in edits {
             self.take(alloc, edit)?;
@@ -34,6 +35,7 @@ impl Body {
         requires apart { AreApart edits.now }
         ensures ok { IfOk result (λ b. BodyShows (set_of edits.now) b) }
         ensures err { IfErr result (λ e. e ≡ BodyError.Memory) }
+        ensures memory_only_when { OnErr result (0 < length edits.now) }
     {
         empty_bodies_show_none();
         let mut body = Body::new(alloc);

@@ -2,8 +2,8 @@
 use crate::growths::{Turn, refuse, refuse_each, turn_of, was_refused};
 use std::alloc::Global;
 use std::test::Fail;
-use zed_cells::{Cells, CellsError, Registers};
-use zed_types::{Place, Rectangle, Stamp, TILES, Tile};
+use zed_cells::{Cells, CellsError, keep_in};
+use zed_types::{Place, Rectangle, Stamp, TILES, Tile, Written};
 
 fn at(time: u64, replica: u16) -> Stamp {
     Stamp { time, replica }
@@ -67,18 +67,23 @@ fn a_cell_keeps_the_later_write(rt: HostRuntime) -> Result<(), Fail> {
     Ok(())
 }
 
+/// Writes a number into a register, and answers what it holds then.
+fn write(slot: &mut Option<Written<i16>>, stamp: Stamp, value: i16) -> Option<i16> {
+    keep_in(slot, Written { stamp, value });
+    match slot {
+        Some(kept) => Some(kept.value),
+        None => None,
+    }
+}
+
 #[test]
-fn a_register_keeps_the_later_write(rt: HostRuntime) -> Result<(), Fail> {
-    let mut numbers = Registers::new(rt.alloc(), 9)?;
-    assert_eq!(rt; numbers.get(3), None);
-    numbers.set(3, at(5, 1), 50i16);
-    numbers.set(3, at(4, 9), 40);
-    numbers.set(3, at(5, 1), 51);
-    numbers.set(8, at(2, 1), 20);
-    assert_eq!(rt; numbers.get(3), Some(&50));
-    assert_eq!(rt; numbers.get(8), Some(&20));
-    assert_eq!(rt; numbers.get(0), None);
-    Ok(())
+fn a_register_keeps_the_later_write(rt: HostRuntime) {
+    let mut slot = None;
+    let first = write(&mut slot, at(5, 1), 50);
+    let earlier = write(&mut slot, at(4, 9), 40);
+    let same = write(&mut slot, at(5, 1), 51);
+    let later = write(&mut slot, at(5, 2), 52);
+    assert!(rt; first == Some(50) && earlier == Some(50) && same == Some(50) && later == Some(52));
 }
 
 /// Makes the cells of a board with a growth refused.
@@ -95,30 +100,12 @@ fn each_growth_of_cells_refused(rt: HostRuntime) -> Result<(), Fail> {
     refuse_each!(nth => cells_once(rt.alloc(), nth))
 }
 
-/// Makes registers with a growth refused.
-fn registers_once(alloc: Global, nth: usize) -> Turn {
-    refuse(alloc, nth);
-    let made: Result<Registers<i16>, CellsError> = Registers::new(alloc, 40);
-    match made {
-        Ok(numbers) => turn_of(alloc, numbers.get(39).is_none(), false),
-        Err(error) => turn_of(alloc, false, error == CellsError::Memory),
-    }
-}
-
-#[test]
-fn each_growth_of_registers_refused(rt: HostRuntime) -> Result<(), Fail> {
-    refuse_each!(nth => registers_once(rt.alloc(), nth))
-}
-
 #[test]
 fn writing_takes_no_memory_refused(rt: HostRuntime) -> Result<(), Fail> {
     let mut cells = Cells::new(rt.alloc(), [Tile::EMPTY; TILES], Stamp::GENESIS)?;
-    let mut numbers = Registers::new(rt.alloc(), 9)?;
     refuse(rt.alloc(), 1);
     cells.set(ALL, at(2, 1), GEM);
-    numbers.set(3, at(5, 1), 50i16);
     assert!(rt; !was_refused(rt.alloc()));
     assert_eq!(rt; cells.get(Place { x: 60, y: 25 }), GEM);
-    assert_eq!(rt; numbers.get(3), Some(&50));
     Ok(())
 }

@@ -8,7 +8,7 @@ use zed_types::{BoardId, Rectangle, Stamp, Tile};
 
 /// A file of one edit of world 7: replica 1 sets cell (5,5) of the title at time 2.
 const ONE_CELL: &[u8] =
-    b"ZED\x01\x07\0\0\0\0\0\0\0\x1b\0\0\0\x02\0\0\0\0\0\x01\0\x06\x01\0\0\0\0\0\0\0\0\0\0\0\x05\x05\x05\x05\x15\x0e";
+    b"ZED\x02\x07\0\0\0\0\0\0\0\x1b\0\0\0\x02\0\0\0\0\0\x01\0\x06\x01\0\0\0\0\0\0\0\0\0\0\0\x05\x05\x05\x05\x15\x0e";
 
 fn one_cell() -> Edit {
     let cells = Rectangle {

@@ -8,7 +8,7 @@ use zed_types::Stamp;
 
 /// A file of world 7: its head, and an edit of cells at (2,1) of a board that isn't made.
 const CELLS: [u8; 43] = [
-    0x5a, 0x45, 0x44, 1, 7, 0, 0, 0, 0, 0, 0, 0, 0x1b, 0, 0, 0, 2, 0, 0, 0, 0, 0, 1, 0, 6, 1, 0, 0,
+    0x5a, 0x45, 0x44, 2, 7, 0, 0, 0, 0, 0, 0, 0, 0x1b, 0, 0, 0, 2, 0, 0, 0, 0, 0, 1, 0, 6, 1, 0, 0,
     0, 0, 0, 0, 0, 0, 0, 0, 0, 5, 5, 5, 5, 0x15, 0x0e,
 ];
 
@@ -194,7 +194,8 @@ fn what_is_wrong_comes_first(rt: HostRuntime) -> Result<(), Fail> {
     // the bytes up to the one that shows what is wrong, and the edits before it
     for (world, place, byte, refusal, shown, edits) in [
         (7, 2, 0x45, LinkError::Magic, 3, 0),
-        (7, 3, 2, LinkError::NewVersion, 4, 0),
+        (7, 3, 0, LinkError::NewVersion, 4, 0),
+        (7, 3, 3, LinkError::NewVersion, 4, 0),
         (8, 0, 0x5a, LinkError::OtherWorld, 12, 0),
         (7, 12, 8, LinkError::RecordLength, 16, 0),
         (7, 24, 13, LinkError::BadEdit(Cause::Op), 43, 0),

@@ -1,5 +1,5 @@
 -- Registers that take writes as they come: the later one stays.
-use Rattle.std.specs.Prelude.{ℕ, if◌then◌else◌, List, slice_set, slice_index_or, Option, None, option_map}
+use Rattle.std.specs.Prelude.{ℕ, if◌then◌else◌, List, slice_set, slice_index_or, Option, None}
 use Rattle.zed_types.specs.declared.stamp.Stamp.{Stamp}
 use Rattle.zed_types.specs.declared.written.Written.{Written}
 use Rattle.zed_types.specs.Stamp.{before}
@@ -16,10 +16,6 @@ later kept w = if before kept.stamp w.stamp then w else kept
 -- what register i of a list holds: its latest write, if it was ever written
 abbrev pub register : {V : Type 0} → ℕ → List (Option (Written V)) → Option (Written V)
 register i rs = slice_index_or rs i None
-
--- the value that register i holds, if it was ever written
-abbrev pub value_at : {V : Type 0} → ℕ → List (Option (Written V)) → Option V
-value_at i rs = option_map (λ w. w.value) (register i rs)
 
 -- register i keeps the later of what it holds and a new write; the others stay
 abbrev pub set_register : {V : Type 0} → ℕ → Written V → List (Option (Written V)) → List (Option (Written V))

@@ -5,10 +5,8 @@ mod cells;
 mod error;
 mod keep;
 mod laws;
-mod registers;
 
 pub use cells::Cells;
 pub use error::CellsError;
 pub use keep::{keep_in, keep_later};
 pub use laws::{cells_hold_the_latest, order_is_forgotten};
-pub use registers::Registers;

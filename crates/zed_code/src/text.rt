@@ -89,13 +89,17 @@ impl Text {
         }
     }
 
-    /// A text of the edit that makes the world: its bytes, numbered from 0.
+    /// A text of the edit that makes the world: its bytes, numbered from 0. One without bytes takes no memory.
     pub fn genesis(alloc: Global, bytes: &[u8]) -> Result<Text, CodeError>
         requires { length bytes.now ≤ 32767 }
         ensures ok { IfOk result (λ t. elements t ≡ run_from genesis 0 bytes.now) }
         ensures runs { IfOk result (λ t. length t.cutting ≤ 1) }
         ensures visits { IfOk result (λ t. t.visits ≡ 0) }
+        ensures memory_only_when { OnErr result (0 < length bytes.now) }
     {
+        if bytes.is_empty() {
+            return Ok(Text::new(alloc));
+        }
         let store = Vec::from_slice(alloc, bytes).map_err(CodeError::of_growth)?;
         let blocks = first_blocks(alloc, bytes.len() as u32)?;
         let mut places = Vec::new(alloc);
@@ -130,6 +134,7 @@ impl Text {
         ensures runs { HasMore 2 self.old self.new }
         ensures visits { OnOk result
             (LooksAtSome (length self.old.cutting) self.old.visits self.new.visits) }
+        ensures memory_only_when { OnErr result (0 < length bytes.now) }
     {
         if bytes.is_empty() {
             look_once(&self.blocks, &mut self.visits);
@@ -211,10 +216,14 @@ impl Text {
         Ok(())
     }
 
-    /// The live bytes, in order.
+    /// The live bytes, in order. A text without one takes no memory.
     pub fn text(&self) -> Result<Vec<u8>, CodeError>
         ensures ok { IfOk result (λ bytes. bytes.items ≡ alive_bytes (elements self.now)) }
+        ensures memory_only_when { OnErr result (0 < length (alive_bytes (elements self.now))) }
     {
+        if self.length() == 0 {
+            return Ok(Vec::new(*self.store.allocator()));
+        }
         let mut out = Vec::new(*self.store.allocator());
         for block in &self.blocks {
             push_live(&mut out, &self.store, &block.runs)?;

@@ -4,6 +4,7 @@ use Rattle.std.specs.List.{AllByRecursion, list_any}
 use Rattle.std.proofs.lemmas.List.{length-map}
 use Rattle.std.proofs.lemmas.Bool.{and_parts, and_from, eqb-true, leb-true, ltb-true}
 use Rattle.zed_types.specs.declared.stamp.Stamp.{Stamp}
+use Rattle.zed_types.specs.declared.stamp.TheConstants.Stamp.{LAST_TIME}
 use Rattle.zed_types.specs.declared.names.ElemId.{ElemId}
 use Rattle.zed_types.specs.declared.names.TextId.{TextId}
 use Rattle.zed_types.specs.declared.text.TextByte.{TextByte}
@@ -75,11 +76,11 @@ abbrev deletion_at : ℕ → ℕ → TextId → ByteRange → Edit
 deletion_at time replica t r = record { stamp = record { time = time; replica = replica }; op = TextDelete t r }
 
 -- such a deletion fits
-deletion-fits : FitIsEachPart → (time replica limit : ℕ) (p : Plain) (t : TextId) (r : ByteRange) → 2 ≤ time → time ≤ 281474976710655 → 1 ≤ replica → limit ≤ time → is_stamp t.name.stamp ≡ true → t.name.stamp.time < limit → IsGoodRange p t limit r → Fits (deletion_at time replica t r)
+deletion-fits : FitIsEachPart → (time replica limit : ℕ) (p : Plain) (t : TextId) (r : ByteRange) → 2 ≤ time → time ≤ LAST_TIME → 1 ≤ replica → limit ≤ time → is_stamp t.name.stamp ≡ true → t.name.stamp.time < limit → IsGoodRange p t limit r → Fits (deletion_at time replica t r)
 deletion-fits parts time replica limit p t r low high own l ts tl g =
     let s : Stamp = record { time = time; replica = replica } in
     let a = leb-of 2 time low in
-    let b = leb-of time 281474976710655 high in
+    let b = leb-of time LAST_TIME high in
     let c = leb-of 1 replica own in
     let mine : is_author_stamp s ≡ true = and_from _ _ (and_from _ _ a b) c in
     let rs = g.0.1 in

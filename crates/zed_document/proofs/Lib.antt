@@ -1,5 +1,6 @@
 pub mod Authored
 pub mod Batches
+pub mod BoardWalks
 pub mod Bodies
 pub mod Checked
 pub mod Clashing

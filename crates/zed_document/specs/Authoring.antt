@@ -1,6 +1,7 @@
 -- What an author makes: edits later than all that a document has.
 use Rattle.std.specs.Prelude.{◌≡◌, ◌≢◌, ◌⊎◌, ℕ, zero, suc, ◌+◌, ◌≤◌, ◌==◌, max, nat_lt, nat_le, Bool, true, false, not, ◌&&◌, if◌then◌else◌, List, [], ◌∷◌, ◌++◌, length, take, drop, slice_get, Option, Some, None, option_map, Result, Ok, Err, MatchBool}
 use Rattle.std.specs.List.{filter}
+use Rattle.zed_types.specs.declared.stamp.TheConstants.Stamp.{LAST_TIME}
 use Rattle.zed_types.specs.declared.names.ElemId.{ElemId}
 use Rattle.zed_types.specs.declared.names.TextId.{TextId}
 use Rattle.zed_types.specs.declared.text.ByteRange.{ByteRange}
@@ -21,10 +22,6 @@ use Rattle.zed_document.specs.Kept.{AllBelow}
 use Rattle.zed_document.specs.Reading.{has_text}
 use Rattle.zed_document.specs.Replica.{Replica}
 
--- the greatest time that a stamp can have
-abbrev pub last_time : ℕ
-last_time = 281474976710655
-
 -- the greatest time of some edits, 0 where there is none
 abbrev pub greatest_time : List Edit → ℕ
 greatest_time [] = 0
@@ -44,7 +41,7 @@ authored es replica op = record { stamp = record { time = time_of es op; replica
 
 -- whether fewer times are left than so many edits need
 abbrev pub is_spent : List Edit → ℕ → Bool
-is_spent es count = nat_lt (last_time + 1) (next_time es + count)
+is_spent es count = nat_lt (LAST_TIME + 1) (next_time es + count)
 
 -- whether no time is left for an op; the world needs none
 abbrev pub is_spent_for : List Edit → Op → Bool

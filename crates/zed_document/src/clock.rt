@@ -3,6 +3,7 @@
 // The times that are left for edits that are still to be made.
 
 ghost use Rattle.std.specs.Prelude.{◌≡◌, ◌<◌, ◌+◌, max, nat_lt, true, false, IfSome, IfNone, OnSome};
+ghost use Rattle.zed_types.specs.declared.stamp.TheConstants.Stamp.{LAST_TIME};
 ghost use Rattle.zed_op.specs.Set.{IsRising};
 ghost use Rattle.zed_op.specs.Verdict.{is_genesis as makes_world};
 ghost use Rattle.zed_document.specs.Authoring.{greatest_time, next_time as time_after, is_spent as are_spent, is_spent_for, authored};
@@ -25,7 +26,7 @@ fn last_time(edits: &[Edit]) -> u64
 
 /// The time after another, and at least 2.
 fn time_behind(last: u64) -> u64
-    requires { last < 281474976710655 }
+    requires { last < LAST_TIME }
     ensures { result ≡ max 2 (last + 1) }
 {
     if last == 0 { 2 } else { last + 1 }
@@ -34,7 +35,7 @@ fn time_behind(last: u64) -> u64
 /// Whether fewer times are left behind a time than so many edits need.
 fn is_spent_behind(last: u64, count: u64) -> bool
     requires { 0 < count }
-    ensures { result ≡ nat_lt 281474976710656 (max 2 (last + 1) + count) }
+    ensures { result ≡ nat_lt (LAST_TIME + 1) (max 2 (last + 1) + count) }
 {
     last >= Stamp::LAST_TIME || Stamp::LAST_TIME + 1 - time_behind(last) < count
 }

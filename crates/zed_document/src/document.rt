@@ -161,6 +161,8 @@ impl Document {
         ensures stale { (result ≢ Err DocumentError.Memory)
             → self.new.is_stale ≡ self.old.is_stale }
         ensures kept { OnErr result ((result ≢ Err DocumentError.Memory) → self.new ≡ self.old) }
+        ensures refused { result ≡ Err DocumentError.Memory
+            → self.new.is_stale ≡ false → self.new ≡ self.old }
         ensures visits { IfOk result (λ d.
             TellsVisits edit self.old.edits self.old.counts self.new.counts d) }
         ensures memory_only_when { result ≡ Err DocumentError.Memory
@@ -187,6 +189,8 @@ impl Document {
         ensures sound { OnOk result (self.new.is_stale ≡ false) }
         ensures stale { (result ≢ Err DocumentError.Memory) → self.new.is_stale ≡ false }
         ensures kept { OnErr result ((result ≢ Err DocumentError.Memory) → self.new ≡ self.old) }
+        ensures refused { result ≡ Err DocumentError.Memory
+            → self.new.is_stale ≡ false → self.new ≡ self.old }
         ensures visits { IfOk result (λ d.
             TellsVisits edit self.old.edits self.old.counts self.new.counts d) }
         ensures memory_only_when { result ≡ Err DocumentError.Memory
@@ -217,6 +221,8 @@ impl Document {
             ≡ (if is_ok result then with_edit edit self.old.edits else self.old.edits) }
         ensures world { self.new.world ≡ self.old.world }
         ensures sound { OnOk result (self.new.is_stale ≡ false) }
+        ensures refused { result ≡ Err DocumentError.Memory
+            → self.new.is_stale ≡ false → self.new ≡ self.old }
         ensures visits { IfOk result (λ d.
             TellsVisits edit self.old.edits self.old.counts self.new.counts d) }
     {
@@ -247,7 +253,7 @@ impl Document {
     }
 
     /// Makes what the edits make anew where the document is stale. On one that isn't it changes nothing and takes no
-    /// memory. Memory leaves it as it was.
+    /// memory, nor does one without edits. Memory leaves it as it was.
     pub fn repair(&mut self) -> Result<(), DocumentError>
         ensures edits { self.new.edits ≡ self.old.edits }
         ensures world { self.new.world ≡ self.old.world }
@@ -255,7 +261,8 @@ impl Document {
         ensures err { IfErr result (λ e. e ≡ DocumentError.Memory) }
         ensures kept { OnErr result (self.new ≡ self.old) }
         ensures nothing { self.old.is_stale ≡ false → self.new ≡ self.old }
-        ensures memory_only_when { self.old.is_stale ≡ false → result ≡ Ok tt }
+        ensures calm { self.old.is_stale ≡ false → result ≡ Ok tt }
+        ensures memory_only_when { OnErr result (0 < length self.old.edits) }
     {
         if self.is_stale {
             rising_lists_are_sets();

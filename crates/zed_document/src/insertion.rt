@@ -67,6 +67,8 @@ impl Document {
         ensures stale { (result ≢ Err DocumentError.Memory)
             → self.new.is_stale ≡ self.old.is_stale }
         ensures kept { OnErr result ((result ≢ Err DocumentError.Memory) → self.new ≡ self.old) }
+        ensures refused { result ≡ Err DocumentError.Memory
+            → self.new.is_stale ≡ false → self.new ≡ self.old }
         ensures visits { OnOk result (NoCountFalls self.old.counts self.new.counts) }
         ensures memory_only_when { result ≡ Err DocumentError.Memory
             → MayTakeMemoryAt self.old replica text position bytes }

@@ -1,6 +1,7 @@
 //! What is told of a document by the numbers of boards and stats.
-ghost use Rattle.std.specs.Prelude.{◌≡◌, ◌⊎◌, length, Err, IsOkAnd};
-ghost use Rattle.zed_edit.specs.Numbers.{board_numbered, stat_numbered};
+ghost use Rattle.std.specs.Prelude.{◌≡◌, ◌⊎◌, ◌<◌, length, Err, IsOkAnd};
+ghost use Rattle.zed_edit.specs.Numbers.{board_numbered as board_of_number, stat_numbered};
+ghost use Rattle.zed_laws.specs.NameOrder.{IsOrdered};
 ghost use Rattle.zed_edit.specs.Document.{text as text_shown};
 ghost use Rattle.zed_edit.specs.Replay.{replay};
 ghost use Rattle.zed_document.specs.Counts.{count_of};
@@ -8,17 +9,39 @@ ghost use Rattle.zed_document.specs.Reading.{unless_stale, unless_no_text, Tells
 
 use crate::document::Document;
 use crate::error::DocumentError;
+use std::alloc::Global;
+use zed_laws::replay_is_ordered;
 use zed_types::{BoardId, StatId, TextId};
 use zed_view::{View, append_text};
+
+/// The name of the board with this number. Each walk through the boards tells of 101 more, and none takes memory.
+fn board_numbered(alloc: Global, view: &View, n: usize) -> Option<BoardId>
+    requires { IsOrdered view.now }
+    ensures { result ≡ board_of_number view.now n }
+{
+    let mut first = view.first_boards(alloc, None);
+    for _walk in 0..n / 101 {
+        let Some(last) = first.as_slice().get(100) else {
+            return None;
+        };
+        first = view.first_boards(alloc, Some(view.standing_of(*last)));
+    }
+    match first.as_slice().get(n % 101) {
+        Some(i) => Some(view.board(*i).id),
+        None => None,
+    }
+}
 
 impl Document {
     /// The board with this number, if there is one: boards that aren't removed are numbered from 0 on, the title first. Stale where
     /// the document is.
     pub fn board(&self, n: usize) -> Result<Option<BoardId>, DocumentError>
-        ensures { result ≡ unless_stale self.now (board_numbered (replay self.now.edits) n) }
+        ensures { result ≡ unless_stale self.now (board_of_number (replay self.now.edits) n) }
     {
+        self.edits();
+        replay_is_ordered();
         match self.view() {
-            Ok(view) => Ok(view.board_numbered(n)),
+            Ok(view) => Ok(board_numbered(self.alloc(), &view, n)),
             Err(error) => Err(error),
         }
     }
@@ -87,8 +110,10 @@ impl Document {
 
     /// The alive bytes of a text. In this order: Stale; NoSuch where the text wasn't made; Memory.
     pub fn text(&self, text: TextId) -> Result<Vec<u8>, DocumentError>
-        ensures { TellsOfText self.now text (λ r. (r ≡ Err DocumentError.Memory)
+        ensures result { TellsOfText self.now text (λ r. (r ≡ Err DocumentError.Memory)
             ⊎ IsOkAnd r (λ bytes. bytes.items ≡ text_shown (replay self.now.edits) text)) result }
+        ensures memory_only_when { result ≡ Err DocumentError.Memory
+            → 0 < length (text_shown (replay self.now.edits) text) }
     {
         match self.view_with(text) {
             Ok(view) => {

@@ -1,5 +1,5 @@
 -- A board, and what edits do to it.
-use Rattle.std.specs.Prelude.{ℕ, pos, Bool, true, false, if◌then◌else◌, List, [], ◌∷◌, ◌++◌, replicate, slice_set, None}
+use Rattle.std.specs.Prelude.{ℕ, pos, true, false, if◌then◌else◌, List, [], ◌∷◌, ◌++◌, replicate, slice_set, None}
 use Rattle.zed_types.specs.declared.names.BoardId.{BoardId}
 use Rattle.zed_types.specs.declared.names.StatId.{StatId}
 use Rattle.zed_types.specs.declared.tile.Tile.{Tile}
@@ -7,7 +7,7 @@ use Rattle.zed_types.specs.declared.tile.Rectangle.{Rectangle}
 use Rattle.zed_types.specs.declared.tile.TheConstants.{TILES}
 use Rattle.zed_types.specs.Board.{board_byte_index, board_flag_index, side_index, board_text_index}
 use Rattle.zed_types.specs.declared.property.BoardSetting.{BoardSetting}
-use Rattle.zed_types.specs.declared.property.BoardSetting.TheVariants.{Byte, Flag, TimeLimit, Exit, Text}
+use Rattle.zed_types.specs.declared.property.BoardSetting.TheVariants.{Byte, Flag, TimeLimit, Rank, Exit, Text}
 use Rattle.zed_types.specs.Table.{is_inside, place_at, map_from}
 use Rattle.zed_edit.specs.declared.plain.Properties.{Properties}
 use Rattle.zed_edit.specs.declared.plain.Stat.{Stat}
@@ -19,6 +19,7 @@ abbrev pub set_property : BoardSetting → Properties → Properties
 set_property (Byte f n) p = record p { bytes = slice_set p.bytes (board_byte_index f) n }
 set_property (Flag f b) p = record p { flags = slice_set p.flags (board_flag_index f) b }
 set_property (TimeLimit n) p = record p { time_limit = n }
+set_property (Rank n) p = record p { rank = n }
 set_property (Exit f b) p = record p { exits = slice_set p.exits (side_index f) b }
 set_property (Text f s) p = record p { texts = slice_set p.texts (board_text_index f) s }
 
@@ -44,12 +45,13 @@ new_table =
     set_cells (record { left = 30; top = 12; right = 30; bottom = 12 }) player_tile
     (set_cells (record { left = 2; top = 2; right = 59; bottom = 24 }) empty_tile (replicate TILES wall_tile))
 
--- the registers of a new board: 255 shots, the start at column 30 and row 12, no exit and no message
+-- the registers of a new board: 255 shots, the start at column 30 and row 12, rank 0, no exit and no message
 abbrev pub new_properties : List ℕ → Properties
 new_properties name = record {
   bytes = 255 ∷ 30 ∷ 12 ∷ [];
   flags = replicate 2 false;
   time_limit = pos 0;
+  rank = 0;
   exits = replicate 4 None;
   texts = name ∷ [] ∷ [];
 }

@@ -39,12 +39,13 @@ header_of s h = record {
   flags = h.flags;
 }
 
--- the properties of a board of the file, and its name
+-- the properties of a board of the file, and its name; a file has no ranks, so its boards are of rank 0
 abbrev pub properties_of : Stamp → List ℕ → world_properties.Properties → Properties
 properties_of s name p = record {
   bytes = p.max_shots ∷ p.start_x ∷ p.start_y ∷ [];
   flags = p.dark ∷ p.re_enter ∷ [];
   time_limit = p.time_limit;
+  rank = 0;
   exits = exit_of s p.north ∷ exit_of s p.south ∷ exit_of s p.west ∷ exit_of s p.east ∷ [];
   texts = name ∷ p.message ∷ [];
 }

@@ -3,6 +3,8 @@ pub mod Document
 pub mod Genesis
 pub mod Header
 pub mod Lent
+pub mod Next
+pub mod NumberLaws
 pub mod Numbers
 pub mod Replay
 pub mod Stat

@@ -2,7 +2,7 @@
 
 ghost use Rattle.std.specs.Prelude.{◌≡◌, ◌++◌, ◌∷◌, [], IsTrue, true, map, IfOk, IfErr};
 ghost use Rattle.zed_types.specs.Table.{is_in_table};
-ghost use Rattle.zed_op.specs.Growth.{board_has_string};
+ghost use Rattle.zed_types.specs.Strings.{board_has_string};
 ghost use Rattle.zed_edit.specs.Board.{set_board_property, set_board_cells, remove_board, add_stat, new_properties as properties_of_new, new_board as board_of_new};
 ghost use Rattle.zed_edit.specs.Stat.{set_stat as stat_with, remove_stat};
 ghost use Rattle.zed_edit.specs.Document.{board_if, change_boards, change_stats_of};
@@ -88,6 +88,7 @@ fn new_properties(alloc: Global, name: &Bytes) -> Result<Properties, EditError>
         bytes: [255, 30, 12],
         flags: [false; 2],
         time_limit: 0,
+        rank: 0,
         exits: [None; 4],
         texts: [
             name.copy().map_err(EditError::of_growth)?,

@@ -1,7 +1,7 @@
 //! What a setting does to the header.
 
 ghost use Rattle.std.specs.Prelude.{◌≡◌, ◌<◌, [], replicate, true, IfOk, IfErr};
-ghost use Rattle.zed_op.specs.Growth.{header_has_string};
+ghost use Rattle.zed_types.specs.Strings.{header_has_string};
 ghost use Rattle.zed_edit.specs.Header.{empty_header as header_of_empty, set_header as header_with};
 
 use crate::plain::Header;

@@ -88,6 +88,7 @@ fn properties_of(
         bytes: [properties.max_shots, properties.start_x, properties.start_y],
         flags: [properties.dark, properties.re_enter],
         time_limit: properties.time_limit,
+        rank: 0,
         exits: [
             exit_of(stamp, properties.north),
             exit_of(stamp, properties.south),

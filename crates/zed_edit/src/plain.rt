@@ -29,6 +29,8 @@ pub struct Properties {
     /// By `BoardFlag::index`.
     pub flags: [bool; 2],
     pub time_limit: i16,
+    /// Where the board stands among the others; the title is first whatever its own is.
+    pub rank: u16,
     /// By `Side::index`.
     pub exits: [Option<BoardId>; 4],
     /// By `BoardText::index`.

@@ -1,7 +1,7 @@
 //! What edits do to a board.
 
 ghost use Rattle.std.specs.Prelude.{◌≡◌, true, IfOk, IfErr};
-ghost use Rattle.zed_op.specs.Growth.{board_has_string};
+ghost use Rattle.zed_types.specs.Strings.{board_has_string};
 ghost use Rattle.zed_edit.specs.Board.{set_property as property_with};
 
 use crate::plain::Properties;
@@ -21,6 +21,7 @@ pub(crate) fn set_property(
         BoardSetting::Byte(field, n) => properties.bytes[usize::from(field.index())] = *n,
         BoardSetting::Flag(field, on) => properties.flags[usize::from(field.index())] = *on,
         BoardSetting::TimeLimit(n) => properties.time_limit = *n,
+        BoardSetting::Rank(n) => properties.rank = *n,
         BoardSetting::Exit(side, board) => properties.exits[usize::from(side.index())] = *board,
         BoardSetting::Text(field, text) => {
             properties.texts[usize::from(field.index())] = text

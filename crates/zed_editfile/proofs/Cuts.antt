@@ -8,7 +8,7 @@ use Rattle.byteorder.specs.Numbers.{little_from-append}
 use Rattle.zed_op.specs.declared.op.Edit.{Edit}
 use Rattle.zed_editfile.specs.declared.error.EditFileError.{EditFileError}
 use Rattle.zed_editfile.specs.declared.error.EditFileError.TheVariants.{Memory, RecordLength}
-use Rattle.zed_editfile.specs.Spelling.{number, record_text}
+use Rattle.zed_editfile.specs.Spelling.{number, record_text, AreOf}
 use Rattle.zed_editfile.specs.Reading.{edit_at}
 use Rattle.zed_editfile.specs.Stream.{Stop, waits, fails, is_length, fault_of, body_at, record_stop, AreRecords, Frames, Gains}
 use Rattle.zed_editfile.proofs.Numbers.{IsBytes, IsBytes-front, IsBytes-behind, length_number, number_is, number_back}
@@ -16,24 +16,24 @@ use Rattle.zed_editfile.proofs.Edits.{edit_takes}
 
 -- ---- the front of a record
 
-pub is_short : (b : List ℕ) → length b < 4 → record_stop b ≡ waits b
+pub is_short : (v : ℕ) (b : List ℕ) → length b < 4 → record_stop v b ≡ waits b
 unfolding record_stop
-is_short b lt = let t : ltb (length b) 4 ≡ true = lt-ltb _ _ lt in rw t refl
+is_short v b lt = let t : ltb (length b) 4 ≡ true = lt-ltb _ _ lt in rw t refl
 
-pub is_bad : (b : List ℕ) → 4 ≤ length b → is_length (little_number 4 b) ≡ false → record_stop b ≡ fails RecordLength
+pub is_bad : (v : ℕ) (b : List ℕ) → 4 ≤ length b → is_length (little_number 4 b) ≡ false → record_stop v b ≡ fails RecordLength
 unfolding record_stop
-is_bad b le bad = let t : ltb (length b) 4 ≡ false = le-ltb _ _ le in rw (t, bad) refl
+is_bad v b le bad = let t : ltb (length b) 4 ≡ false = le-ltb _ _ le in rw (t, bad) refl
 
-pub is_cut : (b : List ℕ) → 4 ≤ length b → is_length (little_number 4 b) ≡ true → length (drop 4 b) < little_number 4 b → record_stop b ≡ waits b
+pub is_cut : (v : ℕ) (b : List ℕ) → 4 ≤ length b → is_length (little_number 4 b) ≡ true → length (drop 4 b) < little_number 4 b → record_stop v b ≡ waits b
 unfolding record_stop
-is_cut b le good lt =
+is_cut v b le good lt =
     let t : ltb (length b) 4 ≡ false = le-ltb _ _ le in
     let u : ltb (length (drop 4 b)) (little_number 4 b) ≡ true = lt-ltb _ _ lt in
     rw (t, good, u) refl
 
-pub is_whole : (b : List ℕ) → 4 ≤ length b → is_length (little_number 4 b) ≡ true → little_number 4 b ≤ length (drop 4 b) → record_stop b ≡ fault_of (edit_at (body_at b))
+pub is_whole : (v : ℕ) (b : List ℕ) → 4 ≤ length b → is_length (little_number 4 b) ≡ true → little_number 4 b ≤ length (drop 4 b) → record_stop v b ≡ fault_of (edit_at v (body_at b))
 unfolding record_stop
-is_whole b le good long =
+is_whole v b le good long =
     let t : ltb (length b) 4 ≡ false = le-ltb _ _ le in
     let u : ltb (length (drop 4 b)) (little_number 4 b) ≡ false = le-ltb _ _ long in
     rw (t, good, u) refl
@@ -91,12 +91,12 @@ fault_never_waits (Ok e) bytes h = absurd cc
 fault_never_waits (Err e) bytes h = waits_not_fails bytes e (sym h)
 
 -- what waits is less than a record, and all of it is kept
-pub waits_is : (b rest : List ℕ) → record_stop b ≡ waits rest → (b ≡ rest) × ((length b < 4) ⊎ IsCut b)
-waits_is b rest h = elim (front_cases b) [
-  | inl short ↦ (waits_same b rest (sym (is_short b short) ∙ h), inl short)
-  | inr (inl bad) ↦ absurd (waits_not_fails rest RecordLength (sym h ∙ is_bad b bad.long bad.bad))
-  | inr (inr (inl cut)) ↦ (waits_same b rest (sym (is_cut b cut.long cut.good cut.cut) ∙ h), inr cut)
-  | inr (inr (inr whole)) ↦ absurd (fault_never_waits (edit_at (body_at b)) rest (sym (is_whole b whole.long whole.good whole.whole) ∙ h))
+pub waits_is : (v : ℕ) (b rest : List ℕ) → record_stop v b ≡ waits rest → (b ≡ rest) × ((length b < 4) ⊎ IsCut b)
+waits_is v b rest h = elim (front_cases b) [
+  | inl short ↦ (waits_same b rest (sym (is_short v b short) ∙ h), inl short)
+  | inr (inl bad) ↦ absurd (waits_not_fails rest RecordLength (sym h ∙ is_bad v b bad.long bad.bad))
+  | inr (inr (inl cut)) ↦ (waits_same b rest (sym (is_cut v b cut.long cut.good cut.cut) ∙ h), inr cut)
+  | inr (inr (inr whole)) ↦ absurd (fault_never_waits (edit_at v (body_at b)) rest (sym (is_whole v b whole.long whole.good whole.whole) ∙ h))
 ]
 
 -- the same number at the front, whatever follows
@@ -121,17 +121,17 @@ whole_longer b x w =
     (record { long = omega (arith, all, le); good = ap is_length same ∙ w.good; whole = rw (same, behind) (omega (arith, more, long)) }, ap (λ (k : ℕ). take k (drop 4 (b ++ x))) same ∙ ap (take n) behind ∙ front)
 
 -- a fault that shows stays
-pub fault_stays : (b x : List ℕ) (e : EditFileError) → record_stop b ≡ fails e → record_stop (b ++ x) ≡ fails e
-fault_stays b x e h = elim (front_cases b) [
-  | inl short ↦ absurd (waits_not_fails b e (sym (is_short b short) ∙ h))
+pub fault_stays : (v : ℕ) (b x : List ℕ) (e : EditFileError) → record_stop v b ≡ fails e → record_stop v (b ++ x) ≡ fails e
+fault_stays v b x e h = elim (front_cases b) [
+  | inl short ↦ absurd (waits_not_fails b e (sym (is_short v b short) ∙ h))
   | inr (inl bad) ↦
       let le : 4 ≤ length (b ++ x) = omega (arith, length-append b x, bad.long) in
       let c : is_length (little_number 4 (b ++ x)) ≡ false = ap is_length (same_number b x bad.long) ∙ bad.bad in
-      is_bad (b ++ x) le c ∙ sym (is_bad b bad.long bad.bad) ∙ h
-  | inr (inr (inl cut)) ↦ absurd (waits_not_fails b e (sym (is_cut b cut.long cut.good cut.cut) ∙ h))
+      is_bad v (b ++ x) le c ∙ sym (is_bad v b bad.long bad.bad) ∙ h
+  | inr (inr (inl cut)) ↦ absurd (waits_not_fails b e (sym (is_cut v b cut.long cut.good cut.cut) ∙ h))
   | inr (inr (inr whole)) ↦
       let w = whole_longer b x whole in
-      is_whole (b ++ x) w.0.long w.0.good w.0.whole ∙ ap (λ (t : List ℕ). fault_of (edit_at t)) w.1 ∙ sym (is_whole b whole.long whole.good whole.whole) ∙ h
+      is_whole v (b ++ x) w.0.long w.0.good w.0.whole ∙ ap (λ (t : List ℕ). fault_of (edit_at v t)) w.1 ∙ sym (is_whole v b whole.long whole.good whole.whole) ∙ h
 ]
 
 -- ---- a length and a body
@@ -169,8 +169,8 @@ frame_whole b body after f =
     let four : length (number 4 (length body)) ≡ 4 = length_number 4 (length body) in
     record { long = omega (arith, len, four); good = ap is_length same ∙ f.long; whole = rw (same, behind) (omega (arith, length-append body after)) }
 
-pub frame_stop : (b body after : List ℕ) → Frames b body after → record_stop b ≡ fault_of (edit_at body)
-frame_stop b body after f = let w = frame_whole b body after f in is_whole b w.long w.good w.whole ∙ ap (λ (t : List ℕ). fault_of (edit_at t)) (frame_body b body after f)
+pub frame_stop : (v : ℕ) (b body after : List ℕ) → Frames b body after → record_stop v b ≡ fault_of (edit_at v body)
+frame_stop v b body after f = let w = frame_whole b body after f in is_whole v b w.long w.good w.whole ∙ ap (λ (t : List ℕ). fault_of (edit_at v t)) (frame_body b body after f)
 
 pub frame_shorter : (b body after : List ℕ) → Frames b body after → length after < length b
 frame_shorter b body after f =
@@ -179,17 +179,17 @@ frame_shorter b body after f =
 
 -- ---- what a list gains
 
-pub no_gain : (before after : List Edit) (b : List ℕ) → after ≡ before → Gains before after b b
-no_gain before after b e = record { edits = []; gained = e ∙ sym (append-nil before); good = tt; whole = refl }
+pub no_gain : (v : ℕ) (before after : List Edit) (b : List ℕ) → after ≡ before → Gains v before after b b
+no_gain v before after b e = record { edits = []; gained = e ∙ sym (append-nil before); good = tt; spelled = tt; whole = refl }
 
-pub one_gain : (before after : List Edit) (b body rest : List ℕ) (e : Edit) → IsBytes b → Frames b body rest → edit_at body ≡ Ok e → after ≡ before ++ e ∷ [] → Gains before after b rest
+pub one_gain : (v : ℕ) (before after : List Edit) (b body rest : List ℕ) (e : Edit) → IsBytes b → Frames b body rest → edit_at v body ≡ Ok e → after ≡ before ++ e ∷ [] → Gains v before after b rest
 unfolding record_text
-one_gain before after b body rest e fits f read is =
+one_gain v before after b body rest e fits f read is =
     let inner : IsBytes (number 4 (length body) ++ (body ++ rest)) = subst (λ (t : List ℕ). IsBytes t) f.parts fits in
     let body_fits : IsBytes body = IsBytes-front body rest (IsBytes-behind (number 4 (length body)) (body ++ rest) inner) in
-    let t = edit_takes body e body_fits read in
+    let t = edit_takes v body e body_fits read in
     let text : b ≡ record_text e ++ rest = f.parts ∙ sym (append_assoc (number 4 (length body)) body rest) ∙ ap (λ (t : List ℕ). (number 4 (length t) ++ t) ++ rest) t.0 in
-    record { edits = e ∷ []; gained = is; good = ((t.2, t.1, ap (λ (b : List ℕ). is_length (length b)) (sym t.0) ∙ f.long), tt); whole = text ∙ ap (λ (t : List ℕ). t ++ rest) (sym (append-nil (record_text e))) }
+    record { edits = e ∷ []; gained = is; good = ((t.2, t.1, ap (λ (b : List ℕ). is_length (length b)) (sym t.0) ∙ f.long), tt); spelled = (t.3, tt); whole = text ∙ ap (λ (t : List ℕ). t ++ rest) (sym (append-nil (record_text e))) }
 
 pub flat_both : (es fs : List Edit) → flat_map record_text (es ++ fs) ≡ flat_map record_text es ++ flat_map record_text fs
 flat_both [] fs = refl
@@ -199,17 +199,22 @@ pub records_both : (es fs : List Edit) → AreRecords es → AreRecords fs → A
 records_both [] fs a b = b
 records_both (e ∷ es) fs a b = (a.0, records_both es fs a.1 b)
 
-pub gain_on : (x y z : List Edit) (b c d : List ℕ) → Gains x y b c → Gains y z c d → Gains x z b d
-gain_on x y z b c d g h = record {
+pub spelled_both : (v : ℕ) (es fs : List Edit) → AreOf v es → AreOf v fs → AreOf v (es ++ fs)
+spelled_both v [] fs a b = b
+spelled_both v (e ∷ es) fs a b = (a.0, spelled_both v es fs a.1 b)
+
+pub gain_on : (v : ℕ) (x y z : List Edit) (b c d : List ℕ) → Gains v x y b c → Gains v y z c d → Gains v x z b d
+gain_on v x y z b c d g h = record {
   edits = g.edits ++ h.edits;
   gained = h.gained ∙ ap (λ (t : List Edit). t ++ h.edits) g.gained ∙ append_assoc x g.edits h.edits;
   good = records_both g.edits h.edits g.good h.good;
+  spelled = spelled_both v g.edits h.edits g.spelled h.spelled;
   whole = g.whole ∙ ap (λ (t : List ℕ). flat_map record_text g.edits ++ t) h.whole ∙ sym (append_assoc (flat_map record_text g.edits) (flat_map record_text h.edits) d) ∙ ap (λ (t : List ℕ). t ++ d) (sym (flat_both g.edits h.edits));
 }
 
 -- the same with more bytes behind
-pub gain_longer : (x y : List Edit) (b c d : List ℕ) → Gains x y b c → Gains x y (b ++ d) (c ++ d)
-gain_longer x y b c d g = record { edits = g.edits; gained = g.gained; good = g.good; whole = ap (λ (t : List ℕ). t ++ d) g.whole ∙ append_assoc (flat_map record_text g.edits) c d }
+pub gain_longer : (v : ℕ) (x y : List Edit) (b c d : List ℕ) → Gains v x y b c → Gains v x y (b ++ d) (c ++ d)
+gain_longer v x y b c d g = record { edits = g.edits; gained = g.gained; good = g.good; spelled = g.spelled; whole = ap (λ (t : List ℕ). t ++ d) g.whole ∙ append_assoc (flat_map record_text g.edits) c d }
 
 -- ---- as the code goes
 
@@ -221,26 +226,26 @@ framed b rest body after n fits h r long e f =
 pub frame_after : (b body after : List ℕ) → Frames b body after → after ≡ drop (little_number 4 b) (drop 4 b)
 frame_after b body after f = sym (ap (λ (k : ℕ). drop k (drop 4 b)) (frame_number b body after f) ∙ ap (drop (length body)) (frame_behind b body after f) ∙ drop_at body after (length body) refl)
 
-pub frame_fault : (b body after : List ℕ) (e : EditFileError) → Frames b body after → (e ≡ Memory) ⊎ (edit_at body ≡ Err e) → (e ≡ Memory) ⊎ (record_stop b ≡ fails e)
-frame_fault b body after e f h = elim h [ inl m ↦ inl m | inr r ↦ inr (frame_stop b body after f ∙ ap fault_of r) ]
+pub frame_fault : (v : ℕ) (b body after : List ℕ) (e : EditFileError) → Frames b body after → (e ≡ Memory) ⊎ (edit_at v body ≡ Err e) → (e ≡ Memory) ⊎ (record_stop v b ≡ fails e)
+frame_fault v b body after e f h = elim h [ inl m ↦ inl m | inr r ↦ inr (frame_stop v b body after f ∙ ap fault_of r) ]
 
 -- a fault of the front is one of the whole
-pub fault_on : (total k l : List ℕ) (e : EditFileError) → k ++ l ≡ total → (e ≡ Memory) ⊎ (record_stop k ≡ fails e) → (e ≡ Memory) ⊎ (record_stop total ≡ fails e)
-fault_on total k l e whole h = elim h [ inl m ↦ inl m | inr r ↦ inr (ap record_stop (sym whole) ∙ fault_stays k l e r) ]
+pub fault_on : (v : ℕ) (total k l : List ℕ) (e : EditFileError) → k ++ l ≡ total → (e ≡ Memory) ⊎ (record_stop v k ≡ fails e) → (e ≡ Memory) ⊎ (record_stop v total ≡ fails e)
+fault_on v total k l e whole h = elim h [ inl m ↦ inl m | inr r ↦ inr (ap (record_stop v) (sym whole) ∙ fault_stays v k l e r) ]
 
-pub bad_on : (total k l : List ℕ) (e : EditFileError) → k ++ l ≡ total → (e ≡ RecordLength) × (4 ≤ length k) × (is_length (little_number 4 k) ≡ false) → record_stop total ≡ fails e
-bad_on total k l e whole h = ap record_stop (sym whole) ∙ fault_stays k l e (is_bad k h.1 h.2 ∙ ap fails (sym h.0))
+pub bad_on : (v : ℕ) (total k l : List ℕ) (e : EditFileError) → k ++ l ≡ total → (e ≡ RecordLength) × (4 ≤ length k) × (is_length (little_number 4 k) ≡ false) → record_stop v total ≡ fails e
+bad_on v total k l e whole h = ap (record_stop v) (sym whole) ∙ fault_stays v k l e (is_bad v k h.1 h.2 ∙ ap fails (sym h.0))
 
-pub short_on : (total k l : List ℕ) → k ++ l ≡ total → (length k < 4 → l ≡ []) → length k < 4 → (k ≡ total) × (record_stop k ≡ waits k)
-short_on total k l whole none lt = (sym (append-nil k) ∙ ap (λ (t : List ℕ). k ++ t) (sym (none lt)) ∙ whole, is_short k lt)
+pub short_on : (v : ℕ) (total k l : List ℕ) → k ++ l ≡ total → (length k < 4 → l ≡ []) → length k < 4 → (k ≡ total) × (record_stop v k ≡ waits k)
+short_on v total k l whole none lt = (sym (append-nil k) ∙ ap (λ (t : List ℕ). k ++ t) (sym (none lt)) ∙ whole, is_short v k lt)
 
 -- the number of a record that goes on is the same
 number_on : (k2 l2 k1 l1 : List ℕ) → k2 ++ l2 ≡ k1 ++ l1 → 4 ≤ length k1 → 4 ≤ length k2 → little_number 4 k2 ≡ little_number 4 k1
 number_on k2 l2 k1 l1 same a b = sym (same_number k2 l2 b) ∙ ap (little_number 4) same ∙ same_number k1 l1 a
 
-pub cut_on : (k2 l2 k1 l1 : List ℕ) (n : ℕ) → k2 ++ l2 ≡ k1 ++ l1 → (4 ≤ length k1) × (n ≡ little_number 4 k1) × (is_length n ≡ true) → record_stop k2 ≡ waits k2 → (length k2 < 4 + n → l2 ≡ []) → k2 ≡ k1 ++ l1
-cut_on k2 l2 k1 l1 n same h stop none =
-    let less : length k2 < 4 + n = elim (waits_is k2 k2 stop).1 [
+pub cut_on : (v : ℕ) (k2 l2 k1 l1 : List ℕ) (n : ℕ) → k2 ++ l2 ≡ k1 ++ l1 → (4 ≤ length k1) × (n ≡ little_number 4 k1) × (is_length n ≡ true) → record_stop v k2 ≡ waits k2 → (length k2 < 4 + n → l2 ≡ []) → k2 ≡ k1 ++ l1
+cut_on v k2 l2 k1 l1 n same h stop none =
+    let less : length k2 < 4 + n = elim (waits_is v k2 k2 stop).1 [
       | inl short ↦ omega arith
       | inr cut ↦
           let e : little_number 4 k2 ≡ n = number_on k2 l2 k1 l1 same h.0 cut.long ∙ sym h.1 in
@@ -267,8 +272,8 @@ nothing_left k2 l2 k1 l1 r n same h size is =
     ])
 
 -- a cut record is shorter than its length says
-pub within_size : (old k1 : List ℕ) (n : ℕ) → record_stop old ≡ waits old → (length old ≤ 4 → length k1 ≤ 4) → (4 ≤ length old → k1 ≡ old) → (4 ≤ length k1) × (n ≡ little_number 4 k1) × (is_length n ≡ true) → length k1 ≤ 4 + n
-within_size old k1 n stop size full h = elim (waits_is old old stop).1 [
+pub within_size : (v : ℕ) (old k1 : List ℕ) (n : ℕ) → record_stop v old ≡ waits old → (length old ≤ 4 → length k1 ≤ 4) → (4 ≤ length old → k1 ≡ old) → (4 ≤ length k1) × (n ≡ little_number 4 k1) × (is_length n ≡ true) → length k1 ≤ 4 + n
+within_size v old k1 n stop size full h = elim (waits_is v old old stop).1 [
   | inl short ↦ let le : length k1 ≤ 4 = size (omega arith) in omega (arith, le)
   | inr cut ↦
       let same : k1 ≡ old = full cut.long in
@@ -278,8 +283,8 @@ within_size old k1 n stop size full h = elim (waits_is old old stop).1 [
       omega (arith, length-drop 4 old, lt, l)
 ]
 
-pub taken_on : (x y : List Edit) (total k2 l2 r : List ℕ) → k2 ++ l2 ≡ total → r ≡ [] → Gains x y k2 r → Gains x y total l2
-taken_on x y total k2 l2 r whole nothing g =
-    let P : List ℕ → Type 0 = λ t. Gains x y t l2 in
-    let Q : List ℕ → Type 0 = λ t. Gains x y (k2 ++ l2) (t ++ l2) in
-    subst P whole (subst Q nothing (gain_longer x y k2 r l2 g))
+pub taken_on : (v : ℕ) (x y : List Edit) (total k2 l2 r : List ℕ) → k2 ++ l2 ≡ total → r ≡ [] → Gains v x y k2 r → Gains v x y total l2
+taken_on v x y total k2 l2 r whole nothing g =
+    let P : List ℕ → Type 0 = λ t. Gains v x y t l2 in
+    let Q : List ℕ → Type 0 = λ t. Gains v x y (k2 ++ l2) (t ++ l2) in
+    subst P whole (subst Q nothing (gain_longer v x y k2 r l2 g))

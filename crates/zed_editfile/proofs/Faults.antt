@@ -1,5 +1,5 @@
 -- The fault of a reader: that the bytes are cut short is told at the end alone.
-use Rattle.std.proofs.Common.{◌≡◌, ℕ, ◌-◌, Bool, true, false, not, cond, ltb, eqb, List, [], ◌∷◌, length, drop, get_or, Option, Some, None, Result, Ok, Err, ap, sym, ◌∙◌, inl, inr}
+use Rattle.std.proofs.Common.{◌≡◌, ℕ, ◌-◌, Bool, true, false, not, ◌&&◌, cond, leb, ltb, eqb, List, [], ◌∷◌, length, drop, get_or, Option, Some, None, Result, Ok, Err, ap, sym, ◌∙◌, inl, inr}
 use Rattle.byteorder.specs.Endian.{little_number}
 use Rattle.zed_types.specs.declared.header.HeaderSetting.TheVariants as header
 use Rattle.zed_types.specs.declared.property.BoardSetting.TheVariants as board
@@ -19,7 +19,7 @@ use Rattle.zed_editfile.specs.declared.error.EditFileError.{EditFileError}
 use Rattle.zed_editfile.specs.declared.error.EditFileError.TheVariants.{Memory, Magic, NewVersion, OtherWorld, RecordLength, BadEdit, CutShort}
 use Rattle.zed_editfile.specs.Laws.{CutIsToldAtTheEnd}
 use Rattle.zed_editfile.specs.Reading.{Field, mapped, by_kind, pair_at, unless_faulty, byte_at, number_at, integer_at, boolean_at, string_at, stamp_at, name_at, board_with, stat_with, text_with, element_with, board_name_at, stat_name_at, text_name_at, element_name_at, optional_at, tile_at, rectangle_at, third_parameter_at, key_of, flag_of, header_value_at, header_setting_at, board_value_at, board_setting_at, stat_value_at, stat_setting_at, stat_fields_at, set_board_at, set_cells_at, stat_add_at, set_stat_at, text_insert_at, range_at, text_delete_at, op_at, fields_at, edit_at}
-use Rattle.zed_editfile.specs.Stream.{Stop, fails, waits, fault_of, has_letters, is_length, is_other, body_at, head_stop, record_stop, Progress, stop_of, Stops}
+use Rattle.zed_editfile.specs.Stream.{Stop, fails, waits, fault_of, has_letters, is_length, is_other, is_version, body_at, head_stop, record_stop, Progress, stop_of, Stops}
 
 -- ---- what is read may be bad, but never cut short
 
@@ -135,17 +135,17 @@ header_setting : Reader header_setting_at
 unfolding header_setting_at
 header_setting bytes = steps (byte_at bytes) _ (byte bytes) (λ f. header_value f.0 f.1)
 
-board_value : (f : ℕ) → Reader (board_value_at f)
+board_value : (v f : ℕ) → Reader (board_value_at v f)
 unfolding board_value_at
-board_value f bytes =
+board_value v f bytes =
     kinds (board_byte_of_field f) _ _ (λ k. made (board.Byte k) (byte_at bytes) (byte bytes))
     (kinds (board_flag_of_field f) _ _ (λ k. made (board.Flag k) (boolean_at bytes) (boolean bytes))
     (kinds (side_of_field f) _ _ (λ k. made (board.Exit k) (optional_at board_name_at bytes) (optional board_name_at board_name bytes))
-    (kinds (board_text_of_field f) _ _ (λ k. made (board.Text k) (string_at bytes) (string bytes)) (either (eqb f 5) _ _ (made board.TimeLimit (integer_at bytes) (integer bytes)) (bad Tag)))))
+    (kinds (board_text_of_field f) _ _ (λ k. made (board.Text k) (string_at bytes) (string bytes)) (either (eqb f 5) _ _ (made board.TimeLimit (integer_at bytes) (integer bytes)) (either (eqb f 12 && leb 2 v) _ _ (made board.Rank (number_at 2 bytes) (number 2 bytes)) (bad Tag))))))
 
-board_setting : Reader board_setting_at
+board_setting : (v : ℕ) → Reader (board_setting_at v)
 unfolding board_setting_at
-board_setting bytes = steps (byte_at bytes) _ (byte bytes) (λ f. board_value f.0 f.1)
+board_setting v bytes = steps (byte_at bytes) _ (byte bytes) (λ f. board_value v f.0 f.1)
 
 stat_value : (f : ℕ) → Reader (stat_value_at f)
 unfolding stat_value_at
@@ -188,32 +188,32 @@ range : Reader range_at
 unfolding range_at
 range bytes = steps (stamp_at bytes) _ (stamp bytes) (λ made. steps (number_at 4 made.1) _ (number 4 made.1) (λ first. steps (number_at 4 first.1) _ (number 4 first.1) (λ last. fine _)))
 
-op : (n : ℕ) → Reader (op_at n)
+op : (v n : ℕ) → Reader (op_at v n)
 unfolding op_at set_board_at stat_add_at set_stat_at text_delete_at
-op n bytes =
+op v n bytes =
     either (eqb n 1) _ _ (fine _)
     (either (eqb n 2) _ _ (made SetHeader (header_setting_at bytes) (header_setting bytes))
     (either (eqb n 3) _ _ (made BoardAdd (string_at bytes) (string bytes))
     (either (eqb n 4) _ _ (made BoardRemove (board_name_at bytes) (board_name bytes))
-    (either (eqb n 5) _ _ (pair SetBoard board_name_at board_setting_at board_name board_setting bytes)
+    (either (eqb n 5) _ _ (pair SetBoard board_name_at (board_setting_at v) board_name (board_setting v) bytes)
     (either (eqb n 6) _ _ (set_cells bytes)
     (either (eqb n 7) _ _ (pair StatAdd board_name_at stat_fields_at board_name stat_fields bytes)
     (either (eqb n 8) _ _ (made StatRemove (stat_name_at bytes) (stat_name bytes))
     (either (eqb n 9) _ _ (pair SetStat stat_name_at stat_setting_at stat_name stat_setting bytes)
     (either (eqb n 10) _ _ (fine _) (either (eqb n 11) _ _ (text_insert bytes) (either (eqb n 12) _ _ (pair TextDelete text_name_at range_at text_name range bytes) (bad BadOp))))))))))))
 
-fields : (bytes : List ℕ) → NotCut (fields_at bytes)
+fields : (v : ℕ) (bytes : List ℕ) → NotCut (fields_at v bytes)
 unfolding fields_at
-fields bytes =
-    steps (stamp_at bytes) _ (stamp bytes) (λ made. steps (byte_at made.1) _ (byte made.1) (λ number. steps (op_at number.0 number.1) _ (op number.0 number.1) (λ op. either (eqb (length op.1) 0) _ _ (fine _) (bad Long))))
+fields v bytes =
+    steps (stamp_at bytes) _ (stamp bytes) (λ made. steps (byte_at made.1) _ (byte made.1) (λ number. steps (op_at v number.0 number.1) _ (op v number.0 number.1) (λ op. either (eqb (length op.1) 0) _ _ (fine _) (bad Long))))
 
 unfaulty : (o : Option Cause) (e : Edit) → NotCut (unless_faulty o e)
 unfaulty None e = fine e
 unfaulty (Some c) e = bad c
 
-edit : (bytes : List ℕ) → NotCut (edit_at bytes)
+edit : (v : ℕ) (bytes : List ℕ) → NotCut (edit_at v bytes)
 unfolding edit_at
-edit bytes = steps (fields_at bytes) _ (fields bytes) (λ e. unfaulty (fault e) e)
+edit v bytes = steps (fields_at v bytes) _ (fields v bytes) (λ e. unfaulty (fault e) e)
 
 -- ---- where reading stops
 
@@ -246,14 +246,14 @@ unfolding head_stop
 head asked bytes =
     choice (not (has_letters bytes)) _ _ (failing Magic (λ h. cc))
     (choice (ltb (length bytes) 4) _ _ (waiting bytes)
-    (choice (not (eqb (get_or bytes 3 0) 1)) _ _ (failing NewVersion (λ h. cc))
+    (choice (not (is_version (get_or bytes 3 0))) _ _ (failing NewVersion (λ h. cc))
     (choice (ltb (length bytes) 12) _ _ (waiting bytes) (choice (is_other asked (little_number 8 (drop 4 bytes))) _ _ (failing OtherWorld (λ h. cc)) nowhere))))
 
-record_front : (bytes : List ℕ) → StopsFine (record_stop bytes)
+record_front : (v : ℕ) (bytes : List ℕ) → StopsFine (record_stop v bytes)
 unfolding record_stop
-record_front bytes =
+record_front v bytes =
     choice (ltb (length bytes) 4) _ _ (waiting bytes)
-    (choice (not (is_length (little_number 4 bytes))) _ _ (failing RecordLength (λ h. cc)) (choice (ltb (length (drop 4 bytes)) (little_number 4 bytes)) _ _ (waiting bytes) (by_result (edit_at (body_at bytes)) (edit (body_at bytes)))))
+    (choice (not (is_length (little_number 4 bytes))) _ _ (failing RecordLength (λ h. cc)) (choice (ltb (length (drop 4 bytes)) (little_number 4 bytes)) _ _ (waiting bytes) (by_result (edit_at v (body_at bytes)) (edit v (body_at bytes)))))
 
 stopped : (p : Progress) (stop : Option Stop) → StopsFine stop → Stops p stop → p.fault ≡ Some CutShort → ⊥
 stopped p stop fine (inl memory) cut = let both : Some Memory ≡ Some CutShort = sym memory ∙ cut in cc
@@ -261,4 +261,4 @@ stopped p stop fine (inr is) cut = fine (stop_of p) is cut
 
 pub cut_is_told_at_the_end : CutIsToldAtTheEnd
 cut_is_told_at_the_end bytes found p (inl h) cut = stopped p (head_stop p.asked bytes) (head p.asked bytes) h.stop cut
-cut_is_told_at_the_end bytes found p (inr h) cut = stopped p (record_stop h.tail) (record_front h.tail) h.stop cut
+cut_is_told_at_the_end bytes found p (inr h) cut = stopped p (record_stop p.version h.tail) (record_front p.version h.tail) h.stop cut

@@ -1,5 +1,5 @@
 -- Where reading stops in a head, however many bytes follow.
-use Rattle.std.proofs.Common.{◌≡◌, ℕ, ◌^◌, ◌<◌, ◌≤◌, Bool, true, false, not, cond, ltb, eqb, ◌&&◌, List, [], ◌∷◌, ◌++◌, length, drop, Option, None, refl, sym, ap, ◌∙◌, arith, ◌⊎◌, inl, inr}
+use Rattle.std.proofs.Common.{◌≡◌, ℕ, ◌^◌, ◌<◌, ◌≤◌, Bool, true, false, not, cond, ltb, eqb, ◌&&◌, List, [], ◌∷◌, ◌++◌, length, drop, get_or, Option, None, refl, sym, ap, ◌∙◌, arith, ◌⊎◌, inl, inr}
 use Rattle.std.proofs.lemmas.Bool.{ltb-true, ltb-false, lt-ltb, le-ltb, eqb-true}
 use Rattle.std.proofs.lemmas.List.{append-nil, take_all, length-append}
 use Rattle.byteorder.specs.Endian.{little_number}
@@ -7,7 +7,7 @@ use Rattle.byteorder.specs.Numbers.{little_from-append}
 use Rattle.zed_editfile.specs.declared.error.EditFileError.{EditFileError}
 use Rattle.zed_editfile.specs.declared.error.EditFileError.TheVariants.{Memory, Magic, NewVersion, OtherWorld}
 use Rattle.zed_editfile.specs.Spelling.{number, head_text}
-use Rattle.zed_editfile.specs.Stream.{Stop, waits, fails, has_letters, is_other, head_stop}
+use Rattle.zed_editfile.specs.Stream.{Stop, waits, fails, has_letters, is_other, is_version, head_stop}
 use Rattle.zed_editfile.proofs.Numbers.{IsBytes, IsBytes-behind, length_number, number_is, number_below, number_back}
 use Rattle.zed_editfile.proofs.Codec.{chosen}
 use Rattle.zed_editfile.proofs.Cuts.{waits_not_fails, waits_same}
@@ -15,7 +15,7 @@ use Rattle.zed_editfile.proofs.Cuts.{waits_not_fails, waits_same}
 -- a head of which four bytes are there
 abbrev behind_four : Option ℕ → ℕ → List ℕ → List ℕ → Option Stop
 behind_four asked d t whole =
-    cond (not (eqb d 1)) (fails NewVersion) (cond (ltb (length whole) 12) (waits whole) (cond (is_other asked (little_number 8 t)) (fails OtherWorld) None))
+    cond (not (is_version d)) (fails NewVersion) (cond (ltb (length whole) 12) (waits whole) (cond (is_other asked (little_number 8 t)) (fails OtherWorld) None))
 
 abbrev four : ℕ → ℕ → ℕ → ℕ → List ℕ → List ℕ
 four a b c d t = a ∷ b ∷ c ∷ d ∷ t
@@ -68,7 +68,7 @@ four_stays : (asked : Option ℕ) (a b c d : ℕ) (t x : List ℕ) (e : EditFile
 four_stays asked a b c d t x e s = elim (chosen (not (has_letters (four a b c d t))) (fails Magic) (behind_four asked d t (four a b c d t)) (fails e) (sym (at_four asked a b c d t) ∙ s)) [
   | inl m ↦ at_four asked a b c d (t ++ x) ∙ rw (m.0) (m.1)
   | inr w ↦
-      elim (chosen (not (eqb d 1)) (fails NewVersion) (cond (ltb (length (four a b c d t)) 12) (waits (four a b c d t)) (cond (is_other asked (little_number 8 t)) (fails OtherWorld) None)) (fails e) w.1) [
+      elim (chosen (not (is_version d)) (fails NewVersion) (cond (ltb (length (four a b c d t)) 12) (waits (four a b c d t)) (cond (is_other asked (little_number 8 t)) (fails OtherWorld) None)) (fails e) w.1) [
         | inl v ↦ at_four asked a b c d (t ++ x) ∙ rw (w.0, v.0) (v.1)
         | inr v ↦
             elim (chosen (ltb (length (four a b c d t)) 12) (waits (four a b c d t)) (cond (is_other asked (little_number 8 t)) (fails OtherWorld) None) (fails e) v.1) [
@@ -109,7 +109,7 @@ four_waits : (asked : Option ℕ) (a b c d : ℕ) (t rest : List ℕ) → head_s
 four_waits asked a b c d t rest s = elim (chosen (not (has_letters (four a b c d t))) (fails Magic) (behind_four asked d t (four a b c d t)) (waits rest) (sym (at_four asked a b c d t) ∙ s)) [
   | inl m ↦ absurd (fails_not_waits Magic rest m.1)
   | inr w ↦
-      elim (chosen (not (eqb d 1)) (fails NewVersion) (cond (ltb (length (four a b c d t)) 12) (waits (four a b c d t)) (cond (is_other asked (little_number 8 t)) (fails OtherWorld) None)) (waits rest) w.1) [
+      elim (chosen (not (is_version d)) (fails NewVersion) (cond (ltb (length (four a b c d t)) 12) (waits (four a b c d t)) (cond (is_other asked (little_number 8 t)) (fails OtherWorld) None)) (waits rest) w.1) [
         | inl v ↦ absurd (fails_not_waits NewVersion rest v.1)
         | inr v ↦
             elim (chosen (ltb (length (four a b c d t)) 12) (waits (four a b c d t)) (cond (is_other asked (little_number 8 t)) (fails OtherWorld) None) (waits rest) v.1) [
@@ -144,8 +144,9 @@ short_whole asked h lt s = elim (chosen (not (has_letters h)) (fails Magic) (wai
 ]
 
 -- what a good head says
-pub record IsHead (asked : Option ℕ) (h : List ℕ) (n : ℕ) : Type 0 where
-  pub text : h ≡ head_text n
+pub record IsHead (asked : Option ℕ) (h : List ℕ) (v n : ℕ) : Type 0 where
+  pub known : is_version v ≡ true
+  pub text : h ≡ head_text v n
   pub fits : n < 2 ^ 64
   pub asked_for : is_other asked n ≡ false
 
@@ -155,12 +156,12 @@ two_true true true false e = absurd cc
 two_true true false r e = absurd cc
 two_true false q r e = absurd cc
 
-four_whole : (asked : Option ℕ) (a b c d : ℕ) (t : List ℕ) → IsBytes t → length (four a b c d t) ≤ 12 → head_stop asked (four a b c d t) ≡ None → IsHead asked (four a b c d t) (little_number 8 t)
+four_whole : (asked : Option ℕ) (a b c d : ℕ) (t : List ℕ) → IsBytes t → length (four a b c d t) ≤ 12 → head_stop asked (four a b c d t) ≡ None → IsHead asked (four a b c d t) d (little_number 8 t)
 unfolding head_text
 four_whole asked a b c d t fits short s = elim (chosen (not (has_letters (four a b c d t))) (fails Magic) (behind_four asked d t (four a b c d t)) None (sym (at_four asked a b c d t) ∙ s)) [
   | inl m ↦ absurd (fails_not_none Magic m.1)
   | inr w ↦
-      elim (chosen (not (eqb d 1)) (fails NewVersion) (cond (ltb (length (four a b c d t)) 12) (waits (four a b c d t)) (cond (is_other asked (little_number 8 t)) (fails OtherWorld) None)) None w.1) [
+      elim (chosen (not (is_version d)) (fails NewVersion) (cond (ltb (length (four a b c d t)) 12) (waits (four a b c d t)) (cond (is_other asked (little_number 8 t)) (fails OtherWorld) None)) None w.1) [
         | inl v ↦ absurd (fails_not_none NewVersion v.1)
         | inr v ↦
             elim (chosen (ltb (length (four a b c d t)) 12) (waits (four a b c d t)) (cond (is_other asked (little_number 8 t)) (fails OtherWorld) None) None v.1) [
@@ -173,12 +174,13 @@ four_whole asked a b c d t fits short s = elim (chosen (not (has_letters (four a
                         let ea : a ≡ 90 = eqb-true a 90 letters.0 in
                         let eb : b ≡ 69 = eqb-true b 69 letters.1 in
                         let ec : c ≡ 68 = eqb-true c 68 letters.2 in
-                        let ed : d ≡ 1 = eqb-true d 1 (not_false _ v.0) in
+                        let known : is_version d ≡ true = not_false _ v.0 in
                         let long : 12 ≤ length (four a b c d t) = ltb-false _ _ u.0 in
                         let eight : 8 ≤ length t = omega arith in
                         let et : t ≡ number 8 (little_number 8 t) = sym (number_is 8 t fits eight ∙ take_all 8 t (omega arith)) in
                         record {
-                          text = ap (λ (k : ℕ). four k b c d t) ea ∙ ap (λ (k : ℕ). four 90 k c d t) eb ∙ ap (λ (k : ℕ). four 90 69 k d t) ec ∙ ap (λ (k : ℕ). four 90 69 68 k t) ed ∙ ap (λ (k : List ℕ). four 90 69 68 1 k) et;
+                          known = known;
+                          text = ap (λ (k : ℕ). four k b c d t) ea ∙ ap (λ (k : ℕ). four 90 k c d t) eb ∙ ap (λ (k : ℕ). four 90 69 k d t) ec ∙ ap (λ (k : List ℕ). four 90 69 68 d k) et;
                           fits = number_below 8 t fits;
                           asked_for = o.0;
                         }
@@ -187,7 +189,7 @@ four_whole asked a b c d t fits short s = elim (chosen (not (has_letters (four a
       ]
 ]
 
-pub head_whole : (asked : Option ℕ) (h : List ℕ) → IsBytes h → length h ≤ 12 → head_stop asked h ≡ None → IsHead asked h (little_number 8 (drop 4 h))
+pub head_whole : (asked : Option ℕ) (h : List ℕ) → IsBytes h → length h ≤ 12 → head_stop asked h ≡ None → IsHead asked h (get_or h 3 0) (little_number 8 (drop 4 h))
 head_whole asked [] fits le s = absurd (short_whole asked [] (omega arith) s)
 head_whole asked (a ∷ []) fits le s = absurd (short_whole asked (a ∷ []) (omega arith) s)
 head_whole asked (a ∷ b ∷ []) fits le s = absurd (short_whole asked (a ∷ b ∷ []) (omega arith) s)
@@ -202,16 +204,16 @@ head_fault asked total k l e whole s = inr (ap (head_stop asked) (sym whole) ∙
 pub head_short : (asked : Option ℕ) (total k l : List ℕ) → k ++ l ≡ total → (length k < 12 → l ≡ []) → head_stop asked k ≡ waits k → (k ≡ total) × (head_stop asked k ≡ waits k)
 head_short asked total k l whole none s = (sym (append-nil k) ∙ ap (λ (t : List ℕ). k ++ t) (sym (none (head_waits asked k k s).1)) ∙ whole, s)
 
-pub head_done : (asked : Option ℕ) (old total k l : List ℕ) (n : ℕ) → k ++ l ≡ total → IsBytes k → head_stop asked old ≡ waits old → (length old ≤ 12 → length k ≤ 12) → (head_stop asked k ≡ None) × (n ≡ little_number 8 (drop 4 k)) → (is_other asked n ≡ false) × (n < 2 ^ 64) × (total ≡ head_text n ++ l)
-head_done asked old total k l n whole fits stop size h =
+pub head_done : (asked : Option ℕ) (old total k l : List ℕ) (v n : ℕ) → k ++ l ≡ total → IsBytes k → head_stop asked old ≡ waits old → (length old ≤ 12 → length k ≤ 12) → (head_stop asked k ≡ None) × (v ≡ get_or k 3 0) × (n ≡ little_number 8 (drop 4 k)) → (is_other asked n ≡ false) × (n < 2 ^ 64) × (is_version v ≡ true) × (total ≡ head_text v n ++ l)
+head_done asked old total k l v n whole fits stop size h =
     let lt : length old < 12 = (head_waits asked old old stop).1 in
     let is = head_whole asked k fits (size (omega arith)) h.0 in
-    rw (h.1) (is.asked_for, is.fits, sym whole ∙ ap (λ (t : List ℕ). t ++ l) is.text)
+    rw (h.1, h.2) (is.asked_for, is.fits, is.known, sym whole ∙ ap (λ (t : List ℕ). t ++ l) is.text)
 
 -- a good head stands at the front
-pub head_front : (asked : Option ℕ) (n : ℕ) (x : List ℕ) → n < 2 ^ 64 → is_other asked n ≡ false → head_stop asked (head_text n ++ x) ≡ None
+pub head_front : (asked : Option ℕ) (v n : ℕ) (x : List ℕ) → n < 2 ^ 64 → is_version v ≡ true → is_other asked n ≡ false → head_stop asked (head_text v n ++ x) ≡ None
 unfolding head_text
-head_front asked n x lt other =
+head_front asked v n x lt known other =
     let t : List ℕ = number 8 n ++ x in
-    let long : ltb (length (four 90 69 68 1 t)) 12 ≡ false = le-ltb _ _ (omega (arith, length-append (number 8 n) x, length_number 8 n)) in
-    at_four asked 90 69 68 1 t ∙ rw (long, number_back 8 n x lt, other) refl
+    let long : ltb (length (four 90 69 68 v t)) 12 ≡ false = le-ltb _ _ (omega (arith, length-append (number 8 n) x, length_number 8 n)) in
+    at_four asked 90 69 68 v t ∙ rw (known, long, number_back 8 n x lt, other) refl

@@ -76,6 +76,7 @@ length_header (header.Flag k s) h = omega (arith, leb-true _ _ h)
 length_property : (s : BoardSetting) → is_property_in_range s ≡ true → length (board_setting s) ≤ 60
 length_property (board.Byte f n) h = omega arith
 length_property (board.Flag f b) h = omega arith
+length_property (board.Rank n) h = omega (arith, length_number 2 n)
 length_property (board.TimeLimit n) h = omega (arith, length_integer n)
 length_property (board.Exit d b) h = omega (arith, length_optional board_name 12 length_board b)
 length_property (board.Text Name s) h = omega (arith, leb-true _ _ h)

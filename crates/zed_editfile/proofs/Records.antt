@@ -7,8 +7,7 @@ use Rattle.zed_op.specs.Fit.{Fits}
 use Rattle.zed_op.specs.Sizes.{HasSizes}
 use Rattle.zed_op.specs.Set.{AllFit}
 use Rattle.zed_editfile.specs.declared.error.EditFileError.TheVariants.{Memory}
-use Rattle.zed_editfile.specs.Spelling.{file_text}
-use Rattle.zed_editfile.specs.Stream.{is_other, IsRecord, AreRecords, Progress, Reads}
+use Rattle.zed_editfile.specs.Stream.{is_other, IsRecord, AreRecords, IsTextOf, Progress, Reads}
 use Rattle.zed_editfile.proofs.Fitting.{passes}
 use Rattle.zed_editfile.proofs.Once.{one_reading, file_reads}
 use Rattle.zed_editfile.proofs.Lengths.{AreShort, body_is_short}
@@ -44,6 +43,6 @@ none_is_not_memory : None ≡ Some Memory → ⊥
 none_is_not_memory h = cc
 
 -- whoever reads the whole text of edits has these edits
-pub file_has : (n : ℕ) (es fs : List Edit) (p : Progress) → n < 2 ^ 64 → AreRecords es → is_other p.asked n ≡ false → (p.fault ≡ Some Memory → ⊥) → Reads (file_text n es) fs p → (fs ≡ es) × (p ≡ record { asked = p.asked; world = Some n; rest = []; fault = None })
-file_has n es fs p lt good other whole reads =
-    one_reading (file_text n es) fs es p (record { asked = p.asked; world = Some n; rest = []; fault = None }) refl whole none_is_not_memory reads (file_reads p.asked n es lt other good)
+pub file_has : (n : ℕ) (es : List Edit) (bytes : List ℕ) (file : IsTextOf n es bytes) (fs : List Edit) (p : Progress) → n < 2 ^ 64 → AreRecords es → is_other p.asked n ≡ false → (p.fault ≡ Some Memory → ⊥) → Reads bytes fs p → (fs ≡ es) × (p ≡ record { asked = p.asked; world = Some n; version = file.version; rest = []; fault = None })
+file_has n es bytes file fs p lt good other whole reads =
+    one_reading bytes fs es p (record { asked = p.asked; world = Some n; version = file.version; rest = []; fault = None }) refl whole none_is_not_memory reads (file_reads p.asked n es bytes lt other good file)

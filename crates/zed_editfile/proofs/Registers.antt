@@ -1,6 +1,6 @@
 -- Registers under their numbers: what is read is spelled so, and what is spelled is read again.
-use Rattle.std.proofs.Common.{Option, Some, None, ℤ, length, subst, append-nil, ◌≡◌, ℕ, zero, suc, ◌+◌, ◌-◌, ◌<◌, ◌≤◌, false, cond, ltb, eqb, List, [], ◌∷◌, ◌++◌, Ok, Err, refl, sym, ap, ◌∙◌, append_assoc, arith}
-use Rattle.std.proofs.lemmas.Bool.{ltb-true, ltb-false, eqb-true, eqb-false}
+use Rattle.std.proofs.Common.{Option, Some, None, ℤ, length, subst, append-nil, ◌≡◌, ℕ, zero, suc, ◌+◌, ◌-◌, ◌<◌, ◌≤◌, true, false, ◌&&◌, cond, leb, ltb, eqb, List, [], ◌∷◌, ◌++◌, Ok, Err, refl, sym, ap, ◌∙◌, append_assoc, arith}
+use Rattle.std.proofs.lemmas.Bool.{ltb-true, ltb-false, leb-true, le-leb, eqb-true, eqb-false, and_parts}
 use Rattle.zed_types.specs.declared.header.HeaderNumber.TheVariants.{Ammo, Gems, Health, Torches, TorchTicks, EnergizerTicks, Score, TimePassed, Hundredths}
 use Rattle.zed_types.specs.declared.header.KeyColour.TheVariants.{Blue, Green, Cyan, Red, Purple, Yellow, White}
 use Rattle.zed_types.specs.declared.header.FlagSlot.TheVariants.{First, Second, Third, Fourth, Fifth, Sixth, Seventh, Eighth, Ninth, Tenth}
@@ -32,10 +32,10 @@ use Rattle.zed_types.specs.declared.stat_field.ThirdParameter.{ThirdParameter}
 use Rattle.zed_types.specs.declared.names.TextId.{TextId}
 use Rattle.zed_types.specs.declared.tile.Tile.{Tile}
 use Rattle.zed_editfile.specs.declared.error.EditFileError.TheVariants.{BadEdit}
-use Rattle.zed_editfile.specs.Spelling.{integer, boolean, string, board_name, stat_name, text_name, optional, third_parameter, header_setting, board_setting, stat_setting, stat_fields}
-use Rattle.zed_editfile.specs.Reading.{Field, mapped, byte_at, integer_at, boolean_at, string_at, board_name_at, stat_name_at, text_name_at, optional_at, third_parameter_at, by_kind, fields_of, key_of, flag_of, header_value_at, header_setting_at, board_value_at, board_setting_at, stat_value_at, stat_setting_at, stat_fields_at}
+use Rattle.zed_editfile.specs.Spelling.{number, integer, boolean, string, board_name, stat_name, text_name, optional, third_parameter, header_setting, board_setting, stat_setting, stat_fields, IsPropertyOf}
+use Rattle.zed_editfile.specs.Reading.{Field, mapped, byte_at, number_at, integer_at, boolean_at, string_at, board_name_at, stat_name_at, text_name_at, optional_at, third_parameter_at, by_kind, fields_of, key_of, flag_of, header_value_at, header_setting_at, board_value_at, board_setting_at, stat_value_at, stat_setting_at, stat_fields_at}
 use Rattle.zed_op.specs.Sizes.{IsHeaderSetting, IsBoardSetting, IsStatSetting, IsStatFields}
-use Rattle.zed_editfile.proofs.Codec.{IsField, Completes, takes_then, takes_end, takes_all, takes_mapped, takes_choice, takes_kind, takes_none, some_if, again_then, again_mapped, byte_field, integer_field, boolean_field, string_field, tile_field}
+use Rattle.zed_editfile.proofs.Codec.{IsField, Completes, takes_then, takes_end, takes_all, takes_mapped, takes_choice, takes_kind, takes_none, some_if, again_then, again_mapped, byte_field, number_field, integer_field, boolean_field, string_field, tile_field}
 use Rattle.zed_editfile.proofs.Names.{board_name_field, stat_name_field, text_name_field, optional_field, third_parameter_field}
 
 -- ---- a register that is found under a number has that number
@@ -163,20 +163,26 @@ header_value f =
     (λ e5. takes_mapped string_field IsHeaderSetting header_setting (λ t. f ∷ t) (header.Flag (flag_of (f - 19))) (λ a g. g) (λ a t. ap (λ (n : ℕ). n ∷ (string a ++ t)) (flag_named f (past_18 f n1 n2 n3 n4) (ltb-true f 29 e5))))
     (λ n5. takes_none IsHeaderSetting header_setting (λ t. f ∷ t) (BadEdit Tag)))))))
 
-board_value : (f : ℕ) → Completes IsBoardSetting board_setting (λ t. f ∷ t) (board_value_at f)
+-- a register of a board of a version has the size of its field
+abbrev pub IsPropertyIn : ℕ → BoardSetting → Type 0
+IsPropertyIn v s = IsBoardSetting s × IsPropertyOf v s
+
+board_value : (v f : ℕ) → Completes (IsPropertyIn v) board_setting (λ t. f ∷ t) (board_value_at v f)
 unfolding board_value_at
-board_value f =
-    takes_kind IsBoardSetting board_setting (λ t. f ∷ t) (board_byte_of_field f) (λ k t. mapped (board.Byte k) (byte_at t)) (λ t. by_kind (board_flag_of_field f) (λ k. mapped (board.Flag k) (boolean_at t)) (by_kind (side_of_field f) (λ k. mapped (board.Exit k) (optional_at board_name_at t)) (by_kind (board_text_of_field f) (λ k. mapped (board.Text k) (string_at t)) (cond (eqb f 5) (mapped board.TimeLimit (integer_at t)) (Err (BadEdit Tag))))))
-    (λ k e0. takes_mapped byte_field IsBoardSetting board_setting (λ t. f ∷ t) (board.Byte k) (λ a g. g) (λ a t. ap (λ (n : ℕ). n ∷ ((a ∷ []) ++ t)) (board_byte_named f k e0)))
-    (λ n0. takes_kind IsBoardSetting board_setting (λ t. f ∷ t) (board_flag_of_field f) (λ k t. mapped (board.Flag k) (boolean_at t)) (λ t. by_kind (side_of_field f) (λ k. mapped (board.Exit k) (optional_at board_name_at t)) (by_kind (board_text_of_field f) (λ k. mapped (board.Text k) (string_at t)) (cond (eqb f 5) (mapped board.TimeLimit (integer_at t)) (Err (BadEdit Tag)))))
-    (λ k e1. takes_mapped boolean_field IsBoardSetting board_setting (λ t. f ∷ t) (board.Flag k) (λ a g. g) (λ a t. ap (λ (n : ℕ). n ∷ (boolean a ++ t)) (board_flag_named f k e1)))
-    (λ n1. takes_kind IsBoardSetting board_setting (λ t. f ∷ t) (side_of_field f) (λ k t. mapped (board.Exit k) (optional_at board_name_at t)) (λ t. by_kind (board_text_of_field f) (λ k. mapped (board.Text k) (string_at t)) (cond (eqb f 5) (mapped board.TimeLimit (integer_at t)) (Err (BadEdit Tag))))
-    (λ k e2. takes_mapped (optional_field board_name_field) IsBoardSetting board_setting (λ t. f ∷ t) (board.Exit k) (λ a g. g) (λ a t. ap (λ (n : ℕ). n ∷ (optional board_name a ++ t)) (side_named f k e2)))
-    (λ n2. takes_kind IsBoardSetting board_setting (λ t. f ∷ t) (board_text_of_field f) (λ k t. mapped (board.Text k) (string_at t)) (λ t. cond (eqb f 5) (mapped board.TimeLimit (integer_at t)) (Err (BadEdit Tag)))
-    (λ k e3. takes_mapped string_field IsBoardSetting board_setting (λ t. f ∷ t) (board.Text k) (λ a g. g) (λ a t. ap (λ (n : ℕ). n ∷ (string a ++ t)) (board_text_named f k e3)))
-    (λ n3. takes_choice IsBoardSetting board_setting (λ t. f ∷ t) (eqb f 5) (λ t. mapped board.TimeLimit (integer_at t)) (λ t. Err (BadEdit Tag))
-    (λ e4. takes_mapped integer_field IsBoardSetting board_setting (λ t. f ∷ t) board.TimeLimit (λ a g. g) (λ a t. ap (λ (n : ℕ). n ∷ (integer a ++ t)) (eqb-true f 5 e4)))
-    (λ n4. takes_none IsBoardSetting board_setting (λ t. f ∷ t) (BadEdit Tag))))))
+board_value v f =
+    takes_kind (IsPropertyIn v) board_setting (λ t. f ∷ t) (board_byte_of_field f) (λ k t. mapped (board.Byte k) (byte_at t)) (λ t. by_kind (board_flag_of_field f) (λ k. mapped (board.Flag k) (boolean_at t)) (by_kind (side_of_field f) (λ k. mapped (board.Exit k) (optional_at board_name_at t)) (by_kind (board_text_of_field f) (λ k. mapped (board.Text k) (string_at t)) (cond (eqb f 5) (mapped board.TimeLimit (integer_at t)) (cond (eqb f 12 && leb 2 v) (mapped board.Rank (number_at 2 t)) (Err (BadEdit Tag)))))))
+    (λ k e0. takes_mapped byte_field (IsPropertyIn v) board_setting (λ t. f ∷ t) (board.Byte k) (λ a g. (g, tt)) (λ a t. ap (λ (n : ℕ). n ∷ ((a ∷ []) ++ t)) (board_byte_named f k e0)))
+    (λ n0. takes_kind (IsPropertyIn v) board_setting (λ t. f ∷ t) (board_flag_of_field f) (λ k t. mapped (board.Flag k) (boolean_at t)) (λ t. by_kind (side_of_field f) (λ k. mapped (board.Exit k) (optional_at board_name_at t)) (by_kind (board_text_of_field f) (λ k. mapped (board.Text k) (string_at t)) (cond (eqb f 5) (mapped board.TimeLimit (integer_at t)) (cond (eqb f 12 && leb 2 v) (mapped board.Rank (number_at 2 t)) (Err (BadEdit Tag))))))
+    (λ k e1. takes_mapped boolean_field (IsPropertyIn v) board_setting (λ t. f ∷ t) (board.Flag k) (λ a g. (g, tt)) (λ a t. ap (λ (n : ℕ). n ∷ (boolean a ++ t)) (board_flag_named f k e1)))
+    (λ n1. takes_kind (IsPropertyIn v) board_setting (λ t. f ∷ t) (side_of_field f) (λ k t. mapped (board.Exit k) (optional_at board_name_at t)) (λ t. by_kind (board_text_of_field f) (λ k. mapped (board.Text k) (string_at t)) (cond (eqb f 5) (mapped board.TimeLimit (integer_at t)) (cond (eqb f 12 && leb 2 v) (mapped board.Rank (number_at 2 t)) (Err (BadEdit Tag)))))
+    (λ k e2. takes_mapped (optional_field board_name_field) (IsPropertyIn v) board_setting (λ t. f ∷ t) (board.Exit k) (λ a g. (g, tt)) (λ a t. ap (λ (n : ℕ). n ∷ (optional board_name a ++ t)) (side_named f k e2)))
+    (λ n2. takes_kind (IsPropertyIn v) board_setting (λ t. f ∷ t) (board_text_of_field f) (λ k t. mapped (board.Text k) (string_at t)) (λ t. cond (eqb f 5) (mapped board.TimeLimit (integer_at t)) (cond (eqb f 12 && leb 2 v) (mapped board.Rank (number_at 2 t)) (Err (BadEdit Tag))))
+    (λ k e3. takes_mapped string_field (IsPropertyIn v) board_setting (λ t. f ∷ t) (board.Text k) (λ a g. (g, tt)) (λ a t. ap (λ (n : ℕ). n ∷ (string a ++ t)) (board_text_named f k e3)))
+    (λ n3. takes_choice (IsPropertyIn v) board_setting (λ t. f ∷ t) (eqb f 5) (λ t. mapped board.TimeLimit (integer_at t)) (λ t. cond (eqb f 12 && leb 2 v) (mapped board.Rank (number_at 2 t)) (Err (BadEdit Tag)))
+    (λ e4. takes_mapped integer_field (IsPropertyIn v) board_setting (λ t. f ∷ t) board.TimeLimit (λ a g. (g, tt)) (λ a t. ap (λ (n : ℕ). n ∷ (integer a ++ t)) (eqb-true f 5 e4)))
+    (λ n4. takes_choice (IsPropertyIn v) board_setting (λ t. f ∷ t) (eqb f 12 && leb 2 v) (λ t. mapped board.Rank (number_at 2 t)) (λ t. Err (BadEdit Tag))
+    (λ e5. let both = and_parts (eqb f 12) (leb 2 v) e5 in takes_mapped (number_field 2) (IsPropertyIn v) board_setting (λ t. f ∷ t) board.Rank (λ a g. (g, leb-true 2 v both.1)) (λ a t. ap (λ (n : ℕ). n ∷ (number 2 a ++ t)) (eqb-true f 12 both.0)))
+    (λ n5. takes_none (IsPropertyIn v) board_setting (λ t. f ∷ t) (BadEdit Tag)))))))
 
 stat_value : (f : ℕ) → Completes IsStatSetting stat_setting (λ t. f ∷ t) (stat_value_at f)
 unfolding stat_value_at
@@ -199,9 +205,9 @@ header_completes : Completes IsHeaderSetting header_setting (λ t. t) header_set
 unfolding header_setting_at
 header_completes = takes_then byte_field IsHeaderSetting header_setting (λ t. t) (λ f. header_value_at f.0 f.1) (λ f gf. header_value f)
 
-board_completes : Completes IsBoardSetting board_setting (λ t. t) board_setting_at
+board_completes : (v : ℕ) → Completes (IsPropertyIn v) board_setting (λ t. t) (board_setting_at v)
 unfolding board_setting_at
-board_completes = takes_then byte_field IsBoardSetting board_setting (λ t. t) (λ f. board_value_at f.0 f.1) (λ f gf. board_value f)
+board_completes v = takes_then byte_field (IsPropertyIn v) board_setting (λ t. t) (λ f. board_value_at v f.0 f.1) (λ f gf. board_value v f)
 
 stat_completes : Completes IsStatSetting stat_setting (λ t. t) stat_setting_at
 unfolding stat_setting_at
@@ -242,23 +248,26 @@ header_again (header.Flag Tenth w) rest g = again_mapped string_field (header.Fl
 pub header_setting_field : IsField IsHeaderSetting header_setting header_setting_at
 header_setting_field = record { again = header_again; takes = takes_all IsHeaderSetting header_setting header_setting_at header_completes }
 
-board_again : (s : BoardSetting) (rest : List ℕ) → IsBoardSetting s → board_setting_at (board_setting s ++ rest) ≡ Ok (s, rest)
+board_again : (v : ℕ) (s : BoardSetting) (rest : List ℕ) → IsPropertyIn v s → board_setting_at v (board_setting s ++ rest) ≡ Ok (s, rest)
 unfolding board_setting_at board_value_at byte_at
-board_again (board.Byte MaxShots n) rest g = again_mapped byte_field (board.Byte MaxShots) rest n g
-board_again (board.Byte StartX n) rest g = again_mapped byte_field (board.Byte StartX) rest n g
-board_again (board.Byte StartY n) rest g = again_mapped byte_field (board.Byte StartY) rest n g
-board_again (board.Flag Dark b) rest g = again_mapped boolean_field (board.Flag Dark) rest b tt
-board_again (board.Flag ReEnter b) rest g = again_mapped boolean_field (board.Flag ReEnter) rest b tt
-board_again (board.TimeLimit n) rest g = again_mapped integer_field board.TimeLimit rest n g
-board_again (board.Exit North b) rest g = again_mapped (optional_field board_name_field) (board.Exit North) rest b g
-board_again (board.Exit South b) rest g = again_mapped (optional_field board_name_field) (board.Exit South) rest b g
-board_again (board.Exit West b) rest g = again_mapped (optional_field board_name_field) (board.Exit West) rest b g
-board_again (board.Exit East b) rest g = again_mapped (optional_field board_name_field) (board.Exit East) rest b g
-board_again (board.Text Name w) rest g = again_mapped string_field (board.Text Name) rest w g
-board_again (board.Text Message w) rest g = again_mapped string_field (board.Text Message) rest w g
+board_again v (board.Byte MaxShots n) rest g = again_mapped byte_field (board.Byte MaxShots) rest n g.0
+board_again v (board.Byte StartX n) rest g = again_mapped byte_field (board.Byte StartX) rest n g.0
+board_again v (board.Byte StartY n) rest g = again_mapped byte_field (board.Byte StartY) rest n g.0
+board_again v (board.Flag Dark b) rest g = again_mapped boolean_field (board.Flag Dark) rest b tt
+board_again v (board.Flag ReEnter b) rest g = again_mapped boolean_field (board.Flag ReEnter) rest b tt
+board_again v (board.TimeLimit n) rest g = again_mapped integer_field board.TimeLimit rest n g.0
+board_again v (board.Exit North b) rest g = again_mapped (optional_field board_name_field) (board.Exit North) rest b g.0
+board_again v (board.Exit South b) rest g = again_mapped (optional_field board_name_field) (board.Exit South) rest b g.0
+board_again v (board.Exit West b) rest g = again_mapped (optional_field board_name_field) (board.Exit West) rest b g.0
+board_again v (board.Exit East b) rest g = again_mapped (optional_field board_name_field) (board.Exit East) rest b g.0
+board_again v (board.Text Name w) rest g = again_mapped string_field (board.Text Name) rest w g.0
+board_again v (board.Text Message w) rest g = again_mapped string_field (board.Text Message) rest w g.0
+board_again v (board.Rank n) rest g =
+    let t : leb 2 v ≡ true = le-leb 2 v g.1 in
+    rw t (again_mapped (number_field 2) board.Rank rest n g.0)
 
-pub board_setting_field : IsField IsBoardSetting board_setting board_setting_at
-board_setting_field = record { again = board_again; takes = takes_all IsBoardSetting board_setting board_setting_at board_completes }
+pub board_setting_field : (v : ℕ) → IsField (IsPropertyIn v) board_setting (board_setting_at v)
+board_setting_field v = record { again = board_again v; takes = takes_all (IsPropertyIn v) board_setting (board_setting_at v) (board_completes v) }
 
 stat_again : (s : StatSetting) (rest : List ℕ) → IsStatSetting s → stat_setting_at (stat_setting s ++ rest) ≡ Ok (s, rest)
 unfolding stat_setting_at stat_value_at byte_at

@@ -1,5 +1,5 @@
 -- What the body of a record says: from left to right, with the first fault that is met.
-use Rattle.std.specs.Prelude.{◌≡◌, ◌⊎◌, ℕ, ℤ, ◌-◌, Bool, true, false, ◌==◌, nat_lt, if◌then◌else◌, List, [], ◌∷◌, ◌++◌, length, take, drop, Option, Some, None, Result, Ok, Err}
+use Rattle.std.specs.Prelude.{◌≡◌, ◌⊎◌, ℕ, ℤ, ◌-◌, Bool, true, false, ◌&&◌, ◌==◌, nat_le, nat_lt, if◌then◌else◌, List, [], ◌∷◌, ◌++◌, length, take, drop, Option, Some, None, Result, Ok, Err}
 use Rattle.std.specs.Int.{w16, cast_signed}
 use Rattle.byteorder.specs.Endian.{little_number}
 use Rattle.zed_types.specs.Steps.{◌>>=◌}
@@ -20,6 +20,7 @@ use Rattle.zed_types.specs.declared.header.HeaderSetting.{HeaderSetting}
 use Rattle.zed_types.specs.declared.header.HeaderSetting.TheVariants as header
 use Rattle.zed_types.specs.declared.property.BoardSetting.{BoardSetting}
 use Rattle.zed_types.specs.declared.property.BoardSetting.TheVariants as board
+use Rattle.zed_types.specs.declared.property.TheConstants.BoardSetting.{TIME_LIMIT, RANK}
 use Rattle.zed_types.specs.declared.stat_field.ThirdParameter.{ThirdParameter}
 use Rattle.zed_types.specs.declared.stat_field.ThirdParameter.TheVariants as third
 use Rattle.zed_types.specs.declared.stat_field.StatSetting.{StatSetting}
@@ -190,18 +191,19 @@ header_value_at f bytes =
 unfoldable pub header_setting_at : List ℕ → Field HeaderSetting
 header_setting_at bytes = register_at header_value_at bytes
 
--- the value of board property f
-unfoldable pub board_value_at : ℕ → List ℕ → Field BoardSetting
-board_value_at f bytes =
+-- the value of board property f, of those that the version has
+unfoldable pub board_value_at : ℕ → ℕ → List ℕ → Field BoardSetting
+board_value_at version f bytes =
     by_kind (board_byte_of_field f) (λ k. mapped (board.Byte k) (byte_at bytes)) (
     by_kind (board_flag_of_field f) (λ k. mapped (board.Flag k) (boolean_at bytes)) (
     by_kind (side_of_field f) (λ k. mapped (board.Exit k) (optional_at board_name_at bytes)) (
     by_kind (board_text_of_field f) (λ k. mapped (board.Text k) (string_at bytes)) (
-    if f == 5 then mapped board.TimeLimit (integer_at bytes) else Err (BadEdit Tag)))))
+    if f == TIME_LIMIT then mapped board.TimeLimit (integer_at bytes) else
+    if (f == RANK) && nat_le 2 version then mapped board.Rank (number_at 2 bytes) else Err (BadEdit Tag)))))
 
 -- a register of a board, under its number
-unfoldable pub board_setting_at : List ℕ → Field BoardSetting
-board_setting_at bytes = register_at board_value_at bytes
+unfoldable pub board_setting_at : ℕ → List ℕ → Field BoardSetting
+board_setting_at version bytes = register_at (board_value_at version) bytes
 
 -- the value of stat field f
 unfoldable pub stat_value_at : ℕ → List ℕ → Field StatSetting
@@ -246,8 +248,8 @@ pair_at make first second bytes = do
   Ok (make a.0 b.0, b.1)
 
 -- a board, and a register of it
-unfoldable pub set_board_at : List ℕ → Field Op
-set_board_at bytes = pair_at SetBoard board_name_at board_setting_at bytes
+unfoldable pub set_board_at : ℕ → List ℕ → Field Op
+set_board_at version bytes = pair_at SetBoard board_name_at (board_setting_at version) bytes
 
 -- a board, a rectangle and a tile
 unfoldable pub set_cells_at : List ℕ → Field Op
@@ -285,13 +287,13 @@ unfoldable pub text_delete_at : List ℕ → Field Op
 text_delete_at bytes = pair_at TextDelete text_name_at range_at bytes
 
 -- the op of a number, by the fields behind it
-unfoldable pub op_at : ℕ → List ℕ → Field Op
-op_at n bytes =
+unfoldable pub op_at : ℕ → ℕ → List ℕ → Field Op
+op_at version n bytes =
     if n == 1 then Ok (Genesis bytes, []) else
     if n == 2 then mapped SetHeader (header_setting_at bytes) else
     if n == 3 then mapped BoardAdd (string_at bytes) else
     if n == 4 then mapped BoardRemove (board_name_at bytes) else
-    if n == 5 then set_board_at bytes else
+    if n == 5 then set_board_at version bytes else
     if n == 6 then set_cells_at bytes else
     if n == 7 then stat_add_at bytes else
     if n == 8 then mapped StatRemove (stat_name_at bytes) else
@@ -303,11 +305,11 @@ op_at n bytes =
 -- ---- edits
 
 -- a stamp, and an op of which nothing is left
-unfoldable pub fields_at : List ℕ → Result Edit EditFileError
-fields_at bytes = do
+unfoldable pub fields_at : ℕ → List ℕ → Result Edit EditFileError
+fields_at version bytes = do
   made ← stamp_at bytes
   number ← byte_at made.1
-  op ← op_at number.0 number.1
+  op ← op_at version number.0 number.1
   if length op.1 == 0 then Ok (record { stamp = made.0; op = op.0 }) else Err (BadEdit Long)
 
 -- the edit, if nothing is wrong with it
@@ -315,8 +317,8 @@ abbrev pub unless_faulty : Option Cause → Edit → Result Edit EditFileError
 unless_faulty None e = Ok e
 unless_faulty (Some c) e = Err (BadEdit c)
 
--- the edit that the body of a record spells, if it fits
-unfoldable pub edit_at : List ℕ → Result Edit EditFileError
-edit_at bytes = do
-  e ← fields_at bytes
+-- the edit that the body of a record of a version spells, if it fits
+unfoldable pub edit_at : ℕ → List ℕ → Result Edit EditFileError
+edit_at version bytes = do
+  e ← fields_at version bytes
   unless_faulty (fault e) e

@@ -1,7 +1,7 @@
 -- The one spelling of an edit, field by field, and of a file of edits. Numbers stand with their lowest byte first.
-use Rattle.std.specs.Prelude.{ℕ, ℤ, ◌+◌, Bool, if◌then◌else◌, List, [], ◌∷◌, ◌++◌, length, take, drop, Option, Some, None}
+use Rattle.std.specs.Prelude.{◌≤◌, ℕ, ℤ, ◌+◌, Bool, if◌then◌else◌, List, [], ◌∷◌, ◌++◌, length, take, drop, Option, Some, None}
 use Rattle.std.specs.Int.{w16, cast_unsigned}
-use Rattle.std.specs.List.{flat_map}
+use Rattle.std.specs.List.{flat_map, AllByRecursion}
 use Rattle.byteorder.specs.Endian.{little_bytes}
 use Rattle.zed_types.specs.declared.stamp.Stamp.{Stamp}
 use Rattle.zed_types.specs.declared.names.Name.{Name as ThingName}
@@ -15,6 +15,7 @@ use Rattle.zed_types.specs.declared.header.HeaderSetting.{HeaderSetting}
 use Rattle.zed_types.specs.declared.header.HeaderSetting.TheVariants as header
 use Rattle.zed_types.specs.declared.property.BoardSetting.{BoardSetting}
 use Rattle.zed_types.specs.declared.property.BoardSetting.TheVariants as board
+use Rattle.zed_types.specs.declared.property.TheConstants.BoardSetting.{TIME_LIMIT, RANK}
 use Rattle.zed_types.specs.declared.stat_field.ThirdParameter.{ThirdParameter}
 use Rattle.zed_types.specs.declared.stat_field.ThirdParameter.TheVariants as third
 use Rattle.zed_types.specs.declared.stat_field.StatSetting.{StatSetting}
@@ -102,9 +103,10 @@ header_setting (header.Flag k s) = (19 + flag_index k) ∷ string s
 abbrev pub board_setting : BoardSetting → List ℕ
 board_setting (board.Byte f n) = board_byte_field f ∷ n ∷ []
 board_setting (board.Flag f b) = board_flag_field f ∷ boolean b
-board_setting (board.TimeLimit n) = 5 ∷ integer n
+board_setting (board.TimeLimit n) = TIME_LIMIT ∷ integer n
 board_setting (board.Exit d b) = side_field d ∷ optional board_name b
 board_setting (board.Text f s) = board_text_field f ∷ string s
+board_setting (board.Rank n) = RANK ∷ number 2 n
 
 -- a register of a stat
 abbrev pub stat_setting : StatSetting → List ℕ
@@ -145,10 +147,36 @@ spelling e = stamp e.stamp ++ op_text e.op
 unfoldable pub record_text : Edit → List ℕ
 record_text e = number 4 (length (spelling e)) ++ spelling e
 
--- `ZED`, the version 1, and the number of the world
-unfoldable pub head_text : ℕ → List ℕ
-head_text world = (90 ∷ 69 ∷ 68 ∷ 1 ∷ []) ++ number 8 world
+-- ---- versions
+
+-- a version has this register of a board: version 1 has no rank
+abbrev pub IsPropertyOf : ℕ → BoardSetting → Type 0
+IsPropertyOf version (board.Rank n) = 2 ≤ version
+IsPropertyOf version _ = Unit {0}
+
+-- a version has this op
+abbrev pub IsOpOf : ℕ → Op → Type 0
+IsOpOf version (SetBoard b setting) = IsPropertyOf version setting
+IsOpOf version _ = Unit {0}
+
+-- a version has a spelling of this edit, the same as each other version that has one
+abbrev pub IsOf : ℕ → Edit → Type 0
+IsOf version e = IsOpOf version e.op
+
+-- a version has a spelling of each of these edits
+abbrev pub AreOf : ℕ → List Edit → Type 0
+AreOf version es = AllByRecursion (IsOf version) es
+
+-- ---- files
+
+-- `ZED`, the version, and the number of the world
+unfoldable pub head_text : ℕ → ℕ → List ℕ
+head_text version world = (90 ∷ 69 ∷ 68 ∷ version ∷ []) ++ number 8 world
 
 -- a head, and a record for each edit
+abbrev pub text_of : ℕ → ℕ → List Edit → List ℕ
+text_of version world es = head_text version world ++ flat_map record_text es
+
+-- the text of a file as it is written: in version 2
 abbrev pub file_text : ℕ → List Edit → List ℕ
-file_text world es = head_text world ++ flat_map record_text es
+file_text world es = text_of 2 world es

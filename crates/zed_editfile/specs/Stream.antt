@@ -1,5 +1,5 @@
 -- What a reader of an edit file has found in the bytes so far.
-use Rattle.std.specs.Prelude.{◌≡◌, ◌⊎◌, ◌<◌, ◌^◌, ℕ, Bool, false, not, ◌&&◌, ◌==◌, true, nat_le, nat_lt, nat_eq, if◌then◌else◌, List, [], ◌∷◌, ◌++◌, length, take, drop, slice_index, Option, Some, None, Result, Ok, Err}
+use Rattle.std.specs.Prelude.{◌≡◌, ◌⊎◌, ◌<◌, ◌^◌, ℕ, Bool, false, not, ◌&&◌, ◌||◌, ◌==◌, true, nat_le, nat_lt, nat_eq, if◌then◌else◌, List, [], ◌∷◌, ◌++◌, length, take, drop, slice_index, Option, Some, None, Result, Ok, Err}
 use Rattle.std.specs.List.{flat_map, starts_with, AllByRecursion}
 use Rattle.byteorder.specs.Endian.{little_number}
 use Rattle.zed_op.specs.declared.op.Edit.{Edit}
@@ -8,7 +8,7 @@ use Rattle.zed_editfile.specs.declared.error.EditFileError.{EditFileError}
 use Rattle.zed_editfile.specs.declared.error.EditFileError.TheVariants.{Memory, Magic, NewVersion, OtherWorld, RecordLength, CutShort}
 use Rattle.zed_editfile.specs.Reading.{edit_at}
 use Rattle.zed_op.specs.Sizes.{HasSizes}
-use Rattle.zed_editfile.specs.Spelling.{number, spelling, record_text, head_text, file_text}
+use Rattle.zed_editfile.specs.Spelling.{number, spelling, record_text, head_text, text_of, AreOf}
 
 -- ---- where reading stops
 
@@ -34,12 +34,16 @@ abbrev pub is_other : Option ℕ → ℕ → Bool
 is_other None n = false
 is_other (Some m) n = not (m == n)
 
+-- the versions that are read
+abbrev pub is_version : ℕ → Bool
+is_version n = (n == 1) || (n == 2)
+
 -- nowhere, where a good head stands at the front
 unfoldable pub head_stop : Option ℕ → List ℕ → Option Stop
 head_stop asked bytes =
     if not (has_letters bytes) then fails Magic else
     if nat_lt (length bytes) 4 then waits bytes else
-    if not (slice_index bytes 3 == 1) then fails NewVersion else
+    if not (is_version (slice_index bytes 3)) then fails NewVersion else
     if nat_lt (length bytes) 12 then waits bytes else
     if is_other asked (little_number 8 (drop 4 bytes)) then fails OtherWorld else None
 
@@ -47,7 +51,7 @@ head_stop asked bytes =
 abbrev pub is_length : ℕ → Bool
 is_length n = nat_le 9 n && nat_le n 4194304
 
--- an edit that can stand in a record: it fits, each value has room in its field, and the body has one of the lengths
+-- an edit that can stand in a record of a version that has a spelling of it: it fits, each value has room in its field, and the body has one of the lengths
 abbrev pub IsRecord : Edit → Type 0
 IsRecord e = Fits e × HasSizes e × (is_length (length (spelling e)) ≡ true)
 
@@ -64,31 +68,40 @@ fault_of (Err f) = fails f
 abbrev pub body_at : List ℕ → List ℕ
 body_at bytes = take (little_number 4 bytes) (drop 4 bytes)
 
--- nowhere, where a record stands at the front whose body spells an edit that fits
-unfoldable pub record_stop : List ℕ → Option Stop
-record_stop bytes =
+-- nowhere, where a record of a version stands at the front whose body spells an edit that fits
+unfoldable pub record_stop : ℕ → List ℕ → Option Stop
+record_stop version bytes =
     if nat_lt (length bytes) 4 then waits bytes else
     if not (is_length (little_number 4 bytes)) then fails RecordLength else
-    if nat_lt (length (drop 4 bytes)) (little_number 4 bytes) then waits bytes else fault_of (edit_at (body_at bytes))
+    if nat_lt (length (drop 4 bytes)) (little_number 4 bytes) then waits bytes else fault_of (edit_at version (body_at bytes))
 
 -- the bytes are a length, a body of that length, and what follows
 pub record Frames (bytes body after : List ℕ) : Type 0 where
   pub long : is_length (length body) ≡ true
   pub parts : bytes ≡ number 4 (length body) ++ (body ++ after)
 
--- the records at the front of the bytes, before a tail, are those of the edits that a list gained
-pub record Gains (before after : List Edit) (bytes tail : List ℕ) : Type 0 where
+-- the records at the front of the bytes, before a tail, are those of the edits of a version that a list gained
+pub record Gains (version : ℕ) (before after : List Edit) (bytes tail : List ℕ) : Type 0 where
   pub edits : List Edit
   pub gained : after ≡ before ++ edits
   pub good : AreRecords edits
+  pub spelled : AreOf version edits
   pub whole : bytes ≡ flat_map record_text edits ++ tail
+
+-- the bytes are the text of these edits of a world in one of the versions, which has a spelling of each
+pub record IsTextOf (world : ℕ) (es : List Edit) (bytes : List ℕ) : Type 0 where
+  pub version : ℕ
+  pub known : is_version version ≡ true
+  pub spelled : AreOf version es
+  pub text : bytes ≡ text_of version world es
 
 -- ---- the reader
 
--- a reader: the world asked for, the world once the head is whole, what came of a head or a record that isn't whole yet, and the fault that ended it
+-- a reader: the world asked for, the world and the version once the head is whole (the version is 0 before), what came of a head or a record that isn't whole yet, and the fault that ended it
 pub record Progress : Type 0 where
   pub asked : Option ℕ
   pub world : Option ℕ
+  pub version : ℕ
   pub rest : List ℕ
   pub fault : Option EditFileError
 
@@ -103,6 +116,7 @@ Stops p stop = (p.fault ≡ Some Memory) ⊎ (stop ≡ Some (stop_of p))
 -- the bytes are less than a good head
 pub record InHead (bytes : List ℕ) (edits : List Edit) (p : Progress) : Type 0 where
   pub world : p.world ≡ None
+  pub version : p.version ≡ 0
   pub none : edits ≡ []
   pub stop : Stops p (head_stop p.asked bytes)
 
@@ -113,9 +127,11 @@ pub record InRecords (bytes : List ℕ) (edits : List Edit) (p : Progress) : Typ
   pub fits : number < 2 ^ 64
   pub asked : is_other p.asked number ≡ false
   pub world : p.world ≡ Some number
+  pub known : is_version p.version ≡ true
   pub good : AreRecords edits
-  pub whole : bytes ≡ file_text number edits ++ tail
-  pub stop : Stops p (record_stop tail)
+  pub spelled : AreOf p.version edits
+  pub whole : bytes ≡ text_of p.version number edits ++ tail
+  pub stop : Stops p (record_stop p.version tail)
 
 -- what a reader has found in the bytes so far, however they were cut: these edits, and where it is now
 abbrev pub Reads : List ℕ → List Edit → Progress → Type 0
@@ -148,13 +164,13 @@ verdict_of (Some e) = Err e
 -- ---- one step of a reader
 
 -- less than a head, or less than a record behind a head
-abbrev pub IsWaiting : Option ℕ → Option ℕ → List ℕ → Type 0
-IsWaiting asked None rest = head_stop asked rest ≡ waits rest
-IsWaiting asked (Some n) rest = record_stop rest ≡ waits rest
+abbrev pub IsWaiting : Option ℕ → Option ℕ → ℕ → List ℕ → Type 0
+IsWaiting asked None version rest = head_stop asked rest ≡ waits rest
+IsWaiting asked (Some n) version rest = record_stop version rest ≡ waits rest
 
 -- a reader without a fault keeps less than a head or a record
 abbrev pub KeepsWaiting : Progress → Type 0
-KeepsWaiting p = p.fault ≡ None → IsWaiting p.asked p.world p.rest
+KeepsWaiting p = p.fault ≡ None → IsWaiting p.asked p.world p.version p.rest
 
 -- where a step ends that kept these bytes
 abbrev pub end_of : Result (Unit {0}) EditFileError → List ℕ → Stop
@@ -166,22 +182,23 @@ abbrev pub EndsAt : Stop → Option Stop → Type 0
 EndsAt s stop = (s.fault ≡ Some Memory) ⊎ (stop ≡ Some s)
 
 -- the records at the front of the bytes were taken, up to where the step ends
-pub record Collects (bytes : List ℕ) (before after : List Edit) (s : Stop) : Type 0 where
+pub record Collects (version : ℕ) (bytes : List ℕ) (before after : List Edit) (s : Stop) : Type 0 where
   pub tail : List ℕ
-  pub gains : Gains before after bytes tail
-  pub ends : EndsAt s (record_stop tail)
+  pub gains : Gains version before after bytes tail
+  pub ends : EndsAt s (record_stop version tail)
 
 -- a good head is at the front of the bytes, and then records were taken
-pub record Enters (asked : Option ℕ) (n : ℕ) (bytes : List ℕ) (before after : List Edit) (s : Stop) : Type 0 where
+pub record Enters (asked : Option ℕ) (version n : ℕ) (bytes : List ℕ) (before after : List Edit) (s : Stop) : Type 0 where
   pub left : List ℕ
   pub fits : n < 2 ^ 64
   pub asked_for : is_other asked n ≡ false
-  pub head : bytes ≡ head_text n ++ left
-  pub records : Collects left before after s
+  pub known : is_version version ≡ true
+  pub head : bytes ≡ head_text version n ++ left
+  pub records : Collects version left before after s
 
--- from a world to a world: still in the head, into the records, or on in the records
-abbrev pub Advances : Option ℕ → Option ℕ → Option ℕ → List ℕ → List Edit → List Edit → Stop → Type 0
-Advances asked None None bytes before after s = (after ≡ before) × EndsAt s (head_stop asked bytes)
-Advances asked None (Some n) bytes before after s = Enters asked n bytes before after s
-Advances asked (Some m) None bytes before after s = ⊥
-Advances asked (Some m) (Some n) bytes before after s = (n ≡ m) × Collects bytes before after s
+-- from a world and a version to a world and a version: still in the head, into the records, or on in the records
+abbrev pub Advances : Option ℕ → Option ℕ → Option ℕ → ℕ → ℕ → List ℕ → List Edit → List Edit → Stop → Type 0
+Advances asked None None v w bytes before after s = (w ≡ v) × (after ≡ before) × EndsAt s (head_stop asked bytes)
+Advances asked None (Some n) v w bytes before after s = Enters asked w n bytes before after s
+Advances asked (Some m) None v w bytes before after s = ⊥
+Advances asked (Some m) (Some n) v w bytes before after s = (w ≡ v) × (n ≡ m) × Collects v bytes before after s

@@ -17,7 +17,7 @@ pub enum EditFileError {
     /// The first three bytes aren't `ZED`.
     #[error("not an edit file")]
     Magic,
-    /// The version isn't 1.
+    /// The version is neither 1 nor 2.
     #[error("an edit file of another version")]
     NewVersion,
     /// The file has another world's number than the one asked for.

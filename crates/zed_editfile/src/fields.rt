@@ -22,7 +22,7 @@ pub(crate) fn byte_of(bytes: &[u8]) -> Result<(u8, &[u8]), EditFileError>
 
 /// A number in two bytes.
 #[tactic(auto, unfolding(crate::specs::Reading::number_at))]
-fn u16_of(bytes: &[u8]) -> Result<(u16, &[u8]), EditFileError>
+pub(crate) fn u16_of(bytes: &[u8]) -> Result<(u16, &[u8]), EditFileError>
     ensures { Gives (λ x. (x.0, x.1.now)) result (number_at 2 bytes.now) }
 {
     if bytes.len() < 2 {

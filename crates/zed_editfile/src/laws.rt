@@ -2,7 +2,7 @@
 ghost use Rattle.zed_op.specs.declared.op.Edit.{Edit};
 ghost use Rattle.zed_op.specs.Fit.{Fits};
 ghost use Rattle.zed_op.specs.Set.{AllFit};
-ghost use Rattle.zed_editfile.specs.Laws.{IsReadBack, IsSpelledOnce, DiffersFrom, BeginsNoOther, HasOneText, HasNoOtherText, IsReadWhole, ReadsOneWay, TextsAreRead, FrontsAreRead, CutIsToldAtTheEnd};
+ghost use Rattle.zed_editfile.specs.Laws.{IsReadBack, IsSpelledOnce, DiffersFrom, BeginsNoOther, HasOneText, HasNoOtherText, IsReadWhole, ReadsOneWay, TextsAreRead, WrittenIsText, FrontsAreRead, CutIsToldAtTheEnd};
 ghost use Rattle.zed_editfile.specs.Stream.{AreRecords, IsRecord};
 
 use zed_op::{Edit, edit_has_sizes};
@@ -24,7 +24,8 @@ pub fn no_record_begins_another(edit: &Edit, other: &Edit)
     fitting_edits_are_records(other);
 }
 
-/// Two files of edits that fit have one text only where they are of one world and have the same edits.
+/// Two files of edits that fit, in whatever versions, have one text only where they are of one version and one world and have
+/// the same edits.
 pub fn one_file_text(world: u64, edits: &[Edit], other: u64, others: &[Edit])
     ensures { AllFit edits.now → AllFit others.now → HasOneText world edits.now other others.now }
 {
@@ -32,10 +33,12 @@ pub fn one_file_text(world: u64, edits: &[Edit], other: u64, others: &[Edit])
     fitting_edits_make_a_file(other, others);
 }
 
-/// Bytes are read in one way, however they are cut, unless memory ran out; and the text of edits is read as those edits.
+/// Bytes are read in one way, however they are cut, unless memory ran out; and the text of edits, in either version, is read as
+/// those edits. What is written is such a text.
 pub fn one_reading()
     ensures one { ReadsOneWay }
     ensures file { TextsAreRead }
+    ensures written { WrittenIsText }
 {}
 
 /// Of a file that is no wrong one a reader never shows a fault before the end: whoever has read a front of the text of edits has the

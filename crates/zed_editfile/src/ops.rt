@@ -13,11 +13,11 @@ use zed_op::{Cause, Edit, Op};
 use zed_types::Bytes;
 
 #[tactic(auto, unfolding(crate::specs::Reading::set_board_at))]
-fn set_board_of(alloc: Global, bytes: &[u8]) -> Result<(Op, &[u8]), EditFileError>
-    ensures { Gives (λ x. (x.0, x.1.now)) result (set_board_at bytes.now) }
+fn set_board_of(alloc: Global, version: u8, bytes: &[u8]) -> Result<(Op, &[u8]), EditFileError>
+    ensures { Gives (λ x. (x.0, x.1.now)) result (set_board_at version bytes.now) }
 {
     let (board, rest) = board_of(bytes)?;
-    let (setting, rest) = board_setting_of(alloc, rest)?;
+    let (setting, rest) = board_setting_of(alloc, version, rest)?;
     Ok((Op::SetBoard(board, setting), rest))
 }
 
@@ -69,10 +69,10 @@ fn text_delete_of(bytes: &[u8]) -> Result<(Op, &[u8]), EditFileError>
     Ok((Op::TextDelete(text, range), rest))
 }
 
-/// The op of a number, by the fields behind it.
+/// The op of a number in a version, by the fields behind it.
 #[tactic(auto, unfolding(crate::specs::Reading::op_at))]
-fn op_of(alloc: Global, number: u8, bytes: &[u8]) -> Result<(Op, &[u8]), EditFileError>
-    ensures { Gives (λ x. (x.0, x.1.now)) result (op_at number bytes.now) }
+fn op_of(alloc: Global, version: u8, number: u8, bytes: &[u8]) -> Result<(Op, &[u8]), EditFileError>
+    ensures { Gives (λ x. (x.0, x.1.now)) result (op_at version number bytes.now) }
 {
     match number {
         1 => Ok((Op::Genesis(Bytes::new(bytes.to_vec(alloc)?)), &[])),
@@ -88,7 +88,7 @@ fn op_of(alloc: Global, number: u8, bytes: &[u8]) -> Result<(Op, &[u8]), EditFil
             let (board, rest) = board_of(bytes)?;
             Ok((Op::BoardRemove(board), rest))
         }
-        5 => set_board_of(alloc, bytes),
+        5 => set_board_of(alloc, version, bytes),
         6 => set_cells_of(bytes),
         7 => stat_add_of(bytes),
         8 => {
@@ -105,12 +105,12 @@ fn op_of(alloc: Global, number: u8, bytes: &[u8]) -> Result<(Op, &[u8]), EditFil
 
 /// A stamp, and an op of which nothing is left. The edit isn't checked.
 #[tactic(auto, unfolding(crate::specs::Reading::fields_at))]
-pub(crate) fn fields_of(alloc: Global, bytes: &[u8]) -> Result<Edit, EditFileError>
-    ensures { Gives (λ e. e) result (fields_at bytes.now) }
+pub(crate) fn fields_of(alloc: Global, version: u8, bytes: &[u8]) -> Result<Edit, EditFileError>
+    ensures { Gives (λ e. e) result (fields_at version bytes.now) }
 {
     let (stamp, rest) = stamp_of(bytes)?;
     let (number, rest) = byte_of(rest)?;
-    let (op, rest) = op_of(alloc, number, rest)?;
+    let (op, rest) = op_of(alloc, version, number, rest)?;
     if !rest.is_empty() {
         return Err(EditFileError::BadEdit(Cause::Long));
     }

@@ -7,7 +7,7 @@ use std::alloc::AllocError;
 use zed_types::{Bytes, Name, Rectangle, Stamp, ThirdParameter, Tile};
 
 #[tactic(auto, unfolding(crate::specs::Spelling::number))]
-fn put_u16(out: &mut Vec<u8>, n: u16) -> Result<(), AllocError>
+pub(crate) fn put_u16(out: &mut Vec<u8>, n: u16) -> Result<(), AllocError>
     ensures { OnOk result (out.new.items ≡ out.old.items ++ number 2 n) }
 {
     let mut bytes = [0; 2];

@@ -6,7 +6,7 @@ ghost use Rattle.zed_editfile.specs.Spelling.{integer, header_setting, board_set
 
 use crate::put::{
     put_boolean, put_integer, put_name, put_optional, put_rectangle, put_stamp, put_string,
-    put_third_parameter, put_tile, put_u32,
+    put_third_parameter, put_tile, put_u16, put_u32,
 };
 use std::alloc::AllocError;
 use zed_op::Op;
@@ -60,7 +60,7 @@ fn put_board_setting(out: &mut Vec<u8>, setting: &BoardSetting) -> Result<(), Al
             put_boolean(out, *set)
         }
         BoardSetting::TimeLimit(limit) => {
-            out.push(5)?;
+            out.push(BoardSetting::TIME_LIMIT)?;
             put_integer(out, *limit)
         }
         BoardSetting::Exit(side, board) => {
@@ -70,6 +70,10 @@ fn put_board_setting(out: &mut Vec<u8>, setting: &BoardSetting) -> Result<(), Al
         BoardSetting::Text(property, text) => {
             out.push(property.field())?;
             put_string(out, text)
+        }
+        BoardSetting::Rank(rank) => {
+            out.push(BoardSetting::RANK)?;
+            put_u16(out, *rank)
         }
     }
 }

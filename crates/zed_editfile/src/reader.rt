@@ -1,8 +1,7 @@
 //! The reader of an edit file.
 ghost use Rattle.std.specs.Prelude.{◌≡◌, ℕ, List, [], Option, Some, None, IfSome, IsOk, OnOk, IfErr, Err, ◌++◌};
 ghost use Rattle.zed_op.specs.declared.op.Edit.{Edit};
-ghost use Rattle.zed_editfile.specs.Spelling.{file_text};
-ghost use Rattle.zed_editfile.specs.Stream.{Reads, Feeds, AreRecords, ending, verdict_of};
+ghost use Rattle.zed_editfile.specs.Stream.{Reads, Feeds, AreRecords, IsTextOf, ending, verdict_of};
 
 use crate::error::EditFileError;
 use crate::stream::advance;
@@ -13,12 +12,13 @@ use zed_op::Edit;
 /// A reader of an edit file, which takes the file in any pieces. It keeps no more than the bytes of the head or the
 /// record that isn't whole yet.
 ///
-/// Contracts see the world asked for, the world once the head is whole, the bytes kept, and the fault that ended it.
+/// Contracts see the world asked for, the world and the version once the head is whole, the bytes kept, and the fault that ended it.
 #[derive(Drop)]
 pub struct EditReader {
     alloc: Global,
     asked: Option<u64>,
     world: Option<u64>,
+    version: u8,
     kept: Vec<u8>,
     fault: Option<EditFileError>,
 }
@@ -28,21 +28,22 @@ impl Model for EditReader {
 
     ghost Value = { Progress };
 
-    ghost view = { λ r. record { asked = r.asked; world = r.world; rest = r.kept.items; fault = r.fault } };
+    ghost view = { λ r. record { asked = r.asked; world = r.world; version = r.version; rest = r.kept.items; fault = r.fault } };
 
-    ghost invariant = { λ r. KeepsWaiting (record { asked = r.asked; world = r.world; rest = r.kept.items; fault = r.fault }) };
+    ghost invariant = { λ r. KeepsWaiting (record { asked = r.asked; world = r.world; version = r.version; rest = r.kept.items; fault = r.fault }) };
 }
 
 impl EditReader {
     /// A reader of a file of this world, or of any. Takes no memory.
     pub fn new(alloc: Global, asked: Option<u64>) -> EditReader
-        ensures new { result ≡ record { asked = asked; world = None; rest = []; fault = None } }
+        ensures new { result ≡ record { asked = asked; world = None; version = 0; rest = []; fault = None } }
         ensures reads { Reads [] [] result }
     {
         EditReader {
             alloc,
             asked,
             world: None,
+            version: 0,
             kept: Vec::new(alloc),
             fault: None,
         }
@@ -51,7 +52,7 @@ impl EditReader {
     /// Takes the next piece of the file, and appends the edits of the records that it completes.
     ///
     /// A fault comes with the byte that shows it, after the edits before it: `Magic` at the first of three letters that
-    /// differs, `NewVersion` at a version byte other than 1, `OtherWorld` at the last byte of a head with another number
+    /// differs, `NewVersion` at a version byte other than 1 and 2, `OtherWorld` at the last byte of a head with another number
     /// than the one asked for, `RecordLength` at the fourth byte of a length below 9 or above 4,194,304, `BadEdit` at the
     /// end of a record that spells no edit that fits. `Memory` comes where a growth was refused. After a fault, `Memory`
     /// too, each later call answers it again, and nothing changes.
@@ -71,6 +72,7 @@ impl EditReader {
             self.alloc,
             self.asked,
             &mut self.world,
+            &mut self.version,
             &mut self.kept,
             piece,
             out,
@@ -89,11 +91,11 @@ impl EditReader {
     /// Answers the fault of an earlier `feed` again; without one `CutShort` where the head or a record is cut.
     pub fn finish(&self) -> Result<(), EditFileError>
         ensures result { result ≡ verdict_of (ending self.now) }
-        // What ends well is the whole text of the edits that were read.
+        // What ends well is the whole text, in one of the versions, of the edits that were read.
         ensures whole { OnOk result ((bytes : List ℕ) (found : List Edit)
             → Reads bytes found self.now
             → (world : ℕ) × (self.now.world ≡ Some world) × AreRecords found
-            × (bytes ≡ file_text world found)) }
+            × IsTextOf world found bytes) }
     {
         if let Some(earlier) = self.fault {
             return Err(earlier);

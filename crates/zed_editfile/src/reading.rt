@@ -25,12 +25,12 @@ fn fitting(alloc: Global, edit: Edit) -> Result<Edit, EditFileError>
     Ok(edit)
 }
 
-/// The edit that the body of a record spells, if it fits.
+/// The edit that the body of a record of a version spells, if it fits.
 #[tactic(auto, unfolding(crate::specs::Reading::edit_at))]
-fn edit_of(alloc: Global, body: &[u8]) -> Result<Edit, EditFileError>
-    ensures { Gives (λ e. e) result (edit_at body.now) }
+fn edit_of(alloc: Global, version: u8, body: &[u8]) -> Result<Edit, EditFileError>
+    ensures { Gives (λ e. e) result (edit_at version body.now) }
 {
-    let edit = fields_of(alloc, body)?;
+    let edit = fields_of(alloc, version, body)?;
     fitting(alloc, edit)
 }
 
@@ -55,9 +55,10 @@ pub(crate) fn length_of(bytes: &[u8]) -> Result<Option<usize>, EditFileError>
 /// The body of the record at the front, and what follows it, once it is whole.
 #[tactic(auto, unfolding(crate::specs::Stream::record_stop))]
 fn split_record(bytes: &[u8]) -> Result<Option<(&[u8], &[u8])>, EditFileError>
-    ensures none { IfOk result (λ parts. IfNone parts (record_stop bytes.now ≡ waits bytes.now)) }
+    ensures none { IfOk result (λ parts. IfNone parts
+        ((version : ℕ) → record_stop version bytes.now ≡ waits bytes.now)) }
     ensures some { IfOk result (λ parts. IfSome parts (λ p. Frames bytes.now p.0.now p.1.now)) }
-    ensures err { IfErr result (λ e. record_stop bytes.now ≡ fails e) }
+    ensures err { IfErr result (λ e. (version : ℕ) → record_stop version bytes.now ≡ fails e) }
 {
     match length_of(bytes)? {
         None => Ok(None),
@@ -74,22 +75,23 @@ fn split_record(bytes: &[u8]) -> Result<Option<(&[u8], &[u8])>, EditFileError>
 /// Takes the edit of the record at the front, once it is whole, and answers what follows it.
 pub(crate) fn read_record<'a>(
     alloc: Global,
+    version: u8,
     bytes: &'a [u8],
     out: &mut Vec<Edit>,
 ) -> Result<Option<&'a [u8]>, EditFileError>
     ensures some { IfOk result (λ rest. IfSome rest (λ r.
-        Gains out.old.items out.new.items bytes.now r.now
+        Gains version out.old.items out.new.items bytes.now r.now
         × (r.now ≡ drop (little_number 4 bytes.now) (drop 4 bytes.now))
         × (length r.now < length bytes.now))) }
     ensures none { IfOk result (λ rest. IfNone rest
-        ((out.new.items ≡ out.old.items) × (record_stop bytes.now ≡ waits bytes.now))) }
+        ((out.new.items ≡ out.old.items) × (record_stop version bytes.now ≡ waits bytes.now))) }
     ensures err { IfErr result (λ e. (out.new.items ≡ out.old.items)
-        × ((e ≡ EditFileError.Memory) ⊎ (record_stop bytes.now ≡ fails e))) }
+        × ((e ≡ EditFileError.Memory) ⊎ (record_stop version bytes.now ≡ fails e))) }
 {
     match split_record(bytes)? {
         None => Ok(None),
         Some((body, rest)) => {
-            out.push(edit_of(alloc, body)?)?;
+            out.push(edit_of(alloc, version, body)?)?;
             Ok(Some(rest))
         }
     }
@@ -98,17 +100,18 @@ pub(crate) fn read_record<'a>(
 /// Takes the edits of the whole records at the front, and answers what follows them.
 pub(crate) fn read_records<'a>(
     alloc: Global,
+    version: u8,
     bytes: &'a [u8],
     out: &mut Vec<Edit>,
 ) -> Result<&'a [u8], EditFileError>
-    ensures ok { IfOk result (λ tail. Gains out.old.items out.new.items bytes.now tail.now
-        × (record_stop tail.now ≡ waits tail.now)) }
+    ensures ok { IfOk result (λ tail. Gains version out.old.items out.new.items bytes.now tail.now
+        × (record_stop version tail.now ≡ waits tail.now)) }
     ensures err { IfErr result (λ e. (tail : List ℕ)
-        × Gains out.old.items out.new.items bytes.now tail
-        × ((e ≡ EditFileError.Memory) ⊎ (record_stop tail ≡ fails e))) }
+        × Gains version out.old.items out.new.items bytes.now tail
+        × ((e ≡ EditFileError.Memory) ⊎ (record_stop version tail ≡ fails e))) }
 {
     let mut rest = bytes;
-    while let Some(after) = read_record(alloc, rest, out)? {
+    while let Some(after) = read_record(alloc, version, rest, out)? {
         rest = after;
     }
     Ok(rest)

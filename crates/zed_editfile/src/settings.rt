@@ -5,7 +5,7 @@ ghost use Rattle.zed_editfile.specs.Reading.{Gives, mapped, byte_at, boolean_at,
 use crate::error::EditFileError;
 use crate::fields::{
     board_of, boolean_of, byte_of, integer_of, optional_board_of, optional_stat_of,
-    optional_text_of, string_of, third_parameter_of, tile_of,
+    optional_text_of, string_of, third_parameter_of, tile_of, u16_of,
 };
 use std::alloc::Global;
 use zed_op::Cause;
@@ -13,6 +13,9 @@ use zed_types::{
     BoardByte, BoardFlag, BoardSetting, BoardText, FlagSlot, HeaderNumber, HeaderSetting,
     KeyColour, Side, StatByte, StatFields, StatNumber, StatSetting,
 };
+
+/// The first version that has the rank of a board.
+const FIRST_WITH_RANK: u8 = 2;
 
 /// The colour of a key below 7.
 fn key_of(key: u8) -> KeyColour
@@ -124,10 +127,11 @@ fn board_text_of(
 #[tactic(auto, unfolding(crate::specs::Reading::board_value_at))]
 fn board_value_of(
     alloc: Global,
+    version: u8,
     field: u8,
     bytes: &[u8],
 ) -> Result<(BoardSetting, &[u8]), EditFileError>
-    ensures { Gives (λ x. (x.0, x.1.now)) result (board_value_at field bytes.now) }
+    ensures { Gives (λ x. (x.0, x.1.now)) result (board_value_at version field bytes.now) }
 {
     if let Some(property) = BoardByte::of_field(field) {
         return board_byte_of(property, bytes);
@@ -142,9 +146,13 @@ fn board_value_of(
     if let Some(property) = BoardText::of_field(field) {
         return board_text_of(alloc, property, bytes);
     }
-    if field == 5 {
+    if field == BoardSetting::TIME_LIMIT {
         let (limit, rest) = integer_of(bytes)?;
         return Ok((BoardSetting::TimeLimit(limit), rest));
+    }
+    if field == BoardSetting::RANK && FIRST_WITH_RANK <= version {
+        let (rank, rest) = u16_of(bytes)?;
+        return Ok((BoardSetting::Rank(rank), rest));
     }
     Err(EditFileError::BadEdit(Cause::Tag))
 }
@@ -152,12 +160,13 @@ fn board_value_of(
 #[tactic(auto, unfolding(crate::specs::Reading::board_setting_at))]
 pub(crate) fn board_setting_of(
     alloc: Global,
+    version: u8,
     bytes: &[u8],
 ) -> Result<(BoardSetting, &[u8]), EditFileError>
-    ensures { Gives (λ x. (x.0, x.1.now)) result (board_setting_at bytes.now) }
+    ensures { Gives (λ x. (x.0, x.1.now)) result (board_setting_at version bytes.now) }
 {
     let (property, rest) = byte_of(bytes)?;
-    board_value_of(alloc, property, rest)
+    board_value_of(alloc, version, property, rest)
 }
 
 fn stat_byte_of(field: StatByte, bytes: &[u8]) -> Result<(StatSetting, &[u8]), EditFileError>

@@ -1,8 +1,8 @@
 //! One step of a reader: a piece of a head, or of records.
-ghost use Rattle.std.specs.Prelude.{◌≡◌, ◌⊎◌, ◌++◌, ◌<◌, ◌≤◌, ◌^◌, ℕ, List, [], length, drop, slice_index, Some, None, OnOk, IfOk, IfErr, IfSome, IfNone, false};
+ghost use Rattle.std.specs.Prelude.{◌≡◌, ◌⊎◌, ◌++◌, ◌<◌, ◌≤◌, ◌^◌, ℕ, List, [], length, drop, slice_index, Some, None, OnOk, IfOk, IfErr, IfSome, IfNone, false, true};
 ghost use Rattle.byteorder.specs.Endian.{little_number};
 ghost use Rattle.zed_editfile.specs.Spelling.{head_text};
-ghost use Rattle.zed_editfile.specs.Stream.{Gains, waits, fails, is_other, head_stop, record_stop, IsWaiting, Advances, end_of};
+ghost use Rattle.zed_editfile.specs.Stream.{Gains, waits, fails, is_other, is_version, head_stop, record_stop, IsWaiting, Advances, end_of};
 
 use crate::error::EditFileError;
 use crate::reading::{length_of, read_record, read_records};
@@ -13,12 +13,20 @@ use zed_op::Edit;
 /// Bytes of the head.
 const HEAD: usize = 12;
 
-/// The number of the world, once the whole head is there.
+/// Whether this version is read.
+fn is_version(version: u8) -> bool
+    ensures { result ≡ is_version version }
+{
+    version == 1 || version == 2
+}
+
+/// The version and the number of the world, once the whole head is there.
 #[tactic(auto, unfolding(crate::specs::Stream::head_stop))]
-fn world_of(asked: Option<u64>, head: &[u8]) -> Result<Option<u64>, EditFileError>
-    ensures none { IfOk result (λ world. IfNone world (head_stop asked head.now ≡ waits head.now)) }
-    ensures some { IfOk result (λ world. IfSome world (λ n.
-        (head_stop asked head.now ≡ None) × (n ≡ little_number 8 (drop 4 head.now)))) }
+fn head_of(asked: Option<u64>, head: &[u8]) -> Result<Option<(u8, u64)>, EditFileError>
+    ensures none { IfOk result (λ found. IfNone found (head_stop asked head.now ≡ waits head.now)) }
+    ensures some { IfOk result (λ found. IfSome found (λ h.
+        (head_stop asked head.now ≡ None) × (h.0 ≡ slice_index head.now 3)
+        × (h.1 ≡ little_number 8 (drop 4 head.now)))) }
     ensures err { IfErr result (λ e. head_stop asked head.now ≡ fails e) }
     ensures bytes { (i : ℕ) → slice_index head.now i < 256 }
 {
@@ -29,7 +37,8 @@ fn world_of(asked: Option<u64>, head: &[u8]) -> Result<Option<u64>, EditFileErro
     if head.len() < 4 {
         return Ok(None);
     }
-    if head[3] != 1 {
+    let version = head[3];
+    if !is_version(version) {
         return Err(EditFileError::NewVersion);
     }
     if head.len() < HEAD {
@@ -38,7 +47,7 @@ fn world_of(asked: Option<u64>, head: &[u8]) -> Result<Option<u64>, EditFileErro
     let world = LittleEndian::read_u64(&head[4..]);
     match asked {
         Some(asked) if asked != world => Err(EditFileError::OtherWorld),
-        _ => Ok(Some(world)),
+        _ => Ok(Some((version, world))),
     }
 }
 
@@ -55,28 +64,29 @@ fn fill<'a>(kept: &mut Vec<u8>, size: usize, piece: &'a [u8]) -> Result<&'a [u8]
     Ok(left)
 }
 
-/// Goes on with a head. Answers the number of the world, once the head is whole, and what is left of the piece.
+/// Goes on with a head. Answers the version and the number of the world, once the head is whole, and what is left of the piece.
 fn take_head<'a>(
     asked: Option<u64>,
     kept: &mut Vec<u8>,
     piece: &'a [u8],
-) -> Result<(Option<u64>, &'a [u8]), EditFileError>
+) -> Result<(Option<(u8, u64)>, &'a [u8]), EditFileError>
     requires { head_stop asked kept.old.items ≡ waits kept.old.items }
     ensures none { IfOk result (λ x. IfNone x.0
         ((kept.new.items ≡ kept.old.items ++ piece.now)
         × (head_stop asked kept.new.items ≡ waits kept.new.items))) }
-    ensures some { IfOk result (λ x. IfSome x.0 (λ n.
-        (kept.new.items ≡ []) × (is_other asked n ≡ false) × (n < 2 ^ 64)
-        × (kept.old.items ++ piece.now ≡ head_text n ++ x.1.now))) }
+    ensures some { IfOk result (λ x. IfSome x.0 (λ h.
+        (kept.new.items ≡ []) × (is_other asked h.1 ≡ false) × (h.1 < 2 ^ 64)
+        × (is_version h.0 ≡ true)
+        × (kept.old.items ++ piece.now ≡ head_text h.0 h.1 ++ x.1.now))) }
     ensures err { IfErr result (λ e. (e ≡ EditFileError.Memory)
         ⊎ (head_stop asked (kept.old.items ++ piece.now) ≡ fails e)) }
 {
     let left = fill(kept, HEAD, piece)?;
-    match world_of(asked, kept)? {
+    match head_of(asked, kept)? {
         None => Ok((None, left)),
-        Some(world) => {
+        Some(head) => {
             kept.clear();
-            Ok((Some(world), left))
+            Ok((Some(head), left))
         }
     }
 }
@@ -84,19 +94,20 @@ fn take_head<'a>(
 /// Goes on with a record that was cut, if there is one. Answers what is left of the piece once no record is cut.
 fn take_cut<'a>(
     alloc: Global,
+    version: u8,
     kept: &mut Vec<u8>,
     piece: &'a [u8],
     out: &mut Vec<Edit>,
 ) -> Result<Option<&'a [u8]>, EditFileError>
-    requires { record_stop kept.old.items ≡ waits kept.old.items }
+    requires { record_stop version kept.old.items ≡ waits kept.old.items }
     ensures some { IfOk result (λ left. IfSome left (λ l. (kept.new.items ≡ [])
-        × Gains out.old.items out.new.items (kept.old.items ++ piece.now) l.now)) }
+        × Gains version out.old.items out.new.items (kept.old.items ++ piece.now) l.now)) }
     ensures none { IfOk result (λ left. IfNone left ((out.new.items ≡ out.old.items)
         × (kept.new.items ≡ kept.old.items ++ piece.now)
-        × (record_stop kept.new.items ≡ waits kept.new.items))) }
+        × (record_stop version kept.new.items ≡ waits kept.new.items))) }
     ensures err { IfErr result (λ e. (out.new.items ≡ out.old.items)
         × ((e ≡ EditFileError.Memory)
-        ⊎ (record_stop (kept.old.items ++ piece.now) ≡ fails e))) }
+        ⊎ (record_stop version (kept.old.items ++ piece.now) ≡ fails e))) }
 {
     if kept.is_empty() {
         return Ok(Some(piece));
@@ -106,7 +117,7 @@ fn take_cut<'a>(
         None => Ok(None),
         Some(len) => {
             let left = fill(kept, 4 + len, piece)?;
-            match read_record(alloc, kept, out)? {
+            match read_record(alloc, version, kept, out)? {
                 None => Ok(None),
                 Some(_) => {
                     kept.clear();
@@ -120,22 +131,23 @@ fn take_cut<'a>(
 /// Takes the edits of the records that are whole now, and keeps what follows them.
 fn take_records(
     alloc: Global,
+    version: u8,
     kept: &mut Vec<u8>,
     piece: &[u8],
     out: &mut Vec<Edit>,
 ) -> Result<(), EditFileError>
-    requires { record_stop kept.old.items ≡ waits kept.old.items }
+    requires { record_stop version kept.old.items ≡ waits kept.old.items }
     ensures ok { OnOk result
-        (Gains out.old.items out.new.items (kept.old.items ++ piece.now) kept.new.items
-        × (record_stop kept.new.items ≡ waits kept.new.items)) }
+        (Gains version out.old.items out.new.items (kept.old.items ++ piece.now) kept.new.items
+        × (record_stop version kept.new.items ≡ waits kept.new.items)) }
     ensures err { IfErr result (λ e. (tail : List ℕ)
-        × Gains out.old.items out.new.items (kept.old.items ++ piece.now) tail
-        × ((e ≡ EditFileError.Memory) ⊎ (record_stop tail ≡ fails e))) }
+        × Gains version out.old.items out.new.items (kept.old.items ++ piece.now) tail
+        × ((e ≡ EditFileError.Memory) ⊎ (record_stop version tail ≡ fails e))) }
 {
-    match take_cut(alloc, kept, piece, out)? {
+    match take_cut(alloc, version, kept, piece, out)? {
         None => Ok(()),
         Some(left) => {
-            let tail = read_records(alloc, left, out)?;
+            let tail = read_records(alloc, version, left, out)?;
             kept.extend_from_slice(tail)?;
             Ok(())
         }
@@ -147,24 +159,26 @@ pub(crate) fn advance(
     alloc: Global,
     asked: Option<u64>,
     world: &mut Option<u64>,
+    version: &mut u8,
     kept: &mut Vec<u8>,
     piece: &[u8],
     out: &mut Vec<Edit>,
 ) -> Result<(), EditFileError>
-    requires { IsWaiting asked world.old kept.old.items }
-    ensures advances { Advances asked world.old world.new (kept.old.items ++ piece.now)
-        out.old.items out.new.items (end_of result kept.new.items) }
-    ensures waits { OnOk result (IsWaiting asked world.new kept.new.items) }
+    requires { IsWaiting asked world.old version.old kept.old.items }
+    ensures advances { Advances asked world.old world.new version.old version.new
+        (kept.old.items ++ piece.now) out.old.items out.new.items (end_of result kept.new.items) }
+    ensures waits { OnOk result (IsWaiting asked world.new version.new kept.new.items) }
 {
     match *world {
-        Some(_) => take_records(alloc, kept, piece, out),
+        Some(_) => take_records(alloc, *version, kept, piece, out),
         None => {
             let (found, left) = take_head(asked, kept, piece)?;
             match found {
                 None => Ok(()),
-                Some(number) => {
+                Some((told, number)) => {
                     *world = Some(number);
-                    take_records(alloc, kept, left, out)
+                    *version = told;
+                    take_records(alloc, told, kept, left, out)
                 }
             }
         }

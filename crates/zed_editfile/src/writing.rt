@@ -25,13 +25,13 @@ fn body_of(alloc: Global, edit: &Edit) -> Result<Vec<u8>, AllocError>
     Ok(body)
 }
 
-/// The head of a file of edits of a world.
+/// The head of a file of edits of a world, of version 2.
 #[tactic(auto, unfolding(crate::specs::Spelling::head_text))]
 fn head_of(alloc: Global, world: u64) -> Result<Vec<u8>, AllocError>
-    ensures { IfOk result (λ head. head.items ≡ head_text world) }
+    ensures { IfOk result (λ head. head.items ≡ head_text 2 world) }
 {
     let mut head = Vec::new(alloc);
-    head.extend_from_slice(b"ZED\x01")?;
+    head.extend_from_slice(b"ZED\x02")?;
     put_u64(&mut head, world)?;
     Ok(head)
 }
@@ -49,12 +49,12 @@ fn record_of(alloc: Global, edit: &Edit) -> Result<Vec<u8>, AllocError>
     Ok(record)
 }
 
-/// Appends the head of an edit file of the world with this number: the letters `ZED`, the version 1, and the number in
+/// Appends the head of an edit file of the world with this number: the letters `ZED`, the version 2, and the number in
 /// eight bytes, the lowest first.
 ///
 /// Refused with `Memory` alone; nothing is appended then.
 pub fn write_head(world: u64, out: &mut Vec<u8>) -> Result<(), EditFileError>
-    ensures ok { OnOk result (out.new.items ≡ out.old.items ++ head_text world) }
+    ensures ok { OnOk result (out.new.items ≡ out.old.items ++ head_text 2 world) }
     ensures err { IfErr result (λ e. e ≡ EditFileError.Memory) }
     ensures kept { OnErr result (out.new.items ≡ out.old.items) }
 {
@@ -93,7 +93,7 @@ fn put_all(edits: &[Edit], out: &mut Vec<u8>) -> Result<(), EditFileError>
     Ok(())
 }
 
-/// The edit file of a world: its head, and a record for each of these edits, in their order.
+/// The edit file of a world, of version 2: its head, and a record for each of these edits, in their order.
 ///
 /// Refused with `Memory` alone.
 pub fn write_file(alloc: Global, world: u64, edits: &[Edit]) -> Result<Vec<u8>, EditFileError>

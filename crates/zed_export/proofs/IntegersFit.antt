@@ -7,7 +7,9 @@ use Rattle.zed_world.specs.Normal.{HasNormalParts, IsInteger}
 use Rattle.zed_edit.specs.declared.plain.Board.{Board}
 use Rattle.zed_edit.specs.declared.plain.Stat.{Stat}
 use Rattle.zed_edit.specs.declared.plain.Plain.{Plain}
-use Rattle.zed_edit.specs.Numbers.{alive_boards}
+use Rattle.zed_edit.specs.Numbers.{alive_boards, boards_there}
+use Rattle.zed_edit.proofs.Numbering.{each-so}
+use Rattle.zed_laws.specs.NameOrder.{IsOrdered}
 use Rattle.zed_laws.specs.Integers.{StatHasIntegers, BoardHasIntegers, HasIntegers}
 use Rattle.zed_laws.specs.Regular.{IsRegular}
 use Rattle.zed_export.specs.World.{exported_above, exported_board, world_of}
@@ -36,9 +38,9 @@ boards_fit p (b ∷ bs) h =
     let live = each_filtered StatHasIntegers (λ s. not s.removed) b.stats h.0.stats in
     (record { time_limit = h.0.time_limit; stats = stats_fit p b [] (filter (λ s. not s.removed) b.stats) live }, boards_fit p bs h.1)
 
-pub integers_normal : (limit : ℕ) (p : Plain) → IsRegular p → HasIntegers p → limit ≤ 32767 → refusal_of limit p ≡ None → HasNormalParts (world_of p)
-integers_normal limit p regular integers low within =
+pub integers_normal : (limit : ℕ) (p : Plain) → IsRegular p → IsOrdered p → HasIntegers p → limit ≤ 32767 → refusal_of limit p ≡ None → HasNormalParts (world_of p)
+integers_normal limit p regular ordered integers low within =
     let number : (i : ℕ) → IsInteger (get_or p.header.numbers i (pos 0)) = λ i. number_fits p.header.numbers i integers.header in
-    world_normal limit p regular low within
+    world_normal limit p regular ordered low within
     (record { ammo = number 0; gems = number 1; health = number 2; torches = number 3; torch_ticks = number 4; energizer_ticks = number 5; score = number 6; time_passed = number 7; hundredths = number 8 })
-    (boards_fit p (alive_boards p) (each_filtered BoardHasIntegers (λ b. not b.removed) p.boards integers.boards))
+    (boards_fit p (alive_boards p) (each-so BoardHasIntegers (boards_there p) (each_filtered BoardHasIntegers (λ b. not b.removed) p.boards integers.boards)))

@@ -1,8 +1,11 @@
 pub mod Accepted
+pub mod Beside
 pub mod Boards
+pub mod ByNumber
 pub mod Each
 pub mod IntegersFit
 pub mod Live
+pub mod Mapped
 pub mod NameSearch
 pub mod Names
 pub mod Normality

@@ -7,7 +7,8 @@ use Rattle.zed_edit.specs.declared.plain.Board.{Board}
 use Rattle.zed_edit.specs.declared.plain.Stat.{Stat}
 use Rattle.zed_edit.specs.declared.plain.Plain.{Plain}
 use Rattle.zed_laws.specs.NameOrder.{is_earlier, NamesRise, IsOrdered}
-use Rattle.zed_export.specs.Fields.{board_names, stat_names}
+use Rattle.zed_edit.specs.Numbers.{boards_there}
+use Rattle.zed_export.specs.Fields.{stat_names}
 use Rattle.zed_export.proofs.Each.{each_filtered}
 
 all-map : {X Y : Type 0} (P : Y → Type 0) (f : X → Y) (xs : List X) → AllByRecursion (λ x. P (f x)) xs → AllByRecursion P (map f xs)
@@ -34,8 +35,8 @@ rise-map : {X Y : Type 0} (f : X → Y) (name : Y → Name) (xs : List X) → Na
 rise-map f name [] h = tt
 rise-map f name (x ∷ xs) h = (all-map (λ y. is_earlier (name (f x)) (name y) ≡ true) f xs h.0, rise-map f name xs h.1)
 
-pub board_names_rise : (p : Plain) → IsOrdered p → NamesRise (λ n. n) (board_names p)
-board_names_rise p h = rise-map (λ (b : Board). b.id.name) (λ n. n) _ (rise-filter (λ (b : Board). b.id.name) (λ (b : Board). not b.removed) p.boards h.boards)
+pub names_there_rise : (p : Plain) → IsOrdered p → NamesRise (λ n. n) (map (λ b. b.id.name) (boards_there p))
+names_there_rise p h = rise-map (λ (b : Board). b.id.name) (λ n. n) _ (rise-filter (λ (b : Board). b.id.name) (λ (b : Board). not b.removed) p.boards h.boards)
 
 pub stat_names_rise : (b : Board) → NamesRise (λ s. s.id.name) b.stats → NamesRise (λ n. n) (stat_names b)
 stat_names_rise b h = rise-map (λ (s : Stat). s.id.name) (λ n. n) _ (rise-filter (λ (s : Stat). s.id.name) (λ (s : Stat). not s.removed) b.stats h)

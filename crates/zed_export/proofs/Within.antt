@@ -111,3 +111,9 @@ all_readable limit n (b ∷ bs) low h =
     let both = neither (board_refusal limit n b) (boards_refusal limit (n + 1) bs) h in
     let within = (board_within limit n b both.0).1 in
     (omega arith, all_readable limit (n + 1) bs low both.1)
+
+-- where a title was made and the boards are few, the first of them over a limit is told
+pub first_of_boards : (limit : ℕ) (p : Plain) (r : Option ExportError) → has p (thing.Board title) ≡ true → length (alive_boards p) - 1 ≤ 100 → r ≡ boards_refusal limit 0 (exported_boards p) → r ≡ refusal_of limit p
+first_of_boards limit p r made few e =
+    let h : ltb 100 (length (alive_boards p) - 1) ≡ false = le-ltb _ _ few in
+    rw (made, h) e

@@ -1,5 +1,6 @@
+pub mod ByNumber
 pub mod Fields
-pub mod World
 pub mod Headline
 pub mod Limits
 pub mod Warnings
+pub mod World

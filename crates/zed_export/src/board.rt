@@ -9,7 +9,7 @@ ghost use Rattle.zed_export.specs.World.{stat_with, exported_above, exported_pro
 ghost use Rattle.zed_export.specs.Fields.{board_names as names_of_boards, stat_names as names_of_stats, place_parameter, FitsStat, FitsBoard};
 
 use crate::header::copy_of;
-use crate::numbers::{Names, board_number, exit_number, stat_names, stat_number};
+use crate::numbers::{BoardNames, Names, board_number, exit_number, stat_names, stat_number};
 use crate::program::program_of;
 use std::alloc::{AllocError, Global};
 use zed_document::{Follower, Leader, P3, StatText, TimeLimit, View};
@@ -19,7 +19,7 @@ use zed_types::{
 use zed_world::{BoardData, Code, Properties, StatData, is_passage};
 
 /// The third parameter of a stat that stands on a passage or not, in a world whose boards have these names.
-fn parameter_of(boards: &Names, on_passage: bool, parameter: ThirdParameter) -> u8
+fn parameter_of(boards: &BoardNames, on_passage: bool, parameter: ThirdParameter) -> u8
     requires { length boards.now ≤ 101 }
     ensures { result ≡ place_parameter boards.now on_passage parameter }
 {
@@ -36,7 +36,15 @@ fn parameter_of(boards: &Names, on_passage: bool, parameter: ThirdParameter) -> 
 }
 
 /// Stat `j` of board `i`, with this program.
-fn stat_of(view: &View, boards: &Names, stats: &Names, i: usize, j: usize, code: Code) -> StatData
+fn stat_of(
+    view: &View,
+    boards: &BoardNames,
+    stats: &Names,
+    i: usize,
+    j: usize,
+    code: Code,
+) -> StatData
+    requires ordered { IsOrdered view.now }
     requires board { i < length view.now.boards }
     requires stat { j < length (board_at view.now i).stats }
     requires boards { boards.now ≡ names_of_boards view.now }
@@ -73,9 +81,10 @@ fn stat_of(view: &View, boards: &Names, stats: &Names, i: usize, j: usize, code:
 fn properties_of(
     alloc: Global,
     view: &View,
-    boards: &Names,
+    boards: &BoardNames,
     i: usize,
 ) -> Result<Properties, AllocError>
+    requires ordered { IsOrdered view.now }
     requires board { i < length view.now.boards }
     requires boards { boards.now ≡ names_of_boards view.now }
     requires few_boards { length boards.now ≤ 101 }
@@ -111,7 +120,7 @@ fn is_there(view: &View, i: usize, j: usize) -> bool
 fn stats_of(
     alloc: Global,
     view: &View,
-    boards: &Names,
+    boards: &BoardNames,
     stats: &Names,
     i: usize,
 ) -> Result<Seq<StatData>, AllocError>
@@ -142,7 +151,7 @@ fn stats_of(
 pub(crate) fn board_of(
     alloc: Global,
     view: &View,
-    boards: &Names,
+    boards: &BoardNames,
     i: usize,
 ) -> Result<BoardData, AllocError>
     requires board { i < length view.now.boards }

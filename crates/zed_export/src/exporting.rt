@@ -1,14 +1,15 @@
 //! The world that a document shows, and its file, which is read as that world.
-ghost use Rattle.std.specs.Prelude.{◌≡◌, ◌≤◌, None, Ok, IfErr, IfOk, MatchResult, length};
-ghost use Rattle.std.specs.List.{AllByRecursion};
+ghost use Rattle.std.specs.Prelude.{◌≡◌, ◌<◌, ◌≤◌, None, Ok, IfErr, IfOk, MatchResult, length, map};
+ghost use Rattle.std.specs.List.{All, AllByRecursion};
 ghost use Rattle.zed_world.specs.Reading.{world_at};
 ghost use Rattle.zed_world.specs.Writing.{world_text};
 ghost use Rattle.zed_world.specs.Normal.{IsNormal};
-ghost use Rattle.zed_edit.specs.Numbers.{alive_boards as boards_there, alive_stats as stats_there};
+ghost use Rattle.zed_edit.specs.Numbers.{alive_stats as stats_there};
 ghost use Rattle.zed_laws.specs.Regular.{IsRegular};
 ghost use Rattle.zed_laws.specs.NameOrder.{IsOrdered};
 ghost use Rattle.zed_edit.specs.Replay.{replay};
-ghost use Rattle.zed_export.specs.World.{exported_boards, world_of};
+ghost use Rattle.zed_view.specs.View.{board_at};
+ghost use Rattle.zed_export.specs.World.{exported_board, world_of};
 ghost use Rattle.zed_export.specs.Fields.{board_names as names_of_boards, FitsBoard};
 ghost use Rattle.zed_export.specs.Headline.{AuthoredIsRead};
 ghost use Rattle.zed_export.specs.Limits.{Answers, IsRefusal, IsShown, SavedIsRead, exported, refusal_of, saved, unless_stale};
@@ -17,29 +18,33 @@ use crate::board::board_of;
 use crate::error::ExportError;
 use crate::header::header_of;
 use crate::limits::first_limit;
-use crate::numbers::{Names, board_names};
+use crate::numbers::{BoardNames, board_names, boards_by_number};
 use std::alloc::{AllocError, Global};
 use zed_document::{Document, View};
 use zed_laws::{replay_is_ordered, replay_is_regular};
-use zed_op::sets_stay_fit;
+use zed_op::{sets_rise, sets_stay_fit};
 use zed_types::Seq;
 use zed_world::{BoardData, World, write_world, written_is_read};
 
-/// The boards of the world, which have these names.
-fn boards_of(alloc: Global, view: &View, names: &Names) -> Result<Seq<BoardData>, AllocError>
+/// The boards of the world that stand at these places, by number; these are the names of all.
+fn boards_of(
+    alloc: Global,
+    view: &View,
+    names: &BoardNames,
+    places: &[usize],
+) -> Result<Seq<BoardData>, AllocError>
     requires ordered { IsOrdered view.now }
     requires named { names.now ≡ names_of_boards view.now }
     requires few { length names.now ≤ 101 }
-    requires few_stats { AllByRecursion
-        (λ b. length (stats_there b) ≤ 151) (boards_there view.now) }
-    ensures result { IfOk result (λ boards. boards ≡ exported_boards view.now) }
+    requires places { All (λ i. i < length view.now.boards) places.now }
+    requires few_stats { All (λ i. length (stats_there (board_at view.now i)) ≤ 151) places.now }
+    ensures result { IfOk result (λ boards. boards
+        ≡ map (λ i. exported_board view.now (board_at view.now i)) places.now) }
     ensures fits { IfOk result (λ boards. AllByRecursion FitsBoard boards) }
 {
     let mut boards = Vec::new(alloc);
-    for i in 0..view.boards() {
-        if !view.board(i).removed {
-            boards.push(board_of(alloc, view, names, i)?)?;
-        }
+    for i in places {
+        boards.push(board_of(alloc, view, names, *i)?)?;
     }
     Ok(Seq::from_vec(boards))
 }
@@ -52,8 +57,10 @@ fn world_within(alloc: Global, view: &View, limit: usize) -> Result<World, Alloc
     requires within { refusal_of limit view.now ≡ None }
     ensures { IfOk result (λ world. world ≡ world_of view.now) }
 {
-    let names = board_names(alloc, view)?;
-    let boards = boards_of(alloc, view, &names)?;
+    let order = boards_by_number(alloc, view);
+    let places = order.as_slice();
+    let names = board_names(alloc, view, places)?;
+    let boards = boards_of(alloc, view, &names, places)?;
     let header = header_of(alloc, view, &names)?;
     Ok(World::new(header, boards))
 }
@@ -130,7 +137,9 @@ pub fn saved_is_read()
     ensures normal { SavedIsRead }
     ensures authored { AuthoredIsRead }
 {
+    sets_rise();
     sets_stay_fit();
+    replay_is_ordered();
     replay_is_regular();
     written_is_read();
 }

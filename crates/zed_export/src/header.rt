@@ -1,10 +1,11 @@
 //! The header of the exported world.
 ghost use Rattle.std.specs.Prelude.{◌≡◌, ◌≤◌, IfOk, length};
+ghost use Rattle.zed_laws.specs.NameOrder.{IsOrdered};
 ghost use Rattle.zed_laws.specs.Regular.{IsRegular};
 ghost use Rattle.zed_export.specs.World.{exported_header};
 ghost use Rattle.zed_export.specs.Fields.{board_names, FitsHeader};
 
-use crate::numbers::{Names, board_number};
+use crate::numbers::{BoardNames, board_number};
 use std::alloc::{AllocError, Global};
 use zed_document::{CurrentBoard, Saved, View, WorldName};
 use zed_types::{Bytes, FlagSlot, HeaderNumber, KeyColour, Seq};
@@ -58,8 +59,13 @@ fn flags_of(alloc: Global, view: &View) -> Result<Seq<Bytes>, AllocError>
 }
 
 /// The header of the world, whose boards have these names.
-pub(crate) fn header_of(alloc: Global, view: &View, boards: &Names) -> Result<Header, AllocError>
+pub(crate) fn header_of(
+    alloc: Global,
+    view: &View,
+    boards: &BoardNames,
+) -> Result<Header, AllocError>
     requires regular { IsRegular view.now }
+    requires ordered { IsOrdered view.now }
     requires named { boards.now ≡ board_names view.now }
     requires few { length boards.now ≤ 101 }
     ensures result { IfOk result (λ header. header ≡ exported_header view.now) }

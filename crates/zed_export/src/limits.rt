@@ -1,16 +1,18 @@
 //! Which limit of a world file a document goes over.
-ghost use Rattle.std.specs.Prelude.{◌≡◌, ◌<◌, ◌≤◌, length, None};
+ghost use Rattle.std.specs.Prelude.{◌≡◌, ◌<◌, ◌≤◌, length, map, None};
+ghost use Rattle.std.specs.List.{All};
 ghost use Rattle.zed_op.specs.declared.thing.Thing.TheVariants as thing;
 ghost use Rattle.zed_types.specs.Names.{title};
 ghost use Rattle.zed_edit.specs.Document.{has};
-ghost use Rattle.zed_edit.specs.Numbers.{alive_boards as boards_there, alive_stats as stats_there};
+ghost use Rattle.zed_edit.specs.Numbers.{alive_boards as numbered_boards, alive_stats as stats_there};
 ghost use Rattle.zed_laws.specs.Regular.{IsRegular};
 ghost use Rattle.zed_laws.specs.NameOrder.{IsOrdered};
 ghost use Rattle.zed_view.specs.View.{board_at};
-ghost use Rattle.zed_export.specs.World.{exported_board, exported_boards};
+ghost use Rattle.zed_export.specs.World.{exported_board};
 ghost use Rattle.zed_export.specs.Limits.{title_refusal, count_refusal, stats_refusal, board_refusal, boards_refusal, refusal_of};
 
 use crate::error::ExportError;
+use crate::numbers::boards_by_number;
 use crate::size::body_bytes;
 use std::alloc::Global;
 use zed_document::View;
@@ -29,8 +31,9 @@ fn has_title(view: &View) -> bool
 }
 
 /// How many boards aren't removed.
-pub(crate) fn alive_boards(view: &View) -> usize
-    ensures { result ≡ length (boards_there view.now) }
+fn alive_boards(view: &View) -> usize
+    requires { IsOrdered view.now }
+    ensures { result ≡ length (numbered_boards view.now) }
 {
     let mut count = 0;
     for i in 0..view.boards() {
@@ -81,21 +84,19 @@ fn over(alloc: Global, view: &View, limit: usize, i: usize, number: usize) -> Op
     }
 }
 
-/// The first limit that the boards go over, board by board.
-fn first_over(alloc: Global, view: &View, limit: usize) -> Option<ExportError>
+/// The first limit that the boards of these places go over, board by board.
+fn first_over(alloc: Global, view: &View, limit: usize, places: &[usize]) -> Option<ExportError>
     requires regular { IsRegular view.now }
     requires ordered { IsOrdered view.now }
+    requires places { All (λ i. i < length view.now.boards) places.now }
     requires limit { limit ≤ 32767 }
-    ensures { result ≡ boards_refusal limit 0 (exported_boards view.now) }
+    ensures { result ≡ boards_refusal limit 0
+        (map (λ i. exported_board view.now (board_at view.now i)) places.now) }
 {
-    let mut number = 0;
-    for i in 0..view.boards() {
-        if !view.board(i).removed {
-            let refusal = over(alloc, view, limit, i, number);
-            if refusal.is_some() {
-                return refusal;
-            }
-            number += 1;
+    for (number, i) in places.iter().enumerate() {
+        let refusal = over(alloc, view, limit, *i, number);
+        if refusal.is_some() {
+            return refusal;
         }
     }
     None
@@ -115,5 +116,6 @@ pub(crate) fn first_limit(alloc: Global, view: &View, limit: usize) -> Option<Ex
     if BOARDS_LIMIT < boards {
         return Some(ExportError::BoardsOver(boards));
     }
-    first_over(alloc, view, limit)
+    let places = boards_by_number(alloc, view);
+    first_over(alloc, view, limit, places.as_slice())
 }

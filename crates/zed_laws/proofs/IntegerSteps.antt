@@ -63,6 +63,7 @@ property_kept : (setting : BoardSetting) (b : Board) → IsBoardSetting setting 
 property_kept (property.Byte f n) b i r = record { time_limit = r.time_limit; stats = r.stats }
 property_kept (property.Flag f n) b i r = record { time_limit = r.time_limit; stats = r.stats }
 property_kept (property.TimeLimit n) b i r = record { time_limit = i; stats = r.stats }
+property_kept (property.Rank n) b i r = record { time_limit = r.time_limit; stats = r.stats }
 property_kept (property.Exit f n) b i r = record { time_limit = r.time_limit; stats = r.stats }
 property_kept (property.Text f s) b i r = record { time_limit = r.time_limit; stats = r.stats }
 

@@ -11,7 +11,7 @@ use Rattle.zed_op.specs.declared.op.Edit.{Edit}
 use Rattle.zed_edit.specs.declared.plain.Plain.{Plain as Document}
 use Rattle.zed_edit.specs.Replay.{can, step, replay_on, taken_on}
 use Rattle.zed_op.specs.Set.{IsRising}
-use Rattle.zed_laws.specs.Registers.{written_at, writes_of, overwritten, IsRegister, GreatestStampWins, kept_after, LateWriteIsCompared}
+use Rattle.zed_laws.specs.Registers.{written_at, writes_of, kept_after, LateWriteIsCompared}
 use Rattle.zed_types.proofs.StampOrder.{before_trans, before_differs}
 use Rattle.zed_laws.proofs.LateInsertion.{rising-high}
 
@@ -98,25 +98,6 @@ module _ {V : Type 0} (writes : Edit → Option V) where
       go None o = rw o refl
       go (Some v) o = rw o (latest_of-insert None (written_at e.stamp v) (writes_of writes low) (writes_of writes high) (writes-all (λ t. before e.stamp t ≡ true) (λ t. same_stamp e.stamp t ≡ false) (λ t later. before_differs e.stamp t later) high h))
 
-  module _ (is_there : Document → Bool) (read : Document → V) (law : IsRegister is_there read writes) where
-    read-replay : (p : Document) (es : List Edit) → is_there p ≡ true → read (replay_on p es) ≡ last_value (read p) (writes_of writes (taken_on p es))
-    read-replay p [] h = refl
-    read-replay p (e ∷ es) h =
-        read-replay (step p e) es (law p e h).1
-        ∙ ap (λ v. last_value v (writes_of writes (taken_on (step p e) es))) (law p e h).0
-        ∙ go (can p e)
-      where
-        wrote : (o : Option V) → writes e ≡ o → last_value (overwritten (read p) o) (writes_of writes (taken_on (step p e) es)) ≡ last_value (read p) (writes_of writes (e ∷ taken_on (step p e) es))
-        wrote None o = rw o refl
-        wrote (Some v) o = rw o refl
-
-        written : last_value (overwritten (read p) (writes e)) (writes_of writes (taken_on (step p e) es)) ≡ last_value (read p) (writes_of writes (e ∷ taken_on (step p e) es))
-        written = wrote (writes e) refl
-
-        go : (b : Bool) → last_value (overwritten (read p) (cond b (writes e) None)) (writes_of writes (taken_on (step p e) es)) ≡ last_value (read p) (writes_of writes (cond b (e ∷ taken_on (step p e) es) (taken_on (step p e) es)))
-        go true = written
-        go false = refl
-
 taken-all : (P : Edit → Type 0) (p : Document) (es : List Edit) → AllByRecursion P es → AllByRecursion P (taken_on p es)
 taken-all P p [] h = tt
 taken-all P p (e ∷ es) h = go (can p e) (taken-all P (step p e) es h.1)
@@ -132,11 +113,6 @@ taken-rising p (e ∷ es) r = go (can p e) (taken-rising (step p e) es r.1)
     go : (b : Bool) → IsRising (taken_on (step p e) es) → IsRising (cond b (e ∷ taken_on (step p e) es) (taken_on (step p e) es))
     go true more = (taken-all (λ f. before e.stamp f.stamp ≡ true) (step p e) es r.0, more)
     go false more = more
-
-pub greatest_stamp_wins : {V : Type 0} → GreatestStampWins V
-greatest_stamp_wins is_there read writes p es law h r =
-    read-replay writes is_there read law p es h
-    ∙ sym (latest_of-rising (read p) (writes_of writes (taken_on p es)) (writes-rising writes (taken_on p es) (taken-rising p es r)))
 
 pub late_write_is_compared : {V : Type 0} → LateWriteIsCompared V
 late_write_is_compared writes e low high r = latest-insert writes e low high (rising-high e low high r)

@@ -1,8 +1,7 @@
 pub mod AllBoards
-pub mod CellRegisters
+pub mod ApartBoards
 pub mod ChangedTexts
 pub mod DoneEdits
-pub mod HeaderNumbers
 pub mod IntegerSteps
 pub mod LateDeletion
 pub mod LateEdits
@@ -19,4 +18,3 @@ pub mod SameThings
 pub mod SkipRule
 pub mod TakenAlone
 pub mod TextSteps
-pub mod WorkedEdits

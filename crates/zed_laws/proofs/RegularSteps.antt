@@ -83,6 +83,7 @@ property_regular : (setting : BoardSetting) (b : Board) → is_property_in_range
 property_regular (property.Byte f n) b good r = with_properties b (set_property (property.Byte f n) b.properties) r.texts r
 property_regular (property.Flag f n) b good r = with_properties b (set_property (property.Flag f n) b.properties) r.texts r
 property_regular (property.TimeLimit n) b good r = with_properties b (set_property (property.TimeLimit n) b.properties) r.texts r
+property_regular (property.Rank n) b good r = with_properties b (set_property (property.Rank n) b.properties) r.texts r
 property_regular (property.Exit f n) b good r = with_properties b (set_property (property.Exit f n) b.properties) r.texts r
 property_regular (property.Text f s) b good r = with_properties b (set_property (property.Text f s) b.properties) (text_set f s b.properties.texts good r.texts) r
 

@@ -7,6 +7,7 @@ use Rattle.zed_op.specs.declared.op.Edit.{Edit}
 use Rattle.zed_op.specs.Set.{IsRising}
 use Rattle.zed_edit.specs.declared.plain.Board.{Board}
 use Rattle.zed_edit.specs.declared.plain.Plain.{Plain}
+use Rattle.zed_edit.specs.Numbers.{AreApart, boards_there}
 use Rattle.zed_edit.specs.Replay.{replay}
 
 -- whether a name comes before another: by stamp, and then by index
@@ -31,3 +32,7 @@ pub record IsOrdered (p : Plain) : Type 0 where
 -- what edits make in rising stamp order stands in the order of its names
 abbrev pub ReplayIsOrdered : Type 0
 ReplayIsOrdered = (es : List Edit) → IsRising es → IsOrdered (replay es)
+
+-- where boards stand in the order of their names, a name is that of one of those not removed at most
+abbrev pub BoardsThereAreApart : Type 0
+BoardsThereAreApart = (p : Plain) → IsOrdered p → AreApart (boards_there p)

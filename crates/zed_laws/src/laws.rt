@@ -1,6 +1,6 @@
 //! What more edits change of a replay, and what stays.
 ghost use Rattle.zed_laws.specs.Laws.{OneMoreIsOneStep, ReplayGoesOn, OneMoreIsTaken, OneMoreIsHeld, HeldAreRemembered, MadeStaysMade, MadeOutlastsEdits, TakenByWhatIsMade, HeldByWhatIsMade, MadeByWhatIsMade, RemovedBoardIsSet, RemovedBoardIsDrawn, RemovedStatIsSet, TakenMakeAll, LateEditHoldsNone, LateEditHoldsNoOther, LateInsertion, LateDeletion};
-ghost use Rattle.zed_laws.specs.Registers.{GreatestStampWins, LateWriteIsCompared, HeaderNumbersAreRegisters, CellsAreRegisters};
+ghost use Rattle.zed_laws.specs.Registers.{LateWriteIsCompared};
 
 /// What one more edit at the end makes of a replay, of the edits taken and of those held.
 pub fn replay_goes_edit_by_edit()
@@ -48,18 +48,7 @@ pub fn late_edits_find_their_place()
     ensures deletion { LateDeletion }
 {}
 
-/// The greatest stamp wins a register, in whatever order its writes come. `V` is the type of its values.
-pub fn greatest_stamp_wins<V>()
-    ensures latest { GreatestStampWins V }
-    ensures late { LateWriteIsCompared V }
-{}
-
-/// Each number of the header is a register.
-pub fn header_numbers_are_registers()
-    ensures { HeaderNumbersAreRegisters }
-{}
-
-/// Each cell is a register from when its board is made.
-pub fn cells_are_registers()
-    ensures { CellsAreRegisters }
+/// A late write stands where it is later than what is kept, in whatever order writes come. `V` is the type of the register's values.
+pub fn late_writes_are_compared<V>()
+    ensures { LateWriteIsCompared V }
 {}

@@ -7,10 +7,10 @@ mod regular;
 mod texts;
 
 pub use laws::{
-    cells_are_registers, greatest_stamp_wins, header_numbers_are_registers,
-    held_edits_are_remembered, late_edits_find_their_place, made_things_decide, made_things_stay,
-    removed_things_are_changed, replay_goes_edit_by_edit, taken_edits_make_all,
+    held_edits_are_remembered, late_edits_find_their_place, late_writes_are_compared,
+    made_things_decide, made_things_stay, removed_things_are_changed, replay_goes_edit_by_edit,
+    taken_edits_make_all,
 };
-pub use order::replay_is_ordered;
+pub use order::{ordered_boards_are_apart, replay_is_ordered};
 pub use regular::replay_is_regular;
 pub use texts::texts_keep_names;

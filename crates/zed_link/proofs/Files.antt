@@ -6,8 +6,7 @@ use Rattle.zed_op.specs.declared.op.Edit.{Edit}
 use Rattle.zed_editfile.specs.declared.error.EditFileError.{EditFileError}
 use Rattle.zed_editfile.specs.declared.error.EditFileError.TheVariants as file
 use Rattle.zed_editfile.specs.Laws.{FrontsAreRead, IsCalm, IsFrontOf, ReadsOneWay, TextsAreRead}
-use Rattle.zed_editfile.specs.Spelling.{file_text}
-use Rattle.zed_editfile.specs.Stream.{AreRecords, Progress, Reads, ending, ending_by, is_other}
+use Rattle.zed_editfile.specs.Stream.{AreRecords, IsTextOf, Progress, Reads, ending, ending_by, is_other}
 use Rattle.zed_document.specs.declared.error.DocumentError.TheVariants as document
 use Rattle.zed_document.specs.Delivery.{DeliversEach}
 use Rattle.zed_document.specs.Replica.{Replica}
@@ -62,25 +61,25 @@ calm_end p f (inl none) is = inr (go p.world p.rest (sym (ap (λ (o : Option Edi
     go (Some n) (b ∷ rest) h = cc
 
 -- where a reader is that read a whole file
-abbrev at_end : Option ℕ → ℕ → Progress
-at_end asked n = record { asked = asked; world = Some n; rest = []; fault = None }
+abbrev at_end : Option ℕ → ℕ → ℕ → Progress
+at_end asked n version = record { asked = asked; world = Some n; version = version; rest = []; fault = None }
 
-calm_at_end : (asked : Option ℕ) (n : ℕ) → (at_end asked n).fault ≢ Some file.Memory
-calm_at_end asked n h = cc
+calm_at_end : (asked : Option ℕ) (n version : ℕ) → (at_end asked n version).fault ≢ Some file.Memory
+calm_at_end asked n version h = cc
 
 -- whoever read a whole file may end there
-whole_end : ReadsOneWay → TextsAreRead → (n : ℕ) (es found : List Edit) (p : Progress) → n < 2 ^ 64 → AreRecords es → is_other p.asked n ≡ false → p.fault ≡ None → Reads (file_text n es) found p → ending p ≡ None
-whole_end one texts n es found p lt good other calm reads =
-    let whole = texts p.asked n es lt other good in
-    let same = one (file_text n es) found es p (at_end p.asked n) refl (λ bad. let both : None ≡ Some file.Memory = sym calm ∙ bad in cc) (calm_at_end p.asked n) reads whole in
+whole_end : ReadsOneWay → TextsAreRead → (n : ℕ) (es found : List Edit) (bytes : List ℕ) (p : Progress) → n < 2 ^ 64 → AreRecords es → IsTextOf n es bytes → is_other p.asked n ≡ false → p.fault ≡ None → Reads bytes found p → ending p ≡ None
+whole_end one texts n es found bytes p lt good text other calm reads =
+    let whole = texts p.asked n es bytes lt other good text in
+    let same = one bytes found es p (at_end p.asked n text.version) refl (λ bad. let both : None ≡ Some file.Memory = sym calm ∙ bad in cc) (calm_at_end p.asked n text.version) reads whole in
     ap ending same.1
 
 -- two files of one world with one text have the same edits
-same_edits : ReadsOneWay → TextsAreRead → (n : ℕ) (es fs : List Edit) → n < 2 ^ 64 → AreRecords es → AreRecords fs → file_text n es ≡ file_text n fs → es ≡ fs
-same_edits one texts n es fs lt good fine same =
-    let first = texts None n es lt refl good in
-    let other = subst (λ (t : List ℕ). Reads t fs (at_end None n)) (sym same) (texts None n fs lt refl fine) in
-    (one (file_text n es) es fs (at_end None n) (at_end None n) refl (calm_at_end None n) (calm_at_end None n) first other).0
+same_edits : ReadsOneWay → TextsAreRead → (n : ℕ) (es fs : List Edit) (bytes : List ℕ) → n < 2 ^ 64 → AreRecords es → AreRecords fs → IsTextOf n es bytes → IsTextOf n fs bytes → es ≡ fs
+same_edits one texts n es fs bytes lt good fine a b =
+    let first = texts None n es bytes lt refl good a in
+    let other = texts None n fs bytes lt refl fine b in
+    (one bytes es fs (at_end None n a.version) (at_end None n b.version) refl (calm_at_end None n a.version) (calm_at_end None n b.version) first other).0
 
 -- ---- the pull
 
@@ -105,7 +104,8 @@ record Known (t : LinkEnds) (d : Replica) (es found : List Edit) (bytes : List �
   first : IsFrontOf found es
   calm : IsCalm p
   many : n * least_read (Some t) < length t.left + least_read (Some t)
-  all : (pulled : Pulled) → r ≡ Ok pulled → AreRecords found → bytes ≡ file_text d.world found → found ≡ es
+  all : (pulled : Pulled) → r ≡ Ok pulled → AreRecords found → IsTextOf d.world found bytes → found ≡ es
+  whole : (pulled : Pulled) → r ≡ Ok pulled → bytes ≡ t.left
   end : r ≡ refused CutShort → p.fault ≡ None → ending p ≡ None
 
 comes_to : (t : LinkEnds) (d : Replica) (es found : List Edit) (bytes : List ℕ) (n reads : ℕ) (p : Progress) (r : Answer) (left : List Edit) (old new : Option LinkEnds) → old ≡ Some t → Known t d es found bytes n p r
@@ -135,10 +135,9 @@ comes_to t d es found bytes n reads p (Err Stale) left old new told k made link 
 
 -- nothing is left where all went well
 leaves_nothing : (t : LinkEnds) (d : Replica) (es found : List Edit) (bytes : List ℕ) (n reads : ℕ) (p : Progress) (r : Answer) (left : List Edit) (old new : Option LinkEnds) → Known t d es found bytes n p r
-    → LeavesLink r reads bytes old new → LeavesDocument d bytes found p r left → OnOk r (Changed (HandedAll (file_text d.world es)) old new)
+    → LeavesLink r reads bytes old new → LeavesDocument d bytes found p r left → OnOk r (Changed (HandedAll t.left) old new)
 leaves_nothing t d es found bytes n reads p (Ok pulled) left old new k link (good, text, all, counted) =
-    let same : bytes ≡ file_text d.world es = text ∙ ap (file_text d.world) (k.all pulled refl good text) in
-    subst (λ (t : List ℕ). Changed (HandedAll t) old new) same link.0
+    subst (λ (x : List ℕ). Changed (HandedAll x) old new) (k.whole pulled refl) link.0
 leaves_nothing t d es found bytes n reads p (Err e) left old new k link document = tt
 
 pub files_are_pulled : ReadsOneWay → TextsAreRead → FrontsAreRead → FilesArePulled
@@ -147,7 +146,7 @@ files_are_pulled one texts fronts d es old new count count' r left h pull =
     let p : Progress = pull.reader in
     let over : Changed (HandedOver pull.handed) old new = bytes_over r pull.reads pull.handed old new pull.link in
     let rest = left_over pull.handed old new h.ends h.told over in
-    let same : pull.handed ++ rest.0 ≡ file_text w es = rest.1 ∙ h.text in
+    let same : IsTextOf w es (pull.handed ++ rest.0) = subst (λ (x : List ℕ). IsTextOf w es x) (sym rest.1) h.text in
     let other : is_other p.asked w ≡ false = asked_for p.asked w pull.asks in
     let front = fronts w es pull.edits pull.handed rest.0 p h.number h.records other same pull.spells in
     let sum = length-append pull.handed rest.0 in
@@ -160,10 +159,13 @@ files_are_pulled one texts fronts d es old new count count' r left h pull =
       all = λ counts is good text.
           let link = subst (λ (r : Answer). LeavesLink r pull.reads pull.handed old new) is pull.link in
           let whole = all_over pull.handed old new h.ends h.told link.0 in
-          same_edits one texts w pull.edits es h.number good h.records (sym text ∙ whole ∙ h.text);
+          same_edits one texts w pull.edits es pull.handed h.number good h.records text (subst (λ (x : List ℕ). IsTextOf w es x) (sym whole) h.text);
       end = λ is calm.
           let link = subst (λ (r : Answer). LeavesLink r pull.reads pull.handed old new) is pull.link in
-          let whole = all_over pull.handed old new h.ends h.told link.0 ∙ h.text in
-          whole_end one texts w es pull.edits p h.number h.records other calm (subst (λ (t : List ℕ). Reads t pull.edits p) whole pull.spells);
+          let whole = all_over pull.handed old new h.ends h.told link.0 in
+          whole_end one texts w es pull.edits pull.handed p h.number h.records (subst (λ (x : List ℕ). IsTextOf w es x) (sym whole) h.text) other calm pull.spells;
+      whole = λ counts is.
+          let link = subst (λ (r : Answer). LeavesLink r pull.reads pull.handed old new) is pull.link in
+          all_over pull.handed old new h.ends h.told link.0;
     } in
     (comes_to h.ends d es pull.edits pull.handed pull.pieces pull.reads p r left old new h.told known pull.made pull.link pull.document, leaves_nothing h.ends d es pull.edits pull.handed pull.pieces pull.reads p r left old new known pull.link pull.document)

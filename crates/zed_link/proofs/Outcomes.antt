@@ -6,8 +6,7 @@ use Rattle.zed_op.specs.declared.op.Edit.{Edit}
 use Rattle.zed_editfile.specs.declared.error.EditFileError.{EditFileError}
 use Rattle.zed_editfile.specs.declared.error.EditFileError.TheVariants as file
 use Rattle.zed_editfile.specs.Laws.{CutIsToldAtTheEnd}
-use Rattle.zed_editfile.specs.Spelling.{file_text}
-use Rattle.zed_editfile.specs.Stream.{AreRecords, Feeds, Progress, Reads, ending, verdict_of}
+use Rattle.zed_editfile.specs.Stream.{AreRecords, Feeds, IsTextOf, Progress, Reads, ending, verdict_of}
 use Rattle.zed_document.specs.declared.error.DocumentError.TheVariants as document
 use Rattle.zed_document.specs.Replica.{Replica}
 use Rattle.zed_link.specs.declared.error.LinkError.{LinkError}
@@ -52,7 +51,7 @@ pub record Going (d : Replica) (old now : Option LinkEnds) (a b n : ℕ) (p : Pr
 
 -- it begins with nothing
 pub start : (d : Replica) (old : Option LinkEnds) (a : ℕ) (p : Progress) (w : Option ℕ) (counts : Pulled) → w ≡ Some d.world
-    → p ≡ record { asked = w; world = None; rest = []; fault = None } → Reads [] [] p → counts ≡ tally [] → Going d old old a a 0 p d counts
+    → p ≡ record { asked = w; world = None; version = 0; rest = []; fault = None } → Reads [] [] p → counts ≡ tally [] → Going d old old a a 0 p d counts
 start d old a p w counts asks is reads none = record {
   handed = [];
   found = [];
@@ -148,7 +147,7 @@ read_too_often d old now a b n p m counts all going = record {
 -- the end came where a file may end
 pub ends_well : (d : Replica) (old mid now : Option LinkEnds) (a b c n : ℕ) (p : Progress) (m : Replica) (counts : Pulled) → n < most_reads
     → Going d old mid a b n p m counts → Changed (HandedAll []) mid now → Counted 1 b c
-    → ((bytes : List ℕ) (found : List Edit) → Reads bytes found p → (world : ℕ) × (p.world ≡ Some world) × AreRecords found × (bytes ≡ file_text world found))
+    → ((bytes : List ℕ) (found : List Edit) → Reads bytes found p → (world : ℕ) × (p.world ≡ Some world) × AreRecords found × IsTextOf world found bytes)
     → Pull d old now a c (Ok counts) m.edits
 ends_well d old mid now a b c n p m counts within going end more whole =
     let file = whole going.handed going.found going.spells in
@@ -166,7 +165,7 @@ ends_well d old mid now a b c n p m counts within going end more whole =
       counted = one_more n a b c going.made more;
       link = (handed_all going.handed old mid now going.link end, omega arith);
       memory_only_when = λ bad. absurd (let it : pulled counts ≡ refused Memory = bad in cc);
-      document = (file.2, file.3 ∙ ap (λ w. file_text w going.found) same, going.all, going.counted);
+      document = (file.2, subst (λ (w : ℕ). IsTextOf w going.found going.handed) same file.3, going.all, going.counted);
     }
 
 -- the end came where a file may not end

@@ -8,7 +8,7 @@ use Rattle.zed_op.specs.declared.op.Edit.{Edit}
 use Rattle.zed_op.specs.Set.{AllFit}
 use Rattle.zed_editfile.specs.declared.error.EditFileError.{EditFileError}
 use Rattle.zed_editfile.specs.declared.error.EditFileError.TheVariants.{CutShort}
-use Rattle.zed_editfile.specs.Spelling.{file_text, head_text, number, record_text, spelling}
+use Rattle.zed_editfile.specs.Spelling.{head_text, number, record_text, spelling, text_of}
 use Rattle.zed_editfile.specs.Stream.{AreRecords, Feeds, Progress, Reads, ending, ending_by, is_other, verdict_of}
 use Rattle.zed_editfile.proofs.Numbers.{length_number}
 
@@ -38,8 +38,8 @@ pub few_edits : (bytes : List ℕ) (es : List Edit) (p : Progress) → Reads byt
 few_edits bytes es p (inl head) = rw head.none (omega arith)
 few_edits bytes es p (inr records) =
     let long = records_long es in
-    let text = length-append (head_text records.number) (flat_map record_text es) in
-    let whole = length-append (file_text records.number es) records.tail in
+    let text = length-append (head_text p.version records.number) (flat_map record_text es) in
+    let whole = length-append (text_of p.version records.number es) records.tail in
     rw records.whole (omega arith)
 
 -- the world of a reader that asks for one is that one

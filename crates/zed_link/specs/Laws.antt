@@ -1,8 +1,7 @@
 -- What a pull makes of a link that holds a whole file, and deliveries after others.
 use Rattle.std.specs.Prelude.{◌≡◌, ◌<◌, ◌^◌, ◌-◌, ◌*◌, ℕ, false, List, ◌++◌, length, Option, Some, Result, Ok, Err, OnOk}
 use Rattle.zed_op.specs.declared.op.Edit.{Edit}
-use Rattle.zed_editfile.specs.Spelling.{file_text}
-use Rattle.zed_editfile.specs.Stream.{AreRecords}
+use Rattle.zed_editfile.specs.Stream.{AreRecords, IsTextOf}
 use Rattle.zed_document.specs.declared.error.DocumentError.{DocumentError}
 use Rattle.zed_document.specs.declared.error.DocumentError.TheVariants as document
 use Rattle.zed_document.specs.Delivery.{DeliversEach}
@@ -14,13 +13,13 @@ use Rattle.zed_link.specs.Ends.{Changed, HandedAll, LinkEnds}
 use Rattle.zed_link.specs.Pull.{AllDelivered, FrontDelivered, Pull, least_read, most_reads}
 use Rattle.zed_link.specs.Tally.{states, tally}
 
--- the link tells its ends, and what is left on it is the text of a file of these edits, of the document's world
+-- the link tells its ends, and what is left on it is the text of a file of these edits, of the document's world, in one of the versions
 pub record HoldsFile (d : Replica) (es : List Edit) (link : Option LinkEnds) : Type 0 where
   pub ends : LinkEnds
   pub told : link ≡ Some ends
   pub number : d.world < 2 ^ 64
   pub records : AreRecords es
-  pub text : ends.left ≡ file_text d.world es
+  pub text : IsTextOf d.world es ends.left
 
 -- a read of the link may fail
 abbrev pub MayFail : LinkEnds → Type 0
@@ -45,7 +44,7 @@ abbrev pub FilesArePulled : Type 0
 FilesArePulled =
     (d : Replica) (es : List Edit) (old new : Option LinkEnds) (count count' : ℕ) (r : Result Pulled LinkError) (left : List Edit)
     → (file : HoldsFile d es old) → Pull d old new count count' r left
-    → PullsFile file.ends d es r left × OnOk r (Changed (HandedAll (file_text d.world es)) old new)
+    → PullsFile file.ends d es r left × OnOk r (Changed (HandedAll file.ends.left) old new)
 
 -- deliveries of a list of edits, and then of another to what they leave, are those of both
 abbrev pub DeliveriesGoOn : Type 0

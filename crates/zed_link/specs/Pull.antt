@@ -3,8 +3,7 @@ use Rattle.std.specs.Prelude.{◌≡◌, ◌<◌, ◌≤◌, ◌+◌, ◌*◌, �
 use Rattle.zed_op.specs.declared.op.Edit.{Edit}
 use Rattle.zed_editfile.specs.declared.error.EditFileError.{EditFileError}
 use Rattle.zed_editfile.specs.declared.error.EditFileError.TheVariants as file
-use Rattle.zed_editfile.specs.Spelling.{file_text}
-use Rattle.zed_editfile.specs.Stream.{AreRecords, Progress, Reads, ending}
+use Rattle.zed_editfile.specs.Stream.{AreRecords, IsTextOf, Progress, Reads, ending}
 use Rattle.zed_document.specs.declared.error.DocumentError.TheVariants as document
 use Rattle.zed_document.specs.Delivery.{DeliversEach, MayTakeMemoryFor}
 use Rattle.zed_document.specs.Replica.{Replica}
@@ -65,7 +64,7 @@ Refuses e d es p left = (ending p ≡ Some e) × AllDelivered d es left
 -- what a pull answers and leaves in a document, by the bytes handed over, the edits that are whole in them, and where their reader is
 abbrev pub LeavesDocument : Replica → List ℕ → List Edit → Progress → Result Pulled LinkError → List Edit → Type 0
 LeavesDocument d bytes es p (Ok pulled) left =
-    AreRecords es × (bytes ≡ file_text d.world es) × AllDelivered d es left × (pulled ≡ tally (states d.edits es))
+    AreRecords es × IsTextOf d.world es bytes × AllDelivered d es left × (pulled ≡ tally (states d.edits es))
 LeavesDocument d bytes es p (Err LinkFault) left = (p.fault ≡ None) × AllDelivered d es left
 LeavesDocument d bytes es p (Err TooManyTurns) left = (p.fault ≡ None) × AllDelivered d es left
 LeavesDocument d bytes es p (Err Magic) left = Refuses file.Magic d es p left

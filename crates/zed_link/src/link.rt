@@ -1,6 +1,7 @@
 //! A link, as whoever hands one in has to make it.
 ghost use Rattle.std.specs.Prelude.{◌≡◌, ◌≢◌, ◌≤◌, ◌||◌, ℕ, Bool, true, false, [], length, take, Option, Ok, IfOk, OnErr, is_err};
-ghost use Rattle.zed_link.specs.Counting.{Counted, Counts, takes_none};
+ghost use Rattle.zed_host.specs.Counting.{Counts};
+ghost use Rattle.zed_link.specs.Counting.{Counted, takes_none};
 ghost use Rattle.zed_link.specs.Ends.{LinkEnds, Changed, FailedBehind, HandedOver, KeepsPace, Took, TookFront, AtItsEnd};
 
 /// A call of a link failed.

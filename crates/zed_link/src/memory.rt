@@ -1,6 +1,7 @@
 //! A link over memory, for tests.
 ghost use Rattle.std.specs.Prelude.{◌≡◌, ◌⊎◌, false, is_none, ◌≢◌, ◌-◌, ◌<◌, ◌≤◌, max, nat_lt, [], ◌++◌, drop, length, take, Some, IfSome, OnErr, OnOk};
-ghost use Rattle.zed_link.specs.Counting.{Counted, Rose, most_counted};
+ghost use Rattle.zed_host.specs.Counting.{Rose, most_counted};
+ghost use Rattle.zed_link.specs.Counting.{Counted};
 
 use crate::link::{Failed, Link};
 use std::alloc::Global;

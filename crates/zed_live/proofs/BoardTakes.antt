@@ -23,7 +23,7 @@ use Rattle.zed_op.specs.Sizes.{IsOp}
 use Rattle.zed_edit.specs.declared.plain.Board.{Board}
 use Rattle.zed_edit.specs.Board.{empty_tile}
 use Rattle.zed_laws.specs.Registers.{kept_after}
-use Rattle.zed_settle.specs.Fields.{Field, board_byte, board_flag, time_limit, exit, board_text, board_removed, cell}
+use Rattle.zed_settle.specs.Fields.{Field, board_byte, board_flag, time_limit, rank, exit, board_text, board_removed, cell}
 use Rattle.zed_settle.specs.Registers.{of_board, find_board, made_boards, changes_board}
 use Rattle.zed_cells.specs.Writes.{written_at}
 use Rattle.zed_cells.specs.Cells.{set_cells, writes_into, CellsHoldTheLatest}
@@ -87,6 +87,7 @@ untouched-properties b es none = record {
   bytes = λ f. unset 3 (board_byte_index f) ∙ sym (none-latest (board_byte f) b es none);
   flags = λ f. unset 2 (board_flag_index f) ∙ sym (none-latest (board_flag f) b es none);
   time_limit = sym (none-latest time_limit b es none);
+  rank = sym (none-latest rank b es none);
   exits = λ f. unset 4 (side_index f) ∙ sym (none-latest (exit f) b es none);
   texts = λ f. unset 2 (board_text_index f) ∙ sym (none-latest (board_text f) b es none);
 }

@@ -23,10 +23,10 @@ use Rattle.zed_edit.specs.declared.plain.Properties.{Properties}
 use Rattle.zed_edit.specs.declared.plain.Board.{Board}
 use Rattle.zed_edit.specs.Replay.{replay, taken}
 use Rattle.zed_laws.proofs.RegularSteps.{ReadIsNormal}
-use Rattle.zed_settle.specs.Fields.{Field, board_byte, board_flag, time_limit, exit, board_text}
+use Rattle.zed_settle.specs.Fields.{Field, board_byte, board_flag, time_limit, rank, exit, board_text}
 use Rattle.zed_settle.specs.Registers.{GreatestStampWins, of_board, find_board, latest_or}
 use Rattle.zed_settle.specs.Whole.{IsWholeBoard}
-use Rattle.zed_settle.proofs.BoardFields.{is_byte, is_flag, is_time_limit, is_exit, is_text, board-wins}
+use Rattle.zed_settle.proofs.BoardFields.{is_byte, is_flag, is_time_limit, is_rank, is_exit, is_text, board-wins}
 use Rattle.zed_settle.proofs.Found.{found-holds}
 use Rattle.zed_settle.proofs.WholeSteps.{replay_whole}
 use Rattle.zed_cells.specs.Writes.{register}
@@ -112,18 +112,20 @@ module _ (normal : ReadIsNormal) (b : BoardId) (es : List Edit) (board : Board) 
         ∙ field-shown (board_text f) [] (register (board_text_index f) p.texts) (board-wins (board_text f) (is_text f) b normal) (was.texts f))
         i (omega (arith, l, size, was.two_texts)))
 
-abbrev make : List ℕ → List Bool → ℤ → List (Option BoardId) → List (List ℕ) → Properties
-make n f t e s = record { bytes = n; flags = f; time_limit = t; exits = e; texts = s }
+abbrev make : List ℕ → List Bool → ℤ → ℕ → List (Option BoardId) → List (List ℕ) → Properties
+make n f t k e s = record { bytes = n; flags = f; time_limit = t; rank = k; exits = e; texts = s }
 
 pub replayed_properties_are_shown : ReadIsNormal → ReplayedPropertiesAreShown
 replayed_properties_are_shown normal b es p board rises sizes there was =
     let r = board.properties in
     let a = shown_properties p in
     let limit : a.time_limit ≡ r.time_limit = field-shown normal b es board rises sizes there time_limit (pos 0) p.time_limit (board-wins time_limit is_time_limit b normal) was.time_limit in
-    let path : make a.bytes a.flags a.time_limit a.exits a.texts ≡ make r.bytes r.flags r.time_limit r.exits r.texts =
-    ap (λ x. make x a.flags a.time_limit a.exits a.texts) (bytes-shown normal b es board rises sizes there p was)
-    ∙ ap (λ x. make r.bytes x a.time_limit a.exits a.texts) (flags-shown normal b es board rises sizes there p was)
-    ∙ ap (λ x. make r.bytes r.flags x a.exits a.texts) limit
-    ∙ ap (λ x. make r.bytes r.flags r.time_limit x a.texts) (exits-shown normal b es board rises sizes there p was)
-    ∙ ap (λ x. make r.bytes r.flags r.time_limit r.exits x) (texts-shown normal b es board rises sizes there p was) in
+    let level : a.rank ≡ r.rank = field-shown normal b es board rises sizes there rank 0 p.rank (board-wins rank is_rank b normal) was.rank in
+    let path : make a.bytes a.flags a.time_limit a.rank a.exits a.texts ≡ make r.bytes r.flags r.time_limit r.rank r.exits r.texts =
+    ap (λ x. make x a.flags a.time_limit a.rank a.exits a.texts) (bytes-shown normal b es board rises sizes there p was)
+    ∙ ap (λ x. make r.bytes x a.time_limit a.rank a.exits a.texts) (flags-shown normal b es board rises sizes there p was)
+    ∙ ap (λ x. make r.bytes r.flags x a.rank a.exits a.texts) limit
+    ∙ ap (λ x. make r.bytes r.flags r.time_limit x a.exits a.texts) level
+    ∙ ap (λ x. make r.bytes r.flags r.time_limit r.rank x a.texts) (exits-shown normal b es board rises sizes there p was)
+    ∙ ap (λ x. make r.bytes r.flags r.time_limit r.rank r.exits x) (texts-shown normal b es board rises sizes there p was) in
     path

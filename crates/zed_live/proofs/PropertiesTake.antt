@@ -22,7 +22,7 @@ use Rattle.zed_op.specs.declared.op.Edit.{Edit}
 use Rattle.zed_op.specs.Set.{IsRising}
 use Rattle.zed_edit.specs.declared.plain.Board.{Board}
 use Rattle.zed_laws.specs.Registers.{kept_after}
-use Rattle.zed_settle.specs.Fields.{Field, by_board, board_byte, board_byte_set, board_flag, board_flag_set, time_limit, time_limit_set, exit, exit_set, board_text, board_text_set}
+use Rattle.zed_settle.specs.Fields.{Field, by_board, board_byte, board_byte_set, board_flag, board_flag_set, time_limit, time_limit_set, rank, rank_set, exit, exit_set, board_text, board_text_set}
 use Rattle.zed_settle.specs.Registers.{Register, of_board, find_board, made_boards, changes_board}
 use Rattle.zed_settle.specs.Whole.{IsWholeBoard}
 use Rattle.zed_settle.proofs.BoardFields.{byte-within, flag-within, side-within, text-within}
@@ -46,6 +46,7 @@ record PropertiesPut (b : BoardId) (e : Edit) (old new : LiveProperties) : Type 
   pub bytes : (f : BoardByte) → Puts (of_board b (board_byte f)) e (register (board_byte_index f) old.bytes) (register (board_byte_index f) new.bytes)
   pub flags : (f : BoardFlag) → Puts (of_board b (board_flag f)) e (register (board_flag_index f) old.flags) (register (board_flag_index f) new.flags)
   pub time_limit : Puts (of_board b time_limit) e old.time_limit new.time_limit
+  pub rank : Puts (of_board b rank) e old.rank new.rank
   pub exits : (f : Side) → Puts (of_board b (exit f)) e (register (side_index f) old.exits) (register (side_index f) new.exits)
   pub texts : (f : BoardText) → Puts (of_board b (board_text f)) e (register (board_text_index f) old.texts) (register (board_text_index f) new.texts)
 
@@ -58,6 +59,7 @@ show-late b e low high old new rises put was = record {
   bytes = λ f. put-late (of_board b (board_byte f)) e low high (register (board_byte_index f) old.bytes) (register (board_byte_index f) new.bytes) rises (was.bytes f) (put.bytes f);
   flags = λ f. put-late (of_board b (board_flag f)) e low high (register (board_flag_index f) old.flags) (register (board_flag_index f) new.flags) rises (was.flags f) (put.flags f);
   time_limit = put-late (of_board b time_limit) e low high old.time_limit new.time_limit rises was.time_limit put.time_limit;
+  rank = put-late (of_board b rank) e low high old.rank new.rank rises was.rank put.rank;
   exits = λ f. put-late (of_board b (exit f)) e low high (register (side_index f) old.exits) (register (side_index f) new.exits) rises (was.exits f) (put.exits f);
   texts = λ f. put-late (of_board b (board_text f)) e low high (register (board_text_index f) old.texts) (register (board_text_index f) new.texts) rises (was.texts f) (put.texts f);
 }
@@ -104,6 +106,7 @@ set-tables : (s : Stamp) (setting : BoardSetting) (p : LiveProperties) → HasTa
 set-tables s (property.Byte f n) p t = record { three = length-set p.bytes (board_byte_index f) (keep_later (register (board_byte_index f) p.bytes) (written_at s n)) ∙ t.three; two_flags = t.two_flags; four = t.four; two_texts = t.two_texts }
 set-tables s (property.Flag f v) p t = record { three = t.three; two_flags = length-set p.flags (board_flag_index f) (keep_later (register (board_flag_index f) p.flags) (written_at s v)) ∙ t.two_flags; four = t.four; two_texts = t.two_texts }
 set-tables s (property.TimeLimit n) p t = record { three = t.three; two_flags = t.two_flags; four = t.four; two_texts = t.two_texts }
+set-tables s (property.Rank n) p t = record { three = t.three; two_flags = t.two_flags; four = t.four; two_texts = t.two_texts }
 set-tables s (property.Exit f o) p t = record { three = t.three; two_flags = t.two_flags; four = length-set p.exits (side_index f) (keep_later (register (side_index f) p.exits) (written_at s o)) ∙ t.four; two_texts = t.two_texts }
 set-tables s (property.Text f n) p t = record { three = t.three; two_flags = t.two_flags; four = t.four; two_texts = length-set p.texts (board_text_index f) (keep_later (register (board_text_index f) p.texts) (written_at s n)) ∙ t.two_texts }
 
@@ -111,6 +114,7 @@ set-byte : (s : Stamp) (setting : BoardSetting) (p : LiveProperties) → length 
 set-byte s (property.Byte g n) p e f = set_register-at s n p.bytes 3 (board_byte_index f) (board_byte_index g) e (byte-within f)
 set-byte s (property.Flag g v) p e f = refl
 set-byte s (property.TimeLimit n) p e f = refl
+set-byte s (property.Rank n) p e f = refl
 set-byte s (property.Exit g o) p e f = refl
 set-byte s (property.Text g n) p e f = refl
 
@@ -118,21 +122,32 @@ set-flag : (s : Stamp) (setting : BoardSetting) (p : LiveProperties) → length 
 set-flag s (property.Flag g v) p e f = set_register-at s v p.flags 2 (board_flag_index f) (board_flag_index g) e (flag-within f)
 set-flag s (property.Byte g n) p e f = refl
 set-flag s (property.TimeLimit n) p e f = refl
+set-flag s (property.Rank n) p e f = refl
 set-flag s (property.Exit g o) p e f = refl
 set-flag s (property.Text g n) p e f = refl
 
 set-limit : (s : Stamp) (setting : BoardSetting) (p : LiveProperties) → (write_property s setting p).time_limit ≡ kept_after s p.time_limit (time_limit_set setting)
 set-limit s (property.TimeLimit n) p = refl
+set-limit s (property.Rank n) p = refl
 set-limit s (property.Byte g n) p = refl
 set-limit s (property.Flag g v) p = refl
 set-limit s (property.Exit g o) p = refl
 set-limit s (property.Text g n) p = refl
+
+set-rank : (s : Stamp) (setting : BoardSetting) (p : LiveProperties) → (write_property s setting p).rank ≡ kept_after s p.rank (rank_set setting)
+set-rank s (property.Rank n) p = refl
+set-rank s (property.TimeLimit n) p = refl
+set-rank s (property.Byte g n) p = refl
+set-rank s (property.Flag g v) p = refl
+set-rank s (property.Exit g o) p = refl
+set-rank s (property.Text g n) p = refl
 
 set-exit : (s : Stamp) (setting : BoardSetting) (p : LiveProperties) → length p.exits ≡ 4 → (f : Side) → register (side_index f) (write_property s setting p).exits ≡ kept_after s (register (side_index f) p.exits) (exit_set f setting)
 set-exit s (property.Exit g o) p e f = set_register-at s o p.exits 4 (side_index f) (side_index g) e (side-within f)
 set-exit s (property.Byte g n) p e f = refl
 set-exit s (property.Flag g v) p e f = refl
 set-exit s (property.TimeLimit n) p e f = refl
+set-exit s (property.Rank n) p e f = refl
 set-exit s (property.Text g n) p e f = refl
 
 set-text : (s : Stamp) (setting : BoardSetting) (p : LiveProperties) → length p.texts ≡ 2 → (f : BoardText) → register (board_text_index f) (write_property s setting p).texts ≡ kept_after s (register (board_text_index f) p.texts) (board_text_set f setting)
@@ -140,6 +155,7 @@ set-text s (property.Text g n) p e f = set_register-at s n p.texts 2 (board_text
 set-text s (property.Byte g n) p e f = refl
 set-text s (property.Flag g v) p e f = refl
 set-text s (property.TimeLimit n) p e f = refl
+set-text s (property.Rank n) p e f = refl
 set-text s (property.Exit g o) p e f = refl
 
 setting-put : (b : BoardId) (s : Stamp) (setting : BoardSetting) (p : LiveProperties) → HasTables p → PropertiesPut b (by_setting b s setting) p (write_property s setting p)
@@ -151,6 +167,7 @@ setting-put b s setting p t =
       bytes = λ f. wrote (of_board b (board_byte f)) e (register (board_byte_index f) p.bytes) (register (board_byte_index f) new.bytes) (board_byte_set f setting) (setting-writes (λ x. (board_byte f).value x) (board_byte_set f) b s setting) (set-byte s setting p t.three f);
       flags = λ f. wrote (of_board b (board_flag f)) e (register (board_flag_index f) p.flags) (register (board_flag_index f) new.flags) (board_flag_set f setting) (setting-writes (λ x. (board_flag f).value x) (board_flag_set f) b s setting) (set-flag s setting p t.two_flags f);
       time_limit = wrote (of_board b time_limit) e p.time_limit new.time_limit (time_limit_set setting) (setting-writes (λ x. time_limit.value x) time_limit_set b s setting) (set-limit s setting p);
+      rank = wrote (of_board b rank) e p.rank new.rank (rank_set setting) (setting-writes (λ x. rank.value x) rank_set b s setting) (set-rank s setting p);
       exits = λ f. wrote (of_board b (exit f)) e (register (side_index f) p.exits) (register (side_index f) new.exits) (exit_set f setting) (setting-writes (λ x. (exit f).value x) (exit_set f) b s setting) (set-exit s setting p t.four f);
       texts = λ f. wrote (of_board b (board_text f)) e (register (board_text_index f) p.texts) (register (board_text_index f) new.texts) (board_text_set f setting) (setting-writes (λ x. (board_text f).value x) (board_text_set f) b s setting) (set-text s setting p t.two_texts f);
     }
@@ -183,6 +200,7 @@ made-put b e made p is whole t =
       bytes = λ f. table-put (λ x. (board_byte f).value x) (board_byte_set f) b e made new.bytes p.bytes (board_byte_index f) 3 0 is refl whole.bytes t.three (byte-within f);
       flags = λ f. table-put (λ x. (board_flag f).value x) (board_flag_set f) b e made new.flags p.flags (board_flag_index f) 2 false is refl whole.flags t.two_flags (flag-within f);
       time_limit = wrote (of_board b time_limit) e p.time_limit (keep_later p.time_limit (written_at e.stamp new.time_limit)) (Some new.time_limit) (made-writes (λ x. time_limit.value x) time_limit_set b e made is) refl;
+      rank = wrote (of_board b rank) e p.rank (keep_later p.rank (written_at e.stamp new.rank)) (Some new.rank) (made-writes (λ x. rank.value x) rank_set b e made is) refl;
       exits = λ f. table-put (λ x. (exit f).value x) (exit_set f) b e made new.exits p.exits (side_index f) 4 None is refl whole.exits t.four (side-within f);
       texts = λ f. table-put (λ x. (board_text f).value x) (board_text_set f) b e made new.texts p.texts (board_text_index f) 2 [] is refl whole.texts t.two_texts (text-within f);
     }
@@ -201,6 +219,7 @@ properties_pass_others b e low high p rises is apart was =
       bytes = λ f. wrote (of_board b (board_byte f)) e (register (board_byte_index f) p.bytes) (register (board_byte_index f) p.bytes) None (beside-writes (λ x. (board_byte f).value x) (board_byte_set f) b e is apart) refl;
       flags = λ f. wrote (of_board b (board_flag f)) e (register (board_flag_index f) p.flags) (register (board_flag_index f) p.flags) None (beside-writes (λ x. (board_flag f).value x) (board_flag_set f) b e is apart) refl;
       time_limit = wrote (of_board b time_limit) e p.time_limit p.time_limit None (beside-writes (λ x. time_limit.value x) time_limit_set b e is apart) refl;
+      rank = wrote (of_board b rank) e p.rank p.rank None (beside-writes (λ x. rank.value x) rank_set b e is apart) refl;
       exits = λ f. wrote (of_board b (exit f)) e (register (side_index f) p.exits) (register (side_index f) p.exits) None (beside-writes (λ x. (exit f).value x) (exit_set f) b e is apart) refl;
       texts = λ f. wrote (of_board b (board_text f)) e (register (board_text_index f) p.texts) (register (board_text_index f) p.texts) None (beside-writes (λ x. (board_text f).value x) (board_text_set f) b e is apart) refl;
     })
@@ -215,6 +234,7 @@ none_are_unwritten b = record {
   bytes = λ f. unset 3 (board_byte_index f);
   flags = λ f. unset 2 (board_flag_index f);
   time_limit = refl;
+  rank = refl;
   exits = λ f. unset 4 (side_index f);
   texts = λ f. unset 2 (board_text_index f);
 }

@@ -7,7 +7,7 @@ use Rattle.zed_types.specs.declared.property.BoardByte.{BoardByte}
 use Rattle.zed_types.specs.declared.property.BoardFlag.{BoardFlag}
 use Rattle.zed_types.specs.declared.property.BoardText.{BoardText}
 use Rattle.zed_types.specs.declared.property.BoardSetting.{BoardSetting}
-use Rattle.zed_types.specs.declared.property.BoardSetting.TheVariants.{Byte, Flag, TimeLimit, Exit, Text}
+use Rattle.zed_types.specs.declared.property.BoardSetting.TheVariants.{Byte, Flag, TimeLimit, Rank, Exit, Text}
 use Rattle.zed_types.specs.Names.{same_board}
 use Rattle.zed_types.specs.Board.{board_byte_index, board_flag_index, side_index, board_text_index}
 use Rattle.zed_types.specs.Register.{keep_later}
@@ -17,7 +17,7 @@ use Rattle.zed_op.specs.declared.op.Edit.{Edit}
 use Rattle.zed_op.specs.Set.{IsRising}
 use Rattle.zed_edit.specs.declared.plain.Properties.{Properties}
 use Rattle.zed_edit.specs.declared.plain.Board.{Board}
-use Rattle.zed_settle.specs.Fields.{board_byte, board_flag, time_limit, exit, board_text}
+use Rattle.zed_settle.specs.Fields.{board_byte, board_flag, time_limit, rank, exit, board_text}
 use Rattle.zed_settle.specs.Registers.{of_board, find_board, made_boards}
 use Rattle.zed_settle.specs.Whole.{IsWholeBoard}
 use Rattle.zed_cells.specs.Writes.{written_at, register, set_register}
@@ -31,6 +31,7 @@ unwritten = record {
   bytes = replicate 3 None;
   flags = replicate 2 None;
   time_limit = None;
+  rank = None;
   exits = replicate 4 None;
   texts = replicate 2 None;
 }
@@ -40,6 +41,7 @@ abbrev pub write_property : Stamp → BoardSetting → LiveProperties → LivePr
 write_property s (Byte f n) p = record p { bytes = set_register (board_byte_index f) (written_at s n) p.bytes }
 write_property s (Flag f v) p = record p { flags = set_register (board_flag_index f) (written_at s v) p.flags }
 write_property s (TimeLimit n) p = record p { time_limit = keep_later p.time_limit (written_at s n) }
+write_property s (Rank n) p = record p { rank = keep_later p.rank (written_at s n) }
 write_property s (Exit f b) p = record p { exits = set_register (side_index f) (written_at s b) p.exits }
 write_property s (Text f n) p = record p { texts = set_register (board_text_index f) (written_at s n) p.texts }
 
@@ -49,6 +51,7 @@ write_properties s new p = record {
   bytes = write_each s new.bytes p.bytes;
   flags = write_each s new.flags p.flags;
   time_limit = keep_later p.time_limit (written_at s new.time_limit);
+  rank = keep_later p.rank (written_at s new.rank);
   exits = write_each s new.exits p.exits;
   texts = write_each s new.texts p.texts;
 }
@@ -62,6 +65,7 @@ pub record PropertiesShow (b : BoardId) (es : List Edit) (p : LiveProperties) : 
   pub bytes : (f : BoardByte) → register (board_byte_index f) p.bytes ≡ latest_in (of_board b (board_byte f)) es
   pub flags : (f : BoardFlag) → register (board_flag_index f) p.flags ≡ latest_in (of_board b (board_flag f)) es
   pub time_limit : p.time_limit ≡ latest_in (of_board b time_limit) es
+  pub rank : p.rank ≡ latest_in (of_board b rank) es
   pub exits : (f : Side) → register (side_index f) p.exits ≡ latest_in (of_board b (exit f)) es
   pub texts : (f : BoardText) → register (board_text_index f) p.texts ≡ latest_in (of_board b (board_text f)) es
 

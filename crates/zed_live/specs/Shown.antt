@@ -47,6 +47,7 @@ shown_properties p = record {
   bytes = values_or 0 p.bytes;
   flags = values_or false p.flags;
   time_limit = value_or (pos 0) p.time_limit;
+  rank = value_or 0 p.rank;
   exits = values_or None p.exits;
   texts = values_or [] p.texts;
 }

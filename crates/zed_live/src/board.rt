@@ -35,6 +35,7 @@ fn copy_properties(properties: &Properties) -> Result<Properties, LiveError>
         bytes: properties.bytes,
         flags: properties.flags,
         time_limit: properties.time_limit,
+        rank: properties.rank,
         exits: properties.exits,
         texts: [name, message],
     })

@@ -2,7 +2,8 @@
 
 ghost use Rattle.std.specs.Prelude.{◌≡◌, length, true, IfOk, IfErr, OnOk, OnErr};
 ghost use Rattle.zed_op.specs.Fit.{Fits};
-ghost use Rattle.zed_op.specs.Growth.{header_has_string, may_grow};
+ghost use Rattle.zed_types.specs.Strings.{header_has_string};
+ghost use Rattle.zed_op.specs.Growth.{may_grow};
 ghost use Rattle.zed_live.specs.Header.{unwritten, write_header, write_each as each_written, write_all as all_written, made_by, header_after};
 
 use crate::error::LiveError;
@@ -84,21 +85,6 @@ pub(crate) fn copy_bytes(bytes: &Bytes) -> Result<Bytes, LiveError>
     bytes.copy().map_err(LiveError::of_growth)
 }
 
-fn copy_of(setting: &HeaderSetting) -> Result<HeaderSetting, LiveError>
-    ensures ok { IfOk result (λ s. s ≡ setting.now) }
-    ensures err { IfErr result (λ e. e ≡ LiveError.Memory) }
-    ensures memory_only_when { OnErr result (header_has_string setting.now ≡ true) }
-{
-    Ok(match setting {
-        HeaderSetting::Number(field, value) => HeaderSetting::Number(*field, *value),
-        HeaderSetting::Key(colour, held) => HeaderSetting::Key(*colour, *held),
-        HeaderSetting::Saved(saved) => HeaderSetting::Saved(*saved),
-        HeaderSetting::CurrentBoard(board) => HeaderSetting::CurrentBoard(*board),
-        HeaderSetting::WorldName(name) => HeaderSetting::WorldName(copy_bytes(name)?),
-        HeaderSetting::Flag(slot, name) => HeaderSetting::Flag(*slot, copy_bytes(name)?),
-    })
-}
-
 impl LiveHeader {
     /// A header of which no register was ever written. It takes no memory.
     pub fn new() -> LiveHeader
@@ -122,7 +108,7 @@ impl LiveHeader {
         ensures kept { OnErr result (self.new ≡ self.old) }
         ensures memory_only_when { OnErr result (header_has_string setting.now ≡ true) }
     {
-        self.put(stamp, copy_of(setting)?);
+        self.put(stamp, setting.copy().map_err(LiveError::of_growth)?);
         Ok(())
     }
 

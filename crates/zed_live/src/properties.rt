@@ -1,12 +1,12 @@
 //! The properties of a board, each of which keeps its latest write.
 
 ghost use Rattle.std.specs.Prelude.{◌≡◌, true, IfOk, IfErr, OnOk, OnErr};
-ghost use Rattle.zed_op.specs.Growth.{board_has_string};
+ghost use Rattle.zed_types.specs.Strings.{board_has_string};
 ghost use Rattle.zed_live.specs.Header.{write_each as each_written};
 ghost use Rattle.zed_live.specs.Properties.{unwritten, write_property, write_properties};
 
 use crate::error::LiveError;
-use crate::header::{copy_bytes, taken_out, write_each};
+use crate::header::{taken_out, write_each};
 use std::alloc::Global;
 use zed_cells::keep_in;
 use zed_edit::Properties;
@@ -20,6 +20,7 @@ pub struct LiveProperties {
     /// By `BoardFlag::index`.
     pub flags: [Option<Written<bool>>; 2],
     pub time_limit: Option<Written<i16>>,
+    pub rank: Option<Written<u16>>,
     /// By `Side::index`.
     pub exits: [Option<Written<Option<BoardId>>>; 4],
     /// By `BoardText::index`.
@@ -62,20 +63,6 @@ fn write_texts(
     }
 }
 
-fn copy_of(setting: &BoardSetting) -> Result<BoardSetting, LiveError>
-    ensures ok { IfOk result (λ s. s ≡ setting.now) }
-    ensures err { IfErr result (λ e. e ≡ LiveError.Memory) }
-    ensures memory_only_when { OnErr result (board_has_string setting.now ≡ true) }
-{
-    Ok(match setting {
-        BoardSetting::Byte(field, value) => BoardSetting::Byte(*field, *value),
-        BoardSetting::Flag(field, value) => BoardSetting::Flag(*field, *value),
-        BoardSetting::TimeLimit(value) => BoardSetting::TimeLimit(*value),
-        BoardSetting::Exit(side, board) => BoardSetting::Exit(*side, *board),
-        BoardSetting::Text(field, text) => BoardSetting::Text(*field, copy_bytes(text)?),
-    })
-}
-
 impl LiveProperties {
     /// Properties of which none was ever written. They take no memory.
     pub fn new() -> LiveProperties
@@ -85,6 +72,7 @@ impl LiveProperties {
             bytes: [None, None, None],
             flags: [None, None],
             time_limit: None,
+            rank: None,
             exits: [None, None, None, None],
             texts: [None, None],
         }
@@ -98,7 +86,7 @@ impl LiveProperties {
         ensures kept { OnErr result (self.new ≡ self.old) }
         ensures memory_only_when { OnErr result (board_has_string setting.now ≡ true) }
     {
-        self.put(stamp, copy_of(setting)?);
+        self.put(stamp, setting.copy().map_err(LiveError::of_growth)?);
         Ok(())
     }
 
@@ -118,6 +106,7 @@ impl LiveProperties {
                 &mut self.time_limit,
                 Written { stamp, value },
             ),
+            BoardSetting::Rank(value) => keep_in(&mut self.rank, Written { stamp, value }),
             BoardSetting::Exit(side, value) => keep_in(
                 &mut self.exits[usize::from(side.index())],
                 Written { stamp, value },
@@ -141,6 +130,13 @@ impl LiveProperties {
             Written {
                 stamp,
                 value: made.time_limit,
+            },
+        );
+        keep_in(
+            &mut self.rank,
+            Written {
+                stamp,
+                value: made.rank,
             },
         );
         write_exits(&mut self.exits, stamp, &made.exits);

@@ -154,6 +154,13 @@ impl LiveProperties {
         value_of(&self.time_limit, 0)
     }
 
+    /// The rank of the board.
+    pub fn rank(&self) -> u16
+        ensures { result ≡ (shown_properties self.now).rank }
+    {
+        value_of(&self.rank, 0)
+    }
+
     /// Where a side of the board leads.
     pub fn exit(&self, side: Side) -> Option<BoardId>
         ensures { result

@@ -2,6 +2,7 @@
 use Rattle.std.specs.Prelude.{ℕ, nat_le, Bool, true, not, ◌&&◌, ◌||◌, if◌then◌else◌, List, length, Option, Some, None, ◌≡◌}
 use Rattle.std.specs.List.{list_all}
 use Rattle.zed_types.specs.declared.stamp.Stamp.{Stamp}
+use Rattle.zed_types.specs.declared.stamp.TheConstants.Stamp.{LAST_TIME}
 use Rattle.zed_types.specs.declared.header.HeaderSetting.{HeaderSetting}
 use Rattle.zed_types.specs.declared.header.HeaderSetting.TheVariants.{WorldName, Flag as FlagSetting}
 use Rattle.zed_types.specs.declared.property.BoardText.{BoardText}
@@ -26,7 +27,7 @@ genesis_stamp = record { time = 1; replica = 0 }
 
 -- the stamps that authors give: time 2 to 2^48 - 1, replica 1 and up
 abbrev pub is_author_stamp : Stamp → Bool
-is_author_stamp s = nat_le 2 s.time && nat_le s.time 281474976710655 && nat_le 1 s.replica
+is_author_stamp s = nat_le 2 s.time && nat_le s.time LAST_TIME && nat_le 1 s.replica
 
 -- the stamps that there are
 abbrev pub is_stamp : Stamp → Bool

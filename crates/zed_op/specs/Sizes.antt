@@ -31,6 +31,10 @@ IsByte n = n < 256
 abbrev pub IsNumber : ℤ → Type 0
 IsNumber n = FitsSigned w16 n
 
+-- two bytes without a sign
+abbrev pub IsRank : ℕ → Type 0
+IsRank n = n < 2 ^ 16
+
 -- a string whose length is one byte
 abbrev pub IsString : List ℕ → Type 0
 IsString s = length s < 256
@@ -74,6 +78,7 @@ abbrev pub IsBoardSetting : BoardSetting → Type 0
 IsBoardSetting (board.Byte f n) = IsByte n
 IsBoardSetting (board.Flag f b) = Unit {0}
 IsBoardSetting (board.TimeLimit n) = IsNumber n
+IsBoardSetting (board.Rank n) = IsRank n
 IsBoardSetting (board.Exit d b) = IfSome b (λ x. IsName x.name)
 IsBoardSetting (board.Text f s) = IsString s
 

@@ -5,7 +5,7 @@ ghost use Rattle.zed_op.specs.declared.cause.EditError.TheVariants.{Memory};
 ghost use Rattle.zed_types.specs.Table.{is_in_table};
 ghost use Rattle.zed_op.specs.Fit.{Fits, fault, is_author_stamp, is_stamp, is_own_stamp, has_good_stamps, is_header_in_range, most_of, is_property_in_range, is_in_range, names_earlier, has_good_world};
 ghost use Rattle.zed_op.specs.Names.{names_of, stamp_of};
-ghost use Rattle.zed_op.specs.Verdict.{verdict, is_genesis, HangsOnItsWorld};
+ghost use Rattle.zed_op.specs.Verdict.{verdict, is_genesis, BeginsItsWorld, HangsOnItsWorld};
 
 use crate::cause::{Cause, EditError};
 use crate::naming::names;
@@ -137,6 +137,7 @@ fn has_good_world(alloc: Global, op: &Op) -> Result<bool, EditError>
     ensures ok { IfOk result (λ b. b ≡ has_good_world op.now) }
     ensures err { IfErr result (λ e. e ≡ Memory) }
     ensures genesis { IfErr result (λ e. is_genesis op.now ≡ true) }
+    ensures begins { IfErr result (λ e. BeginsItsWorld op.now) }
 {
     match op {
         Op::Genesis(bytes) => match is_canonical(alloc, bytes.as_slice()) {
@@ -148,7 +149,8 @@ fn has_good_world(alloc: Global, op: &Op) -> Result<bool, EditError>
 }
 
 /// Whether an edit fits, or the first cause against it: its own stamp and those that it names, then the ranges of its values,
-/// then whether all that it names is earlier, then the bytes of a Genesis. Only a Genesis that has no other fault takes memory.
+/// then whether all that it names is earlier, then the bytes of a Genesis. Only a Genesis that has no other fault
+/// and whose bytes begin a world takes memory.
 pub fn check(alloc: Global, edit: &Edit) -> Result<(), EditError>
     ensures result { (result ≡ Err Memory) ⊎ (result ≡ verdict (fault edit.now)) }
     ensures fits { IfOk result (λ _. Fits edit.now) }

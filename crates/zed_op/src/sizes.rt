@@ -6,7 +6,7 @@ ghost use Rattle.std.specs.List.{AllByRecursion};
 ghost use Rattle.zed_op.specs.Fit.{Fits, is_stamp, is_header_in_range, is_property_in_range, is_in_range};
 ghost use Rattle.zed_op.specs.Names.{target_named, header_names, board_names, stat_names, text_named, names_of};
 ghost use Rattle.zed_op.specs.Set.{AllFit};
-ghost use Rattle.zed_op.specs.Sizes.{AreStamped, IsByte, IsNumber, IsStamp, IsName, IsTile, IsRange, IsRectangle, IsThirdParameter, IsHeaderSetting, IsBoardSetting, IsStatSetting, IsStatFields, IsOp, HasSizes, HaveSizes};
+ghost use Rattle.zed_op.specs.Sizes.{AreStamped, IsByte, IsNumber, IsRank, IsStamp, IsName, IsTile, IsRange, IsRectangle, IsThirdParameter, IsHeaderSetting, IsBoardSetting, IsStatSetting, IsStatFields, IsOp, HasSizes, HaveSizes};
 
 use crate::laws::fit_is_of_parts;
 use crate::op::{Edit, Op};
@@ -25,6 +25,10 @@ fn byte_has_size(byte: u8)
 
 fn number_has_size(number: i16)
     ensures { IsNumber number }
+{}
+
+fn rank_has_size(rank: u16)
+    ensures { IsRank rank }
 {}
 
 fn name_has_size(name: Name)
@@ -64,6 +68,7 @@ fn board_setting_has_size(setting: &BoardSetting)
     match setting {
         BoardSetting::Byte(_, byte) => byte_has_size(*byte),
         BoardSetting::TimeLimit(limit) => number_has_size(*limit),
+        BoardSetting::Rank(rank) => rank_has_size(*rank),
         BoardSetting::Exit(_, Some(board)) => name_has_size(board.name),
         BoardSetting::Exit(_, None) | BoardSetting::Flag(_, _) | BoardSetting::Text(_, _) => {}
     }

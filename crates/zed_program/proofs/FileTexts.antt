@@ -1,49 +1,58 @@
 -- What files that spell lists of edits come to.
-use Rattle.std.proofs.Common.{◌≡◌, ◌∙◌, ◌==◌, ◌<◌, ◌^◌, ℕ, Bool, true, false, List, [], ◌∷◌, ◌++◌, length, lit≤, Option, Some, None, Result, Ok, Err, refl, ap, ap₂, sym, subst, map, arith}
-use Rattle.std.specs.Prelude.{◌≢◌, not, Contains}
-use Rattle.std.proofs.lemmas.List.Elements.{Contains-append_left, Contains-append_right}
-use Rattle.std.proofs.lemmas.Bool.{ne_eqb}
-use mathlib.Core.Logic.{inl, inr}
+use Rattle.zed_editfile.specs.declared.error.EditFileError.TheVariants as file
 use Rattle.zed_types.specs.declared.stamp.Stamp.{Stamp}
 use Rattle.zed_op.specs.declared.op.Edit.{Edit}
-use Rattle.zed_op.specs.Set.{Agrees, set_of}
 use Rattle.zed_editfile.specs.declared.error.EditFileError.{EditFileError}
-use Rattle.zed_editfile.specs.declared.error.EditFileError.TheVariants as file
-use Rattle.zed_editfile.specs.Spelling.{file_text}
-use Rattle.zed_editfile.specs.Stream.{AreRecords, Progress, Reads, ending, is_other}
-use Rattle.zed_program.specs.declared.refusal.Refusal.{Refusal}
+use Rattle.zed_files.specs.declared.refusal.Refusal.{Refusal}
+use Rattle.zed_files.specs.declared.refusal.Refusal.TheVariants.{NoWorld}
+use Rattle.zed_words.specs.declared.profile.Profile.{Profile}
+use Rattle.zed_words.specs.declared.profile.Profile.TheVariants.{Usual, Big}
+use Rattle.zed_export.specs.declared.error.ExportError.{ExportError}
+use Rattle.zed_export.specs.Limits as limits
+use Rattle.std.proofs.Common.{◌≡◌, ◌∙◌, ◌==◌, ◌<◌, ◌≤◌, ◌^◌, ℕ, Bool, true, false, List, [], ◌∷◌, ◌++◌, length, lit≤, Option, Some, None, Result, Ok, Err, refl, ap, ap₂, sym, subst, map, arith, inl, inr, ◌≢◌}
+use Rattle.std.specs.Prelude.{not, Contains}
+use Rattle.std.proofs.lemmas.List.Elements.{Contains-append_left, Contains-append_right}
+use Rattle.std.proofs.lemmas.Bool.{ne_eqb}
+use Rattle.zed_op.specs.Set.{Agrees, set_of}
+use Rattle.zed_editfile.specs.Stream.{AreRecords, IsTextOf, Progress, Reads, ending, is_other}
 use Rattle.zed_document.specs.Delivery.{IsFirstClash}
-use Rattle.zed_program.specs.declared.refusal.Refusal.TheVariants.{NoWorld}
-use Rattle.zed_program.specs.Collected.{IsCollected}
-use Rattle.zed_program.specs.Files.{IsFile, IsStream, Stream, edits_then, end_by, joined, stream_after, texts_of_lists}
-use Rattle.zed_program.specs.Outcome.{ComesTo, Effect, EndsCalmly, HasStatus, file_of, made_of, unless_over, writes_world, written_to}
-use Rattle.zed_program.specs.HostContents.{HostContents, file_in}
-use Rattle.zed_program.specs.Devices.{Devices}
+use Rattle.zed_files.specs.Collected.{IsCollected}
+use Rattle.zed_files.specs.Files.{IsFile, IsStream, Stream, edits_then, end_by, joined, stream_after, AreTextsOf}
+use Rattle.zed_program.specs.Outcome.{ComesTo, EndsCalmly, HasStatus}
+use Rattle.zed_files.specs.Effects.{Effect, written_to}
+use Rattle.zed_worlds.specs.Made.{file_of, made_of, unless_over, writes_world}
+use Rattle.zed_host.specs.HostContents.{HostContents, file_in}
+use Rattle.zed_program.specs.Devices.{Devices, devices}
 use Rattle.zed_words.specs.Commands.{Save}
-use Rattle.zed_program.specs.Lines.{bytes_line}
-use Rattle.zed_program.proofs.Endings.{reads_are}
+use Rattle.zed_words.specs.Laws.{with_option}
+use Rattle.zed_program.specs.Limit.{limit_of}
+use Rattle.zed_files.specs.Lines.{bytes_line}
+use Rattle.zed_host.proofs.ReadFiles.{reads_are}
 use Rattle.zed_program.specs.Saving.{AsksToSave, SavedReadsBack, SavesSet}
 use Rattle.zed_world.specs.Reading.{world_at}
 use Rattle.zed_world.specs.Writing.{world_text}
 use Rattle.zed_edit.specs.Replay.{replay}
 use Rattle.zed_op.specs.Sizes.{HaveSizes}
 use Rattle.zed_link.proofs.Readings.{records_fit}
-use Rattle.zed_export.specs.declared.error.ExportError.{ExportError}
 use Rattle.zed_export.specs.World.{world_of}
-use Rattle.zed_export.specs.Limits as limit
 use Rattle.zed_export.specs.Limits.{refusal_of, saved}
 use Rattle.zed_export.specs.Headline.{AreAuthored, AuthoredIsRead}
 
--- the text of a list of edits reads as that list, to its end
+-- an option makes words longer
+pub option_adds : (profile : Profile) (words : List (List ℕ)) → length words ≤ length (with_option profile words)
+option_adds Usual words = omega arith
+option_adds Big words = omega arith
+
+-- the text of a list of edits, in either version, reads as that list, to its end
 abbrev pub WrittenIsRead : Type 0
 WrittenIsRead =
-    (n : ℕ) (es found : List Edit) (p : Progress) → n < 2 ^ 64 → AreRecords es → is_other p.asked n ≡ false → Reads (file_text n es) found p → p.fault ≢ Some file.Memory
+    (n : ℕ) (es found : List Edit) (bytes : List ℕ) (p : Progress) → n < 2 ^ 64 → AreRecords es → IsTextOf n es bytes → is_other p.asked n ≡ false → Reads bytes found p → p.fault ≢ Some file.Memory
     → (found ≡ es) × (ending p ≡ None) × (p.world ≡ Some n)
 
-file_is : WrittenIsRead → (asked : Option ℕ) (n : ℕ) (es found : List Edit) (end : Result ℕ EditFileError) → n < 2 ^ 64 → AreRecords es → is_other asked n ≡ false
-    → IsFile asked (file_text n es) found end → (found ≡ es) × (end ≡ Ok n)
-file_is law asked n es found end small good own file =
-    let read = law n es found file.progress small good (ap (λ a. is_other a n) file.asks ∙ own) file.reads file.sound in
+file_is : WrittenIsRead → (asked : Option ℕ) (n : ℕ) (es found : List Edit) (bytes : List ℕ) (end : Result ℕ EditFileError) → n < 2 ^ 64 → AreRecords es → IsTextOf n es bytes → is_other asked n ≡ false
+    → IsFile asked bytes found end → (found ≡ es) × (end ≡ Ok n)
+file_is law asked n es found bytes end small good text own file =
+    let read = law n es found bytes file.progress small good text (ap (λ a. is_other a n) file.asks ∙ own) file.reads file.sound in
     (read.0, file.ends ∙ ap₂ end_by read.1 read.2)
 
 pub records_left : (es fs : List Edit) → AreRecords (es ++ fs) → AreRecords es
@@ -62,32 +71,42 @@ same_world n = go (n == n) refl
     go false t = let bad = ne_eqb n n in absurd (grind arith)
 
 -- one file, and then the others
-first_is : WrittenIsRead → (asked : Option ℕ) (n : ℕ) (es : List Edit) (lists : List (List Edit)) (s : Stream) → n < 2 ^ 64 → AreRecords es → is_other asked n ≡ false
-    → ((rest : Stream) → IsStream (Some n) (texts_of_lists n lists) rest → rest ≡ edits_then (joined lists) None)
-    → IsStream asked (texts_of_lists n (es ∷ lists)) s → s ≡ edits_then (joined (es ∷ lists)) None
-first_is law asked n es lists s small good own others reads =
+first_is : WrittenIsRead → (asked : Option ℕ) (n : ℕ) (es : List Edit) (bytes : List ℕ) (lists : List (List Edit)) (files : List (Option (List ℕ))) (s : Stream) → n < 2 ^ 64 → AreRecords es → IsTextOf n es bytes → is_other asked n ≡ false
+    → ((rest : Stream) → IsStream (Some n) files rest → rest ≡ edits_then (joined lists) None)
+    → IsStream asked (Some bytes ∷ files) s → s ≡ edits_then (joined (es ∷ lists)) None
+first_is law asked n es bytes lists files s small good text own others reads =
     elim reads [
-      | inl fault ↦ (let is = file_is law asked n es s.edits (Err fault.0) small good own fault.1 in let bad : Err fault.0 ≡ Ok n = is.1 in cc)
+      | inl fault ↦ (let is = file_is law asked n es s.edits bytes (Err fault.0) small good text own fault.1 in let bad : Err fault.0 ≡ Ok n = is.1 in cc)
       | inr more ↦ (
-          let is = file_is law asked n es more.0 (Ok more.1) small good own more.3 in
+          let is = file_is law asked n es more.0 bytes (Ok more.1) small good text own more.3 in
           let world : more.1 ≡ n = (let same : Ok more.1 ≡ Ok n = is.1 in cc) in
-          let rest = others more.2 (subst (λ w. IsStream (Some w) (texts_of_lists n lists) more.2) world more.4) in
+          let rest = others more.2 (subst (λ w. IsStream (Some w) files more.2) world more.4) in
           more.5 ∙ ap₂ stream_after is.0 rest)
     ]
 
-others_are : WrittenIsRead → (n : ℕ) (lists : List (List Edit)) (s : Stream) → n < 2 ^ 64 → AreRecords (joined lists)
-    → IsStream (Some n) (texts_of_lists n lists) s → s ≡ edits_then (joined lists) None
-others_are law n [] s small good reads = reads
-others_are law n (es ∷ lists) s small good reads =
-    first_is law (Some n) n es lists s small (records_left es (joined lists) good) (same_world n)
-    (λ rest is. others_are law n lists rest small (records_right es (joined lists) good) is) reads
+others_are : WrittenIsRead → (n : ℕ) (lists : List (List Edit)) (files : List (Option (List ℕ))) (s : Stream) → n < 2 ^ 64 → AreRecords (joined lists) → AreTextsOf n lists files
+    → IsStream (Some n) files s → s ≡ edits_then (joined lists) None
+others_are law n [] [] s small good texts reads = reads
+others_are law n [] (f ∷ files) s small good texts reads = absurd texts
+others_are law n (es ∷ lists) [] s small good texts reads = absurd texts
+others_are law n (es ∷ lists) (None ∷ files) s small good texts reads = absurd texts.0
+others_are law n (es ∷ lists) (Some bytes ∷ files) s small good texts reads =
+    first_is law (Some n) n es bytes lists files s small (records_left es (joined lists) good) texts.0 (same_world n)
+    (λ rest is. others_are law n lists files rest small (records_right es (joined lists) good) texts.1 is) reads
 
 -- the files of one list of edits or more come to all their edits
-pub texts_are : WrittenIsRead → (n : ℕ) (es : List Edit) (lists : List (List Edit)) (s : Stream) → n < 2 ^ 64 → AreRecords (joined (es ∷ lists))
-    → IsStream None (texts_of_lists n (es ∷ lists)) s → s ≡ edits_then (joined (es ∷ lists)) None
-texts_are law n es lists s small good reads =
-    first_is law None n es lists s small (records_left es (joined lists) good) refl
-    (λ rest is. others_are law n lists rest small (records_right es (joined lists) good) is) reads
+pub texts_are : WrittenIsRead → (n : ℕ) (es : List Edit) (lists : List (List Edit)) (files : List (Option (List ℕ))) (s : Stream) → n < 2 ^ 64 → AreRecords (joined (es ∷ lists)) → AreTextsOf n (es ∷ lists) files
+    → IsStream None files s → s ≡ edits_then (joined (es ∷ lists)) None
+texts_are law n es lists [] s small good texts reads = absurd texts
+texts_are law n es lists (None ∷ files) s small good texts reads = absurd texts.0
+texts_are law n es lists (Some bytes ∷ files) s small good texts reads =
+    first_is law None n es bytes lists files s small (records_left es (joined lists) good) texts.0 refl
+    (λ rest is. others_are law n lists files rest small (records_right es (joined lists) good) texts.1 is) reads
+
+-- no lists have no files
+no_files : (n : ℕ) (files : List (Option (List ℕ))) → AreTextsOf n [] files → files ≡ []
+no_files n [] texts = refl
+no_files n (f ∷ files) texts = absurd texts
 
 pub no_clash : (es : List Edit) (c : Stamp) → Agrees es → IsFirstClash es c → ⊥
 no_clash es c agrees clash =
@@ -113,62 +132,65 @@ none_saved s set is collected =
       | inr whole ↦ whole.1
     ]
 
-none_made : file_of (set_of []) ≡ Err NoWorld
-none_made = refl
+none_made : (limit : ℕ) → file_of limit (set_of []) ≡ Err NoWorld
+none_made limit = refl
 
 -- so the world file of their set is what `save` writes, or its first limit is told
-saved_set : (devices : Devices) → WrittenIsRead → (t : HostContents) (out : List ℕ) (names : List (List ℕ)) (n : ℕ) (lists : List (List Edit)) (r : Result Effect Refusal)
-    → map (file_in t) names ≡ texts_of_lists n lists → n < 2 ^ 64 → AreRecords (joined lists) → Agrees (joined lists)
-    → ComesTo ⊥ devices (Save out names) t r → r ≡ writes_world out (file_of (set_of (joined lists)))
-saved_set devices law t out names n [] r texts small good agrees comes =
+saved_set : (devices : Devices) → WrittenIsRead → (t : HostContents) (profile : Profile) (out : List ℕ) (names : List (List ℕ)) (n : ℕ) (lists : List (List Edit)) (r : Result Effect Refusal)
+    → AreTextsOf n lists (map (file_in t) names) → n < 2 ^ 64 → AreRecords (joined lists) → Agrees (joined lists)
+    → ComesTo ⊥ devices (Save profile out names) t r → r ≡ writes_world out (file_of (limit_of profile) (set_of (joined lists)))
+saved_set devices law t profile out names n [] r texts small good agrees comes =
     let made = comes.1 in
     let collects = made.1 in
     let stream = collects.1 in
-    let reads = reads_are t names stream.0 stream.1 ∙ texts in
+    let reads = reads_are t names stream.0 stream.1 ∙ no_files n (map (file_in t) names) texts in
     let set = none_saved collects.0 made.0 (subst (λ files. IsStream None files collects.0) reads stream.2) collects.2 in
-    comes.2 ∙ ap (writes_world out) (made.2 ∙ ap (made_of file_of) set ∙ sym none_made)
-saved_set devices law t out names n (es ∷ lists) r texts small good agrees comes =
+    comes.2 ∙ ap (writes_world out) (made.2 ∙ ap (made_of (file_of (limit_of profile))) set ∙ sym (none_made (limit_of profile)))
+saved_set devices law t profile out names n (es ∷ lists) r texts small good agrees comes =
     let made = comes.1 in
     let collects = made.1 in
     let stream = collects.1 in
-    let reads = reads_are t names stream.0 stream.1 ∙ texts in
-    let read = texts_are law n es lists collects.0 small good (subst (λ files. IsStream None files collects.0) reads stream.2) in
+    let reads = reads_are t names stream.0 stream.1 in
+    let read = texts_are law n es lists (map (file_in t) names) collects.0 small good texts (subst (λ files. IsStream None files collects.0) reads stream.2) in
     let set : made.0 ≡ Ok (set_of (joined (es ∷ lists))) = set_is collects.0 (joined (es ∷ lists)) made.0 read agrees collects.2 in
-    comes.2 ∙ ap (writes_world out) (made.2 ∙ ap (made_of file_of) set)
+    comes.2 ∙ ap (writes_world out) (made.2 ∙ ap (made_of (file_of (limit_of profile))) set)
 
 -- and `run` ends so
-pub run_of_texts : (devices : Devices) → WrittenIsRead → (words : List (List ℕ)) (t : HostContents) (out : List ℕ) (n : ℕ) (lists : List (List Edit)) (status : ℕ) (new : Option HostContents)
-    → (asks : AsksToSave words t out n lists) → EndsCalmly devices (Save out asks.files) t status new → SavesSet out t (joined lists) status new
-run_of_texts devices law words t out n lists status new asks ended =
+pub run_of_texts : (devices : Devices) → WrittenIsRead → (words : List (List ℕ)) (t : HostContents) (profile : Profile) (out : List ℕ) (n : ℕ) (lists : List (List Edit)) (status : ℕ) (new : Option HostContents)
+    → (asks : AsksToSave words t profile out n lists) → EndsCalmly devices (Save profile out asks.files) t status new → SavesSet profile out t (joined lists) status new
+run_of_texts devices law words t profile out n lists status new asks ended =
     elim ended [
       | inl done ↦ (
-          let is = saved_set devices law t out asks.files n lists done.0 asks.spelled asks.is_number asks.records asks.agree done.1 in
+          let is = saved_set devices law t profile out asks.files n lists done.0 asks.spelled asks.is_number asks.records asks.agree done.1 in
           inl (subst (λ r. HasStatus r t status new) is done.2))
       | inr memory ↦ inr memory
     ]
-
--- ---- what is saved is read
 
 records_have_sizes : (es : List Edit) → AreRecords es → HaveSizes es
 records_have_sizes [] h = tt
 records_have_sizes (e ∷ es) h = (h.0.1, records_have_sizes es h.1)
 
-saved_at : (es : List Edit) (bytes : List ℕ) → file_of es ≡ Ok bytes → saved 20000 (replay es) ≡ Ok bytes
-saved_at es bytes is = go (refusal_of 20000 (replay es)) is
+-- a world file can spell a body of either limit
+low : (profile : Profile) → limit_of profile ≤ 32767
+low Usual = lit≤ tt
+low Big = lit≤ tt
+
+saved_at : (limit : ℕ) (es : List Edit) (bytes : List ℕ) → file_of limit es ≡ Ok bytes → saved limit (replay es) ≡ Ok bytes
+saved_at limit es bytes is = go (refusal_of limit (replay es)) is
   where
     text : List ℕ
     text = world_text (world_of (replay es))
 
-    go : (o : Option ExportError) → unless_over o text ≡ Ok bytes → limit.unless_over o text ≡ Ok bytes
+    go : (o : Option ExportError) → unless_over o text ≡ Ok bytes → limits.unless_over o text ≡ Ok bytes
     go None e = let same : text ≡ bytes = cc in ap (λ x. Ok x) same
     go (Some refusal) e = absurd (cc)
 
 -- where `run` ends well, the file is read as the exported world
-pub reads_back : AuthoredIsRead → (words : List (List ℕ)) (t : HostContents) (out : List ℕ) (n : ℕ) (lists : List (List Edit)) (status : ℕ) (new : Option HostContents)
-    → AsksToSave words t out n lists → SavesSet out t (joined lists) status new → SavedReadsBack out t (joined lists) status new
-reads_back law words t out n lists status new asks saves well =
+pub reads_back : AuthoredIsRead → (words : List (List ℕ)) (t : HostContents) (profile : Profile) (out : List ℕ) (n : ℕ) (lists : List (List Edit)) (status : ℕ) (new : Option HostContents)
+    → AsksToSave words t profile out n lists → SavesSet profile out t (joined lists) status new → SavedReadsBack out t (joined lists) status new
+reads_back law words t profile out n lists status new asks saves well =
     elim saves [
-      | inl done ↦ go (file_of (set_of es)) refl done
+      | inl done ↦ go (file_of (limit_of profile) (set_of es)) refl done
       | inr memory ↦ absurd (let bad = memory.0 in omega (arith, bad, well))
     ]
   where
@@ -178,16 +200,16 @@ reads_back law words t out n lists status new asks saves well =
     authored : AreAuthored es
     authored = record { fit = records_fit es asks.records; sizes = records_have_sizes es asks.records; agree = asks.agree }
 
-    go : (f : Result (List ℕ) Refusal) → file_of (set_of es) ≡ f → HasStatus (writes_world out f) t status new
+    go : (f : Result (List ℕ) Refusal) → file_of (limit_of profile) (set_of es) ≡ f → HasStatus (writes_world out f) t status new
         → (bytes : List ℕ) × (new ≡ Some (written_to out bytes (bytes_line (length bytes)) t)) × (world_at bytes ≡ Ok (world_of (replay (set_of es))))
-    go (Ok bytes) is done = (bytes, done.1, law 20000 es bytes authored (lit≤ tt) (saved_at (set_of es) bytes is))
+    go (Ok bytes) is done = (bytes, done.1, law (limit_of profile) es bytes authored (low profile) (saved_at (limit_of profile) (set_of es) bytes is))
     go (Err e) is done = absurd (let bad = done.0 in omega (arith, bad, well))
 
 -- by the laws of edit files: bytes are read in one way, and the text of edits as those edits
 pub written_is_read : ((bytes : List ℕ) (es fs : List Edit) (p q : Progress) → p.asked ≡ q.asked → p.fault ≢ Some file.Memory → q.fault ≢ Some file.Memory → Reads bytes es p → Reads bytes fs q → (es ≡ fs) × (p ≡ q))
-    → ((asked : Option ℕ) (n : ℕ) (es : List Edit) → n < 2 ^ 64 → is_other asked n ≡ false → AreRecords es → Reads (file_text n es) es (record { asked = asked; world = Some n; rest = []; fault = None }))
+    → ((asked : Option ℕ) (n : ℕ) (es : List Edit) (bytes : List ℕ) → n < 2 ^ 64 → is_other asked n ≡ false → AreRecords es → (text : IsTextOf n es bytes) → Reads bytes es (record { asked = asked; world = Some n; version = text.version; rest = []; fault = None }))
     → WrittenIsRead
-written_is_read one whole n es found p small good own reads sound =
-    let there = whole p.asked n es small own good in
-    let same = one (file_text n es) found es p (record { asked = p.asked; world = Some n; rest = []; fault = None }) refl sound (λ bad. let no : None ≡ Some file.Memory = bad in cc) reads there in
+written_is_read one whole n es found bytes p small good text own reads sound =
+    let there = whole p.asked n es bytes small own good text in
+    let same = one bytes found es p (record { asked = p.asked; world = Some n; version = text.version; rest = []; fault = None }) refl sound (λ bad. let no : None ≡ Some file.Memory = bad in cc) reads there in
     (same.0, ap ending same.1, ap (λ (q : Progress). q.world) same.1)

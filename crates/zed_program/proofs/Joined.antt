@@ -1,104 +1,42 @@
 -- What pulls over links that hold edit files come to.
-use Rattle.std.proofs.Common.{◌≡◌, ◌∙◌, ◌≤◌, ◌<◌, ◌^◌, ◌++◌, arith, ℕ, Bool, false, List, [], ◌∷◌, length, take, suc, nat_lt, Option, Some, None, Result, Ok, Err, refl, ap, sym, subst, map, append_assoc, append-nil, inl, inr}
-use Rattle.std.specs.Prelude.{◌⊎◌, Contains, MatchBool, option_map}
-use Rattle.std.proofs.lemmas.List.{length-map, length-take-le, take-map}
+use Rattle.zed_document.specs.declared.error.DocumentError.TheVariants as document
+use Rattle.zed_link.specs.declared.error.LinkError.TheVariants as link
 use Rattle.zed_types.specs.declared.stamp.Stamp.{Stamp}
 use Rattle.zed_op.specs.declared.op.Edit.{Edit}
+use Rattle.zed_document.specs.declared.error.DocumentError.{DocumentError}
+use Rattle.zed_link.specs.declared.error.LinkError.{LinkError}
+use Rattle.zed_files.specs.declared.refusal.Refusal.{Refusal}
+use Rattle.zed_files.specs.declared.refusal.Refusal.TheVariants.{Memory, NoLink}
+use Rattle.std.proofs.Common.{◌≡◌, ◌∙◌, ◌≤◌, ◌<◌, ◌^◌, ◌++◌, arith, ℕ, false, List, [], ◌∷◌, length, take, suc, Option, Some, None, Result, Ok, Err, refl, ap, sym, subst, map, append_assoc, append-nil, inl, inr}
+use Rattle.std.specs.Prelude.{◌⊎◌, Contains, MatchBool, option_map}
+use Rattle.std.proofs.lemmas.List.{length-map, length-take-le}
 use Rattle.zed_op.specs.Set.{Agrees, AllFit, set_of}
 use Rattle.zed_op.proofs.SetLaws.{agree_left}
-use Rattle.zed_editfile.specs.Spelling.{file_text}
 use Rattle.zed_editfile.specs.Stream.{AreRecords}
-use Rattle.zed_document.specs.declared.error.DocumentError.TheVariants as document
-use Rattle.zed_document.specs.declared.error.DocumentError.{DocumentError}
 use Rattle.zed_document.specs.Delivery.{DeliveriesComeToSets, DeliversEach}
-use Rattle.zed_document.specs.Counts.{Counts}
 use Rattle.zed_document.specs.Replica.{Replica}
-use Rattle.zed_document.proofs.CountsAside.{with_counts}
-use Rattle.zed_link.proofs.CountsAside.{pull_aside}
-use Rattle.zed_link.specs.declared.error.LinkError.{LinkError}
-use Rattle.zed_link.specs.declared.error.LinkError.TheVariants as link
 use Rattle.zed_link.specs.Ends.{LinkEnds}
 use Rattle.zed_link.specs.Laws.{DeliveriesGoOn, FilesArePulled, HoldsFile, IsLong, MayFail, PullsFile}
 use Rattle.zed_link.specs.Pull.{AllDelivered}
-use Rattle.zed_link.specs.declared.pulled.Pulled.{Pulled}
 use Rattle.zed_link.proofs.Readings.{records_fit}
-use Rattle.zed_session.specs.Links.{LinkSeen, PullsOver}
-use Rattle.zed_program.specs.Devices.{Devices}
-use Rattle.zed_program.specs.declared.refusal.Refusal.{Refusal}
-use Rattle.zed_program.specs.declared.refusal.Refusal.TheVariants.{Memory, NoLink}
+use Rattle.zed_session.specs.Links.{LinkSeen}
+use Rattle.zed_program.specs.Devices.{Devices, devices}
 use Rattle.zed_words.specs.Commands.{Merge}
-use Rattle.zed_program.specs.Files.{joined, texts_of_lists}
-use Rattle.zed_program.specs.HostContents.{HostContents}
+use Rattle.zed_files.specs.Files.{AreTextsOf, IsTextIn, joined}
+use Rattle.zed_host.specs.HostContents.{HostContents}
 use Rattle.zed_program.specs.Joining.{AsksToMerge, HasLink, IsOfLinks, MergesSet, left_on}
-use Rattle.zed_program.specs.Lines.{joined_line}
-use Rattle.zed_program.specs.Merged.{IsMerged, PullsEach, empty_document, with_edits}
-use Rattle.zed_program.specs.Outcome.{ComesTo, Effect, EndsCalmly, HasStatus, Writes, writes_joined}
-use Rattle.zed_program.specs.Refusals.{link_refusal}
+use Rattle.zed_making.specs.Merged.{IsMerged, PullsEach, empty_document, with_edits, writes_joined}
+use Rattle.zed_program.specs.Outcome.{EndsCalmly, HasStatus}
+use Rattle.zed_files.specs.Effects.{Effect}
+use Rattle.zed_files.specs.Refusals.{link_refusal}
+use Rattle.zed_making.proofs.Pulls.{not_fewer}
 use Rattle.zed_program.proofs.FileTexts.{no_clash, records_left, records_right}
-
--- what a function makes of each element of a list
-abbrev pub each_of : {X Y : Type 0} → List X → (X → Y) → List Y
-each_of xs f = map f xs
-
--- a document of the same world that isn't stale either is the other with its own edits and counts
-with_own : (d m : Replica) → m.world ≡ d.world → m.is_stale ≡ d.is_stale → m ≡ with_counts m.counts (with_edits m.edits d)
-with_own d m w s =
-    let make : ℕ → Bool → Replica = λ w s. record { world = w; edits = m.edits; is_stale = s; counts = m.counts } in
-    let path : make m.world m.is_stale ≡ make d.world d.is_stale = rw (w, s) refl in path
-
--- nor do pulls depend on the counts
-pulls_aside : (c : Counts) (d : Replica) (links : List LinkSeen) (r : Result (List Edit) Refusal) → PullsEach (with_counts c d) links r → PullsEach d links r
-pulls_aside c d [] r h = h
-pulls_aside c d (link ∷ links) r (inl (pulled, gone, left, over, rest)) =
-    inl (pulled, gone, left, pull_aside c d link.ends gone.ends link.reads gone.reads (Ok pulled) left over, pulls_aside c (with_edits left d) links r rest)
-pulls_aside c d (link ∷ links) r (inr (e, gone, left, over, is)) =
-    inr (e, gone, left, pull_aside c d link.ends gone.ends link.reads gone.reads (Err e) left over, is)
-
--- nothing was pulled yet
-pub pulls_start : {X : Type 0} (f : X → LinkSeen) (d : Replica) (world count : ℕ) (links rest : List X) (r : Result (List Edit) Refusal)
-    → d ≡ empty_document world → rest ≡ take count links → PullsEach d (map f rest) r → PullsEach (empty_document world) (take count (map f links)) r
-pulls_start f d world count links rest r new first pulls =
-    subst (λ ls. PullsEach (empty_document world) ls r) (sym (take-map f count links))
-    (subst (λ xs. PullsEach (empty_document world) (map f xs) r) first (subst (λ q. PullsEach q (map f rest) r) new pulls))
-
--- one link more was pulled over
-pub pulls_more : {X : Type 0} (f : X → LinkSeen) (d m : Replica) (all rest : List X) (x : X) (pulled : Pulled) (gone : LinkSeen) (r : Result (List Edit) Refusal)
-    → m.world ≡ d.world → m.is_stale ≡ d.is_stale → all ≡ x ∷ rest → PullsOver d (f x) gone (Ok pulled) m.edits
-    → PullsEach m (map f rest) r → PullsEach d (map f all) r
-pulls_more f d m all rest x pulled gone r w s is over pulls =
-    subst (λ xs. PullsEach d (map f xs) r) (sym is) (inl (pulled, gone, m.edits, over, pulls_aside m.counts (with_edits m.edits d) (map f rest) r (subst (λ q. PullsEach q (map f rest) r) (with_own d m w s) pulls)))
-
--- a pull was refused
-pub pulls_refused : {X : Type 0} (f : X → LinkSeen) (d : Replica) (all rest : List X) (x : X) (e : LinkError) (gone : LinkSeen) (left : List Edit)
-    → all ≡ x ∷ rest → PullsOver d (f x) gone (Err e) left → PullsEach d (map f all) (Err (link_refusal e))
-pulls_refused f d all rest x e gone left is over =
-    subst (λ xs. PullsEach d (map f xs) (Err (link_refusal e))) (sym is) (inr (e, gone, left, over, refl))
-
--- a list of no length has no elements
-pub none_there : {X : Type 0} (xs : List X) → length xs ≡ 0 → xs ≡ []
-none_there [] none = refl
-none_there (x ∷ xs) none = absurd (omega (arith, none))
-
--- no link is left
-pub pulls_end : {X : Type 0} (f : X → LinkSeen) (d : Replica) (rest : List X) → rest ≡ [] → PullsEach d (map f rest) (Ok d.edits)
-pulls_end f d rest none = subst (λ xs. PullsEach d (map f xs) (Ok d.edits)) (sym none) refl
-
-not_fewer : (n m : ℕ) → n ≤ m → nat_lt m n ≡ false
-not_fewer n m le = grind arith
-
--- there are links enough
-pub is_merged : {X : Type 0} (f : X → LinkSeen) (world count n : ℕ) (links : List X) (r : Result (List Edit) Refusal) → n ≡ length links → count ≤ n
-    → PullsEach (empty_document world) (take count (map f links)) r → IsMerged world count (map f links) r
-is_merged f world count n links r all enough pulls =
-    let all_enough : count ≤ length (map f links) = rw length-map (rw all at enough) in
-    subst (λ b. MatchBool b (r ≡ Err NoLink) (PullsEach (empty_document world) (take count (map f links)) r)) (sym (not_fewer count (length (map f links)) all_enough)) pulls
 
 -- a link that holds a text tells its ends
 holds : (d : Replica) (es : List Edit) (ends : Option LinkEnds) → d.world < 2 ^ 64 → AreRecords es
-    → option_map (λ t. t.left) ends ≡ Some (file_text d.world es) → HoldsFile d es ends
-holds d es None small good is = absurd (let bad : None ≡ Some (file_text d.world es) = is in cc)
-holds d es (Some t) small good is =
-    record { ends = t; told = refl; number = small; records = good; text = (let same : Some t.left ≡ Some (file_text d.world es) = is in cc) }
+    → IsTextIn d.world es (option_map (λ t. t.left) ends) → HoldsFile d es ends
+holds d es None small good is = absurd is
+holds d es (Some t) small good is = record { ends = t; told = refl; number = small; records = good; text = is }
 
 abbrev all_done : Result (Unit {0}) DocumentError
 all_done = Ok tt
@@ -160,18 +98,16 @@ one_before l links before es lists r (inr why) = inr (why.0, of_more l links why
 
 -- after these edits were delivered, the links hold the files of those lists
 pulls_are : FilesArePulled → DeliveriesGoOn → DeliveriesComeToSets → (d : Replica) (links : List LinkSeen) (lists : List (List Edit)) (before left : List Edit) (r : Result (List Edit) Refusal)
-    → d.world < 2 ^ 64 → d.is_stale ≡ false → d.edits ≡ [] → AllDelivered d before left → map left_on links ≡ texts_of_lists d.world lists
+    → d.world < 2 ^ 64 → d.is_stale ≡ false → d.edits ≡ [] → AllDelivered d before left → AreTextsOf d.world lists (map left_on links)
     → AreRecords (before ++ joined lists) → Agrees (before ++ joined lists) → PullsEach (with_edits left d) links r → JoinedOr links before lists r
 pulls_are files more sets d [] [] before left r small sound empty all held good agrees pulls =
     let fit = records_fit before (records_left before [] good) in
     inl (pulls ∙ ap (λ x. Ok x) (set_left sets d before left sound empty fit all ∙ ap set_of (sym (append-nil before))))
-pulls_are files more sets d [] (es ∷ lists) before left r small sound empty all held good agrees pulls = absurd (cc)
-pulls_are files more sets d (l ∷ links) [] before left r small sound empty all held good agrees pulls = absurd (cc)
+pulls_are files more sets d [] (es ∷ lists) before left r small sound empty all held good agrees pulls = absurd held
+pulls_are files more sets d (l ∷ links) [] before left r small sound empty all held good agrees pulls = absurd held
 pulls_are files more sets d (l ∷ links) (es ∷ lists) before left r small sound empty all held good agrees pulls =
-    let first : left_on l ≡ Some (file_text d.world es) = cc in
-    let rest : map left_on links ≡ texts_of_lists d.world lists = cc in
     let records = records_left es (joined lists) (records_right before (es ++ joined lists) good) in
-    let holding = holds (with_edits left d) es l.ends small records first in
+    let holding = holds (with_edits left d) es l.ends small records held.0 in
     let whole : (before ++ es) ++ joined lists ≡ before ++ (es ++ joined lists) = append_assoc before es (joined lists) in
     let good_all = subst AreRecords (sym whole) good in
     let agrees_all = subst Agrees (sym whole) agrees in
@@ -179,7 +115,7 @@ pulls_are files more sets d (l ∷ links) (es ∷ lists) before left r small sou
       | inl ok ↦ (
           let pulled = (files (with_edits left d) es l.ends ok.1.ends l.reads ok.1.reads (Ok ok.0) ok.2 holding ok.3).0 in
           let next = more d before es left ok.2 (Ok tt) all pulled.0 in
-          one_before l links before es lists r (pulls_are files more sets d links lists (before ++ es) ok.2 r small sound empty next rest good_all agrees_all ok.4))
+          one_before l links before es lists r (pulls_are files more sets d links lists (before ++ es) ok.2 r small sound empty next held.1 good_all agrees_all ok.4))
       | inr err ↦ (
           let pulled = (files (with_edits left d) es l.ends err.1.ends l.reads err.1.reads (Err err.0) err.2 holding err.3).0 in
           let fit = records_fit (before ++ es) (records_left (before ++ es) (joined lists) good_all) in
@@ -191,7 +127,7 @@ pulls_are files more sets d (l ∷ links) (es ∷ lists) before left r small sou
 
 -- the edits of links that hold files of a world
 merged_are : FilesArePulled → DeliveriesGoOn → DeliveriesComeToSets → (world count : ℕ) (links : List LinkSeen) (lists : List (List Edit)) (r : Result (List Edit) Refusal)
-    → world < 2 ^ 64 → count ≤ length links → map left_on (take count links) ≡ texts_of_lists world lists → AreRecords (joined lists) → Agrees (joined lists)
+    → world < 2 ^ 64 → count ≤ length links → AreTextsOf world lists (map left_on (take count links)) → AreRecords (joined lists) → Agrees (joined lists)
     → IsMerged world count links r → JoinedOr (take count links) [] lists r
 merged_are files more sets world count links lists r small enough held good agrees merged =
     let there : MatchBool false (r ≡ Err NoLink) (PullsEach (empty_document world) (take count links) r) =
@@ -199,10 +135,16 @@ merged_are files more sets world count links lists r small enough held good agre
     pulls_are files more sets (empty_document world) (take count links) lists [] [] r small refl refl (refl, refl) held good agrees there
 
 -- there is a list for each link that is pulled over
-as_many_lists : (count world : ℕ) (links : List LinkSeen) (lists : List (List Edit)) → count ≤ length links → map left_on (take count links) ≡ texts_of_lists world lists
+as_many_texts : (world : ℕ) (lists : List (List Edit)) (files : List (Option (List ℕ))) → AreTextsOf world lists files → length lists ≡ length files
+as_many_texts world [] [] texts = refl
+as_many_texts world [] (f ∷ files) texts = absurd texts
+as_many_texts world (es ∷ lists) [] texts = absurd texts
+as_many_texts world (es ∷ lists) (f ∷ files) texts = ap (λ (n : ℕ). suc n) (as_many_texts world lists files texts.1)
+
+as_many_lists : (count world : ℕ) (links : List LinkSeen) (lists : List (List Edit)) → count ≤ length links → AreTextsOf world lists (map left_on (take count links))
     → length lists ≡ count
 as_many_lists count world links lists enough held =
-    sym (length-map lists (λ es. Some (file_text world es))) ∙ sym (ap length held) ∙ length-map (take count links) left_on ∙ length-take-le count links enough
+    as_many_texts world lists (map left_on (take count links)) held ∙ length-map (take count links) left_on ∙ length-take-le count links enough
 
 has_status : (out : List ℕ) (world count : ℕ) (links : List LinkSeen) (lists : List (List Edit)) (m : Result (List Edit) Refusal) (r : Result Effect Refusal) (t : HostContents) (status : ℕ) (new : Option HostContents)
     → length lists ≡ count → JoinedOr (take count links) [] lists m → r ≡ writes_joined out world m → HasStatus r t status new → MergesSet out t world links lists status new
@@ -223,21 +165,3 @@ run_of_links files more sets words devices t out world lists status new asks end
           (merged_are files more sets world (length asks.files) devices.links lists comes.0 asks.is_number asks.enough asks.held asks.records asks.agree comes.1) comes.2 done.2)
       | inr memory ↦ inr (Memory, inl refl, memory)
     ]
-
--- ---- the end of `merge`
-
--- a list has as many elements as what is made of each
-pub as_many : {X Y : Type 0} (f : X → Y) (xs : List X) → length xs ≡ length (map f xs)
-as_many f xs = sym (length-map xs f)
-
--- the edits of the links are written
-pub merge_comes : (failed : Type 0) (devices : Devices) (out : List ℕ) (world count : ℕ) (names : List (List ℕ)) (t : HostContents) (es : List Edit) (bytes line : List ℕ)
-    → count ≡ length names → IsMerged world count devices.links (Ok es) → bytes ≡ file_text world es → line ≡ joined_line es
-    → ComesTo failed devices (Merge out world names) t (Ok (Writes out bytes line))
-merge_comes failed devices out world count names t es bytes line many merged text told =
-    (Ok es, subst (λ n. IsMerged world n devices.links (Ok es)) many merged, rw (text, told) refl)
-
--- or none
-pub not_merged : (failed : Type 0) (devices : Devices) (out : List ℕ) (world count : ℕ) (names : List (List ℕ)) (t : HostContents) (e : Refusal)
-    → count ≡ length names → IsMerged world count devices.links (Err e) → (e ≡ Memory) ⊎ ComesTo failed devices (Merge out world names) t (Err e)
-not_merged failed devices out world count names t e many is = inr (Err e, subst (λ n. IsMerged world n devices.links (Err e)) many is, refl)

@@ -1,13 +1,3 @@
-pub mod Chances
-pub mod Opened
-pub mod Entries
-pub mod Failures
-pub mod Deliveries
 pub mod Endings
-pub mod FileEnds
 pub mod FileTexts
-pub mod Streams
-pub mod Worlds
-pub mod Stepping
-pub mod Played
 pub mod Joined

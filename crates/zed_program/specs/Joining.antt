@@ -1,28 +1,29 @@
 -- What `merge` makes of links that hold edit files.
-use Rattle.std.specs.Prelude.{◌≡◌, ◌≤◌, ◌<◌, ◌^◌, ◌⊎◌, ℕ, List, Option, Some, Ok, Err, Contains, length, map, option_map, take}
 use Rattle.zed_op.specs.declared.op.Edit.{Edit}
+use Rattle.zed_files.specs.declared.refusal.Refusal.{Refusal}
+use Rattle.zed_files.specs.declared.refusal.Refusal.TheVariants.{Memory, LinkFault, TooManyTurns}
+use Rattle.std.specs.Prelude.{◌≡◌, ◌≤◌, ◌<◌, ◌^◌, ◌⊎◌, ℕ, List, Option, Some, Ok, Err, Contains, length, map, option_map, take}
 use Rattle.zed_op.specs.Set.{Agrees, set_of}
 use Rattle.zed_editfile.specs.Stream.{AreRecords}
 use Rattle.zed_link.specs.Ends.{LinkEnds}
 use Rattle.zed_link.specs.Laws.{IsLong, MayFail}
 use Rattle.zed_session.specs.Links.{LinkSeen}
-use Rattle.zed_program.specs.declared.refusal.Refusal.{Refusal}
-use Rattle.zed_program.specs.declared.refusal.Refusal.TheVariants.{Memory, LinkFault, TooManyTurns}
 use Rattle.zed_words.specs.Commands.{Merge, command_of}
-use Rattle.zed_program.specs.Files.{joined, texts_of_lists}
-use Rattle.zed_program.specs.HostContents.{HostContents}
-use Rattle.zed_program.specs.Outcome.{HasStatus, writes_joined}
+use Rattle.zed_files.specs.Files.{joined, AreTextsOf}
+use Rattle.zed_host.specs.HostContents.{HostContents}
+use Rattle.zed_program.specs.Outcome.{HasStatus}
+use Rattle.zed_making.specs.Merged.{writes_joined}
 
 -- the bytes that are left to read on a link, if it tells them
 abbrev pub left_on : LinkSeen → Option (List ℕ)
 left_on link = option_map (λ t. t.left) link.ends
 
--- the words ask to merge files of a world, and for each of these a link holds the text of a list of edits; all edits agree
+-- the words ask to merge files of a world, and for each of these a link holds the text of a list of edits, in one of the versions; all edits agree
 pub record AsksToMerge (words : List (List ℕ)) (links : List LinkSeen) (out : List ℕ) (world : ℕ) (lists : List (List Edit)) : Type 0 where
   pub files : List (List ℕ)
   pub asks : command_of words ≡ Some (Merge out world files)
   pub enough : length files ≤ length links
-  pub held : map left_on (take (length files) links) ≡ texts_of_lists world lists
+  pub held : AreTextsOf world lists (map left_on (take (length files) links))
   pub is_number : world < 2 ^ 64
   pub records : AreRecords (joined lists)
   pub agree : Agrees (joined lists)

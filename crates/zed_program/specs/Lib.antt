@@ -1,15 +1,5 @@
-pub mod Collected
 pub mod Devices
-pub mod Edited
-pub mod Faults
-pub mod Files
-pub mod Fresh
 pub mod Joining
-pub mod Lines
-pub mod Merged
-pub mod Memory
+pub mod Limit
 pub mod Outcome
-pub mod Refusals
 pub mod Saving
-pub mod Shown
-pub mod HostContents

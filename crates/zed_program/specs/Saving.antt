@@ -1,31 +1,35 @@
 -- What `save` makes of files that spell lists of edits.
+use Rattle.zed_op.specs.declared.op.Edit.{Edit}
+use Rattle.zed_files.specs.declared.refusal.Refusal.TheVariants.{Memory}
+use Rattle.zed_words.specs.declared.profile.Profile.{Profile}
 use Rattle.std.specs.Prelude.{◌≡◌, ◌⊎◌, ℕ, ◌<◌, ◌^◌, List, Option, Some, Ok, Err, length, map}
 use Rattle.zed_world.specs.Reading.{world_at}
-use Rattle.zed_op.specs.declared.op.Edit.{Edit}
 use Rattle.zed_op.specs.Set.{Agrees, set_of}
 use Rattle.zed_edit.specs.Replay.{replay}
 use Rattle.zed_editfile.specs.Stream.{AreRecords}
 use Rattle.zed_export.specs.World.{world_of}
-use Rattle.zed_program.specs.declared.refusal.Refusal.TheVariants.{Memory}
-use Rattle.zed_program.specs.Files.{joined, texts_of_lists}
-use Rattle.zed_program.specs.Lines.{bytes_line}
-use Rattle.zed_program.specs.Outcome.{HasStatus, file_of, writes_world, written_to}
-use Rattle.zed_program.specs.HostContents.{HostContents, file_in}
+use Rattle.zed_files.specs.Files.{joined, AreTextsOf}
+use Rattle.zed_program.specs.Limit.{limit_of}
+use Rattle.zed_files.specs.Lines.{bytes_line}
+use Rattle.zed_program.specs.Outcome.{HasStatus}
+use Rattle.zed_worlds.specs.Made.{file_of, writes_world}
+use Rattle.zed_files.specs.Effects.{written_to}
+use Rattle.zed_host.specs.HostContents.{HostContents, file_in}
 use Rattle.zed_words.specs.Commands.{Save, command_of}
 
--- the words ask to save files, and these spell lists of edits of one world, which agree
-pub record AsksToSave (words : List (List ℕ)) (t : HostContents) (out : List ℕ) (world : ℕ) (lists : List (List Edit)) : Type 0 where
+-- the words ask to save files in a profile, and these spell lists of edits of one world, each in one of the versions; all edits agree
+pub record AsksToSave (words : List (List ℕ)) (t : HostContents) (profile : Profile) (out : List ℕ) (world : ℕ) (lists : List (List Edit)) : Type 0 where
   pub files : List (List ℕ)
-  pub asks : command_of words ≡ Some (Save out files)
-  pub spelled : map (file_in t) files ≡ texts_of_lists world lists
+  pub asks : command_of words ≡ Some (Save profile out files)
+  pub spelled : AreTextsOf world lists (map (file_in t) files)
   pub is_number : world < 2 ^ 64
   pub records : AreRecords (joined lists)
   pub agree : Agrees (joined lists)
 
--- the file of the set of these edits is written, or its first limit told; or memory ran out
-abbrev pub SavesSet : List ℕ → HostContents → List Edit → ℕ → Option HostContents → Type 0
-SavesSet out t es status new =
-    HasStatus (writes_world out (file_of (set_of es))) t status new ⊎ HasStatus (Err Memory) t status new
+-- the file of the set of these edits is written, or the first limit told that it is over in this profile; or memory ran out
+abbrev pub SavesSet : Profile → List ℕ → HostContents → List Edit → ℕ → Option HostContents → Type 0
+SavesSet profile out t es status new =
+    HasStatus (writes_world out (file_of (limit_of profile) (set_of es))) t status new ⊎ HasStatus (Err Memory) t status new
 
 -- with status 0 a file was written that is read as the exported world of the set of these edits
 abbrev pub SavedReadsBack : List ℕ → HostContents → List Edit → ℕ → Option HostContents → Type 0

@@ -3,99 +3,31 @@ ghost use Rattle.std.specs.Prelude.{[], ◌≡◌, ◌≤◌, ◌⊎◌, false, 
 ghost use Rattle.std.specs.List.{list_all};
 ghost use Rattle.zed_op.specs.declared.op.Edit.{Edit as TheEdit};
 ghost use Rattle.zed_session.specs.Links.{seen};
-ghost use Rattle.zed_program.specs.Files.{joined};
+ghost use Rattle.zed_files.specs.Files.{joined};
 ghost use Rattle.zed_program.specs.Joining.{AsksToMerge, MergesSet};
-ghost use Rattle.zed_program.specs.Devices.{devices, no_devices};
-ghost use Rattle.zed_program.specs.Outcome.{Ends, EndsCalmly, EndsRun, IsMade, IsTold, product_of, texts_of};
+ghost use Rattle.zed_program.specs.Devices.{devices};
+ghost use Rattle.zed_files.specs.Effects.{Ends};
+ghost use Rattle.zed_program.specs.Outcome.{ComesTo, EndsCalmly, EndsRun, IsTold};
 ghost use Rattle.zed_program.specs.Saving.{AsksToSave, SavedReadsBack, SavesSet};
-ghost use Rattle.zed_link.specs.Counting.{Rose};
-ghost use Rattle.zed_program.specs.Faults.{TellsFile};
-ghost use Rattle.zed_program.specs.HostContents.{HostContents, NothingFailed};
-ghost use Rattle.zed_words.specs.Commands.{Check, Command as Asked, Save, command_of, is_plain, meaning_of};
+ghost use Rattle.zed_host.specs.Counting.{NothingFailed, Rose};
+ghost use Rattle.zed_files.specs.Faults.{TellsFile};
+ghost use Rattle.zed_host.specs.HostContents.{HostContents};
+ghost use Rattle.zed_words.specs.declared.profile.Profile.{Profile as TheProfile};
+ghost use Rattle.zed_words.specs.Laws.{with_option};
+ghost use Rattle.zed_words.specs.Commands.{Command as Asked, Save, command_of, is_plain, meaning_of};
 
-use crate::collect::load;
-use crate::edit::edit;
-use crate::host::Host;
-use crate::merging::merge;
-use crate::new::make_new;
-use crate::output::{print_out, write_out};
-use crate::playing::play;
-use crate::refusal::{Refusal, bytes_told, line_of, plain_line};
-use crate::report::{report, world_file};
-use crate::showing::show;
+use crate::limit::limit_of;
 use std::alloc::Global;
-use zed_document::{Document, deliveries_come_to_sets};
+use zed_document::deliveries_come_to_sets;
 use zed_editfile::one_reading;
 use zed_export::saved_is_read;
+use zed_files::{Refusal, line_of, plain_line};
+use zed_host::Host;
 use zed_link::{Link, deliveries_go_on, files_are_pulled};
+use zed_making::{edit, make_new, merge};
 use zed_session::{Keys, Screen};
 use zed_words::{Command, ParseError, parse, plain_words_save};
-
-// What is made of the edits that a command reads.
-#[derive(Clone, Copy)]
-enum Product {
-    // Their world file.
-    WorldFile,
-    // What looks wrong in their world, and its counts.
-    Report,
-}
-
-fn product_of(alloc: Global, product: Product, document: &Document) -> Result<Vec<u8>, Refusal>
-    requires { document.now.is_stale ≡ false }
-    ensures { MatchResult result
-        (λ bytes. product_of product document.now.edits ≡ Ok bytes.items)
-        (λ e. (e ≡ Refusal.Memory) ⊎ (product_of product document.now.edits ≡ Err e)) }
-{
-    match product {
-        Product::WorldFile => world_file(alloc, document),
-        Product::Report => report(alloc, document),
-    }
-}
-
-// What is made of edit files.
-fn made_from<H: Host>(
-    alloc: Global,
-    host: &mut H,
-    product: Product,
-    files: &[&str],
-) -> Result<Vec<u8>, Refusal>
-    ensures made { (t : HostContents) → H.contents host.old ≡ Some t
-        → let failed = Rose (H.faults host.old) (H.faults host.new) in MatchResult result
-        (λ bytes. IsMade failed t (texts_of files.now) (product_of product) (Ok bytes.items))
-        (λ e. (e ≡ Refusal.Memory)
-        ⊎ IsMade failed t (texts_of files.now) (product_of product) (Err e)) }
-    ensures kept { H.contents host.new ≡ H.contents host.old }
-    ensures rises { H.faults host.old ≤ H.faults host.new }
-    ensures file_only_when { TellsFile result (H.failed host.old) (H.failed host.new) }
-{
-    let document = load(alloc, host, files)?;
-    product_of(alloc, product, &document)
-}
-
-// Writes the world file of edit files.
-fn save<H: Host>(alloc: Global, host: &mut H, out: &str, files: &[&str]) -> Result<(), Refusal>
-    ensures ends { (t : HostContents) → H.contents host.old ≡ Some t
-        → let failed = Rose (H.faults host.old) (H.faults host.new) in
-        Ends failed no_devices (Save out.now (texts_of files.now)) t result (H.contents host.new) }
-    ensures rises { H.faults host.old ≤ H.faults host.new }
-    ensures file_only_when { TellsFile result (H.failed host.old) (H.failed host.new) }
-{
-    let bytes = made_from(alloc, host, Product::WorldFile, files)?;
-    let line = bytes_told(alloc, bytes.len())?;
-    write_out(host, out, bytes.as_slice(), line.as_str())
-}
-
-// Prints the report on edit files.
-fn check<H: Host>(alloc: Global, host: &mut H, files: &[&str]) -> Result<(), Refusal>
-    ensures ends { (t : HostContents) → H.contents host.old ≡ Some t
-        → let failed = Rose (H.faults host.old) (H.faults host.new) in
-        Ends failed no_devices (Check (texts_of files.now)) t result (H.contents host.new) }
-    ensures rises { H.faults host.old ≤ H.faults host.new }
-    ensures file_only_when { TellsFile result (H.failed host.old) (H.failed host.new) }
-{
-    let text = made_from(alloc, host, Product::Report, files)?;
-    print_out(host, text.as_slice())
-}
+use zed_worlds::{check, play, save, show};
 
 const MEMORY_LINE: &[u8] = b"zzted: Memory\n";
 
@@ -126,15 +58,24 @@ fn act<H: Host>(
 ) -> Result<(), Refusal>
     ensures ends { (t : HostContents) → H.contents host.old ≡ Some t
         → let failed = Rose (H.faults host.old) (H.faults host.new) in
-        Ends failed (devices (map (λ link. seen (ends link) (reads link)) links.items)
-        (screen_foretells screen) (left keys) (keys_foretell keys))
-        (meaning_of command.now) t result (H.contents host.new) }
+        let told = devices (map (λ link. seen (ends link) (reads link)) links.items)
+        (screen_foretells screen) (left keys) (keys_foretell keys) in
+        Ends failed (ComesTo failed told (meaning_of command.now) t) t result (H.contents host.new) }
     ensures rises { H.faults host.old ≤ H.faults host.new }
     ensures file_only_when { TellsFile result (H.failed host.old) (H.failed host.new) }
 {
     match command {
-        Command::Save { out, files } => save(alloc, host, out, files.as_slice()),
-        Command::Check { files } => check(alloc, host, files.as_slice()),
+        Command::Save {
+            profile,
+            out,
+            files,
+        } => save(alloc, host, limit_of(*profile), out, files.as_slice()),
+        Command::Check { profile, files } => check(
+            alloc,
+            host,
+            limit_of(*profile),
+            files.as_slice(),
+        ),
         Command::New {
             out,
             world,
@@ -154,12 +95,34 @@ fn act<H: Host>(
             files.as_slice(),
             links,
         ),
-        Command::Show { board, files } => show(alloc, host, *board, files.as_slice(), screen, keys),
+        Command::Show {
+            profile,
+            board,
+            files,
+        } => show(
+            alloc,
+            host,
+            limit_of(*profile),
+            *board,
+            files.as_slice(),
+            screen,
+            keys,
+        ),
         Command::Play {
+            profile,
             board,
             chance,
             files,
-        } => play(alloc, host, *board, chance, files.as_slice(), screen, keys),
+        } => play(
+            alloc,
+            host,
+            limit_of(*profile),
+            *board,
+            chance,
+            files.as_slice(),
+            screen,
+            keys,
+        ),
     }
 }
 
@@ -239,25 +202,28 @@ pub fn run<H: Host>(
         (screen_foretells screen) (left keys) (keys_foretell keys))
         command t result (H.contents host.new) }
 
-    // The same for `save OUT FILES...`, where no word begins with a hyphen.
-    ensures saves { (t : HostContents) (out file : List ℕ) (files : List (List ℕ))
-        → map string_bytes words.now ≡ codes "save" ∷ out ∷ file ∷ files
+    // The same for `save OUT FILES...`, where no word begins with a hyphen, and for `save --big OUT FILES...`.
+    ensures saves { (t : HostContents) (profile : TheProfile) (out file : List ℕ)
+        (files : List (List ℕ))
+        → map string_bytes words.now ≡ codes "save" ∷ with_option profile (out ∷ file ∷ files)
         → list_all is_plain (out ∷ file ∷ files) ≡ true
         → H.contents host.old ≡ Some t → NothingFailed (H.faults host.old) (H.faults host.new)
         → EndsCalmly (devices (map (λ link. seen (ends link) (reads link)) links.items)
         (screen_foretells screen) (left keys) (keys_foretell keys))
-        (Save out (file ∷ files)) t result (H.contents host.new) }
+        (Save profile out (file ∷ files)) t result (H.contents host.new) }
 
     // However the words ask to save: where the files spell lists of edits of one world that agree, the
-    // set of all of them counts, and neither their order nor repeats.
-    ensures saves_sets { (t : HostContents) (out : List ℕ) (world : ℕ)
-        (lists : List (List TheEdit)) → AsksToSave (map string_bytes words.now) t out world lists
+    // set of all of them counts, and neither their order nor repeats; the limit is that of the profile.
+    ensures saves_sets { (t : HostContents) (profile : TheProfile) (out : List ℕ) (world : ℕ)
+        (lists : List (List TheEdit))
+        → AsksToSave (map string_bytes words.now) t profile out world lists
         → H.contents host.old ≡ Some t → NothingFailed (H.faults host.old) (H.faults host.new)
-        → SavesSet out t (joined lists) result (H.contents host.new) }
+        → SavesSet profile out t (joined lists) result (H.contents host.new) }
 
     // And what is saved is read as the exported world of that set.
-    ensures reads_back { (t : HostContents) (out : List ℕ) (world : ℕ)
-        (lists : List (List TheEdit)) → AsksToSave (map string_bytes words.now) t out world lists
+    ensures reads_back { (t : HostContents) (profile : TheProfile) (out : List ℕ) (world : ℕ)
+        (lists : List (List TheEdit))
+        → AsksToSave (map string_bytes words.now) t profile out world lists
         → H.contents host.old ≡ Some t → NothingFailed (H.faults host.old) (H.faults host.new)
         → SavedReadsBack out t (joined lists) result (H.contents host.new) }
 

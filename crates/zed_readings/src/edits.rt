@@ -67,6 +67,17 @@ fn put_again(alloc: Global, found: &Found, bytes: &[u8], seen: &mut String) -> R
     Ok(())
 }
 
+/// Appends whether what is read of bytes is written as these others.
+fn put_written(
+    alloc: Global,
+    bytes: &[u8],
+    wanted: &[u8],
+    seen: &mut String,
+) -> Result<(), Trouble> {
+    let found = read(alloc, bytes, bytes.len());
+    put_again(alloc, &found, wanted, seen)
+}
+
 /// Appends how many edits there are, and how the file ends or whether it is written as it stood.
 fn put_read(alloc: Global, bytes: &[u8], size: usize, seen: &mut String) -> Result<(), Trouble> {
     let found = read(alloc, bytes, size);
@@ -194,6 +205,7 @@ pub fn put_edits(
     match act {
         "read" => put_read(alloc, bytes, bytes.len(), seen),
         "pieces" => put_pieces(alloc, bytes, line, seen),
+        "written" => put_written(alloc, bytes, stage.bytes(line.word()?)?, seen),
         "shown" => put_shown(alloc, bytes, seen),
         "cuts" => put_cuts(alloc, bytes, seen),
         "replaced" => put_replaced(alloc, bytes, seen),

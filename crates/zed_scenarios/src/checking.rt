@@ -69,6 +69,8 @@ const THINGS: &[Verdict] = &[
     (LATE, Shape::RemoveBoard(FIRST), RANGE),
     (LATE, Shape::RemoveBoard((1, 0, 1)), None),
     (LATE, Shape::RemoveBoard((8, 1, 0)), None),
+    (LATE, Shape::Rank(FIRST, 0), None),
+    (LATE, Shape::Rank((8, 1, 0), 65_535), None),
     (LATE, Shape::Delete(FIRST, (8, 1), 0, 0), None),
     (LATE, Shape::Delete(FIRST, (8, 1), 4, 5), None),
     (LATE, Shape::Delete(FIRST, (8, 1), 5, 4), RANGE),
@@ -101,6 +103,8 @@ const ORDERS: &[Verdict] = &[
     ((2, 2), Shape::Follower(SECOND, (3, 1, 0)), ORDER),
     ((2, 2), Shape::Passage((3, 1, 0), FIRST), ORDER),
     ((2, 2), Shape::Passage(FIRST, (3, 1, 0)), ORDER),
+    ((2, 2), Shape::Rank((2, 2, 0), 1), ORDER),
+    ((2, 2), Shape::Rank((3, 1, 0), 1), ORDER),
     ((2, 2), Shape::Delete(FIRST, (3, 1), 0, 0), ORDER),
 ];
 
@@ -124,7 +128,7 @@ const CAUSES: &[Verdict] = &[
 const TABLES: [(&str, &[Verdict]); 7] = [
     ("strings at their limits", STRINGS),
     ("rectangles at the edges of the table", RECTANGLES),
-    ("boards and ranges of bytes", THINGS),
+    ("boards, ranks and ranges of bytes", THINGS),
     ("stamps of authors", STAMPS),
     ("what is named is earlier", ORDERS),
     ("a world that is written as it was read", WORLDS),

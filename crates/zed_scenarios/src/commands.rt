@@ -87,10 +87,16 @@ fn worlds_are_saved_and_checked(rt: HostRuntime) -> Result<(), Fail> {
 /// A file of world 7, and what `save` of it alone is refused with.
 type Faulty = (&'static [u8], &'static str);
 
-const FAULTY: [Faulty; 8] = [
+const FAULTY: [Faulty; 10] = [
     (b"", "zzted: CutShort\n"),
     (b"ZEE", "zzted: Magic\n"),
-    (b"ZED\x02", "zzted: NewVersion\n"),
+    (b"ZED\x03", "zzted: NewVersion\n"),
+    (b"ZED\0", "zzted: NewVersion\n"),
+    // a rank in a file of version 1
+    (
+        b"ZED\x01\x07\0\0\0\0\0\0\0\x18\0\0\0\x04\0\0\0\0\0\x02\0\x05\x02\0\0\0\0\0\x01\0\0\0\0\0\x0c\x05\0",
+        "zzted: BadEdit Tag\n",
+    ),
     (b"ZED\x01\x07\0\0\0\0\0\0\0", "zzted: NoWorld\n"),
     (
         b"ZED\x01\x07\0\0\0\0\0\0\0\x08\0\0\0",

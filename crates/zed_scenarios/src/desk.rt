@@ -2,7 +2,7 @@
 use crate::rows::{Name, Row, board_id, edit_of, stamp_of, stat_id, text_id};
 use std::alloc::Global;
 use zed_document::{
-    Delivered, Document, DocumentError, Follower, Leader, P3, State, View, append_text,
+    Delivered, Document, DocumentError, Follower, Leader, P3, Rank, State, View, append_text,
 };
 use zed_edit::{Edit, Plain, replay};
 use zed_types::{BoardId, Side, StatId, TextId, ThirdParameter, Tile};
@@ -38,6 +38,8 @@ pub(crate) enum Fact {
     TextOf(Name, Option<Name>),
     /// An exit of a board, by the place of the board among those that were made.
     Exit(usize, Side, Option<Name>),
+    /// The rank of a board, by its place among those that were made.
+    Rank(usize, u16),
     Cell(usize, usize, Tile),
     /// The stat at a place of a board: its name, third parameter, follower and leader.
     Registers(usize, usize, Registers),
@@ -91,6 +93,10 @@ fn is_text(found: Option<TextId>, wanted: Option<Name>) -> bool {
 
 fn has_exit(view: &View, n: usize, side: Side, wanted: Option<Name>) -> bool {
     n < view.boards() && is_board(view.property(n, side), wanted)
+}
+
+fn has_rank(view: &View, n: usize, rank: u16) -> bool {
+    n < view.boards() && view.property(n, Rank) == rank
 }
 
 fn has_tile(view: &View, n: usize, place: usize, tile: Tile) -> bool {
@@ -228,6 +234,7 @@ impl Desk {
         };
         match fact {
             Fact::Exit(n, side, wanted) => has_exit(&view, n, side, wanted),
+            Fact::Rank(n, rank) => has_rank(&view, n, rank),
             Fact::Cell(n, place, tile) => has_tile(&view, n, place, tile),
             Fact::Registers(n, j, wanted) => has_registers(&view, n, j, wanted),
             _ => false,

@@ -42,6 +42,8 @@ mod naming;
 #[cfg(test)]
 mod numbers;
 #[cfg(test)]
+mod ranks;
+#[cfg(test)]
 mod records;
 #[cfg(test)]
 mod refusals;

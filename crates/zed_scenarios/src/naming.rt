@@ -20,7 +20,7 @@ enum Named {
 const MADE: Name = (2, 1, 0);
 
 /// Edits of each kind, and what each names.
-const EACH: [(Shape, &[Named]); 12] = [
+const EACH: [(Shape, &[Named]); 13] = [
     (Shape::World(EMPTY), &[]),
     (Shape::Flag(3), &[]),
     (Shape::AddBoard(5), &[]),
@@ -29,6 +29,7 @@ const EACH: [(Shape, &[Named]); 12] = [
         Shape::WestExit(MADE),
         &[Named::Board(FIRST), Named::Board(MADE)],
     ),
+    (Shape::Rank(MADE, 5), &[Named::Board(MADE)]),
     (Shape::Cells(2, 3, 4, 5), &[Named::Board(FIRST)]),
     (
         Shape::Passage(MADE, MADE),

@@ -1,4 +1,4 @@
-//! Records of edit files: cut in every field, with a byte too many, and with tags that there aren't.
+//! Records of edit files of either version: cut in every field, with a byte too many, and with tags that there aren't.
 use std::alloc::{AllocError, Global};
 use std::test::Fail;
 use zed_edit::Cause;
@@ -22,6 +22,7 @@ const STAMP: &[u8] = &[9, 0, 0, 0, 0, 0, 1, 0];
 /// A thing of time 2 and replica 1.
 const NAME: &[u8] = &[2, 0, 0, 0, 0, 0, 1, 0, 0, 0, 0, 0];
 
+/// Records of both versions.
 const RECORDS: &[Record] = &[
     // header: ammo, a key, a saved game, the current board, the world's name, a flag
     (2, &[&[0, 5, 0]], &[9], &[], 12),
@@ -83,6 +84,12 @@ const RECORDS: &[Record] = &[
     ),
 ];
 
+/// Those of version 2 alone: a board's rank.
+const RANKS: &[Record] = &[(5, &[NAME, &[12, 5, 1]], &[21], &[], 24)];
+
+/// Where in their bodies stands the number of the property that version 1 doesn't have.
+const RANK_AT: usize = 21;
+
 /// What a file of one record is read as.
 #[derive(Clone, Copy, Debug, PartialEq, Eq)]
 enum Reads {
@@ -97,12 +104,10 @@ const LONG: Reads = Reads::Fault(EditFileError::BadEdit(Cause::Long));
 
 const TAG: Reads = Reads::Fault(EditFileError::BadEdit(Cause::Tag));
 
-/// The head of a file of world 7.
-const HEAD: &[u8] = &[b'Z', b'E', b'D', 1, 7, 0, 0, 0, 0, 0, 0, 0];
-
-fn file_of(alloc: Global, body: &[u8]) -> Result<Vec<u8>, AllocError> {
+/// A file of world 7 of this version, with one record.
+fn file_of(alloc: Global, version: u8, body: &[u8]) -> Result<Vec<u8>, AllocError> {
     let len = u8::try_from(body.len()).unwrap_or(0);
-    let mut file = HEAD.to_vec(alloc)?;
+    let mut file = [b'Z', b'E', b'D', version, 7, 0, 0, 0, 0, 0, 0, 0].to_vec(alloc)?;
     file.extend_from_slice(&[len, 0, 0, 0])?;
     file.extend_from_slice(body)?;
     Ok(file)
@@ -117,8 +122,8 @@ fn read_file(alloc: Global, file: &[u8]) -> Reads {
     }
 }
 
-fn read_body(alloc: Global, body: &[u8]) -> Reads {
-    match file_of(alloc, body) {
+fn read_body(alloc: Global, version: u8, body: &[u8]) -> Reads {
+    match file_of(alloc, version, body) {
         Ok(file) => read_file(alloc, file.as_slice()),
         Err(_) => Reads::NotTried,
     }
@@ -138,10 +143,10 @@ fn body_of(alloc: Global, record: Record) -> Result<Vec<u8>, AllocError> {
     Ok(body)
 }
 
-/// Whether the body cut anywhere in its fields is too short.
-fn is_cut_short(alloc: Global, body: &[u8], least: usize) -> bool {
-    for len in 9..least {
-        if body.len() < len || read_body(alloc, &body[..len]) != SHORT {
+/// Whether the body is read so where it is cut to any length from one on to another.
+fn are_cut(alloc: Global, version: u8, body: &[u8], from: usize, to: usize, wanted: Reads) -> bool {
+    for len in from..to {
+        if body.len() < len || read_body(alloc, version, &body[..len]) != wanted {
             return false;
         }
     }
@@ -149,25 +154,32 @@ fn is_cut_short(alloc: Global, body: &[u8], least: usize) -> bool {
 }
 
 /// The body with another byte at a place, up to an end, as it is read.
-fn reads_with(alloc: Global, body: &[u8], place: usize, byte: u8, end: usize) -> Reads {
+fn reads_with(
+    alloc: Global,
+    version: u8,
+    body: &[u8],
+    place: usize,
+    byte: u8,
+    end: usize,
+) -> Reads {
     if body.len() < end || end <= place {
         return Reads::NotTried;
     }
     match body[..end].to_vec(alloc) {
         Ok(mut other) => {
             other[place] = byte;
-            read_body(alloc, other.as_slice())
+            read_body(alloc, version, other.as_slice())
         }
         Err(_) => Reads::NotTried,
     }
 }
 
 /// Whether a byte at each of these places is no tag, whether the body goes on behind it or not.
-fn are_no_tags(alloc: Global, body: &[u8], places: &[usize], byte: u8) -> bool {
+fn are_no_tags(alloc: Global, version: u8, body: &[u8], places: &[usize], byte: u8) -> bool {
     for place in places {
         let end = place.saturating_add(1);
-        if reads_with(alloc, body, *place, byte, end) != TAG
-            || reads_with(alloc, body, *place, byte, body.len()) != TAG
+        if reads_with(alloc, version, body, *place, byte, end) != TAG
+            || reads_with(alloc, version, body, *place, byte, body.len()) != TAG
         {
             return false;
         }
@@ -175,43 +187,74 @@ fn are_no_tags(alloc: Global, body: &[u8], places: &[usize], byte: u8) -> bool {
     true
 }
 
-/// Whether a byte behind the last field is too many.
-fn is_too_long(alloc: Global, body: &[u8]) -> bool {
+/// Whether the body is read so with a byte behind its last field.
+fn is_longer(alloc: Global, version: u8, body: &[u8], wanted: Reads) -> bool {
     match body.to_vec(alloc) {
-        Ok(mut other) => other.push(0).is_ok() && read_body(alloc, other.as_slice()) == LONG,
+        Ok(mut other) => {
+            other.push(0).is_ok() && read_body(alloc, version, other.as_slice()) == wanted
+        }
         Err(_) => false,
     }
 }
 
-fn is_faulted(alloc: Global, record: Record, body: &[u8]) -> bool {
-    read_body(alloc, body) == Reads::Edits(1)
-        && is_cut_short(alloc, body, record.4)
-        && (record.0 == TEXT_INSERT || is_too_long(alloc, body))
-        && are_no_tags(alloc, body, record.2, 29)
-        && are_no_tags(alloc, body, record.3, 2)
+fn is_faulted(alloc: Global, version: u8, record: Record, body: &[u8]) -> bool {
+    read_body(alloc, version, body) == Reads::Edits(1)
+        && are_cut(alloc, version, body, 9, record.4, SHORT)
+        && (record.0 == TEXT_INSERT || is_longer(alloc, version, body, LONG))
+        && are_no_tags(alloc, version, body, record.2, 29)
+        && are_no_tags(alloc, version, body, record.3, 2)
+}
+
+/// Whether the record has a property that version 1 doesn't have, which is told whatever stands behind its number.
+fn is_no_first(alloc: Global, body: &[u8]) -> bool {
+    let behind = RANK_AT.saturating_add(1);
+    are_cut(alloc, 1, body, 9, behind, SHORT)
+        && are_cut(alloc, 1, body, behind, body.len(), TAG)
+        && read_body(alloc, 1, body) == TAG
+        && is_longer(alloc, 1, body, TAG)
+}
+
+/// How a record of a version should be read.
+#[derive(Clone, Copy)]
+enum Wanted {
+    Faults(u8),
+    NoFirst,
+}
+
+fn is_read_so(alloc: Global, record: Record, wanted: Wanted) -> bool {
+    match (body_of(alloc, record), wanted) {
+        (Ok(body), Wanted::Faults(version)) => is_faulted(alloc, version, record, &body),
+        (Ok(body), Wanted::NoFirst) => is_no_first(alloc, &body),
+        _ => false,
+    }
 }
 
 /// The first record that is read otherwise, counted from 1.
-fn fails_at(alloc: Global, records: &[Record]) -> Option<usize> {
+fn fails_at(alloc: Global, records: &[Record], wanted: Wanted) -> Option<usize> {
     let mut n: usize = 0;
     for record in records {
         n = n.saturating_add(1);
-        match body_of(alloc, *record) {
-            Ok(body) => {
-                if !is_faulted(alloc, *record, body.as_slice()) {
-                    return Some(n);
-                }
-            }
-            Err(_) => return Some(n),
+        if !is_read_so(alloc, *record, wanted) {
+            return Some(n);
         }
     }
     None
 }
 
+/// Records, and how each of them should be read.
+const READ: [(&[Record], Wanted); 4] = [
+    (RECORDS, Wanted::Faults(1)),
+    (RECORDS, Wanted::Faults(2)),
+    (RANKS, Wanted::Faults(2)),
+    (RANKS, Wanted::NoFirst),
+];
+
 #[test]
-fn faults_of_each_field(rt: HostRuntime) -> Result<(), Fail> {
-    match fails_at(rt.alloc(), RECORDS) {
-        Some(n) => Err(Fail::new(format_args!("record {n} is read otherwise"))),
-        None => Ok(()),
+fn faults_of_each_field_of_either_version(rt: HostRuntime) -> Result<(), Fail> {
+    for (records, wanted) in READ {
+        if let Some(n) = fails_at(rt.alloc(), records, wanted) {
+            return Err(Fail::new(format_args!("record {n} is read otherwise")));
+        }
     }
+    Ok(())
 }

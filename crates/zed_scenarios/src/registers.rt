@@ -23,6 +23,7 @@ pub(crate) enum Property {
     Byte(BoardByte, u8),
     Flag(BoardFlag, bool),
     TimeLimit(i16),
+    Rank(u16),
     NoExit(Side),
     Text(BoardText, &'static str),
 }
@@ -62,6 +63,7 @@ pub(crate) fn board_setting(alloc: Global, property: Property) -> Result<BoardSe
         Property::Byte(field, value) => BoardSetting::Byte(field, value),
         Property::Flag(field, value) => BoardSetting::Flag(field, value),
         Property::TimeLimit(value) => BoardSetting::TimeLimit(value),
+        Property::Rank(value) => BoardSetting::Rank(value),
         Property::NoExit(side) => BoardSetting::Exit(side, None),
         Property::Text(field, text) => BoardSetting::Text(field, string(alloc, text)?),
     })

@@ -3,6 +3,7 @@ use std::alloc::Global;
 use std::test::Fail;
 use zed_document::Document;
 use zed_session::SessionError;
+use zed_types::BODY_LIMIT;
 
 mod cuts;
 mod desk;
@@ -86,7 +87,7 @@ fn fails_but_once(alloc: Global, nth: u32) -> Result<bool, Fail> {
         } else {
             Ok(())
         };
-        if desk.session.show(0) != wanted {
+        if desk.session.show(0, BODY_LIMIT) != wanted {
             return Ok(false);
         }
     }

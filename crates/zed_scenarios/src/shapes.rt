@@ -22,6 +22,7 @@ pub(crate) enum Shape {
     BoardName(usize),
     Message(usize),
     WestExit(Name),
+    Rank(Name, u16),
     /// A rectangle of the title: left, top, right and bottom.
     Cells(u8, u8, u8, u8),
     /// A passage on the title to a board, with a text.
@@ -82,6 +83,7 @@ fn short_op(shape: Shape) -> Op {
             BoardId::TITLE,
             BoardSetting::Exit(Side::West, Some(board_id(name))),
         ),
+        Shape::Rank(name, rank) => Op::SetBoard(board_id(name), BoardSetting::Rank(rank)),
         Shape::Cells(left, top, right, bottom) => {
             let cells = Rectangle {
                 left,

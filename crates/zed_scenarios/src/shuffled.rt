@@ -19,10 +19,20 @@ pub(crate) const HALF: usize = 26;
 /// Every so many edits one comes twice.
 const REPEATED: usize = 4;
 
+/// In which orders a table is delivered.
+#[derive(Clone, Copy)]
+pub(crate) enum Orders {
+    /// 0 rises, 1 falls, each other is shuffled, and some edits come twice.
+    Shuffled,
+    /// Each number below the factorial of the number of edits is another order of them.
+    Each,
+}
+
 /// A table of edits, in rising stamp order; what the document shows when all of them came, and the file that is saved then.
 #[derive(Clone, Copy)]
 pub(crate) struct Sheet {
     pub(crate) rows: &'static [Row],
+    pub(crate) orders: Orders,
     pub(crate) shown: &'static [Fact],
     pub(crate) files: &'static [Saved],
 }
@@ -145,6 +155,7 @@ const SHOWN: &[Fact] = &[
 
 const SHEET: Sheet = Sheet {
     rows: ROWS,
+    orders: Orders::Shuffled,
     shown: SHOWN,
     files: &[Saved::World(4, 2016)],
 };
@@ -180,8 +191,28 @@ fn shuffle(order: &mut [usize], seed: u64) {
     }
 }
 
-/// The places of a table in one of the orders, some of them twice: 0 rises, 1 falls, and each other is shuffled.
-fn order_of(alloc: Global, len: usize, nth: usize) -> Result<Vec<usize>, AllocError> {
+/// Brings places into the order of a number.
+fn arrange(order: &mut [usize], nth: usize) {
+    let mut left = nth;
+    for i in 1..order.len() {
+        let choices = i.saturating_add(1).max(1);
+        exchange(order, i, left % choices);
+        left /= choices;
+    }
+}
+
+/// The places of a table in the order of a number.
+fn each_once(alloc: Global, len: usize, nth: usize) -> Result<Vec<usize>, AllocError> {
+    let mut order = Vec::new(alloc);
+    for k in 0..len {
+        order.push(k)?;
+    }
+    arrange(&mut order, nth);
+    Ok(order)
+}
+
+/// The places of a table in the order of a number, some of them twice.
+fn with_repeats(alloc: Global, len: usize, nth: usize) -> Result<Vec<usize>, AllocError> {
     let mut order = Vec::new(alloc);
     for k in 0..len {
         order.push(k)?;
@@ -195,6 +226,13 @@ fn order_of(alloc: Global, len: usize, nth: usize) -> Result<Vec<usize>, AllocEr
         _ => shuffle(&mut order, nth as u64),
     }
     Ok(order)
+}
+
+fn order_of(alloc: Global, sheet: Sheet, nth: usize) -> Result<Vec<usize>, AllocError> {
+    match sheet.orders {
+        Orders::Shuffled => with_repeats(alloc, sheet.rows.len(), nth),
+        Orders::Each => each_once(alloc, sheet.rows.len(), nth),
+    }
 }
 
 fn stamp_of_row(row: Row) -> Stamp {
@@ -432,14 +470,14 @@ impl Taker {
     }
 
     /// The first delivery of one of the orders that comes out otherwise, or 0 where the end does.
-    fn fails_in(&mut self, rows: &[Row], nth: usize, rising: &Desk) -> Option<usize> {
-        let Ok(order) = order_of(self.desk.alloc, rows.len(), nth) else {
+    fn fails_in(&mut self, sheet: Sheet, nth: usize, rising: &Desk) -> Option<usize> {
+        let Ok(order) = order_of(self.desk.alloc, sheet, nth) else {
             return Some(0);
         };
-        match self.fails_at(rows, &order) {
+        match self.fails_at(sheet.rows, &order) {
             Some(n) => Some(n),
             None => {
-                if self.ends_as(rows, rising) {
+                if self.ends_as(sheet.rows, rising) {
                     None
                 } else {
                     Some(0)
@@ -497,13 +535,13 @@ impl Taker {
     }
 
     /// Takes all edits in rising order. Then the first order from one to another that comes out otherwise than this one,
-    /// and at which delivery, or 0 where its end does. Where this one does, the number of all orders, and which fact.
+    /// and at which delivery, or 0 where its end does. Where this one does, the number behind them, and which fact.
     fn fails_from(&mut self, sheet: Sheet, from: usize, to: usize) -> Option<(usize, usize)> {
         if let Some(n) = self.rises_wrong(sheet) {
-            return Some((ORDERS, n));
+            return Some((to, n));
         }
         for nth in from..to {
-            if let Some(n) = failure_in(self.desk.alloc, sheet.rows, nth, &self.desk) {
+            if let Some(n) = failure_in(self.desk.alloc, sheet, nth, &self.desk) {
                 return Some((nth, n));
             }
         }
@@ -512,9 +550,9 @@ impl Taker {
 }
 
 // A function that owns documents is dear to prove, so these do nothing else.
-fn failure_in(alloc: Global, rows: &[Row], nth: usize, rising: &Desk) -> Option<usize> {
-    match Taker::new(alloc, rows.len()) {
-        Ok(mut taker) => taker.fails_in(rows, nth, rising),
+fn failure_in(alloc: Global, sheet: Sheet, nth: usize, rising: &Desk) -> Option<usize> {
+    match Taker::new(alloc, sheet.rows.len()) {
+        Ok(mut taker) => taker.fails_in(sheet, nth, rising),
         Err(_) => Some(0),
     }
 }
@@ -522,7 +560,7 @@ fn failure_in(alloc: Global, rows: &[Row], nth: usize, rising: &Desk) -> Option<
 fn failure_of(alloc: Global, sheet: Sheet, from: usize, to: usize) -> Option<(usize, usize)> {
     match Taker::new(alloc, sheet.rows.len()) {
         Ok(mut rising) => rising.fails_from(sheet, from, to),
-        Err(_) => Some((ORDERS, 0)),
+        Err(_) => Some((to, 0)),
     }
 }
 

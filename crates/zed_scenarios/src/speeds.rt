@@ -1,6 +1,7 @@
-//! How long reading and exporting take. The times are told and never fail a test.
+//! How long reading, exporting and numbering take. The times are told and never fail a test.
 use crate::hosts::{Output, edit_file, exits, has_written};
-use crate::rows::{Does, Row, stamp_of};
+use crate::registers::Property;
+use crate::rows::{Does, Row, board_id, edit_of, stamp_of};
 use crate::worlds::EMPTY;
 use std::alloc::{AllocError, Global};
 use std::test::Fail;
@@ -213,6 +214,60 @@ fn speed_of_saving(rt: HostRuntime) -> Result<(), Fail> {
     tell_saving(&rt, 1, Programs::Own)?;
     tell_saving(&rt, 10, Programs::Own)?;
     tell_saving(&rt, 100, Programs::Own)
+}
+
+fn takes_row(document: &mut Document, alloc: Global, row: Row) -> bool {
+    match edit_of(alloc, row) {
+        Ok(edit) => document.deliver(edit).is_ok(),
+        Err(_) => false,
+    }
+}
+
+/// Takes in so many boards, of which each has a lower rank than the one before it.
+fn takes_boards(document: &mut Document, alloc: Global, boards: u16) -> bool {
+    for n in 0..boards {
+        let time = u64::from(n).saturating_add(2);
+        let rank = Property::Rank(boards.saturating_sub(n));
+        if !takes_row(document, alloc, (time, 1, Does::AddBoard("One")))
+            || !takes_row(document, alloc, (time, 2, Does::Board((time, 1, 0), rank)))
+        {
+            return false;
+        }
+    }
+    true
+}
+
+/// Whether board 100 of so many is the one behind which as many were added, and in how many microseconds that is told.
+fn number_timed(rt: &HostRuntime, document: &Document, boards: u16) -> Result<(bool, u128), Fail> {
+    let start = Instant::now(rt)?;
+    let found = document.board(100);
+    let took = start.elapsed(rt)?;
+    let wanted = (u64::from(boards.saturating_sub(99)), 1, 0);
+    Ok((found == Ok(Some(board_id(wanted))), took.as_micros()))
+}
+
+// A function that owns a document is dear to prove, so this one does little else.
+fn boards_timed(rt: &HostRuntime, boards: u16) -> Result<(bool, u128), Fail> {
+    let mut document = Document::new(rt.alloc(), 7);
+    takes_boards(&mut document, rt.alloc(), boards);
+    number_timed(rt, &document, boards)
+}
+
+fn tell_numbering(rt: &HostRuntime, boards: u16) -> Result<(), Fail> {
+    let (is_so, took) = boards_timed(rt, boards)?;
+    eprintln!(rt; "{boards} boards: board 100 is told in {took} microseconds")?;
+    if is_so {
+        Ok(())
+    } else {
+        Err(Fail::new("board 100 is another"))
+    }
+}
+
+#[test]
+fn speed_of_numbering(rt: HostRuntime) -> Result<(), Fail> {
+    tell_numbering(&rt, 250)?;
+    tell_numbering(&rt, 500)?;
+    tell_numbering(&rt, 1_000)
 }
 
 const TITLE: Row = (1, 0, Does::World(EMPTY));

@@ -3,7 +3,7 @@ use crate::desk::Fact;
 use crate::files::Saved;
 use crate::registers::{Field, Header, Property};
 use crate::rows::{Does, FIRST, Name, Row, WALL, WATER};
-use crate::shuffled::{HALF, ORDERS, Sheet, agree};
+use crate::shuffled::{HALF, ORDERS, Orders, Sheet, agree};
 use crate::worlds::EMPTY;
 use std::test::Fail;
 use zed_types::{
@@ -172,6 +172,7 @@ const FILES: &[Saved] = &[
 
 const WRITTEN: Sheet = Sheet {
     rows: ROWS,
+    orders: Orders::Shuffled,
     shown: SHOWN,
     files: FILES,
 };

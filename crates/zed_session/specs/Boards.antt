@@ -22,9 +22,9 @@ pub record BoardOf : Type 0 where
   pub header : Header
   pub board : BoardData
 
--- the world that a document exports, where no body is over 20,000 bytes; or the first limit
-abbrev pub world_shown : Replica → Result Contents ExportError
-world_shown document = unless_stale document (exported 20000)
+-- the world that a document exports, where no body is over so many bytes; or the first limit
+abbrev pub world_shown : ℕ → Replica → Result Contents ExportError
+world_shown limit document = unless_stale document (exported limit)
 
 -- what is told where memory is lacking: that, where there is such a board; else that there is none
 abbrev pub lack_of : Option BoardData → SessionError

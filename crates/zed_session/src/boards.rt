@@ -1,5 +1,6 @@
 //! The board of a document that is shown or played.
-ghost use Rattle.std.specs.Prelude.{◌≡◌, false, slice_get};
+ghost use Rattle.std.specs.Prelude.{◌≡◌, ◌≤◌, false, slice_get};
+ghost use Rattle.zed_types.specs.declared.limits.TheConstants.{READ_BODY_LIMIT};
 ghost use Rattle.zed_edit.specs.Replay.{replay};
 ghost use Rattle.zed_export.specs.World.{exported_boards};
 ghost use Rattle.zed_session.specs.Boards.{Answers, Draws, GivesWorld, Opens, lack_of, world_shown};
@@ -8,9 +9,9 @@ use crate::error::SessionError;
 use std::alloc::Global;
 use zed_document::Document;
 use zed_export::{ExportError, export};
+use zed_laws::replay_is_ordered;
 use zed_play::Play;
 use zed_screen::{Frame, draw_board};
-use zed_types::BODY_LIMIT;
 use zed_world::World;
 
 /// What is told where a board of a document can't be exported for want of memory. It takes none.
@@ -18,17 +19,26 @@ fn lack(document: &Document, board: usize) -> SessionError
     requires { document.now.is_stale ≡ false }
     ensures { result ≡ lack_of (slice_get (exported_boards (replay document.now.edits)) board) }
 {
-    match document.board(board) {
-        Ok(Some(_)) => SessionError::Memory,
-        _ => SessionError::NoBoard,
+    // For the proof, which learns here that the edits are a set, and so that each board has a number of its own.
+    document.edits();
+    replay_is_ordered();
+    match document.board(board).unwrap_or(None) {
+        Some(_) => SessionError::Memory,
+        None => SessionError::NoBoard,
     }
 }
 
-/// The world that a document exports, for the sake of one of its boards.
-fn world_for(alloc: Global, document: &Document, board: usize) -> Result<World, SessionError>
-    ensures result { GivesWorld (world_shown document.now) board result }
+/// The world that a document exports at a limit, for the sake of one of its boards.
+fn world_for(
+    alloc: Global,
+    document: &Document,
+    board: usize,
+    limit: usize,
+) -> Result<World, SessionError>
+    requires { limit ≤ READ_BODY_LIMIT }
+    ensures result { GivesWorld (world_shown limit document.now) board result }
 {
-    match export(alloc, document, BODY_LIMIT) {
+    match export(alloc, document, limit) {
         Ok(world) => Ok(world),
         Err(ExportError::Memory) => Err(lack(document, board)),
         Err(error) => Err(SessionError::from(error)),
@@ -40,10 +50,12 @@ pub(crate) fn picture_of(
     alloc: Global,
     document: &Document,
     board: usize,
+    limit: usize,
 ) -> Result<Frame, SessionError>
-    ensures result { Answers (world_shown document.now) board Draws result }
+    requires { limit ≤ READ_BODY_LIMIT }
+    ensures result { Answers (world_shown limit document.now) board Draws result }
 {
-    let world = world_for(alloc, document, board)?;
+    let world = world_for(alloc, document, board, limit)?;
     Ok(draw_board(&world, board)?)
 }
 
@@ -52,9 +64,11 @@ pub(crate) fn playtest_of(
     alloc: Global,
     document: &Document,
     board: usize,
+    limit: usize,
 ) -> Result<Play, SessionError>
-    ensures result { Answers (world_shown document.now) board Opens result }
+    requires { limit ≤ READ_BODY_LIMIT }
+    ensures result { Answers (world_shown limit document.now) board Opens result }
 {
-    let world = world_for(alloc, document, board)?;
+    let world = world_for(alloc, document, board, limit)?;
     Ok(Play::new(alloc, world, board, 1)?)
 }

@@ -1,6 +1,6 @@
 //! Sources of keys, as boxed objects that are handed in.
 ghost use Rattle.std.specs.Prelude.{◌≡◌, ℕ, Bool, List, Option, IfErr, IfOk, IfSome, OnErr, OnOk, is_err};
-ghost use Rattle.zed_link.specs.Counting.{Counts};
+ghost use Rattle.zed_host.specs.Counting.{Counts};
 ghost use Rattle.zed_session.specs.Devices.{Foretold, first_of, without_first};
 
 use crate::error::SessionError;

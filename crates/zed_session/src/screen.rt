@@ -1,6 +1,6 @@
 //! Screens, as boxed objects that are handed in.
 ghost use Rattle.std.specs.Prelude.{◌≡◌, ℕ, Bool, List, Option, IfErr, OnErr, OnOk, is_err, is_some};
-ghost use Rattle.zed_link.specs.Counting.{Counts};
+ghost use Rattle.zed_host.specs.Counting.{Counts};
 ghost use Rattle.zed_session.specs.Devices.{Foretold, showing};
 
 use crate::error::SessionError;

@@ -1,9 +1,10 @@
 //! The session: a document, its links and its stage.
 ghost use Rattle.std.specs.Prelude.{◌≡◌, ◌≢◌, ◌≤◌, ◌<◌, ◌⊎◌, ◌↔◌, ℕ, [], ◌∷◌, ◌++◌, None, Some, Ok, Err, true, false, IfErr, IfOk, OnErr, OnOk, length, map, option_map, remove, slice_get, vec_capacity, vec_len};
+ghost use Rattle.zed_types.specs.declared.limits.TheConstants.{READ_BODY_LIMIT};
 ghost use Rattle.zed_editfile.specs.Spelling.{file_text};
 ghost use Rattle.zed_link.specs.Ends.{Changed, Took};
 ghost use Rattle.zed_session.specs.Boards.{Answers, ShowsBoard, Starts, world_shown};
-ghost use Rattle.zed_link.specs.Counting.{Counts};
+ghost use Rattle.zed_host.specs.Counting.{Counts};
 ghost use Rattle.zed_session.specs.Devices.{AsksOnce};
 ghost use Rattle.zed_session.specs.Play.{PlaysKey, ShowsKey, ShowsStep, goes_on};
 ghost use Rattle.zed_session.specs.Refusals.{ShownAfter, ShowsOnce, is_key_fault, is_screen_fault};
@@ -105,10 +106,12 @@ impl Session {
         self.stage.playtest()
     }
 
-    /// Shows the board of this number of the world that the document exports, at the limit of 20,000 bytes. The refusals, the first that
-    /// applies: those of the export; NoBoard where the world has no such board; ScreenFault where the screen failed.
-    pub fn show(&mut self, board: usize) -> Result<(), SessionError>
-        ensures result { Answers (world_shown self.old.document) board
+    /// Shows the board of this number of the world that the document exports at a limit, the most bytes of a board's body, which is at
+    /// most 32,767. The refusals, the first that applies: those of the export; NoBoard where the world has no such board; ScreenFault
+    /// where the screen failed.
+    pub fn show(&mut self, board: usize, limit: usize) -> Result<(), SessionError>
+        requires { limit ≤ READ_BODY_LIMIT }
+        ensures result { Answers (world_shown limit self.old.document) board
             (ShowsBoard (shown self.old.stage.screen) (shown self.new.stage.screen)) result }
         ensures err { IfErr result (λ e.
             ShownAfter e (shown self.old.stage.screen) (shown self.new.stage.screen)) }
@@ -121,14 +124,15 @@ impl Session {
         ensures document { self.new.document ≡ self.old.document }
         ensures links { self.new.links ≡ self.old.links }
     {
-        self.stage.show(&self.document, board)
+        self.stage.show(&self.document, board, limit)
     }
 
-    /// Starts a playtest, at tick 1, of the board of this number of the world that the document exports, at the limit of 20,000 bytes; a
-    /// key that was kept is dropped. The refusals, the first that applies: those of the export; NoBoard where the world has no such
-    /// board; Memory. After each of them the playtest before and a key that was kept are as they were.
-    pub fn play(&mut self, board: usize) -> Result<(), SessionError>
-        ensures result { Answers (world_shown self.old.document) board
+    /// Starts a playtest, at tick 1, of the board of this number of the world that the document exports at a limit, the most bytes of a
+    /// board's body, which is at most 32,767; a key that was kept is dropped. The refusals, the first that applies: those of the export;
+    /// NoBoard where the world has no such board; Memory. After each of them the playtest before and a key that was kept are as they were.
+    pub fn play(&mut self, board: usize, limit: usize) -> Result<(), SessionError>
+        requires { limit ≤ READ_BODY_LIMIT }
+        ensures result { Answers (world_shown limit self.old.document) board
             (Starts self.new.stage.playing) result }
         ensures err { OnErr result (self.new.stage.playing ≡ self.old.stage.playing) }
         ensures screen { self.new.stage.screen ≡ self.old.stage.screen }
@@ -136,7 +140,7 @@ impl Session {
         ensures document { self.new.document ≡ self.old.document }
         ensures links { self.new.links ≡ self.old.links }
     {
-        self.stage.play(&self.document, board)
+        self.stage.play(&self.document, board, limit)
     }
 
     /// Takes a key, makes a step of the playtest by it and shows that, and tells how many words of chance it used; None where no key is

@@ -1,6 +1,7 @@
 //! The stage: a screen, a source of keys, and a playtest.
-ghost use Rattle.std.specs.Prelude.{◌≡◌, ◌⊎◌, None, IfErr, IfOk, IfSome, MatchResult, OnErr, OnOk, Err, false, is_err, is_some, option_map, true};
-ghost use Rattle.zed_link.specs.Counting.{Counts};
+ghost use Rattle.std.specs.Prelude.{◌≡◌, ◌≤◌, ◌⊎◌, None, IfErr, IfOk, IfSome, MatchResult, OnErr, OnOk, Err, false, is_err, is_some, option_map, true};
+ghost use Rattle.zed_host.specs.Counting.{Counts};
+ghost use Rattle.zed_types.specs.declared.limits.TheConstants.{READ_BODY_LIMIT};
 ghost use Rattle.zed_session.specs.Devices.{AsksOnce, Foretold};
 ghost use Rattle.zed_session.specs.Refusals.{ShownAfter, ShowsOnce, is_key_fault, is_screen_fault};
 ghost use Rattle.zed_session.specs.Boards.{Answers, ShowsBoard, Starts, world_shown};
@@ -47,10 +48,17 @@ impl Stage {
         self.playing.playtest.as_ref()
     }
 
-    /// Shows the board of this number of the world that the document exports, at the limit of 20,000 bytes. The refusals, the first that
-    /// applies: those of the export; NoBoard where the world has no such board; ScreenFault where the screen failed.
-    pub fn show(&mut self, document: &Document, board: usize) -> Result<(), SessionError>
-        ensures result { Answers (world_shown document.now) board
+    /// Shows the board of this number of the world that the document exports at a limit, the most bytes of a board's body, which is at
+    /// most 32,767. The refusals, the first that applies: those of the export; NoBoard where the world has no such board; ScreenFault
+    /// where the screen failed.
+    pub fn show(
+        &mut self,
+        document: &Document,
+        board: usize,
+        limit: usize,
+    ) -> Result<(), SessionError>
+        requires { limit ≤ READ_BODY_LIMIT }
+        ensures result { Answers (world_shown limit document.now) board
             (ShowsBoard (shown self.old.screen) (shown self.new.screen)) result }
         ensures err { IfErr result (λ e.
             ShownAfter e (shown self.old.screen) (shown self.new.screen)) }
@@ -61,20 +69,26 @@ impl Stage {
         ensures keys { self.new.keys ≡ self.old.keys }
         ensures playing { self.new.playing ≡ self.old.playing }
     {
-        let frame = picture_of(self.alloc, document, board)?;
+        let frame = picture_of(self.alloc, document, board, limit)?;
         show_on(&mut self.screen, &frame)
     }
 
-    /// Starts a playtest, at tick 1, of the board of this number of the world that the document exports, at the limit of 20,000 bytes; a
-    /// key that was kept is dropped. The refusals, the first that applies: those of the export; NoBoard where the world has no such
-    /// board; Memory. After each of them the playtest before and a key that was kept are as they were.
-    pub fn play(&mut self, document: &Document, board: usize) -> Result<(), SessionError>
-        ensures result { Answers (world_shown document.now) board (Starts self.new.playing) result }
+    /// Starts a playtest, at tick 1, of the board of this number of the world that the document exports at a limit, the most bytes of a
+    /// board's body, which is at most 32,767; a key that was kept is dropped. The refusals, the first that applies: those of the export;
+    /// NoBoard where the world has no such board; Memory. After each of them the playtest before and a key that was kept are as they were.
+    pub fn play(
+        &mut self,
+        document: &Document,
+        board: usize,
+        limit: usize,
+    ) -> Result<(), SessionError>
+        requires { limit ≤ READ_BODY_LIMIT }
+        ensures result { Answers (world_shown limit document.now) board (Starts self.new.playing) result }
         ensures err { OnErr result (self.new.playing ≡ self.old.playing) }
         ensures screen { self.new.screen ≡ self.old.screen }
         ensures keys { self.new.keys ≡ self.old.keys }
     {
-        let play = playtest_of(self.alloc, document, board)?;
+        let play = playtest_of(self.alloc, document, board, limit)?;
         self.playing = Playing {
             playtest: Some(play),
             kept: None,

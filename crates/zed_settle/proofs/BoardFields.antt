@@ -19,7 +19,7 @@ use Rattle.zed_edit.specs.declared.plain.Board.{Board}
 use Rattle.zed_edit.specs.Board.{empty_tile}
 use Rattle.zed_laws.specs.Registers.{overwritten}
 use Rattle.zed_laws.proofs.RegularSteps.{ReadIsNormal}
-use Rattle.zed_settle.specs.Fields.{Field, board_byte, board_flag, time_limit, exit, board_text, cell, board_removed}
+use Rattle.zed_settle.specs.Fields.{Field, board_byte, board_flag, time_limit, rank, exit, board_text, cell, board_removed}
 use Rattle.zed_settle.specs.Registers.{GreatestStampWins, of_board}
 use Rattle.zed_settle.specs.Whole.{IsWholeBoard}
 use Rattle.zed_settle.proofs.BoardReads.{on_board, IsBoardField, read-board}
@@ -72,6 +72,14 @@ time_limit-sets _ b r = refl
 
 pub is_time_limit : IsBoardField time_limit
 is_time_limit = record { sets = time_limit-sets; beside = λ b ss. refl }
+
+rank-sets : Sets rank
+rank-sets (SetBoard c (property.Rank v)) b r = refl
+rank-sets (SetBoard c _) b r = refl
+rank-sets _ b r = refl
+
+pub is_rank : IsBoardField rank
+is_rank = record { sets = rank-sets; beside = λ b ss. refl }
 
 exit-sets : (f : Side) → Sets (exit f)
 exit-sets f (SetBoard c (property.Exit g v)) b r = written-at None b.properties.exits 4 (side_index f) (side_index g) v r.exits (side-within f)

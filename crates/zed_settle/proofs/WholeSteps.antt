@@ -59,6 +59,7 @@ property_whole : (setting : BoardSetting) (b : Board) → IsWholeBoard b → IsW
 property_whole (property.Byte f n) b r = record { tiles = r.tiles; bytes = length-set b.properties.bytes (board_byte_index f) n ∙ r.bytes; flags = r.flags; exits = r.exits; texts = r.texts; stats = r.stats }
 property_whole (property.Flag f v) b r = record { tiles = r.tiles; bytes = r.bytes; flags = length-set b.properties.flags (board_flag_index f) v ∙ r.flags; exits = r.exits; texts = r.texts; stats = r.stats }
 property_whole (property.TimeLimit n) b r = record { tiles = r.tiles; bytes = r.bytes; flags = r.flags; exits = r.exits; texts = r.texts; stats = r.stats }
+property_whole (property.Rank n) b r = record { tiles = r.tiles; bytes = r.bytes; flags = r.flags; exits = r.exits; texts = r.texts; stats = r.stats }
 property_whole (property.Exit f o) b r = record { tiles = r.tiles; bytes = r.bytes; flags = r.flags; exits = length-set b.properties.exits (side_index f) o ∙ r.exits; texts = r.texts; stats = r.stats }
 property_whole (property.Text f s) b r = record { tiles = r.tiles; bytes = r.bytes; flags = r.flags; exits = r.exits; texts = length-set b.properties.texts (board_text_index f) s ∙ r.texts; stats = r.stats }
 

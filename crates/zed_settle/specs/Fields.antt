@@ -135,6 +135,15 @@ time_limit_set _ = None
 abbrev pub time_limit : Field Board ℤ
 time_limit = record { value = λ b. b.properties.time_limit; set = by_board time_limit_set }
 
+-- what a setting gives the rank
+abbrev pub rank_set : BoardSetting → Option ℕ
+rank_set (board.Rank n) = Some n
+rank_set _ = None
+
+-- the rank of a board
+abbrev pub rank : Field Board ℕ
+rank = record { value = λ b. b.properties.rank; set = by_board rank_set }
+
 -- what a setting gives an exit
 abbrev pub exit_set : Side → BoardSetting → Option (Option BoardId)
 exit_set f (board.Exit g b) = if_at (side_index f) (side_index g) b

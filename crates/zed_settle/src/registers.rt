@@ -13,7 +13,7 @@ ghost use Rattle.zed_types.specs.declared.property.BoardText.{BoardText};
 ghost use Rattle.zed_types.specs.declared.stat_field.StatByte.{StatByte};
 ghost use Rattle.zed_types.specs.declared.stat_field.StatNumber.{StatNumber};
 ghost use Rattle.zed_settle.specs.Fields.{header_number, key, saved, current_board, world_name, flag};
-ghost use Rattle.zed_settle.specs.Fields.{board_byte, board_flag, time_limit, exit, board_text, cell, board_removed};
+ghost use Rattle.zed_settle.specs.Fields.{board_byte, board_flag, time_limit, rank, exit, board_text, cell, board_removed};
 ghost use Rattle.zed_settle.specs.Fields.{stat_byte, stat_number, third_parameter, follower, leader, stat_text, is_player, removed_or_player};
 ghost use Rattle.zed_settle.specs.Homes.{home};
 ghost use Rattle.zed_settle.specs.Registers.{GreatestStampWins, of_header, of_board, of_stat};
@@ -45,6 +45,7 @@ pub fn greatest_stamp_wins_boards()
     ensures bytes { (b : BoardId) (f : BoardByte) → GreatestStampWins (of_board b (board_byte f)) }
     ensures flags { (b : BoardId) (f : BoardFlag) → GreatestStampWins (of_board b (board_flag f)) }
     ensures time_limit { (b : BoardId) → GreatestStampWins (of_board b time_limit) }
+    ensures rank { (b : BoardId) → GreatestStampWins (of_board b rank) }
     ensures exits { (b : BoardId) (f : Side) → GreatestStampWins (of_board b (exit f)) }
     ensures texts { (b : BoardId) (f : BoardText) → GreatestStampWins (of_board b (board_text f)) }
     ensures cells { (b : BoardId) (i : ℕ) → i < TILES → GreatestStampWins (of_board b (cell i)) }

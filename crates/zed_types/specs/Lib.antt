@@ -7,5 +7,6 @@ pub mod Register
 pub mod Stamp
 pub mod Stat
 pub mod Steps
+pub mod Strings
 pub mod Table
 pub mod Text

@@ -1,5 +1,5 @@
 //! Strings of bytes.
-ghost use Rattle.std.specs.Prelude.{◌≡◌, IfOk, ◌↔◌, IsTrue, nat_eq, ◌<◌, length, slice_set};
+ghost use Rattle.std.specs.Prelude.{◌≡◌, IfOk, OnErr, ◌↔◌, IsTrue, nat_eq, ◌<◌, length, slice_set};
 ghost use Rattle.std.proofs.Common.{rules};
 ghost use Rattle.std.specs.Cmp.Rules.{comparing};
 ghost use lib.Pointwise.{pointwise};
@@ -49,10 +49,14 @@ impl Bytes {
         self.bytes.as_slice()
     }
 
-    /// An equal string.
+    /// An equal string. One without bytes takes no memory.
     pub fn copy(&self) -> Result<Bytes, AllocError>
-        ensures { IfOk result (λ b. b ≡ self.now) }
+        ensures result { IfOk result (λ b. b ≡ self.now) }
+        ensures memory_only_when { OnErr result (0 < length self.now) }
     {
+        if self.bytes.is_empty() {
+            return Ok(Bytes::new(Vec::new(*self.bytes.allocator())));
+        }
         Ok(Bytes {
             bytes: self.bytes.clone()?,
         })

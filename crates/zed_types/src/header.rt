@@ -1,10 +1,12 @@
 //! The registers of a world's header.
 
-ghost use Rattle.std.specs.Prelude.{◌≡◌, ◌<◌};
+ghost use Rattle.std.specs.Prelude.{◌≡◌, ◌<◌, true, IfOk, OnErr};
+ghost use Rattle.zed_types.specs.Strings.{header_has_string};
 ghost use Rattle.zed_types.specs.Header.{flag_index, header_number_index, header_number_of_field, key_index};
 
 use crate::bytes::Bytes;
 use crate::names::BoardId;
+use std::alloc::AllocError;
 
 /// The numbers of a world's header, each a signed 16-bit number.
 #[derive(Clone, Copy, Debug, PartialEq, Eq)]
@@ -137,4 +139,21 @@ pub enum HeaderSetting {
     WorldName(Bytes),
     /// At most 20 bytes.
     Flag(FlagSlot, Bytes),
+}
+
+impl HeaderSetting {
+    /// An equal setting. Only a string that has a byte takes memory.
+    pub fn copy(&self) -> Result<HeaderSetting, AllocError>
+        ensures result { IfOk result (λ s. s ≡ self.now) }
+        ensures memory_only_when { OnErr result (header_has_string self.now ≡ true) }
+    {
+        Ok(match self {
+            HeaderSetting::Number(field, value) => HeaderSetting::Number(*field, *value),
+            HeaderSetting::Key(colour, held) => HeaderSetting::Key(*colour, *held),
+            HeaderSetting::Saved(saved) => HeaderSetting::Saved(*saved),
+            HeaderSetting::CurrentBoard(board) => HeaderSetting::CurrentBoard(*board),
+            HeaderSetting::WorldName(name) => HeaderSetting::WorldName(name.copy()?),
+            HeaderSetting::Flag(slot, name) => HeaderSetting::Flag(*slot, name.copy()?),
+        })
+    }
 }

@@ -1,5 +1,5 @@
 //! The words that every crate of the editor shares: stamps, the names of things, tiles, registers and what they are set to,
-//! the bytes of texts, and limits. Nothing here takes memory but copies.
+//! the bytes of texts, and limits. Memory is taken by the copies of strings and settings, and by a list that grows.
 #![tactic(auto)]
 
 mod bytes;

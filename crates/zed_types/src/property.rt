@@ -1,10 +1,12 @@
 //! The registers of a board.
 
-ghost use Rattle.std.specs.Prelude.{◌≡◌, ◌<◌};
+ghost use Rattle.std.specs.Prelude.{◌≡◌, ◌<◌, true, IfOk, OnErr};
+ghost use Rattle.zed_types.specs.Strings.{board_has_string};
 ghost use Rattle.zed_types.specs.Board.{side_index, side_field, side_of_field, board_byte_index, board_byte_field, board_byte_of_field, board_flag_index, board_flag_field, board_flag_of_field, board_text_index, board_text_field, board_text_of_field};
 
 use crate::bytes::Bytes;
 use crate::names::BoardId;
+use std::alloc::AllocError;
 
 /// The sides on which a board may have an exit.
 #[derive(Clone, Copy, Debug, PartialEq, Eq)]
@@ -188,6 +190,31 @@ pub enum BoardSetting {
     Byte(BoardByte, u8),
     Flag(BoardFlag, bool),
     TimeLimit(i16),
+    /// Where the board stands among the others: lower ranks first. The title is first whatever its own is.
+    Rank(u16),
     Exit(Side, Option<BoardId>),
     Text(BoardText, Bytes),
+}
+
+impl BoardSetting {
+    /// The number of the time limit in an edit file.
+    pub const TIME_LIMIT: u8 = 5;
+
+    /// The number of the rank in an edit file.
+    pub const RANK: u8 = 12;
+
+    /// An equal setting. Only a string that has a byte takes memory.
+    pub fn copy(&self) -> Result<BoardSetting, AllocError>
+        ensures result { IfOk result (λ s. s ≡ self.now) }
+        ensures memory_only_when { OnErr result (board_has_string self.now ≡ true) }
+    {
+        Ok(match self {
+            BoardSetting::Byte(field, value) => BoardSetting::Byte(*field, *value),
+            BoardSetting::Flag(field, value) => BoardSetting::Flag(*field, *value),
+            BoardSetting::TimeLimit(value) => BoardSetting::TimeLimit(*value),
+            BoardSetting::Rank(value) => BoardSetting::Rank(*value),
+            BoardSetting::Exit(side, board) => BoardSetting::Exit(*side, *board),
+            BoardSetting::Text(field, text) => BoardSetting::Text(*field, text.copy()?),
+        })
+    }
 }

@@ -121,24 +121,4 @@ impl<T: Drop> Seq<T> {
     {
         let _gone = self.items.remove(i);
     }
-
-    /// Puts more elements at the end.
-    pub fn append(&mut self, more: Seq<T>) -> Result<(), AllocError>
-        ensures { OnOk result (self.new ≡ self.old ++ more) }
-    {
-        let mut run = more.items;
-        self.items.reserve(run.len())?;
-        self.items.append(&mut run).unwrap();
-        Ok(())
-    }
-
-    /// Leaves the last `most` elements.
-    pub fn keep_last(&mut self, most: usize) -> Result<(), AllocError>
-        ensures { OnOk result (self.new ≡ drop (length self.old - most) self.old) }
-    {
-        let n = self.items.len();
-        let tail = self.items.split_off(n.saturating_sub(most))?;
-        self.items = tail;
-        Ok(())
-    }
 }

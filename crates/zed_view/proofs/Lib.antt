@@ -1,7 +1,8 @@
 mod Alike
+pub mod Firsts
 mod NamedTexts
 mod Numbered
 mod NumberedTexts
 mod Shown
-mod TextsAlike
 pub mod Sought
+mod TextsAlike

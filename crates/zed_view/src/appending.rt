@@ -15,18 +15,23 @@ fn append_live(text: &Text, out: &mut Vec<u8>) -> Result<(), AllocError>
     ensures ok { OnOk result
         (out.new.items ≡ out.old.items ++ alive_bytes (elements text.now)) }
     ensures err { OnErr result (out.new.items ≡ out.old.items) }
+    ensures memory_only_when { OnErr result (0 < length (alive_bytes (elements text.now))) }
 {
+    if text.length() == 0 {
+        return Ok(());
+    }
     match text.text() {
         Ok(bytes) => out.extend_from_slice(bytes.as_slice()),
         Err(_) => Err(AllocError),
     }
 }
 
-/// Appends the live bytes of a text, or nothing.
+/// Appends the live bytes of a text, or nothing. Nothing takes no memory.
 #[tactic(auto, using(crate::proofs::NamedTexts::of_some_text, crate::proofs::NamedTexts::of_no_text))]
 pub fn append_text(view: &View, id: TextId, out: &mut Vec<u8>) -> Result<(), AllocError>
     ensures ok { OnOk result (out.new.items ≡ out.old.items ++ text_shown view.now id) }
     ensures err { OnErr result (out.new.items ≡ out.old.items) }
+    ensures memory_only_when { OnErr result (0 < length (text_shown view.now id)) }
 {
     match view.text(id) {
         Some(text) => append_live(text, out),
@@ -34,12 +39,13 @@ pub fn append_text(view: &View, id: TextId, out: &mut Vec<u8>) -> Result<(), All
     }
 }
 
-/// Appends the live bytes of the text of a number, or nothing.
+/// Appends the live bytes of the text of a number, or nothing. Nothing takes no memory.
 pub fn append_text_at(view: &View, k: usize, out: &mut Vec<u8>) -> Result<(), AllocError>
     requires { k < length view.now.texts }
     ensures ok { OnOk result
         (out.new.items ≡ out.old.items ++ alive_bytes (text_at view.now k).elements) }
     ensures err { OnErr result (out.new.items ≡ out.old.items) }
+    ensures memory_only_when { OnErr result (0 < length (alive_bytes (text_at view.now k).elements)) }
 {
     append_live(view.text_at(k), out)
 }

@@ -1,6 +1,6 @@
-//! The numbers of boards and stats: their places among those that are not removed.
+//! The numbers of stats: how many of those that are not removed come before them.
 ghost use Rattle.std.specs.Prelude.{◌≡◌, ◌<◌, length, slice_get, option_map};
-ghost use Rattle.zed_edit.specs.Numbers.{alive_stats, board_numbered as board_of_number, stat_numbered as stat_of_number};
+ghost use Rattle.zed_edit.specs.Numbers.{alive_stats, stat_numbered as stat_of_number};
 ghost use Rattle.zed_view.specs.View.{board_at};
 
 use crate::view::View;
@@ -26,23 +26,6 @@ fn alive_stat(view: &View, i: usize, n: usize) -> Option<StatId>
 }
 
 impl<'a> View<'a> {
-    /// The name of the board with this number: its place among the boards that are not removed, from 0 on.
-    pub fn board_numbered(&self, n: usize) -> Option<BoardId>
-        ensures { result ≡ board_of_number self.now n }
-    {
-        let mut left = n;
-        for i in 0..self.boards() {
-            let board = self.board(i);
-            if !board.removed {
-                if left == 0 {
-                    return Some(board.id);
-                }
-                left -= 1;
-            }
-        }
-        None
-    }
-
     /// The name of the stat with this number on a board: its place among the stats of the board that are not removed,
     /// from 0 on. None where the board was not made.
     pub fn stat_numbered(&self, board: BoardId, n: usize) -> Option<StatId>

@@ -61,3 +61,17 @@ impl<'a> PropertyRegister<'a> for TimeLimit {
         properties.time_limit()
     }
 }
+
+/// A board's rank: the title aside, boards of lower ranks come first.
+#[derive(Clone, Copy, Debug)]
+pub struct Rank;
+
+impl<'a> PropertyRegister<'a> for Rank {
+    type Value = u16;
+
+    ghost shows = { λ properties _ value. value ≡ properties.rank };
+
+    fn read(self, properties: &'a LiveProperties) -> u16 {
+        properties.rank()
+    }
+}

@@ -1,4 +1,3 @@
-pub mod ClapLemmas
 pub mod Readings
 pub mod Parsing
 pub mod PlainWords

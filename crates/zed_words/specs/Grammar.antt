@@ -3,6 +3,7 @@ use Rattle.std.specs.Prelude.{ℕ, List, [], ◌∷◌, Some, codes, pos, true}
 use Rattle.clap.specs.Simple.{App, Shape, new_app, new_rule, new_shape, on_top, with_subcommand}
 use Rattle.clap.specs.Walk.{Rule}
 use Rattle.clap.specs.Lexer.{usize_max}
+use Rattle.clap.specs.declared.builder.action.ArgAction.TheVariants.{SetTrue}
 use Rattle.clap.specs.declared.builder.value_parser.ValueParser.TheVariants as value
 
 -- one word, which must be there
@@ -18,6 +19,10 @@ several_rule id = record (required_rule id) {
 -- a word behind a name with two hyphens
 abbrev pub option_rule : List ℕ → Rule
 option_rule id = record (new_rule id) { long = Some id; value_names = 1 }
+
+-- `--big`, without a value
+abbrev pub big_rule : Rule
+big_rule = record (new_rule (codes "big")) { long = Some (codes "big"); action = Some SetTrue }
 
 -- the number of a world
 abbrev pub world_rule : Rule
@@ -43,13 +48,13 @@ files_rule = several_rule (codes "FILES")
 abbrev pub shape_with : List ℕ → List Rule → Shape
 shape_with name rules = record (new_shape name) { rules = rules }
 
--- `save OUT FILES...`
+-- `save [--big] OUT FILES...`
 abbrev pub save_shape : Shape
-save_shape = shape_with (codes "save") (required_rule (codes "OUT") ∷ files_rule ∷ [])
+save_shape = shape_with (codes "save") (required_rule (codes "OUT") ∷ files_rule ∷ big_rule ∷ [])
 
--- `check FILES...`
+-- `check [--big] FILES...`
 abbrev pub check_shape : Shape
-check_shape = shape_with (codes "check") (files_rule ∷ [])
+check_shape = shape_with (codes "check") (files_rule ∷ big_rule ∷ [])
 
 -- `new OUT WORLD [--from FILE] [--name TEXT]`
 abbrev pub create_shape : Shape
@@ -63,13 +68,13 @@ edit_shape = shape_with (codes "edit") (required_rule (codes "FILE") ∷ replica
 abbrev pub merge_shape : Shape
 merge_shape = shape_with (codes "merge") (required_rule (codes "OUT") ∷ world_rule ∷ files_rule ∷ [])
 
--- `show BOARD FILES...`
+-- `show [--big] BOARD FILES...`
 abbrev pub show_shape : Shape
-show_shape = shape_with (codes "show") (board_rule ∷ files_rule ∷ [])
+show_shape = shape_with (codes "show") (board_rule ∷ files_rule ∷ big_rule ∷ [])
 
--- `play BOARD WORDS FILES...`
+-- `play [--big] BOARD WORDS FILES...`
 abbrev pub play_shape : Shape
-play_shape = shape_with (codes "play") (board_rule ∷ required_rule (codes "WORDS") ∷ files_rule ∷ [])
+play_shape = shape_with (codes "play") (board_rule ∷ required_rule (codes "WORDS") ∷ files_rule ∷ big_rule ∷ [])
 
 -- the program without its subcommands
 abbrev pub top_app : App

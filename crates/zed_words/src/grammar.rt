@@ -2,9 +2,9 @@
 ghost use Rattle.std.specs.Prelude.{◌≡◌, false, IfOk};
 ghost use Rattle.clap.specs.Words.{app_of, new_app, rule_of, shape_of, with_rule, with_subcommand};
 ghost use Rattle.clap.specs.declared.builder.command.Command.TheViews.{out-Command};
-ghost use Rattle.zed_words.specs.Grammar.{board_rule, check_shape, create_shape, edit_shape, files_rule, merge_shape, option_rule, play_shape, replica_rule, required_rule, save_shape, several_rule, show_shape, top_app, world_rule, zzted_app};
+ghost use Rattle.zed_words.specs.Grammar.{big_rule, board_rule, check_shape, create_shape, edit_shape, files_rule, merge_shape, option_rule, play_shape, replica_rule, required_rule, save_shape, several_rule, show_shape, top_app, world_rule, zzted_app};
 
-use clap::{Arg, Command};
+use clap::{Arg, ArgAction, Command};
 use std::alloc::{AllocError, Global};
 
 // A word that must be there.
@@ -49,6 +49,19 @@ fn files_argument<'a>(alloc: Global) -> Arg<'a>
     )
 }
 
+// The option that takes the larger limit.
+fn big_argument<'a>(alloc: Global) -> Arg<'a>
+    ensures rule { rule_of result ≡ big_rule }
+    ensures local { result.global ≡ false }
+{
+    Arg::new(alloc, "big")
+        .long("big")
+        .action(ArgAction::SetTrue)
+        .help(
+            "Take boards of up to 32767 bytes, for tools that read larger ones than the 20000 bytes of ZZT's own",
+        )
+}
+
 // A command of this name, without arguments.
 fn bare_command<'a>(alloc: Global, name: &'a str, about: &'a str) -> Command<'a>
     ensures app { app_of result ≡ new_app name.entry.now }
@@ -68,7 +81,7 @@ fn with_argument<'a>(command: Command<'a>, argument: Arg<'a>) -> Result<Command<
     command.arg(argument)
 }
 
-/// `save OUT FILES...`
+/// `save [--big] OUT FILES...`
 fn save_command<'a>(alloc: Global) -> Result<Command<'a>, AllocError>
     ensures shape { IfOk result (λ c. shape_of c ≡ save_shape) }
     ensures local { IfOk result (λ c. (out-Command c).has_globals ≡ false) }
@@ -82,10 +95,11 @@ fn save_command<'a>(alloc: Global) -> Result<Command<'a>, AllocError>
             "The world file to write; stdout is standard output",
         ),
     )?;
-    with_argument(command, files_argument(alloc))
+    let command = with_argument(command, files_argument(alloc))?;
+    with_argument(command, big_argument(alloc))
 }
 
-/// `check FILES...`
+/// `check [--big] FILES...`
 fn check_command<'a>(alloc: Global) -> Result<Command<'a>, AllocError>
     ensures shape { IfOk result (λ c. shape_of c ≡ check_shape) }
     ensures local { IfOk result (λ c. (out-Command c).has_globals ≡ false) }
@@ -95,7 +109,8 @@ fn check_command<'a>(alloc: Global) -> Result<Command<'a>, AllocError>
         "check",
         "Print what looks wrong in the world of edit files, and its counts",
     );
-    with_argument(command, files_argument(alloc))
+    let command = with_argument(command, files_argument(alloc))?;
+    with_argument(command, big_argument(alloc))
 }
 
 fn world_argument<'a>(alloc: Global) -> Arg<'a>
@@ -213,7 +228,7 @@ fn board_argument<'a>(alloc: Global) -> Arg<'a>
         .value_parser(clap::value_parser!(u16))
 }
 
-/// `show BOARD FILES...`
+/// `show [--big] BOARD FILES...`
 fn show_command<'a>(alloc: Global) -> Result<Command<'a>, AllocError>
     ensures shape { IfOk result (λ c. shape_of c ≡ show_shape) }
     ensures local { IfOk result (λ c. (out-Command c).has_globals ≡ false) }
@@ -224,10 +239,11 @@ fn show_command<'a>(alloc: Global) -> Result<Command<'a>, AllocError>
         "Print the picture of a board of the world of edit files",
     );
     let command = with_argument(command, board_argument(alloc))?;
-    with_argument(command, files_argument(alloc))
+    let command = with_argument(command, files_argument(alloc))?;
+    with_argument(command, big_argument(alloc))
 }
 
-/// `play BOARD WORDS FILES...`
+/// `play [--big] BOARD WORDS FILES...`
 fn play_command<'a>(alloc: Global) -> Result<Command<'a>, AllocError>
     ensures shape { IfOk result (λ c. shape_of c ≡ play_shape) }
     ensures local { IfOk result (λ c. (out-Command c).has_globals ≡ false) }
@@ -246,7 +262,8 @@ fn play_command<'a>(alloc: Global) -> Result<Command<'a>, AllocError>
             "A file of the chances of the playtest: 16-bit numbers, the low byte first",
         ),
     )?;
-    with_argument(command, files_argument(alloc))
+    let command = with_argument(command, files_argument(alloc))?;
+    with_argument(command, big_argument(alloc))
 }
 
 // The program without its commands.

@@ -3,7 +3,9 @@
 
 mod grammar;
 mod laws;
+mod profile;
 mod words;
 
 pub use laws::plain_words_save;
+pub use profile::Profile;
 pub use words::{Command, ParseError, parse};

@@ -4,9 +4,10 @@ ghost use Rattle.clap.specs.Walk.{all_of, first_of, one_of};
 ghost use Rattle.clap.specs.Words.{FailsBy, fault_of, found_of, rows_of, subcommand_of, subcommand_rows_of};
 ghost use Rattle.zed_words.specs.declared.words.ParseError.TheVariants.{Memory};
 ghost use Rattle.zed_words.specs.Grammar.{zzted_app};
-ghost use Rattle.zed_words.specs.Commands.{subcommand_asks, check_of, edit_of, meaning_of, merge_of, new_of, number_of, play_of, save_of, show_of, command_of};
+ghost use Rattle.zed_words.specs.Commands.{subcommand_asks, check_of, edit_of, meaning_of, merge_of, new_of, number_of, play_of, profile_of as profile_for, save_of, show_of, command_of};
 
 use crate::grammar::zzted_command;
+use crate::profile::Profile;
 use clap::error::ErrorKind;
 use clap::{ArgMatches, Error};
 use std::alloc::{AllocError, Global};
@@ -16,11 +17,13 @@ use std::alloc::{AllocError, Global};
 pub enum Command<'a> {
     /// The world file of edit files is to be written.
     Save {
+        profile: Profile,
         out: &'a str,
         files: Vec<&'a str>,
     },
     /// What looks wrong in the world of edit files is to be told.
     Check {
+        profile: Profile,
         files: Vec<&'a str>,
     },
     /// An edit file that makes a world is to be written.
@@ -44,11 +47,13 @@ pub enum Command<'a> {
     },
     /// A board of the world of edit files is to be shown.
     Show {
+        profile: Profile,
         board: u16,
         files: Vec<&'a str>,
     },
     /// A board of the world of edit files is to be played, by the words of chance of a file.
     Play {
+        profile: Profile,
         board: u16,
         chance: &'a str,
         files: Vec<&'a str>,
@@ -76,6 +81,16 @@ fn word_in<'a>(matches: &ArgMatches<'a>, name: &str) -> Option<&'a str>
     ensures { option_map (λ s. s.now) result ≡ first_of name.now (rows_of (found_of matches.now)) }
 {
     matches.get_str(name)
+}
+
+// The profile that the words ask for.
+fn profile_in(matches: &ArgMatches<'_>) -> Profile
+    ensures { result ≡ profile_for (rows_of (found_of matches.now)) }
+{
+    match word_in(matches, "big") {
+        Some("true") => Profile::Big,
+        _ => Profile::Usual,
+    }
 }
 
 // All words of this name, if it is there.
@@ -113,9 +128,14 @@ fn save_in<'a>(alloc: Global, matches: &ArgMatches<'a>) -> Result<Option<Command
     ensures { IfOk result (λ a.
         option_map meaning_of a ≡ save_of (rows_of (found_of matches.now))) }
 {
+    let profile = profile_in(matches);
     let files = words_in(alloc, matches, "FILES")?;
     if let (Some(out), Some(files)) = (word_in(matches, "OUT"), files) {
-        Ok(Some(Command::Save { out, files }))
+        Ok(Some(Command::Save {
+            profile,
+            out,
+            files,
+        }))
     } else {
         Ok(None)
     }
@@ -125,8 +145,9 @@ fn check_in<'a>(alloc: Global, matches: &ArgMatches<'a>) -> Result<Option<Comman
     ensures { IfOk result (λ a.
         option_map meaning_of a ≡ check_of (rows_of (found_of matches.now))) }
 {
+    let profile = profile_in(matches);
     match words_in(alloc, matches, "FILES")? {
-        Some(files) => Ok(Some(Command::Check { files })),
+        Some(files) => Ok(Some(Command::Check { profile, files })),
         None => Ok(None),
     }
 }
@@ -184,9 +205,14 @@ fn show_in<'a>(alloc: Global, matches: &ArgMatches<'a>) -> Result<Option<Command
     ensures { IfOk result (λ a.
         option_map meaning_of a ≡ show_of (rows_of (found_of matches.now))) }
 {
+    let profile = profile_in(matches);
     let files = words_in(alloc, matches, "FILES")?;
     if let (Some(board), Some(files)) = (number_in(matches, "BOARD"), files) {
-        Ok(Some(Command::Show { board, files }))
+        Ok(Some(Command::Show {
+            profile,
+            board,
+            files,
+        }))
     } else {
         Ok(None)
     }
@@ -196,11 +222,13 @@ fn play_in<'a>(alloc: Global, matches: &ArgMatches<'a>) -> Result<Option<Command
     ensures { IfOk result (λ a.
         option_map meaning_of a ≡ play_of (rows_of (found_of matches.now))) }
 {
+    let profile = profile_in(matches);
     let board = number_in(matches, "BOARD");
     let chance = word_in(matches, "WORDS");
     let files = words_in(alloc, matches, "FILES")?;
     if let (Some(board), Some(chance), Some(files)) = (board, chance, files) {
         Ok(Some(Command::Play {
+            profile,
             board,
             chance,
             files,
@@ -253,6 +281,7 @@ fn stored_command<'a>(alloc: Global) -> Result<Command<'a>, AllocError>
 {
     let files = vec![in alloc; "stdin"]?;
     Ok(Command::Save {
+        profile: Profile::Usual,
         out: "stdout",
         files,
     })

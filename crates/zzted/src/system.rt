@@ -1,6 +1,6 @@
 //! Real files and streams as a host.
 ghost use Rattle.std.specs.Prelude.{◌≡◌, None, is_err};
-ghost use Rattle.zed_link.specs.Counting.{Counts};
+ghost use Rattle.zed_host.specs.Counting.{Counts};
 
 use std::alloc::{AllocError, Global};
 use std::fs::{self, File};

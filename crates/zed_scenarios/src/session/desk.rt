@@ -8,6 +8,7 @@ use std::test::Fail;
 use zed_link::{Link, Pulled};
 use zed_play::{Ending, Key};
 use zed_session::{HoldsDocument, Session, SessionError};
+use zed_types::BODY_LIMIT;
 
 /// What is done with a session.
 #[derive(Clone, Copy)]
@@ -214,8 +215,8 @@ fn mended(session: &mut Session, i: usize) -> Told {
 
 pub fn told_by(desk: &mut Desk, act: Act) -> Told {
     match act {
-        Act::Show(board) => done(desk.session.show(board)),
-        Act::Play(board) => done(desk.session.play(board)),
+        Act::Show(board) => done(desk.session.show(board, BODY_LIMIT)),
+        Act::Play(board) => done(desk.session.play(board, BODY_LIMIT)),
         Act::Press(words) => used(desk.session.play_key(words)),
         Act::Wire(wired) => wire(desk, wired),
         Act::Wires(wires) => wire_each(desk, wires),

@@ -57,7 +57,7 @@ const RECORD_LENGTH: Told = Told::Refused(SessionError::RecordLength);
 const NO_FILE: Wired = (b"ZEE\x01", 3, None);
 
 /// One with a file of a later version.
-const LATER_VERSION: Wired = (b"ZED\x02", 3, None);
+const LATER_VERSION: Wired = (b"ZED\x03", 3, None);
 
 /// One with a file of another world.
 const WORLD_8: Wired = (b"ZED\x01\x08\0\0\0\0\0\0\0", 3, None);
@@ -96,7 +96,7 @@ pub const LINKS: &[Case] = &[
             (
                 Act::Detach(0),
                 Told::Done,
-                Sees::Left(b"ZED\x01\x07\0\0\0\0\0\0\0"),
+                Sees::Left(b"ZED\x02\x07\0\0\0\0\0\0\0"),
             ),
         ],
         ..CALM
@@ -137,7 +137,7 @@ pub const LINKS: &[Case] = &[
                 SECOND,
                 Sees::Links(2, 3, 3),
             ),
-            (Act::Push(0), FAULT, Sees::Left(b"ZED\x01\x07")),
+            (Act::Push(0), FAULT, Sees::Left(b"ZED\x02\x07")),
             (Act::Pull(0), NEW, Sees::Links(1, 5, 5)),
             (Act::Push(1), NO_LINK, Sees::Links(1, 5, 5)),
         ],

@@ -24,6 +24,7 @@ pub(crate) fn properties_same(a: &LiveProperties, b: &LiveProperties) -> bool
     tables_same(&a.bytes, &b.bytes)
         && tables_same(&a.flags, &b.flags)
         && a.time_limit.shows_same(&b.time_limit)
+        && a.rank.shows_same(&b.rank)
         && tables_same(&a.exits, &b.exits)
         && tables_same(&a.texts, &b.texts)
 }

@@ -63,6 +63,16 @@ impl Slot for Option<Written<i16>> {
     }
 }
 
+impl Slot for Option<Written<u16>> {
+    type Value = u16;
+
+    ghost shown = { λ slot. value_or 0 slot };
+
+    fn shows_same(&self, other: &Option<Written<u16>>) -> bool {
+        value_of(self, 0) == value_of(other, 0)
+    }
+}
+
 impl Slot for Option<Written<u8>> {
     type Value = u8;
 

@@ -10,7 +10,7 @@ pub returns-clause-records : goal.returns-clause-records
 returns-clause-records c = are_records c.args.edits.now c.loop-edit.edit-index (omega arith) c.loop-edit.invariant
 
 pub returns-clause-one : goal.returns-clause-one
-returns-clause-one c = λ fit n es lt good same. one_file c.args.world n c.args.edits.now es (omega arith) lt (returns-clause-records c fit) good same
+returns-clause-one c = λ fit n es lt good. one_file c.args.world n c.args.edits.now es (omega arith) lt (returns-clause-records c fit) good
 
 pub returns-clause-read : goal.returns-clause-read
-returns-clause-read c = λ fit es p other whole reads. file_has c.args.world c.args.edits.now es p (omega arith) (returns-clause-records c fit) other whole reads
+returns-clause-read c = λ fit bytes file es p other whole reads. file_has c.args.world c.args.edits.now bytes file es p (omega arith) (returns-clause-records c fit) other whole reads

@@ -7,12 +7,12 @@ pub returns-in_err-edit_of-in-Some-clause-err : goal.returns-in_err-edit_of-in-S
 returns-in_err-edit_of-in-Some-clause-err c =
     let p = err_from_is_err_and c.from_residual-in_err-edit_of-in-Some.result c.from_residual-in_err-edit_of-in-Some.ensures.1 in
     let frame = rw c.in-Some.is at c.in_ok-split_record.ensures.some in
-    rw (p.1, p.2) (refl, frame_fault c.args.bytes.now c.in-Some.body.now c.in-Some.rest.now c.in_err-edit_of-in-Some.field-0.0 frame c.in_err-edit_of-in-Some.ensures)
+    rw (p.1, p.2) (refl, frame_fault c.args.version c.args.bytes.now c.in-Some.body.now c.in-Some.rest.now c.in_err-edit_of-in-Some.field-0.0 frame c.in_err-edit_of-in-Some.ensures)
 
 pub returns-in_ok-push-in-Some-clause-some : goal.returns-in_ok-push-in-Some-clause-some
 returns-in_ok-push-in-Some-clause-some c =
     let frame = rw c.in-Some.is at c.in_ok-split_record.ensures.some in (
-      one_gain c.args.out.now.items c.push.new.self.items c.args.bytes.now c.in-Some.body.now c.in-Some.rest.now c.in_ok-edit_of-in-Some.field-0 (λ i. omega (arith, c.type_inv.bytes i)) frame c.in_ok-edit_of-in-Some.ensures c.in_ok-push-in-Some.ensures.items,
+      one_gain c.args.version c.args.out.now.items c.push.new.self.items c.args.bytes.now c.in-Some.body.now c.in-Some.rest.now c.in_ok-edit_of-in-Some.field-0 (λ i. omega (arith, c.type_inv.bytes i)) frame c.in_ok-edit_of-in-Some.ensures c.in_ok-push-in-Some.ensures.items,
       frame_after c.args.bytes.now c.in-Some.body.now c.in-Some.rest.now frame,
       frame_shorter c.args.bytes.now c.in-Some.body.now c.in-Some.rest.now frame,
     )

@@ -15,7 +15,7 @@ returns-clause-result c =
     let p = c.args.view.now in
     let q = (board_at p c.args.i).properties in
     let number : (n : ℕ) (x o : Option BoardId) → n ≡ exit_place c.args.boards.now x → x ≡ o → n ≡ exit_number p o
-    = λ n x o e f. e ∙ ap (λ (names : List Name). exit_place names x) c.requires.boards ∙ ap (exit_place (board_names p)) f ∙ exit_places p o in
+    = λ n x o e f. e ∙ ap (λ (names : List Name). exit_place names x) c.requires.boards ∙ ap (exit_place (board_names p)) f ∙ exit_places p c.requires.ordered o in
     let north = number c.exit_number.result c.property-3.result (exit North q) c.exit_number.ensures c.property-3.ensures in
     let south = number c.exit_number-2.result c.property-4.result (exit South q) c.exit_number-2.ensures c.property-4.ensures in
     let west = number c.exit_number-3.result c.property-5.result (exit West q) c.exit_number-3.ensures c.property-5.ensures in

@@ -29,7 +29,7 @@ returns-clause-result c =
     = c.parameter_of.ensures ∙ ap (λ (names : List Name). place_parameter names c.is_passage-on_passage.result c.field-6.result) c.requires.boards
     ∙ ap (λ (t : Bool). place_parameter (board_names p) t c.field-6.result) passage
     ∙ ap (place_parameter (board_names p) (is_passage_at b.tiles (stat_byte X s) (stat_byte Y s))) c.field-6.ensures
-    ∙ parameter_places p (is_passage_at b.tiles (stat_byte X s) (stat_byte Y s)) s.fields.p3 in
+    ∙ parameter_places p c.requires.ordered (is_passage_at b.tiles (stat_byte X s) (stat_byte Y s)) s.fields.p3 in
     let step_x = kept c.field.result (stat_number StepX s) (search rules) c.field.ensures in
     let step_y = kept c.field-2.result (stat_number StepY s) (search rules) c.field-2.ensures in
     let cycle = kept c.field-3.result (stat_number Cycle s) (search rules) c.field-3.ensures in

@@ -22,6 +22,6 @@ returns-clause-result c =
     let time_passed = kept c.header-10.result (header_number TimePassed h) (search rules) c.header-10.ensures in
     let hundredths = kept c.header-11.result (header_number Hundredths h) (search rules) c.header-11.ensures in
     let board : c.board_number.result ≡ number_or_0 p h.current_board
-    = c.board_number.ensures ∙ ap (λ (names : List Name). place_or_0 names c.header-4.result) c.requires.named ∙ ap (place_or_0 (board_names p)) c.header-4.ensures ∙ board_place p h.current_board in
+    = c.board_number.ensures ∙ ap (λ (names : List Name). place_or_0 names c.header-4.result) c.requires.named ∙ ap (place_or_0 (board_names p)) c.header-4.ensures ∙ board_place p c.requires.ordered h.current_board in
     let name : c.in_ok-copy_of.field-0 ≡ h.world_name = c.in_ok-copy_of.ensures ∙ c.header-9.ensures in
     rw (ammo, gems, health, torches, torch_ticks, energizer_ticks, score, time_passed, hundredths, board, name, c.keys_of.ensures, c.in_ok-flags_of.ensures, c.header-12.ensures) refl

@@ -2,10 +2,11 @@ use Rattle.std.proofs.Common.{◌≡◌, ◌≤◌, ◌∙◌, ap, arith, length
 use Rattle.std.proofs.lemmas.List.{length-map}
 use Rattle.zed_words.specs.Commands.{Merge, Save, command_of}
 use Rattle.zed_session.specs.Links.{seen}
-use Rattle.zed_program.specs.Devices.{links_alone, no_devices}
+use Rattle.zed_program.specs.Devices.{Devices, devices}
 use Rattle.zed_program.proofs.Endings.{run_calmly}
-use Rattle.zed_program.proofs.Joined.{each_of, run_of_links}
-use Rattle.zed_program.proofs.FileTexts.{run_of_texts, reads_back, written_is_read}
+use Rattle.zed_making.proofs.Pulls.{each_of}
+use Rattle.zed_program.proofs.Joined.{run_of_links}
+use Rattle.zed_program.proofs.FileTexts.{option_adds, run_of_texts, reads_back, written_is_read}
 use Rattle.zed_program.proofs.program.run.Goals as goal
 
 pub returns-clause-ends_calmly : goal.returns-clause-ends_calmly
@@ -13,28 +14,38 @@ returns-clause-ends_calmly g c = λ t command asked at calm.
     run_calmly _ command t _ _ _ c.run_words.result _ calm (rw asked at (c.run_words.ensures.ends t at))
 
 pub returns-clause-saves : goal.returns-clause-saves
-returns-clause-saves g c = λ t out file files spelled plain at calm.
+returns-clause-saves g c = λ t profile out file files spelled plain at calm.
     let few : length (file ∷ files) ≤ 18446744073709551615 =
+    let longer = option_adds profile (out ∷ file ∷ files) in
     let same = ap length spelled in
     let all = rw length-map at same in
     let counted = c.count_of-count.ensures in
     let small = c.count_of-count.type_inv in
     omega arith in
-    let asked : command_of (map string_bytes c.args.words.now) ≡ Some (Save out (file ∷ files)) = ap command_of spelled ∙ c.plain_words_save.ensures out file files plain few in
-    returns-clause-ends_calmly g c t (Save out (file ∷ files)) asked at calm
+    let asked : command_of (map string_bytes c.args.words.now) ≡ Some (Save profile out (file ∷ files)) = ap command_of spelled ∙ c.plain_words_save.ensures profile out file files plain few in
+    returns-clause-ends_calmly g c t (Save profile out (file ∷ files)) asked at calm
 
 pub returns-clause-saves_sets : goal.returns-clause-saves_sets
-returns-clause-saves_sets g c = λ t out world lists asks at calm.
-    run_of_texts no_devices (written_is_read c.one_reading.ensures.one c.one_reading.ensures.file) (map string_bytes c.args.words.now) t out world lists c.run_words.result _ asks
-    (returns-clause-ends_calmly g c t (Save out asks.files) asks.asks at calm)
+returns-clause-saves_sets g c = λ t profile out world lists asks at calm.
+    let all : Devices =
+    devices (each_of c.args.links.items (λ link. seen ((goal.Link-dyn g (link.vtable, link.value)).ends link.value) ((goal.Link-dyn g (link.vtable, link.value)).reads link.value)))
+    ((goal.Screen-dyn g (c.args.screen.vtable, c.args.screen.value)).screen_foretells c.args.screen.value)
+    ((goal.Keys-dyn g (c.args.keys.vtable, c.args.keys.value)).left c.args.keys.value)
+    ((goal.Keys-dyn g (c.args.keys.vtable, c.args.keys.value)).keys_foretell c.args.keys.value) in
+    run_of_texts all (written_is_read c.one_reading.ensures.one c.one_reading.ensures.file) (map string_bytes c.args.words.now) t profile out world lists c.run_words.result _ asks
+    (returns-clause-ends_calmly g c t (Save profile out asks.files) asks.asks at calm)
 
 pub returns-clause-reads_back : goal.returns-clause-reads_back
-returns-clause-reads_back g c = λ t out world lists asks at calm.
-    reads_back c.saved_is_read.ensures.authored (map string_bytes c.args.words.now) t out world lists c.run_words.result _ asks
-    (returns-clause-saves_sets g c t out world lists asks at calm)
+returns-clause-reads_back g c = λ t profile out world lists asks at calm.
+    reads_back c.saved_is_read.ensures.authored (map string_bytes c.args.words.now) t profile out world lists c.run_words.result _ asks
+    (returns-clause-saves_sets g c t profile out world lists asks at calm)
 
 pub returns-clause-merges_sets : goal.returns-clause-merges_sets
 returns-clause-merges_sets g c = λ t out world lists asks at calm.
-    let links = links_alone (each_of c.args.links.items (λ link. seen ((goal.Link-dyn g (link.vtable, link.value)).ends link.value) ((goal.Link-dyn g (link.vtable, link.value)).reads link.value))) in
-    run_of_links c.files_are_pulled.ensures c.deliveries_go_on.ensures c.deliveries_come_to_sets.ensures (map string_bytes c.args.words.now) links t out world lists c.run_words.result _ asks
+    let all : Devices =
+    devices (each_of c.args.links.items (λ link. seen ((goal.Link-dyn g (link.vtable, link.value)).ends link.value) ((goal.Link-dyn g (link.vtable, link.value)).reads link.value)))
+    ((goal.Screen-dyn g (c.args.screen.vtable, c.args.screen.value)).screen_foretells c.args.screen.value)
+    ((goal.Keys-dyn g (c.args.keys.vtable, c.args.keys.value)).left c.args.keys.value)
+    ((goal.Keys-dyn g (c.args.keys.vtable, c.args.keys.value)).keys_foretell c.args.keys.value) in
+    run_of_links c.files_are_pulled.ensures c.deliveries_go_on.ensures c.deliveries_come_to_sets.ensures (map string_bytes c.args.words.now) all t out world lists c.run_words.result _ asks
     (returns-clause-ends_calmly g c t (Merge out world asks.files) asks.asks at calm)

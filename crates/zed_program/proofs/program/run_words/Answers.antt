@@ -1,7 +1,7 @@
 use Rattle.std.proofs.Common.{map, string_bytes}
 use Rattle.zed_words.specs.Commands.{meaning_of, command_of}
-use Rattle.zed_program.proofs.Endings.{complained, counted_up, memory_run, refused_run}
-use Rattle.zed_program.proofs.Failures.{rose_before}
+use Rattle.zed_host.proofs.Counts.{counted_up, rose_before}
+use Rattle.zed_program.proofs.Endings.{complained, memory_run, refused_run}
 use Rattle.zed_program.proofs.program.run_words.Goals as goal
 
 pub returns-in-Ok-clause-ends : goal.returns-in-Ok-clause-ends

@@ -45,4 +45,4 @@ returns c =
     let bs = c.self.inside.blocks.items in
     let n = ap length c.deref-block-items.ensures.value in
     let none : joined (drop c.loop-block.block-index (lists bs)) ≡ [] = drop-none (lists bs) c.loop-block.block-index (omega (arith, n, length-lists bs, c.loop-block-test.false)) in
-    record { ok = sym (append-nil c.loop-block.out.items) ∙ ap (λ rs. c.loop-block.out.items ++ alive_bytes (spelled store rs)) (sym none) ∙ c.loop-block.invariant ∙ ap alive_bytes (sym (shown store (runs_of bs) _ c.args.self.now refl c.self.view_is)) }
+    record { ok = sym (append-nil c.loop-block.out.items) ∙ ap (λ rs. c.loop-block.out.items ++ alive_bytes (spelled store rs)) (sym none) ∙ c.loop-block.invariant ∙ ap alive_bytes (sym (shown store (runs_of bs) _ c.args.self.now refl c.self.view_is)); memory_only_when = tt }

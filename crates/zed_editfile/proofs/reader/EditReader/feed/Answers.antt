@@ -7,7 +7,7 @@ use Rattle.zed_editfile.proofs.reader.EditReader.feed.Goals as goal
 pub returns-in-Some-clause-feeds : goal.returns-in-Some-clause-feeds
 returns-in-Some-clause-feeds c =
     let P : Progress → Type 0 = λ p. Feeds c.args.piece.now c.args.out.now.items c.args.out.now.items p p in
-    let here : Progress = record { asked = c.self.inside.asked; world = c.self.inside.world; rest = c.self.inside.kept.items; fault = c.self.inside.fault } in
+    let here : Progress = record { asked = c.self.inside.asked; world = c.self.inside.world; version = c.self.inside.version; rest = c.self.inside.kept.items; fault = c.self.inside.fault } in
     subst P c.self.view_is (feeds_nothing c.args.piece.now c.args.out.now.items here c.in-Some.fault c.in-Some.is)
 
 pub returns-in-Ok-clause-feeds : goal.returns-in-Ok-clause-feeds
@@ -16,9 +16,9 @@ returns-in-Ok-clause-feeds c =
     let before = c.args.out.now.items in
     let after = c.advance.new.out.items in
     let i = c.self.inside in
-    let g = goes_on i.asked i.world c.advance.new.world i.kept.items x before after (record { rest = c.advance.new.kept.items; fault = None }) c.in-Ok.ensures.advances in
-    let P : Option EditFileError → Type 0 = λ f. Feeds x before after (record { asked = i.asked; world = i.world; rest = i.kept.items; fault = f }) (record { asked = i.asked; world = c.advance.new.world; rest = c.advance.new.kept.items; fault = f }) in
-    let Q : Progress → Type 0 = λ p. Feeds x before after p (record { asked = i.asked; world = c.advance.new.world; rest = c.advance.new.kept.items; fault = i.fault }) in
+    let g = goes_on i.asked i.world c.advance.new.world i.version c.advance.new.version i.kept.items x before after (record { rest = c.advance.new.kept.items; fault = None }) c.in-Ok.ensures.advances in
+    let P : Option EditFileError → Type 0 = λ f. Feeds x before after (record { asked = i.asked; world = i.world; version = i.version; rest = i.kept.items; fault = f }) (record { asked = i.asked; world = c.advance.new.world; version = c.advance.new.version; rest = c.advance.new.kept.items; fault = f }) in
+    let Q : Progress → Type 0 = λ p. Feeds x before after p (record { asked = i.asked; world = c.advance.new.world; version = c.advance.new.version; rest = c.advance.new.kept.items; fault = i.fault }) in
     subst Q c.self.view_is (subst P (sym c.in_default.is) g)
 
 pub returns-in-Err-clause-feeds : goal.returns-in-Err-clause-feeds
@@ -27,7 +27,7 @@ returns-in-Err-clause-feeds c =
     let before = c.args.out.now.items in
     let after = c.advance.new.out.items in
     let i = c.self.inside in
-    let g = goes_on i.asked i.world c.advance.new.world i.kept.items x before after (record { rest = []; fault = Some c.in-Err.fault }) c.in-Err.ensures.advances in
-    let P : Option EditFileError → Type 0 = λ f. Feeds x before after (record { asked = i.asked; world = i.world; rest = i.kept.items; fault = f }) (record { asked = i.asked; world = c.advance.new.world; rest = []; fault = Some c.in-Err.fault }) in
-    let Q : Progress → Type 0 = λ p. Feeds x before after p (record { asked = i.asked; world = c.advance.new.world; rest = []; fault = Some c.in-Err.fault }) in
+    let g = goes_on i.asked i.world c.advance.new.world i.version c.advance.new.version i.kept.items x before after (record { rest = []; fault = Some c.in-Err.fault }) c.in-Err.ensures.advances in
+    let P : Option EditFileError → Type 0 = λ f. Feeds x before after (record { asked = i.asked; world = i.world; version = i.version; rest = i.kept.items; fault = f }) (record { asked = i.asked; world = c.advance.new.world; version = c.advance.new.version; rest = []; fault = Some c.in-Err.fault }) in
+    let Q : Progress → Type 0 = λ p. Feeds x before after p (record { asked = i.asked; world = c.advance.new.world; version = c.advance.new.version; rest = []; fault = Some c.in-Err.fault }) in
     rw c.clear.ensures.items (subst Q c.self.view_is (subst P (sym c.in_default.is) g))

@@ -1,0 +1,5 @@
+pub mod Deliveries
+pub mod Endings
+pub mod Failures
+pub mod FileEnds
+pub mod Streams

@@ -1,0 +1,41 @@
+use Rattle.std.proofs.Common.{◌≡◌, ◌∙◌, Some, ap}
+use mathlib.Core.Logic.{inl, inr}
+use Rattle.std.proofs.lemmas.Result.{err_from_is_err_and}
+use Rattle.zed_files.specs.Files.{edits_then}
+use Rattle.zed_files.specs.Texts.{texts_of}
+use Rattle.zed_files.proofs.Streams.{all_collected, clash_first, file_first}
+use Rattle.zed_files.proofs.Failures.{memory_is_other}
+use Rattle.zed_files.proofs.collect.load.Goals as goal
+
+pub returns-in_err-deliver_all-clause-collected : goal.returns-in_err-deliver_all-clause-collected
+returns-in_err-deliver_all-clause-collected g c = λ t at.
+    let p = err_from_is_err_and c.from_residual-in_err-deliver_all.result c.from_residual-in_err-deliver_all.ensures.1 in
+    let same : p.0 ≡ c.in_err-deliver_all.field-0.0 = p.2 in
+    rw (p.1, same) (clash_first _ t (texts_of c.args.names.now) (edits_then c.in_ok-world.field-0.edits.items c.in_ok-world.field-0.refusal) c.in_err-deliver_all.field-0.0
+    (c.in_ok-world.ensures.stream t at) c.in_err-deliver_all.ensures.err)
+
+pub returns-in-Some-clause-collected : goal.returns-in-Some-clause-collected
+returns-in-Some-clause-collected g c = λ t at.
+    inr (file_first _ t (texts_of c.args.names.now) c.in_ok-world.field-0.edits.items c.in_ok-world.field-0.refusal c.in-Some.refusal
+    (c.in_ok-world.ensures.stream t at) c.in_ok-deliver_all.ensures.agree c.in-Some.is)
+
+pub returns-in-None-clause-collected : goal.returns-in-None-clause-collected
+returns-in-None-clause-collected g c = λ t at.
+    all_collected _ t (texts_of c.args.names.now) c.in_ok-world.field-0.edits.items c.deliver_all.new.document.edits c.in_ok-world.field-0.refusal
+    (c.in_ok-world.ensures.stream t at) c.in_ok-deliver_all.ensures.agree c.in-None.is c.in_ok-deliver_all.ensures.set
+
+pub returns-in_err-deliver_all-clause-file_only_when : goal.returns-in_err-deliver_all-clause-file_only_when
+returns-in_err-deliver_all-clause-file_only_when g c =
+    let p = err_from_is_err_and c.from_residual-in_err-deliver_all.result c.from_residual-in_err-deliver_all.ensures.1 in
+    let same : p.0 ≡ c.in_err-deliver_all.field-0.0 = p.2 in
+    rw (p.1, same) (
+      c.in_ok-world.ensures.failures,
+      λ is. elim c.in_err-deliver_all.ensures.err [
+        | inl memory ↦ absurd (memory_is_other _ memory is)
+        | inr clash ↦ absurd (let no = clash.2 in cc)
+      ],
+    )
+
+pub returns-in-Some-clause-file_only_when : goal.returns-in-Some-clause-file_only_when
+returns-in-Some-clause-file_only_when g c =
+    (c.in_ok-world.ensures.failures, λ is. c.in_ok-world.ensures.file_only_when (c.in-Some.is ∙ ap (λ e. Some e) is))

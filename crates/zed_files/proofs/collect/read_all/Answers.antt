@@ -1,0 +1,90 @@
+use Rattle.std.proofs.Common.{◌∙◌, ◌+◌, ◌≤◌, ◌∷◌, [], arith, Some, None, sym, refl, rules, drop, map}
+use mathlib.Core.Logic.{inl, inr}
+use Rattle.zed_host.specs.Counting.{Rose}
+use Rattle.zed_host.specs.HostContents.{file_in}
+use Rattle.zed_files.specs.declared.refusal.Refusal.TheVariants.{File}
+use Rattle.zed_files.specs.Collected.{IsStreamIn}
+use Rattle.zed_files.specs.Texts.{texts_of}
+use Rattle.zed_host.proofs.ReadFiles.{as_held, read_so}
+use Rattle.zed_host.proofs.Counts.{rose_later}
+use Rattle.zed_files.proofs.Failures.{file_is_other, no_world_is_other}
+use Rattle.zed_files.proofs.Streams.{all_read, file_fits, fit_append, last_file, next_file, next_read, none_left, unread_file}
+use Rattle.zed_files.proofs.collect.read_all.Goals as goal
+
+pub loop-name-init : goal.loop-name-init
+loop-name-init g c = record {
+  same = refl;
+  calm = refl;
+  uncounted = refl;
+  fit = search rules;
+  read = λ t now rest at reads s is. (rest, reads, search rules);
+}
+
+pub loop-name-preserved : goal.loop-name-preserved
+loop-name-preserved g c =
+    let old = c.loop-name.invariant in
+    let file = c.in-Ok-read_file.ensures in
+    let held = c.as_slice.ensures.value in
+    record {
+      same = c.in-Ok.ensures.kept ∙ old.same;
+      calm = c.in-Ok.ensures.calm ∙ old.calm;
+      uncounted = c.in-Ok.ensures.failures ∙ old.uncounted;
+      fit = rw file.2 (fit_append _ _ old.fit (file_fits _ _ _ _ file.1));
+      read = λ t now rest at reads s is.
+          let first = c.in-Ok.ensures.bytes t (old.same ∙ at) in
+          rw file.2 (next_file (IsStreamIn (Rose (g.H.Host.faults c.args.host.now) now) t (texts_of c.args.names.now)) c.loop-name.asked c.in-Ok.bytes.items rest _ c.loop-name.edits.items file.0 c.in-Ok-read_file.world
+          refl (λ s is. old.read t now (Some c.in-Ok.bytes.items ∷ rest) at
+          (next_read _ t c.args.names.now c.loop-name.name-index _ (Some c.in-Ok.bytes.items) rest c.loop-name-test.true (inl (sym first)) reads) s is)
+          (rw held at file.1) s is);
+    }
+
+pub returns-in_default : goal.returns-in_default
+returns-in_default g c =
+    let old = c.loop-name.invariant in
+    elim c.in-Err-read_file.ensures [
+      | inl memory ↦ absurd (c.in_default.not-Memory memory)
+      | inr file ↦ record {
+        stream = λ t at.
+            let held = c.as_slice.ensures.value in
+            let first = c.in-Ok.ensures.bytes t (old.same ∙ at) in
+            let others = map (file_in t) (texts_of (drop (c.loop-name.name-index + 1) c.args.names.now)) in
+            rw (file.2, c.from.ensures) (last_file (IsStreamIn _ t (texts_of c.args.names.now)) c.loop-name.asked c.in-Ok.bytes.items others _ c.loop-name.edits.items file.0 c.in-Err-read_file.error
+            refl (λ s is. old.read t _ (Some c.in-Ok.bytes.items ∷ others) at
+            (next_read _ t c.args.names.now c.loop-name.name-index _ (Some c.in-Ok.bytes.items) others c.loop-name-test.true (inl (sym first)) (as_held _ t _)) s is)
+            (rw held at file.1));
+        fit = rw file.2 (fit_append _ _ old.fit (file_fits _ _ _ _ file.1));
+        kept = c.in-Ok.ensures.kept ∙ old.same;
+        err = tt;
+        rises = let same = c.in-Ok.ensures.calm in let calm = old.calm in omega arith;
+        file_only_when = λ is. absurd (file_is_other c.in-Err-read_file.error (let same = c.from.ensures in cc));
+        failures = let same = c.in-Ok.ensures.failures in let before = old.uncounted in omega arith;
+      }
+    ]
+
+pub returns-clause-stream : goal.returns-clause-stream
+returns-clause-stream g c = λ t at.
+    all_read (IsStreamIn _ t (texts_of c.args.names.now)) c.loop-name.asked [] c.loop-name.edits.items c.end_of.result
+    refl (λ s is. c.loop-name.invariant.read t _ [] at (none_left _ t c.args.names.now c.loop-name.name-index c.loop-name-test.false) s is) c.end_of.ensures
+
+pub returns-in-Err-File : goal.returns-in-Err-File
+returns-in-Err-File g c =
+    let old = c.loop-name.invariant in
+    let rises = c.in-Err-File.ensures.rises in
+    let low : g.H.Host.faults c.args.host.now ≤ g.H.Host.faults c.loop-name.host = (let calm = old.calm in omega arith) in
+    let up : g.H.Host.faults c.args.host.now ≤ g.H.Host.faults c.read_one.new.host = (let calm = old.calm in omega arith) in
+    record {
+      stream = λ t at.
+          let others = map (file_in t) (texts_of (drop (c.loop-name.name-index + 1) c.args.names.now)) in
+          unread_file (IsStreamIn _ t (texts_of c.args.names.now)) c.loop-name.asked others c.loop-name.edits.items File refl
+          (λ s is. old.read t _ (None ∷ others) at
+          (next_read _ t c.args.names.now c.loop-name.name-index _ None others c.loop-name-test.true (read_so _ _ t _ None (rose_later _ _ _ low) (c.in-Err-File.ensures.none t (old.same ∙ at) (search rules))) (as_held _ t _)) s is);
+      fit = old.fit;
+      kept = c.in-Err-File.ensures.kept ∙ old.same;
+      err = tt;
+      rises = up;
+      file_only_when = λ is. rw (← old.uncounted) (c.in-Err-File.ensures.file_only_when.1 (search rules));
+      failures = let count = c.in-Err-File.ensures.file_only_when.0 in let before = old.uncounted in omega arith;
+    }
+
+pub returns-clause-file_only_when : goal.returns-clause-file_only_when
+returns-clause-file_only_when g c = λ is. absurd (no_world_is_other c.loop-name.asked (let same = c.end_of.ensures in cc))

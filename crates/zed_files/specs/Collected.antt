@@ -1,0 +1,30 @@
+-- The set of edits that files come to, or the first refusal.
+use Rattle.zed_types.specs.declared.stamp.Stamp.{Stamp}
+use Rattle.zed_op.specs.declared.op.Edit.{Edit}
+use Rattle.zed_files.specs.declared.refusal.Refusal.{Refusal}
+use Rattle.zed_files.specs.declared.refusal.Refusal.TheVariants.{Clash}
+use Rattle.std.specs.Prelude.{◌≡◌, ◌⊎◌, List, Option, Some, None, Result, Ok, Err, ℕ}
+use Rattle.zed_op.specs.Set.{Agrees, set_of}
+use Rattle.zed_document.specs.Delivery.{IsFirstClash}
+use Rattle.zed_files.specs.Files.{Stream, IsStream}
+use Rattle.zed_host.specs.HostContents.{AreRead, HostContents}
+
+-- the set of edits, unless a file was refused
+abbrev pub set_unless : Option Refusal → List Edit → Result (List Edit) Refusal
+set_unless None es = Ok (set_of es)
+set_unless (Some e) es = Err e
+
+-- what comes first: a clash of two edits, or the refusal of a file; else the set of all edits
+abbrev pub IsCollected : Stream → Result (List Edit) Refusal → Type 0
+IsCollected s r =
+    ((c : Stamp) × IsFirstClash s.edits c × (r ≡ Err (Clash c)))
+    ⊎ (Agrees s.edits × (r ≡ set_unless s.refusal s.edits))
+
+-- what the files of these names come to
+abbrev pub IsStreamIn : Type 0 → HostContents → List (List ℕ) → Stream → Type 0
+IsStreamIn failed t names s =
+    (reads : List (Option (List ℕ))) × AreRead failed t names reads × IsStream None reads s
+
+-- the set of edits that the files of these names come to, or the first refusal
+abbrev pub Collects : Type 0 → HostContents → List (List ℕ) → Result (List Edit) Refusal → Type 0
+Collects failed t names set = (s : Stream) × IsStreamIn failed t names s × IsCollected s set

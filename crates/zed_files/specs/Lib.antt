@@ -1,0 +1,7 @@
+pub mod Collected
+pub mod Effects
+pub mod Faults
+pub mod Files
+pub mod Lines
+pub mod Refusals
+pub mod Texts

@@ -1,0 +1,94 @@
+-- Refusals of the layers below as those of a command.
+use Rattle.std.specs.Prelude.{Bool, true, false, Result, Ok, Err}
+use Rattle.zed_editfile.specs.declared.error.EditFileError.{EditFileError}
+use Rattle.zed_editfile.specs.declared.error.EditFileError.TheVariants as file
+use Rattle.zed_world.specs.declared.error.WorldError.{WorldError}
+use Rattle.zed_world.specs.declared.error.WorldError.TheVariants as world
+use Rattle.zed_action.specs.declared.error.ActionError.{ActionError}
+use Rattle.zed_action.specs.declared.error.ActionError.TheVariants as action
+use Rattle.zed_document.specs.declared.error.DocumentError.{DocumentError}
+use Rattle.zed_document.specs.declared.error.DocumentError.TheVariants as document
+use Rattle.zed_export.specs.declared.error.ExportError.{ExportError}
+use Rattle.zed_link.specs.declared.error.LinkError.{LinkError}
+use Rattle.zed_session.specs.declared.error.SessionError.{SessionError}
+use Rattle.zed_session.specs.declared.error.SessionError.TheVariants as session
+use Rattle.zed_session.specs.Refusals as told
+use Rattle.zed_session.specs.Told as linked
+use Rattle.zed_files.specs.declared.refusal.Refusal.{Refusal}
+use Rattle.zed_files.specs.declared.refusal.Refusal.TheVariants.{Memory, NotZzt, TooManyBoards, Truncated, BadBoardSize, TooManyStats, BadShare, Magic, NewVersion, OtherWorld, RecordLength, BadEdit, CutShort, Clash, Stale, NoSuch}
+use Rattle.zed_files.specs.declared.refusal.Refusal.TheVariants.{ClockSpent, OutOfRange, BadAction, NoWorld, BoardsOver, StatsOver, BoardOver, File, NoBoard, NoWords, Over, LinkFault, ScreenFault, KeyFault, TooManyTurns, NoLink}
+
+-- the refusal of a command for one of an edit file
+abbrev pub file_refusal : EditFileError → Refusal
+file_refusal file.Memory = Memory
+file_refusal file.Magic = Magic
+file_refusal file.NewVersion = NewVersion
+file_refusal file.OtherWorld = OtherWorld
+file_refusal file.RecordLength = RecordLength
+file_refusal (file.BadEdit c) = BadEdit c
+file_refusal file.CutShort = CutShort
+
+-- the refusal of a command for one of a document
+abbrev pub document_refusal : DocumentError → Refusal
+document_refusal document.Memory = Memory
+document_refusal document.OtherWorld = OtherWorld
+document_refusal (document.BadEdit c) = BadEdit c
+document_refusal (document.Clash s) = Clash s
+document_refusal document.Stale = Stale
+document_refusal document.NoSuch = NoSuch
+document_refusal document.OutOfRange = OutOfRange
+document_refusal document.ClockSpent = ClockSpent
+
+-- the refusal of a command for one of a world file
+abbrev pub world_refusal : WorldError → Refusal
+world_refusal world.Memory = Memory
+world_refusal world.NotZzt = NotZzt
+world_refusal world.TooManyBoards = TooManyBoards
+world_refusal world.Truncated = Truncated
+world_refusal world.BadBoardSize = BadBoardSize
+world_refusal world.TooManyStats = TooManyStats
+world_refusal world.BadShare = BadShare
+world_refusal (world.BoardOver b n) = BoardOver b n
+
+-- the refusal of a command for one of an action
+abbrev pub action_refusal : ActionError → Refusal
+action_refusal action.BadAction = BadAction
+action_refusal (action.Document e) = document_refusal e
+
+-- the refusal of a command for one of a session
+abbrev pub session_refusal : SessionError → Refusal
+session_refusal session.Memory = Memory
+session_refusal session.Magic = Magic
+session_refusal session.NewVersion = NewVersion
+session_refusal session.OtherWorld = OtherWorld
+session_refusal session.RecordLength = RecordLength
+session_refusal (session.BadEdit c) = BadEdit c
+session_refusal session.CutShort = CutShort
+session_refusal (session.Clash s) = Clash s
+session_refusal session.Stale = Stale
+session_refusal session.NoWorld = NoWorld
+session_refusal (session.BoardsOver n) = BoardsOver n
+session_refusal (session.StatsOver b n) = StatsOver b n
+session_refusal (session.BoardOver b n) = BoardOver b n
+session_refusal session.NoBoard = NoBoard
+session_refusal session.NoWords = NoWords
+session_refusal session.Over = Over
+session_refusal session.LinkFault = LinkFault
+session_refusal session.ScreenFault = ScreenFault
+session_refusal session.KeyFault = KeyFault
+session_refusal session.TooManyTurns = TooManyTurns
+session_refusal session.NoLink = NoLink
+
+-- the refusal of a command for one of an export, as a session tells it
+abbrev pub export_refusal : ExportError → Refusal
+export_refusal e = session_refusal (told.export_refusal e)
+
+-- the refusal of a command for one of a link, as a session tells it
+abbrev pub link_refusal : LinkError → Refusal
+link_refusal e = session_refusal (linked.link_refusal e)
+
+-- whether an answer tells of a host that failed
+abbrev pub is_file_refusal : {X : Type 0} → Result X Refusal → Bool
+is_file_refusal (Err File) = true
+is_file_refusal (Err _) = false
+is_file_refusal (Ok x) = false

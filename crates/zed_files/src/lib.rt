@@ -1,0 +1,10 @@
+//! Edit files read through a host to a document, and what a command leaves in its host: its refusals, their lines, and its effect.
+#![tactic(auto)]
+
+mod collect;
+mod output;
+mod refusal;
+
+pub use collect::{deliver_all, load, read_file, read_one};
+pub use output::{print_out, write_out};
+pub use refusal::{Refusal, bytes_told, edits_told, joined_told, line_of, plain_line};

@@ -1,0 +1,62 @@
+use Rattle.std.proofs.Common.{◌≡◌, ◌∙◌, inl, Ok, ap, length, refl}
+use Rattle.zed_editfile.specs.Spelling.{file_text}
+use Rattle.zed_files.specs.Lines.{edits_line}
+use Rattle.zed_making.specs.Edited.{ComesToEdit}
+use Rattle.zed_files.specs.Effects.{Writes}
+use Rattle.zed_files.specs.Texts.{texts_of}
+use Rattle.zed_host.proofs.Counts.{counted_up}
+use Rattle.zed_files.proofs.Endings.{effect_ends, refused_ends}
+use Rattle.zed_making.proofs.Endings.{edit_so}
+use Rattle.zed_making.proofs.Opened.{not_edited}
+use Rattle.std.proofs.lemmas.Result.{err_from_is_err_and}
+use Rattle.zed_files.proofs.Failures.{memory_is_other, tells_later, write_tells}
+use Rattle.zed_making.proofs.editing.edit.Goals as goal
+
+pub returns-clause-ends : goal.returns-clause-ends
+returns-clause-ends g c = λ t at.
+    let d = c.in_ok-document.document in
+    let here = c.in_ok-document.ensures.kept ∙ at in
+    let line : c.as_str.result.now ≡ edits_line (length d.edits) = c.as_str.ensures.value ∙ c.in_ok-line.ensures ∙ ap (λ es. edits_line (length es)) c.edits.ensures.all in
+    let text : c.as_slice.result.now ≡ file_text d.world d.edits = c.as_slice.ensures.value ∙ c.in_ok-text.ensures.ok in
+    let comes : ComesToEdit _ t c.args.file.now c.args.replica (texts_of c.args.words.now) (Ok (Writes c.args.file.now c.as_slice.result.now c.as_str.result.now)) =
+    (Ok (d.world, d.edits), c.in_ok-document.ensures.edited t at, rw (line, text) refl) in
+    effect_ends (λ f. ComesToEdit f t c.args.file.now c.args.replica (texts_of c.args.words.now)) c.write_out.result _ _ _ t (Writes c.args.file.now c.as_slice.result.now c.as_str.result.now) _
+    (edit_so t c.args.file.now c.args.replica (texts_of c.args.words.now))
+    c.in_ok-document.ensures.rises (counted_up _ _ _ c.write_out.ensures.faults) comes (c.write_out.ensures.ok t here) (c.write_out.ensures.half t here) c.write_out.ensures.err c.write_out.ensures.faults
+
+pub returns-in_err-document-clause-ends : goal.returns-in_err-document-clause-ends
+returns-in_err-document-clause-ends g c = λ t at.
+    let p = err_from_is_err_and c.from_residual.result c.from_residual.ensures.1 in
+    let same : p.0 ≡ c.in_err-document.field-0.0 = p.2 in
+    rw (p.1, same) (refused_ends _ (ComesToEdit _ t c.args.file.now c.args.replica (texts_of c.args.words.now)) t c.in_err-document.field-0.0 _ (c.in_err-document.ensures.kept ∙ at)
+    (not_edited _ t c.args.file.now c.args.replica (texts_of c.args.words.now) c.in_err-document.field-0.0 (c.in_err-document.ensures.edited t at)))
+
+pub returns-in_err-text-clause-ends : goal.returns-in_err-text-clause-ends
+returns-in_err-text-clause-ends g c = λ t at.
+    let p = err_from_is_err_and c.from_residual-in_err-text.result c.from_residual-in_err-text.ensures.1 in
+    rw p.1 (refused_ends _ (ComesToEdit _ t c.args.file.now c.args.replica (texts_of c.args.words.now)) t p.0 _ (c.in_ok-document.ensures.kept ∙ at) (inl (p.2 ∙ c.in_err-text.ensures.err)))
+
+pub returns-in_err-line-clause-ends : goal.returns-in_err-line-clause-ends
+returns-in_err-line-clause-ends g c = λ t at.
+    let p = err_from_is_err_and c.from_residual-in_err-line.result c.from_residual-in_err-line.ensures.1 in
+    rw p.1 (refused_ends _ (ComesToEdit _ t c.args.file.now c.args.replica (texts_of c.args.words.now)) t p.0 _ (c.in_ok-document.ensures.kept ∙ at) (inl (p.2)))
+
+pub returns-in_err-document-clause-file_only_when : goal.returns-in_err-document-clause-file_only_when
+returns-in_err-document-clause-file_only_when g c =
+    let p = err_from_is_err_and c.from_residual.result c.from_residual.ensures.1 in
+    let same : p.0 ≡ c.in_err-document.field-0.0 = p.2 in
+    rw (p.1, same) c.in_err-document.ensures.file_only_when
+
+pub returns-in_err-text-clause-file_only_when : goal.returns-in_err-text-clause-file_only_when
+returns-in_err-text-clause-file_only_when g c =
+    let p = err_from_is_err_and c.from_residual-in_err-text.result c.from_residual-in_err-text.ensures.1 in
+    rw p.1 (c.in_ok-document.ensures.file_only_when.0, λ is. absurd (memory_is_other p.0 (p.2 ∙ c.in_err-text.ensures.err) is))
+
+pub returns-in_err-line-clause-file_only_when : goal.returns-in_err-line-clause-file_only_when
+returns-in_err-line-clause-file_only_when g c =
+    let p = err_from_is_err_and c.from_residual-in_err-line.result c.from_residual-in_err-line.ensures.1 in
+    rw p.1 (c.in_ok-document.ensures.file_only_when.0, λ is. absurd (memory_is_other p.0 p.2 is))
+
+pub returns-clause-file_only_when : goal.returns-clause-file_only_when
+returns-clause-file_only_when g c =
+    tells_later c.write_out.result _ _ _ c.in_ok-document.ensures.file_only_when.0 (write_tells c.write_out.result _ _ c.write_out.ensures.failures)

@@ -1,0 +1,35 @@
+use Rattle.std.proofs.Common.{◌≡◌, ◌∙◌, sym}
+use Rattle.std.proofs.lemmas.Result.{err_from_is_err_and}
+use Rattle.zed_files.specs.Texts.{texts_of}
+use Rattle.zed_making.proofs.Opened.{edited_done, edited_not_opened, edited_refused}
+use Rattle.zed_files.proofs.Failures.{action_is_other}
+use Rattle.zed_making.proofs.editing.edited.Goals as goal
+
+pub returns-in_err-act-clause-edited : goal.returns-in_err-act-clause-edited
+returns-in_err-act-clause-edited g c = λ t at.
+    let p = err_from_is_err_and c.from_residual-in_err-act.result c.from_residual-in_err-act.ensures.1 in
+    rw p.1 (edited_refused _ t c.args.file.now c.args.replica (texts_of c.args.words.now) c.in_ok-document.document c.in_err-act.field-0.0 p.0 c.if-replica-eq0.false c.in_ok-document.ensures.sound
+    (c.in_ok-document.ensures.opened t at) p.2 c.in_err-act.ensures.ends)
+
+pub returns-clause-edited : goal.returns-clause-edited
+returns-clause-edited g c = λ t at.
+    edited_done _ t c.args.file.now c.args.replica (texts_of c.args.words.now) c.in_ok-document.document c.act.new.document c.if-replica-eq0.false c.in_ok-document.ensures.sound
+    (c.in_ok-document.ensures.opened t at) c.act.ensures.world c.in_ok-act.ensures.ends
+
+pub returns-in_err-document-clause-edited : goal.returns-in_err-document-clause-edited
+returns-in_err-document-clause-edited g c = λ t at.
+    let p = err_from_is_err_and c.from_residual.result c.from_residual.ensures.1 in
+    let same : p.0 ≡ c.in_err-document.field-0.0 = p.2 in
+    rw (p.1, same) (edited_not_opened _ t c.args.file.now c.args.replica (texts_of c.args.words.now) c.in_err-document.field-0.0 c.if-replica-eq0.false
+    (c.in_err-document.ensures.opened t at))
+
+pub returns-in_err-document-clause-file_only_when : goal.returns-in_err-document-clause-file_only_when
+returns-in_err-document-clause-file_only_when g c =
+    let p = err_from_is_err_and c.from_residual.result c.from_residual.ensures.1 in
+    let same : p.0 ≡ c.in_err-document.field-0.0 = p.2 in
+    rw (p.1, same) c.in_err-document.ensures.file_only_when
+
+pub returns-in_err-act-clause-file_only_when : goal.returns-in_err-act-clause-file_only_when
+returns-in_err-act-clause-file_only_when g c =
+    let p = err_from_is_err_and c.from_residual-in_err-act.result c.from_residual-in_err-act.ensures.1 in
+    rw p.1 (c.in_ok-document.ensures.file_only_when.0, λ is. absurd (action_is_other c.in_err-act.field-0.0 (sym p.2 ∙ is)))

@@ -1,0 +1,26 @@
+use Rattle.std.proofs.Common.{◌≡◌}
+use Rattle.std.proofs.lemmas.Result.{err_from_is_err_and}
+use Rattle.zed_making.proofs.Opened.{read_opens, unread_opens}
+use Rattle.zed_making.proofs.Others.{opened_is_other}
+use Rattle.zed_files.proofs.Failures.{other_tells}
+use Rattle.zed_making.proofs.editing.open.Goals as goal
+
+pub returns-clause-opened : goal.returns-clause-opened
+returns-clause-opened g c = λ t at.
+    read_opens _ t c.args.file.now c.in_ok-bytes.bytes.items c.opened.result (c.in_ok-bytes.ensures.bytes t at) (rw c.as_slice.ensures.value at c.opened.ensures.opened)
+
+pub returns-in_err-bytes-clause-opened : goal.returns-in_err-bytes-clause-opened
+returns-in_err-bytes-clause-opened g c = λ t at.
+    let p = err_from_is_err_and c.from_residual.result c.from_residual.ensures.1 in
+    let same : p.0 ≡ c.in_err-bytes.field-0.0 = p.2 in
+    rw (p.1, same) (unread_opens _ t c.args.file.now c.in_err-bytes.field-0.0 c.in_err-bytes.ensures.err (c.in_err-bytes.ensures.none t at))
+
+pub returns-in_err-bytes-clause-file_only_when : goal.returns-in_err-bytes-clause-file_only_when
+returns-in_err-bytes-clause-file_only_when g c =
+    let p = err_from_is_err_and c.from_residual.result c.from_residual.ensures.1 in
+    let same : p.0 ≡ c.in_err-bytes.field-0.0 = p.2 in
+    rw (p.1, same) c.in_err-bytes.ensures.file_only_when
+
+pub returns-clause-file_only_when : goal.returns-clause-file_only_when
+returns-clause-file_only_when g c =
+    other_tells _ _ c.opened.result _ _ c.in_ok-bytes.ensures.file_only_when.0 c.opened.ensures.opened (opened_is_other c.as_slice.result.now)

@@ -1,0 +1,60 @@
+use Rattle.std.proofs.Common.{◌≡◌, ◌∙◌, ◌∷◌, [], inl, Ok, refl}
+use Rattle.std.proofs.lemmas.Result.{err_from_is_err_and}
+use Rattle.zed_editfile.specs.Spelling.{file_text}
+use Rattle.zed_making.specs.Fresh.{ComesToNew, genesis_of}
+use Rattle.zed_files.specs.Lines.{edits_line}
+use Rattle.zed_files.specs.Effects.{Writes}
+use Rattle.zed_files.specs.Texts.{text_in}
+use Rattle.zed_host.proofs.Counts.{counted_up}
+use Rattle.zed_files.proofs.Endings.{effect_ends, refused_ends}
+use Rattle.zed_making.proofs.Endings.{create_so, not_begun}
+use Rattle.zed_files.proofs.Failures.{memory_is_other, tells_later, write_tells}
+use Rattle.zed_making.proofs.new.make_new.Goals as goal
+
+pub returns-clause-ends : goal.returns-clause-ends
+returns-clause-ends g c = λ t at.
+    let here = c.in_ok-bytes.ensures.kept ∙ at in
+    let line : c.as_str.result.now ≡ edits_line 1 = c.as_str.ensures.value ∙ c.in_ok-line.ensures in
+    let text : c.as_slice.result.now ≡ file_text c.args.world (genesis_of c.in_ok-bytes.bytes.items ∷ []) = c.as_slice.ensures.value ∙ c.in_ok-file.ensures.ok in
+    let comes : ComesToNew _ t c.args.out.now c.args.world (text_in c.args.from) (text_in c.args.name) (Ok (Writes c.args.out.now c.as_slice.result.now c.as_str.result.now)) =
+    (Ok c.in_ok-bytes.bytes.items, c.in_ok-bytes.ensures.result t at, rw (line, text) refl) in
+    effect_ends (λ f. ComesToNew f t c.args.out.now c.args.world (text_in c.args.from) (text_in c.args.name)) c.write_out.result _ _ _ t (Writes c.args.out.now c.as_slice.result.now c.as_str.result.now) _
+    (create_so t c.args.out.now c.args.world (text_in c.args.from) (text_in c.args.name))
+    c.in_ok-bytes.ensures.rises (counted_up _ _ _ c.write_out.ensures.faults) comes (c.write_out.ensures.ok t here) (c.write_out.ensures.half t here) c.write_out.ensures.err c.write_out.ensures.faults
+
+pub returns-in_err-bytes-clause-ends : goal.returns-in_err-bytes-clause-ends
+returns-in_err-bytes-clause-ends g c = λ t at.
+    let p = err_from_is_err_and c.from_residual.result c.from_residual.ensures.1 in
+    let same : p.0 ≡ c.in_err-bytes.field-0.0 = p.2 in
+    rw (p.1, same) (refused_ends _ (ComesToNew _ t c.args.out.now c.args.world (text_in c.args.from) (text_in c.args.name)) t c.in_err-bytes.field-0.0 _ (c.in_err-bytes.ensures.kept ∙ at)
+    (not_begun _ c.args.out.now c.args.world (text_in c.args.from) (text_in c.args.name) t c.in_err-bytes.field-0.0 (c.in_err-bytes.ensures.result t at)))
+
+pub returns-in_err-file-clause-ends : goal.returns-in_err-file-clause-ends
+returns-in_err-file-clause-ends g c = λ t at.
+    let p = err_from_is_err_and c.from_residual-in_err-file.result c.from_residual-in_err-file.ensures.1 in
+    rw p.1 (refused_ends _ (ComesToNew _ t c.args.out.now c.args.world (text_in c.args.from) (text_in c.args.name)) t p.0 _ (c.in_ok-bytes.ensures.kept ∙ at) (inl (p.2 ∙ c.in_err-file.ensures.err)))
+
+pub returns-in_err-line-clause-ends : goal.returns-in_err-line-clause-ends
+returns-in_err-line-clause-ends g c = λ t at.
+    let p = err_from_is_err_and c.from_residual-in_err-line.result c.from_residual-in_err-line.ensures.1 in
+    rw p.1 (refused_ends _ (ComesToNew _ t c.args.out.now c.args.world (text_in c.args.from) (text_in c.args.name)) t p.0 _ (c.in_ok-bytes.ensures.kept ∙ at) (inl (p.2)))
+
+pub returns-in_err-bytes-clause-file_only_when : goal.returns-in_err-bytes-clause-file_only_when
+returns-in_err-bytes-clause-file_only_when g c =
+    let p = err_from_is_err_and c.from_residual.result c.from_residual.ensures.1 in
+    let same : p.0 ≡ c.in_err-bytes.field-0.0 = p.2 in
+    rw (p.1, same) c.in_err-bytes.ensures.file_only_when
+
+pub returns-in_err-file-clause-file_only_when : goal.returns-in_err-file-clause-file_only_when
+returns-in_err-file-clause-file_only_when g c =
+    let p = err_from_is_err_and c.from_residual-in_err-file.result c.from_residual-in_err-file.ensures.1 in
+    rw p.1 (c.in_ok-bytes.ensures.file_only_when.0, λ is. absurd (memory_is_other p.0 (p.2 ∙ c.in_err-file.ensures.err) is))
+
+pub returns-in_err-line-clause-file_only_when : goal.returns-in_err-line-clause-file_only_when
+returns-in_err-line-clause-file_only_when g c =
+    let p = err_from_is_err_and c.from_residual-in_err-line.result c.from_residual-in_err-line.ensures.1 in
+    rw p.1 (c.in_ok-bytes.ensures.file_only_when.0, λ is. absurd (memory_is_other p.0 p.2 is))
+
+pub returns-clause-file_only_when : goal.returns-clause-file_only_when
+returns-clause-file_only_when g c =
+    tells_later c.write_out.result _ _ _ c.in_ok-bytes.ensures.file_only_when.0 (write_tells c.write_out.result _ _ c.write_out.ensures.failures)

@@ -1,0 +1,3 @@
+pub mod Edited
+pub mod Fresh
+pub mod Merged

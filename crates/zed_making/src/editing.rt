@@ -1,0 +1,122 @@
+//! An action of an author on an edit file.
+ghost use Rattle.std.specs.Prelude.{[], ◌≡◌, ◌≤◌, ◌⊎◌, Err, IfErr, IfOk, MatchResult, Ok, Some, false};
+ghost use Rattle.zed_op.specs.Set.{Agrees, AllFit, set_of};
+ghost use Rattle.zed_types.specs.declared.stamp.Stamp.{Stamp as TheStamp};
+ghost use Rattle.zed_document.specs.Delivery.{IsFirstClash};
+ghost use Rattle.zed_editfile.specs.Spelling.{file_text};
+ghost use Rattle.zed_making.specs.Edited.{ComesToEdit, HasEdits, IsEdited, IsOpened, OpensAs};
+ghost use Rattle.zed_files.specs.Effects.{Ends};
+ghost use Rattle.zed_files.specs.Texts.{texts_of};
+ghost use Rattle.zed_host.specs.Counting.{Rose};
+ghost use Rattle.zed_files.specs.Faults.{TellsFile};
+ghost use Rattle.zed_host.specs.HostContents.{HostContents};
+
+use std::alloc::Global;
+use zed_action::act;
+use zed_document::Document;
+use zed_edit::{Cause, Edit};
+use zed_editfile::{EditFileError, write_file};
+use zed_files::{Refusal, deliver_all, edits_told, read_file, read_one, write_out};
+use zed_host::Host;
+
+// The document of a world with these edits.
+fn collected(alloc: Global, world: u64, edits: Vec<Edit>) -> Result<Document, Refusal>
+    requires { AllFit edits.items }
+    ensures { MatchResult result
+        (λ d. Agrees edits.items × HasEdits d world (set_of edits.items))
+        (λ e. (e ≡ Refusal.Memory)
+        ⊎ ((s : TheStamp) × IsFirstClash edits.items s × (e ≡ Refusal.Clash s))) }
+{
+    let mut document = Document::new(alloc, world);
+    deliver_all(&mut document, edits)?;
+    Ok(document)
+}
+
+// The document of a file.
+fn opened(alloc: Global, bytes: &[u8]) -> Result<Document, Refusal>
+    ensures opened { MatchResult result
+        (λ d. IsOpened (Some bytes.now) (Ok (d.world, d.edits)))
+        (λ e. (e ≡ Refusal.Memory) ⊎ IsOpened (Some bytes.now) (Err e)) }
+    ensures sound { IfOk result (λ d. d.is_stale ≡ false) }
+{
+    let mut edits = Vec::new(alloc);
+    match read_file(alloc, None, bytes, &mut edits) {
+        Ok(world) => collected(alloc, world, edits),
+        Err(EditFileError::Memory) => Err(Refusal::Memory),
+        Err(error) => {
+            collected(alloc, 0, edits)?;
+            Err(Refusal::from(error))
+        }
+    }
+}
+
+// The document of the file of a name.
+fn open<H: Host>(alloc: Global, host: &mut H, file: &str) -> Result<Document, Refusal>
+    ensures opened { (t : HostContents) → H.contents host.old ≡ Some t
+        → let failed = Rose (H.faults host.old) (H.faults host.new) in MatchResult result
+        (λ d. OpensAs failed t file.now (Ok (d.world, d.edits)))
+        (λ e. (e ≡ Refusal.Memory) ⊎ OpensAs failed t file.now (Err e)) }
+    ensures sound { IfOk result (λ d. d.is_stale ≡ false) }
+    ensures kept { H.contents host.new ≡ H.contents host.old }
+    ensures rises { H.faults host.old ≤ H.faults host.new }
+    ensures file_only_when { TellsFile result (H.failed host.old) (H.failed host.new) }
+{
+    let bytes = read_one(host, file)?;
+    opened(alloc, bytes.as_slice())
+}
+
+// The document of a file, after an action of a replica.
+fn edited<H: Host>(
+    alloc: Global,
+    host: &mut H,
+    file: &str,
+    replica: u16,
+    words: &[&str],
+) -> Result<Document, Refusal>
+    ensures edited { (t : HostContents) → H.contents host.old ≡ Some t
+        → let failed = Rose (H.faults host.old) (H.faults host.new) in MatchResult result
+        (λ d. IsEdited failed t file.now replica (texts_of words.now) (Ok (d.world, d.edits)))
+        (λ e. (e ≡ Refusal.Memory)
+        ⊎ IsEdited failed t file.now replica (texts_of words.now) (Err e)) }
+    ensures kept { H.contents host.new ≡ H.contents host.old }
+    ensures rises { H.faults host.old ≤ H.faults host.new }
+    ensures file_only_when { TellsFile result (H.failed host.old) (H.failed host.new) }
+{
+    if replica == 0 {
+        return Err(Refusal::BadEdit(Cause::Stamp));
+    }
+    let mut document = open(alloc, host, file)?;
+    act(alloc, &mut document, replica, words)?;
+    Ok(document)
+}
+
+/// The edit file of a document.
+pub(crate) fn file_of(alloc: Global, document: &Document) -> Result<Vec<u8>, Refusal>
+    ensures ok { IfOk result (λ file.
+        file.items ≡ file_text document.now.world document.now.edits) }
+    ensures err { IfErr result (λ e. e ≡ Refusal.Memory) }
+{
+    let file = write_file(alloc, document.world(), document.edits())?;
+    Ok(file)
+}
+
+/// Does an action as a replica, and rewrites the file.
+pub fn edit<H: Host>(
+    alloc: Global,
+    host: &mut H,
+    file: &str,
+    replica: u16,
+    words: &[&str],
+) -> Result<(), Refusal>
+    ensures ends { (t : HostContents) → H.contents host.old ≡ Some t
+        → let failed = Rose (H.faults host.old) (H.faults host.new) in
+        Ends failed (ComesToEdit failed t file.now replica (texts_of words.now)) t
+        result (H.contents host.new) }
+    ensures rises { H.faults host.old ≤ H.faults host.new }
+    ensures file_only_when { TellsFile result (H.failed host.old) (H.failed host.new) }
+{
+    let document = edited(alloc, host, file, replica, words)?;
+    let text = file_of(alloc, &document)?;
+    let line = edits_told(alloc, document.edits().len())?;
+    write_out(host, file, text.as_slice(), line.as_str())
+}

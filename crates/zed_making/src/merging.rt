@@ -1,0 +1,83 @@
+//! Edit files joined to one.
+ghost use Rattle.std.specs.Prelude.{◌≡◌, ◌≤◌, ◌<◌, Err, IfOk, MatchResult, Ok, OnOk, Some, false, length, map};
+ghost use Rattle.zed_session.specs.Links.{PullsOver, seen};
+ghost use Rattle.zed_host.specs.Counting.{Rose};
+ghost use Rattle.zed_files.specs.Faults.{TellsFile};
+ghost use Rattle.zed_host.specs.HostContents.{HostContents};
+ghost use Rattle.zed_making.specs.Merged.{ComesToMerge, IsMerged};
+ghost use Rattle.zed_files.specs.Effects.{Ends};
+ghost use Rattle.zed_files.specs.Refusals.{link_refusal};
+
+use crate::editing::file_of;
+use std::alloc::Global;
+use zed_document::Document;
+use zed_files::{Refusal, joined_told, write_out};
+use zed_host::Host;
+use zed_link::{Link, LinkError, Pulled, receive};
+
+// Pulls the edits of a link into a document.
+fn pull_over(
+    alloc: Global,
+    link: &mut Box<dyn Link>,
+    document: &mut Document,
+) -> Result<Pulled, LinkError>
+    requires { document.old.is_stale ≡ false }
+    ensures pull { PullsOver document.old (seen (ends link.old) (reads link.old))
+        (seen (ends link.new) (reads link.new)) result document.new.edits }
+    ensures world { document.new.world ≡ document.old.world }
+    ensures sound { OnOk result (document.new.is_stale ≡ false) }
+{
+    receive(alloc, link.as_mut(), document)
+}
+
+// The document of a world, with the edits of the first so many links.
+fn pulled_from(
+    alloc: Global,
+    world: u64,
+    count: usize,
+    links: Vec<Box<dyn Link>>,
+) -> Result<Document, Refusal>
+    ensures pulled { MatchResult result
+        (λ d. IsMerged world count (map (λ link. seen (ends link) (reads link)) links.items)
+        (Ok d.edits))
+        (λ e. IsMerged world count (map (λ link. seen (ends link) (reads link)) links.items)
+        (Err e)) }
+    ensures no_link { length links.items < count → result ≡ Err Refusal.NoLink }
+    ensures world { IfOk result (λ d. d.world ≡ world) }
+{
+    if links.len() < count {
+        return Err(Refusal::NoLink);
+    }
+    let mut document = Document::new(alloc, world);
+    let mut links = links;
+    links.truncate(count);
+    for link in links {
+        let mut link = link;
+        pull_over(alloc, &mut link, &mut document)?;
+    }
+    Ok(document)
+}
+
+/// Joins the edits of links, one for each name of a file, to one edit file of a world. Where there are fewer links, that is told whether
+/// memory is lacking or not.
+pub fn merge<H: Host>(
+    alloc: Global,
+    host: &mut H,
+    out: &str,
+    world: u64,
+    files: &[&str],
+    links: Vec<Box<dyn Link>>,
+) -> Result<(), Refusal>
+    ensures ends { (t : HostContents) → H.contents host.old ≡ Some t
+        → let failed = Rose (H.faults host.old) (H.faults host.new) in
+        Ends failed (ComesToMerge (map (λ link. seen (ends link) (reads link)) links.items)
+        out.now world (length files.now)) t result (H.contents host.new) }
+    ensures no_link { length links.items < length files.now → result ≡ Err Refusal.NoLink }
+    ensures rises { H.faults host.old ≤ H.faults host.new }
+    ensures file_only_when { TellsFile result (H.failed host.old) (H.failed host.new) }
+{
+    let document = pulled_from(alloc, world, files.len(), links)?;
+    let text = file_of(alloc, &document)?;
+    let line = joined_told(alloc, document.edits().len(), document.held())?;
+    write_out(host, out, text.as_slice(), line.as_str())
+}

@@ -1,0 +1,215 @@
+//! The edit file of a new world.
+ghost use Rattle.std.specs.Prelude.{◌≡◌, ◌≤◌, ◌∷◌, [], ◌⊎◌, Err, IfErr, IfOk, MatchResult, Ok, Option, List, ℕ, Some, false, option_map, replicate, take};
+ghost use Rattle.zed_edit.specs.Board.{new_table as table};
+ghost use Rattle.zed_editfile.specs.Spelling.{file_text};
+ghost use Rattle.zed_world.specs.Canonical.{IsCanonical};
+ghost use Rattle.zed_making.specs.Fresh.{ComesToNew, fresh_header, fresh_properties, fresh_world, genesis_of, made_by, name_or_none, refused_as, rewritten, taken_from, title_of, IsFirstWorld};
+ghost use Rattle.zed_world.specs.Writing.{written};
+ghost use Rattle.zed_world.specs.Reading.{world_at};
+ghost use Rattle.zed_files.specs.Effects.{Ends};
+ghost use Rattle.zed_files.specs.Texts.{text_in};
+ghost use Rattle.zed_host.specs.Counting.{Rose};
+ghost use Rattle.zed_files.specs.Faults.{TellsFile};
+ghost use Rattle.zed_host.specs.HostContents.{HostContents};
+
+use std::alloc::{AllocError, Global};
+use zed_edit::{Edit, Op, new_table};
+use zed_editfile::{write_edit, write_head};
+use zed_files::{Refusal, edits_told, read_one, write_out};
+use zed_host::Host;
+use zed_types::{Bytes, READ_BODY_LIMIT, Seq, Stamp};
+use zed_world::{BoardData, Header, Properties, StatData, World, read_world, write_world};
+
+/// Most bytes of the name of a world.
+const MOST_OF_NAME: usize = 20;
+
+/// The health of a new player.
+const HEALTH: i16 = 100;
+
+fn empty(alloc: Global) -> Bytes
+    ensures { result ≡ [] }
+{
+    Bytes::new(Vec::new(alloc))
+}
+
+/// Ten empty flags.
+#[tactic(auto, using(crate::proofs::Worlds::replicate_more))]
+fn flags(alloc: Global) -> Result<Seq<Bytes>, AllocError>
+    ensures { IfOk result (λ flags. flags ≡ replicate 10 []) }
+{
+    let mut flags = Seq::new(alloc);
+    for _ in 0..10u8 {
+        flags.push(empty(alloc))?;
+    }
+    Ok(flags)
+}
+
+/// The front of a text, as much of it as a name takes.
+fn name_of(alloc: Global, text: &str) -> Result<Bytes, AllocError>
+    ensures { IfOk result (λ name. name ≡ take 20 text.now) }
+{
+    let bytes = text.as_bytes();
+    let end = bytes.len().min(MOST_OF_NAME);
+    let name = Vec::from_slice(alloc, &bytes[..end])?;
+    Ok(Bytes::new(name))
+}
+
+fn header(alloc: Global, name: &str) -> Result<Header, AllocError>
+    ensures { IfOk result (λ header. header ≡ fresh_header name.now) }
+{
+    Ok(Header {
+        ammo: 0,
+        gems: 0,
+        keys: [false; 7],
+        health: HEALTH,
+        current_board: 0,
+        torches: 0,
+        torch_ticks: 0,
+        energizer_ticks: 0,
+        score: 0,
+        name: name_of(alloc, name)?,
+        flags: flags(alloc)?,
+        time_passed: 0,
+        hundredths: 0,
+        saved: false,
+    })
+}
+
+fn properties(alloc: Global) -> Properties
+    ensures { result ≡ fresh_properties }
+{
+    Properties {
+        max_shots: 255,
+        dark: false,
+        north: 0,
+        south: 0,
+        west: 0,
+        east: 0,
+        re_enter: false,
+        message: empty(alloc),
+        start_x: 30,
+        start_y: 12,
+        time_limit: 0,
+    }
+}
+
+fn title(alloc: Global) -> Result<BoardData, AllocError>
+    ensures { IfOk result (λ board. board ≡ title_of table) }
+{
+    let name = Vec::from_slice(alloc, b"Title")?;
+    let mut stats = Seq::new(alloc);
+    stats.push(StatData::standing(30, 12))?;
+    Ok(BoardData {
+        name: Bytes::new(name),
+        tiles: new_table(),
+        properties: properties(alloc),
+        stats,
+    })
+}
+
+/// A world of one title board.
+fn world_named(alloc: Global, name: &str) -> Result<World, AllocError>
+    ensures { IfOk result (λ world. world ≡ fresh_world name.now) }
+{
+    let header = header(alloc, name)?;
+    let title = title(alloc)?;
+    let mut boards = Seq::new(alloc);
+    boards.push(title)?;
+    Ok(World::new(header, boards))
+}
+
+/// The file of a world.
+fn text_of(alloc: Global, world: &World) -> Result<Vec<u8>, Refusal>
+    ensures result { MatchResult result
+        (λ bytes. refused_as (written 32767 world.now) ≡ Ok bytes.items)
+        (λ e. (e ≡ Refusal.Memory) ⊎ (refused_as (written 32767 world.now) ≡ Err e)) }
+    ensures canonical { IfOk result (λ bytes. IsCanonical bytes.items) }
+{
+    let bytes = write_world(alloc, world, READ_BODY_LIMIT)?;
+    Ok(bytes)
+}
+
+/// A world file, read and written again.
+fn written_again(alloc: Global, bytes: &[u8]) -> Result<Vec<u8>, Refusal>
+    ensures result { MatchResult result
+        (λ text. refused_as (rewritten (world_at bytes.now)) ≡ Ok text.items)
+        (λ e. (e ≡ Refusal.Memory) ⊎ (refused_as (rewritten (world_at bytes.now)) ≡ Err e)) }
+    ensures canonical { IfOk result (λ text. IsCanonical text.items) }
+{
+    let world = read_world(alloc, bytes)?;
+    text_of(alloc, &world)
+}
+
+fn made(alloc: Global, name: Option<&str>) -> Result<Vec<u8>, Refusal>
+    ensures result { MatchResult result
+        (λ bytes. made_by (text_in name.entry) ≡ Ok bytes.items)
+        (λ e. (e ≡ Refusal.Memory) ⊎ (made_by (text_in name.entry) ≡ Err e)) }
+    ensures canonical { IfOk result (λ bytes. IsCanonical bytes.items) }
+{
+    let world = world_named(alloc, name.unwrap_or(""))?;
+    text_of(alloc, &world)
+}
+
+/// The bytes of the first world of an edit file.
+fn first<H: Host>(
+    alloc: Global,
+    host: &mut H,
+    from: Option<&str>,
+    name: Option<&str>,
+) -> Result<Vec<u8>, Refusal>
+    ensures result { (t : HostContents) → H.contents host.old ≡ Some t
+        → let failed = Rose (H.faults host.old) (H.faults host.new) in MatchResult result
+        (λ bytes. IsFirstWorld failed t (text_in from.entry) (text_in name.entry) (Ok bytes.items))
+        (λ e. (e ≡ Refusal.Memory)
+        ⊎ IsFirstWorld failed t (text_in from.entry) (text_in name.entry) (Err e)) }
+    ensures canonical { IfOk result (λ bytes. IsCanonical bytes.items) }
+    ensures kept { H.contents host.new ≡ H.contents host.old }
+    ensures rises { H.faults host.old ≤ H.faults host.new }
+    ensures file_only_when { TellsFile result (H.failed host.old) (H.failed host.new) }
+{
+    match from {
+        Some(file) => {
+            let bytes = read_one(host, file)?;
+            written_again(alloc, bytes.as_slice())
+        }
+        None => made(alloc, name),
+    }
+}
+
+/// An edit file that makes a world of these bytes.
+fn file_of(alloc: Global, world: u64, bytes: Vec<u8>) -> Result<Vec<u8>, Refusal>
+    requires { IsCanonical bytes.items }
+    ensures ok { IfOk result (λ file. file.items ≡ file_text world (genesis_of bytes.items ∷ [])) }
+    ensures err { IfErr result (λ e. e ≡ Refusal.Memory) }
+{
+    let edit = Edit {
+        stamp: Stamp::GENESIS,
+        op: Op::Genesis(Bytes::new(bytes)),
+    };
+    let mut file = Vec::new(alloc);
+    write_head(world, &mut file)?;
+    write_edit(&edit, &mut file)?;
+    Ok(file)
+}
+
+/// Writes an edit file that makes a world: that of a world file, or of a title board.
+pub fn make_new<H: Host>(
+    alloc: Global,
+    host: &mut H,
+    out: &str,
+    world: u64,
+    from: Option<&str>,
+    name: Option<&str>,
+) -> Result<(), Refusal>
+    ensures ends { (t : HostContents) → H.contents host.old ≡ Some t
+        → let failed = Rose (H.faults host.old) (H.faults host.new) in
+        Ends failed (ComesToNew failed t out.now world (text_in from.entry) (text_in name.entry)) t
+        result (H.contents host.new) }
+    ensures rises { H.faults host.old ≤ H.faults host.new }
+    ensures file_only_when { TellsFile result (H.failed host.old) (H.failed host.new) }
+{
+    let bytes = first(alloc, host, from, name)?;
+    let file = file_of(alloc, world, bytes)?;
+    let line = edits_told(alloc, 1)?;
+    write_out(host, out, file.as_slice(), line.as_str())
+}

@@ -1,0 +1,10 @@
+//! The profiles of a save.
+
+/// How large the bodies of boards may be that a command saves, or takes as if it did.
+#[derive(Clone, Copy)]
+pub enum Profile {
+    /// As ZZT's own tools take them.
+    Usual,
+    /// As a world file can spell them: `--big`.
+    Big,
+}

@@ -1,0 +1,33 @@
+-- The words of chance of a file, and the messages of a playtest.
+use Rattle.std.proofs.Common.{◌≡◌, ◌+◌, ◌*◌, ◌<◌, ◌≤◌, ◌++◌, ℕ, List, [], ◌∷◌, arith, drop, take, length, refl, slice_get, slice_index, Some, suc, append_assoc, sym, ap, ◌∙◌}
+use Rattle.std.specs.List.{flat_map}
+use Rattle.std.proofs.Math.Seq.{drop-cons}
+use Rattle.std.proofs.lemmas.Option.{get_or_from_slice_get, slice_get_within}
+use Rattle.zed_worlds.specs.Told.{message_line}
+use Rattle.zed_worlds.specs.Shown.{words_in}
+
+-- two bytes are a word
+pub next_word : (bytes : List ℕ) → 2 ≤ length bytes
+    → words_in bytes ≡ (slice_index (take 2 bytes) 0 + 256 * slice_index (take 2 bytes) 1) ∷ words_in (drop 2 bytes)
+next_word [] two = absurd (omega (arith, two))
+next_word (low ∷ []) two = absurd (omega (arith, two))
+next_word (low ∷ high ∷ bytes) two = refl
+
+-- less than two bytes are none
+pub no_word : (bytes : List ℕ) → length bytes < 2 → words_in bytes ≡ []
+no_word [] few = refl
+no_word (low ∷ []) few = refl
+no_word (low ∷ high ∷ bytes) few = absurd (omega (arith, few))
+
+-- the lines from a message on are its own and those behind it
+pub next_message : (ms : List (List ℕ)) (i : ℕ) (m : List ℕ) → slice_get ms i ≡ Some m
+    → flat_map message_line (drop i ms) ≡ message_line m ++ flat_map message_line (drop (i + 1) ms)
+next_message ms i m is =
+    let here : drop i ms ≡ m ∷ drop (suc i) ms = drop-cons ms i m (slice_get_within ms i m is) ∙ ap (λ x. x ∷ drop (suc i) ms) (get_or_from_slice_get ms i m m is) in
+    let same : suc i ≡ i + 1 = omega arith in
+    ap (flat_map message_line) here ∙ ap (λ n. message_line m ++ flat_map message_line (drop n ms)) same
+
+-- and so with what was told before
+pub told_more : (ms : List (List ℕ)) (i : ℕ) (m text : List ℕ) → slice_get ms i ≡ Some m
+    → (text ++ message_line m) ++ flat_map message_line (drop (i + 1) ms) ≡ text ++ flat_map message_line (drop i ms)
+told_more ms i m text is = append_assoc text (message_line m) (flat_map message_line (drop (i + 1) ms)) ∙ ap (λ l. text ++ l) (sym (next_message ms i m is))

@@ -1,0 +1,6 @@
+pub mod Chances
+pub mod Endings
+pub mod Others
+pub mod Played
+pub mod Reports
+pub mod Stepping

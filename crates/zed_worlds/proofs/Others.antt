@@ -1,0 +1,59 @@
+-- Refusals other than `File`.
+use Rattle.zed_editfile.specs.declared.error.EditFileError.TheVariants as file
+use Rattle.zed_export.specs.declared.error.ExportError.{ExportError}
+use Rattle.zed_op.specs.declared.op.Edit.{Edit}
+use Rattle.zed_world.specs.declared.board.BoardData.{BoardData}
+use Rattle.zed_world.specs.declared.header.Header.{Header}
+use Rattle.zed_worlds.specs.declared.saving.Product.{Product}
+use Rattle.zed_worlds.specs.declared.saving.Product.TheVariants.{WorldFile, Report}
+use Rattle.zed_files.specs.declared.refusal.Refusal.{Refusal}
+use Rattle.zed_files.specs.declared.refusal.Refusal.TheVariants.{File}
+use Rattle.zed_session.specs.Refusals as told
+use Rattle.std.proofs.Common.{◌≡◌, ◌∙◌, ℕ, Bool, List, Option, Some, None, Result, Ok, Err, inl, inr}
+use Rattle.std.specs.Prelude.{slice_get}
+use Rattle.zed_export.specs.Limits.{exported, refusal_of}
+use Rattle.zed_edit.specs.Replay.{replay}
+use Rattle.zed_world.specs.Contents.{Contents}
+use Rattle.zed_worlds.specs.Made.{product_of, unless_over}
+use Rattle.zed_files.specs.Refusals.{export_refusal}
+use Rattle.zed_worlds.specs.Shown.{Course, EndsPlay, IsPlayed, IsShown, OfBoard, OfSet, OfWorld, OnBoard}
+use Rattle.zed_files.proofs.Failures.{session_is_other}
+use Rattle.zed_worlds.specs.Stage.{Stage}
+
+limit_is_other : (limit : Option ExportError) (bytes : List ℕ) (e : Refusal) → unless_over limit bytes ≡ Err e → e ≡ File → ⊥
+limit_is_other None bytes e over is = cc
+limit_is_other (Some x) bytes e over is = session_is_other (told.export_refusal x) (let same : export_refusal x ≡ e = cc in same ∙ is)
+
+-- what is made of a set of edits
+pub product_is_other : (product : Product) (limit : ℕ) (es : List Edit) (e : Refusal) → product_of product limit es ≡ Err e → e ≡ File → ⊥
+product_is_other WorldFile limit es e made is = limit_is_other (refusal_of limit (replay es)) _ e made is
+product_is_other Report limit es e made is = limit_is_other (refusal_of limit (replay es)) _ e made is
+
+-- what is done with a board
+board_is_other : {X : Type 0} (world : Result Contents ExportError) (n : ℕ) (Does : OnBoard X) (e : Refusal)
+    → ((header : Header) (board : BoardData) → Does header board (Err e) → e ≡ File → ⊥) → OfWorld world n Does (Err e) → e ≡ File → ⊥
+board_is_other (Err x) n Does e other of is = session_is_other (told.export_refusal x) (let same : export_refusal x ≡ e = cc in same ∙ is)
+board_is_other (Ok w) n Does e other of is = go (slice_get w.boards n) of
+  where
+    go : (board : Option BoardData) → OfBoard w.header board Does (Err e) → ⊥
+    go None bad = cc
+    go (Some board) does = other w.header board does is
+
+pub shown_is_other : (limit : ℕ) (es : List Edit) (n : ℕ) (screen : Option (List Bool)) (e : Refusal) → OfSet limit (Ok es) n (IsShown screen) (Err e) → e ≡ File → ⊥
+shown_is_other limit es n screen e of is =
+    board_is_other (exported limit (replay es)) n (IsShown screen) e (λ header board shown file. elim shown [ inl ok ↦ (let no = ok.0 in cc) | inr fault ↦ (let no = fault.0 in cc) ]) of is
+
+pub played_is_other : (limit : ℕ) (es : List Edit) (n : ℕ) (d : Stage) (words : List ℕ) (e : Refusal) → OfSet limit (Ok es) n (IsPlayed d words) (Err e) → e ≡ File → ⊥
+played_is_other limit es n d words e of is = board_is_other (exported limit (replay es)) n (IsPlayed d words) e (λ header board plays file. ends plays.0 plays.1 plays.4) of is
+  where
+    ends : (n : ℕ) (c : Course) → EndsPlay n c (Err e) → ⊥
+    ends n c how = elim how [
+      | inl ok ↦ (let no = ok.0 in cc)
+      | inr how ↦ elim how [
+        | inl lacks ↦ (let no = lacks.0 in cc)
+        | inr how ↦ elim how [
+          | inl key ↦ (let no = key.0 in cc)
+          | inr how ↦ elim how [ inl screen ↦ (let no = screen.0 in cc) | inr turns ↦ (let no = turns.0 in cc) ]
+        ]
+      ]
+    ]

@@ -1,0 +1,74 @@
+use Rattle.std.proofs.Common.{◌≡◌, ◌∙◌, arith}
+use Rattle.std.proofs.lemmas.Result.{err_from_is_err_and}
+use Rattle.zed_worlds.specs.Stage.{Stage, stage}
+use Rattle.zed_files.specs.Texts.{texts_of}
+use Rattle.zed_worlds.specs.Shown.{words_in}
+use Rattle.zed_worlds.proofs.Endings.{not_collected, not_read, played_result}
+use Rattle.zed_host.proofs.Counts.{rose_later}
+use Rattle.zed_files.proofs.Failures.{memory_is_other, other_tells}
+use Rattle.zed_worlds.proofs.Others.{played_is_other}
+use Rattle.zed_worlds.proofs.playing.played.Goals as goal
+
+pub returns-in_err-bytes-clause-played : goal.returns-in_err-bytes-clause-played
+returns-in_err-bytes-clause-played g c = λ t at.
+    let told : Stage =
+    stage ((goal.Screen-dyn g (c.args.screen.vtable, c.args.screen.value)).screen_foretells c.args.screen.value)
+    ((goal.Keys-dyn g (c.args.keys.vtable, c.args.keys.value)).left c.args.keys.value)
+    ((goal.Keys-dyn g (c.args.keys.vtable, c.args.keys.value)).keys_foretell c.args.keys.value) in
+    let p = err_from_is_err_and c.from_residual.result c.from_residual.ensures.1 in
+    let same : p.0 ≡ c.in_err-bytes.field-0.0 = p.2 in
+    rw (p.1, same) (not_read _ told t c.args.limit c.args.board c.args.chance.now (texts_of c.args.files.now) c.in_err-bytes.field-0.0
+    c.in_err-bytes.ensures.err (c.in_err-bytes.ensures.none t at))
+
+pub returns-in_err-document-clause-played : goal.returns-in_err-document-clause-played
+returns-in_err-document-clause-played g c = λ t at.
+    let told : Stage =
+    stage ((goal.Screen-dyn g (c.args.screen.vtable, c.args.screen.value)).screen_foretells c.args.screen.value)
+    ((goal.Keys-dyn g (c.args.keys.vtable, c.args.keys.value)).left c.args.keys.value)
+    ((goal.Keys-dyn g (c.args.keys.vtable, c.args.keys.value)).keys_foretell c.args.keys.value) in
+    let p = err_from_is_err_and c.from_residual-in_err-document.result c.from_residual-in_err-document.ensures.1 in
+    let same : p.0 ≡ c.in_err-document.field-0.0 = p.2 in
+    let here = c.in_ok-bytes.ensures.kept ∙ at in
+    rw (p.1, same) (not_collected _ told t c.args.limit c.args.board c.args.chance.now c.in_ok-bytes.bytes.items (texts_of c.args.files.now) c.in_err-document.field-0.0
+    (c.in_ok-bytes.ensures.bytes t at) (rw c.in_ok-bytes.ensures.calm at (c.in_err-document.ensures.collected t here)))
+
+pub returns-clause-played : goal.returns-clause-played
+returns-clause-played g c = λ t at.
+    let told : Stage =
+    stage ((goal.Screen-dyn g (c.args.screen.vtable, c.args.screen.value)).screen_foretells c.args.screen.value)
+    ((goal.Keys-dyn g (c.args.keys.vtable, c.args.keys.value)).left c.args.keys.value)
+    ((goal.Keys-dyn g (c.args.keys.vtable, c.args.keys.value)).keys_foretell c.args.keys.value) in
+    let here = c.in_ok-bytes.ensures.kept ∙ at in
+    let words : c.as_slice-2.result.now ≡ words_in c.in_ok-bytes.bytes.items = c.as_slice-2.ensures.value ∙ rw c.as_slice.ensures.value at c.in_ok-words.ensures in
+    played_result _ told c.args.limit c.play_board.result t c.from.result c.args.board c.args.chance.now c.in_ok-bytes.bytes.items c.as_slice-2.result.now (texts_of c.args.files.now)
+    c.in_ok-document.document.edits c.from.ensures words (c.in_ok-bytes.ensures.bytes t at) (rw c.in_ok-bytes.ensures.calm at (c.in_ok-document.ensures.collected t here)) c.play_board.ensures
+
+pub returns-in_err-bytes-clause-file_only_when : goal.returns-in_err-bytes-clause-file_only_when
+returns-in_err-bytes-clause-file_only_when g c =
+    let p = err_from_is_err_and c.from_residual.result c.from_residual.ensures.1 in
+    let same : p.0 ≡ c.in_err-bytes.field-0.0 = p.2 in
+    rw (p.1, same) c.in_err-bytes.ensures.file_only_when
+
+pub returns-in_err-words-clause-file_only_when : goal.returns-in_err-words-clause-file_only_when
+returns-in_err-words-clause-file_only_when g c =
+    let p = err_from_is_err_and c.from_residual-in_err-words.result c.from_residual-in_err-words.ensures.1 in
+    rw p.1 (c.in_ok-bytes.ensures.file_only_when.0, λ is. absurd (memory_is_other p.0 p.2 is))
+
+pub returns-in_err-document-clause-file_only_when : goal.returns-in_err-document-clause-file_only_when
+returns-in_err-document-clause-file_only_when g c =
+    let p = err_from_is_err_and c.from_residual-in_err-document.result c.from_residual-in_err-document.ensures.1 in
+    let same : p.0 ≡ c.in_err-document.field-0.0 = p.2 in
+    let first = c.in_ok-bytes.ensures.file_only_when.0 in
+    let tells = c.in_err-document.ensures.file_only_when in
+    let more = tells.0 in
+    rw (p.1, same) (omega arith, λ is. rose_later _ _ _ first (tells.1 is))
+
+pub returns-clause-file_only_when : goal.returns-clause-file_only_when
+returns-clause-file_only_when g c =
+    let told : Stage =
+    stage ((goal.Screen-dyn g (c.args.screen.vtable, c.args.screen.value)).screen_foretells c.args.screen.value)
+    ((goal.Keys-dyn g (c.args.keys.vtable, c.args.keys.value)).left c.args.keys.value)
+    ((goal.Keys-dyn g (c.args.keys.vtable, c.args.keys.value)).keys_foretell c.args.keys.value) in
+    let first = c.in_ok-bytes.ensures.file_only_when.0 in
+    let then = c.in_ok-document.ensures.file_only_when.0 in
+    other_tells _ _ c.play_board.result _ _ (omega arith) c.play_board.ensures (played_is_other c.args.limit c.in_ok-document.document.edits c.from.result told c.as_slice-2.result.now)

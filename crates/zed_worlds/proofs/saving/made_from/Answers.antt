@@ -1,0 +1,29 @@
+use Rattle.std.proofs.Common.{◌≡◌}
+use Rattle.std.proofs.lemmas.Result.{err_from_is_err_and}
+use Rattle.zed_worlds.specs.Made.{product_of}
+use Rattle.zed_files.specs.Texts.{texts_of}
+use Rattle.zed_worlds.proofs.Endings.{made_result, not_made}
+use Rattle.zed_files.proofs.Failures.{other_tells}
+use Rattle.zed_worlds.proofs.Others.{product_is_other}
+use Rattle.zed_worlds.proofs.saving.made_from.Goals as goal
+
+pub returns-in_err-document-clause-made : goal.returns-in_err-document-clause-made
+returns-in_err-document-clause-made g c = λ t at.
+    let p = err_from_is_err_and c.from_residual.result c.from_residual.ensures.1 in
+    let same : p.0 ≡ c.in_err-document.field-0.0 = p.2 in
+    rw (p.1, same) (not_made _ t (texts_of c.args.files.now) (product_of c.args.product c.args.limit) c.in_err-document.field-0.0 (c.in_err-document.ensures.collected t at))
+
+pub returns-clause-made : goal.returns-clause-made
+returns-clause-made g c = λ t at.
+    made_result _ c.product_of.result t (texts_of c.args.files.now) (product_of c.args.product c.args.limit) c.in_ok-document.document.edits
+    (c.in_ok-document.ensures.collected t at) c.product_of.ensures
+
+pub returns-in_err-document-clause-file_only_when : goal.returns-in_err-document-clause-file_only_when
+returns-in_err-document-clause-file_only_when g c =
+    let p = err_from_is_err_and c.from_residual.result c.from_residual.ensures.1 in
+    let same : p.0 ≡ c.in_err-document.field-0.0 = p.2 in
+    rw (p.1, same) c.in_err-document.ensures.file_only_when
+
+pub returns-clause-file_only_when : goal.returns-clause-file_only_when
+returns-clause-file_only_when g c =
+    other_tells _ _ c.product_of.result _ _ c.in_ok-document.ensures.file_only_when.0 c.product_of.ensures (product_is_other c.args.product c.args.limit c.in_ok-document.document.edits)

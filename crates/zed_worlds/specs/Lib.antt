@@ -1,0 +1,4 @@
+pub mod Made
+pub mod Shown
+pub mod Stage
+pub mod Told

@@ -1,0 +1,145 @@
+-- What comes of a board that is shown or played.
+use Rattle.zed_play.specs.declared.error.PlayError.TheVariants as step
+use Rattle.zed_world.specs.declared.board.BoardData.{BoardData}
+use Rattle.zed_world.specs.declared.header.Header.{Header}
+use Rattle.zed_op.specs.declared.op.Edit.{Edit}
+use Rattle.zed_export.specs.declared.error.ExportError.{ExportError}
+use Rattle.zed_play.specs.declared.key.Key.{Key}
+use Rattle.zed_files.specs.declared.refusal.Refusal.{Refusal}
+use Rattle.zed_files.specs.declared.refusal.Refusal.TheVariants.{File, NoBoard, NoWords, KeyFault, ScreenFault, TooManyTurns}
+use Rattle.std.specs.Prelude.{◌≡◌, ◌⊎◌, ◌≤◌, ◌<◌, ◌+◌, ◌*◌, ℕ, zero, suc, Bool, true, false, List, [], ◌∷◌, drop, Option, Some, None, is_some, slice_get, Result, Ok, Err}
+use Rattle.zed_world.specs.Contents.{Contents}
+use Rattle.zed_edit.specs.Replay.{replay}
+use Rattle.zed_export.specs.Limits.{exported}
+use Rattle.zed_play.specs.Opening.{play_of}
+use Rattle.zed_play.specs.Playtest.{Playtest}
+use Rattle.zed_play.specs.Step.{Steps}
+use Rattle.zed_session.specs.Devices.{ComesAs, Foretold}
+use Rattle.zed_session.specs.Play.{Takes}
+use Rattle.zed_worlds.specs.Told.{told_of}
+use Rattle.zed_files.specs.Refusals.{export_refusal}
+use Rattle.zed_host.specs.HostContents.{HostContents, IsRead}
+use Rattle.zed_files.specs.Collected.{Collects}
+use Rattle.zed_files.specs.Effects.{Effect, Leaves}
+use Rattle.zed_worlds.specs.Made.{prints_report}
+use Rattle.zed_worlds.specs.Stage.{Stage, stage}
+
+-- what a command does with a board of a world, and what it comes to then
+abbrev pub OnBoard : Type 0 → Type 1
+OnBoard X = Header → BoardData → Result X Refusal → Type 0
+
+-- the same of a board that may not be there
+abbrev pub OfBoard : {X : Type 0} → Header → Option BoardData → OnBoard X → Result X Refusal → Type 0
+OfBoard header None Does r = r ≡ Err NoBoard
+OfBoard header (Some board) Does r = Does header board r
+
+-- the same of the board of this number of a world, or of the limit that the world is over
+abbrev pub OfWorld : {X : Type 0} → Result Contents ExportError → ℕ → OnBoard X → Result X Refusal → Type 0
+OfWorld (Err e) n Does r = r ≡ Err (export_refusal e)
+OfWorld (Ok w) n Does r = OfBoard w.header (slice_get w.boards n) Does r
+
+-- the same of the world of a set of edits, of at most so many bytes a body, or of what was refused before
+abbrev pub OfSet : {X : Type 0} → ℕ → Result (List Edit) Refusal → ℕ → OnBoard X → Result X Refusal → Type 0
+OfSet limit (Err e) n Does r = r ≡ Err e
+OfSet limit (Ok es) n Does r = OfWorld (exported limit (replay es)) n Does r
+
+-- what is told of a board that is shown: the screen took it, or failed, as it foretold of its first call
+abbrev pub IsShown : Option (List Bool) → OnBoard (Unit {0})
+IsShown screen header board r = ((r ≡ Ok tt) × ComesAs false screen) ⊎ ((r ≡ Err ScreenFault) × ComesAs true screen)
+
+-- numbers of two bytes each, the low one first; an odd last byte is dropped
+abbrev pub words_in : List ℕ → List ℕ
+words_in [] = []
+words_in (low ∷ []) = []
+words_in (low ∷ high ∷ bytes) = (low + 256 * high) ∷ words_in bytes
+
+-- how many keys are played at most
+abbrev pub most_keys : ℕ
+most_keys = 1048576
+
+-- where a playtest has come to, with the words that are left, and what its stage tells of keys and calls to come
+pub record Course : Type 0 where
+  pub play : Playtest
+  pub words : List ℕ
+  pub keys : Option (List Key)
+  pub source : Option (List Bool)
+  pub screen : Option (List Bool)
+
+-- the next key is asked for, and this one or none is handed over
+abbrev pub TakesKey : Course → Option Key → Option (List Key) → Option (List Bool) → Type 0
+TakesKey c key keys source = Takes None c.keys key keys × Foretold false c.source source
+
+-- a playtest makes a step, by the next key and the words that are left; and that is shown, or the screen fails
+abbrev pub Advances : Bool → Course → Course → Type 0
+Advances failing c d =
+    (key : Key) × (used : ℕ)
+    × TakesKey c (Some key) d.keys d.source × Steps (Ok used) key c.play c.words d.play × (d.words ≡ drop used c.words)
+    × Foretold failing c.screen d.screen
+
+-- it makes so many, and each is shown
+abbrev pub StepsTo : ℕ → Course → Course → Type 0
+StepsTo zero c d = d ≡ c
+StepsTo (suc n) c d = (next : Course) × Advances false c next × StepsTo n next d
+
+-- after so many steps a playtest goes on, and one key more may be asked for
+abbrev pub GoesOn : ℕ → Course → Type 0
+GoesOn n c = (n < most_keys) × (c.play.ending ≡ None)
+
+-- after so many steps a playtest is at its end, or no key is left
+abbrev pub IsOver : ℕ → Course → Type 0
+IsOver n c = (is_some c.play.ending ≡ true) ⊎ (GoesOn n c × ((source : Option (List Bool)) × TakesKey c None c.keys source))
+
+-- the step by the next key lacks words
+abbrev pub LacksWords : Course → Type 0
+LacksWords c =
+    (key : Key) × (keys : Option (List Key)) × (source : Option (List Bool))
+    × TakesKey c (Some key) keys source × Steps (Err step.NoWords) key c.play c.words c.play
+
+-- how play ends after so many steps: with what is told of the playtest, once that is over; for want of words; by a fault of the source of keys,
+-- or of the screen at one step more, where these foretold it if they did; or since no more keys may be played
+abbrev pub EndsPlay : ℕ → Course → Result (List ℕ) Refusal → Type 0
+EndsPlay n c r =
+    ((r ≡ Ok (told_of c.play)) × IsOver n c)
+    ⊎ ((r ≡ Err NoWords) × GoesOn n c × LacksWords c)
+    ⊎ ((r ≡ Err KeyFault) × GoesOn n c × ComesAs true c.source)
+    ⊎ ((r ≡ Err ScreenFault) × GoesOn n c × ((next : Course) × Advances true c next))
+    ⊎ ((r ≡ Err TooManyTurns) × (n ≡ most_keys) × (c.play.ending ≡ None))
+
+-- a playtest is played on, by the words and keys that are left
+abbrev pub Plays : Course → Result (List ℕ) Refusal → Type 0
+Plays first r = (n : ℕ) × (c : Course) × (n ≤ most_keys) × StepsTo n first c × EndsPlay n c r
+
+-- a playtest with these words, and with the keys and the screen of this stage
+abbrev pub course : Stage → Playtest → List ℕ → Course
+course d p words = record { play = p; words = words; keys = d.keys; source = d.source; screen = d.screen }
+
+-- a board is played by these words, from tick 1 on
+abbrev pub IsPlayed : Stage → List ℕ → OnBoard (List ℕ)
+IsPlayed d words header board r = Plays (course d (play_of header board 1) words) r
+
+-- the same by the words of a file, which is read before all others
+abbrev pub PlaysFile : Stage → Option (List ℕ) → ℕ → ℕ → (Result (List Edit) Refusal → Type 0) → Result (List ℕ) Refusal → Type 0
+PlaysFile d None limit board Collected r = r ≡ Err File
+PlaysFile d (Some bytes) limit board Collected r =
+    (set : Result (List Edit) Refusal) × Collected set × OfSet limit set board (IsPlayed d (words_in bytes)) r
+
+-- a board was shown, which leaves the host as it is
+abbrev pub leaves_all : Result (Unit {0}) Refusal → Result Effect Refusal
+leaves_all (Ok u) = Ok Leaves
+leaves_all (Err e) = Err e
+
+-- what is told of a playtest of a board of the world of these files at a limit, by the words of the first file
+abbrev pub IsPlayedOf : Type 0 → Stage → HostContents → ℕ → ℕ → List ℕ → List (List ℕ) → Result (List ℕ) Refusal → Type 0
+IsPlayedOf failed stage t limit board chance files told =
+    (read : Option (List ℕ)) × IsRead failed t chance read × PlaysFile stage read limit board (Collects failed t files) told
+
+-- what `show` comes to: its effect, or the first refusal
+abbrev pub ComesToShow : Type 0 → Stage → HostContents → ℕ → ℕ → List (List ℕ) → Result Effect Refusal → Type 0
+ComesToShow failed stage t limit board files r =
+    (set : Result (List Edit) Refusal) × (done : Result (Unit {0}) Refusal) × Collects failed t files set
+    × OfSet limit set board (IsShown stage.screen) done × (r ≡ leaves_all done)
+
+-- what `play` comes to: its effect, or the first refusal
+abbrev pub ComesToPlay : Type 0 → Stage → HostContents → ℕ → ℕ → List ℕ → List (List ℕ) → Result Effect Refusal → Type 0
+ComesToPlay failed stage t limit board chance files r =
+    (told : Result (List ℕ) Refusal) × IsPlayedOf failed stage t limit board chance files told × (r ≡ prints_report told)

@@ -1,0 +1,189 @@
+//! Boards played.
+ghost use Rattle.std.specs.Prelude.{◌≡◌, ◌≤◌, ◌<◌, ◌⊎◌, ◌++◌, Err, IfOk, MatchResult, Ok, OnOk, Some, false, length, slice_get, string_bytes};
+ghost use Rattle.std.specs.List.{flat_map};
+ghost use Rattle.zed_types.specs.declared.limits.TheConstants.{READ_BODY_LIMIT};
+ghost use Rattle.zed_host.specs.Counting.{Rose};
+ghost use Rattle.zed_files.specs.Faults.{TellsFile};
+ghost use Rattle.zed_host.specs.HostContents.{HostContents};
+ghost use Rattle.zed_worlds.specs.Told.{message_line, standing_line, told_of};
+ghost use Rattle.zed_files.specs.Effects.{Ends};
+ghost use Rattle.zed_worlds.specs.Shown.{ComesToPlay, IsPlayed, IsPlayedOf, OfSet, words_in};
+ghost use Rattle.zed_worlds.specs.Stage.{stage};
+ghost use Rattle.zed_files.specs.Texts.{texts_of};
+
+use std::alloc::{AllocError, Global};
+use zed_document::Document;
+use zed_files::{Refusal, load, print_out, read_one};
+use zed_host::Host;
+use zed_play::{Ending, Messages, Play};
+use zed_session::{Keys, Screen, Session};
+
+/// The most keys of one playtest.
+const MOST_KEYS: u32 = 1_048_576;
+
+// Numbers of two bytes each, the low one first; an odd last byte is dropped.
+fn words_of(alloc: Global, bytes: &[u8]) -> Result<Vec<u16>, AllocError>
+    ensures { IfOk result (λ words. words.items ≡ words_in bytes.now) }
+{
+    let mut words = Vec::new(alloc);
+    let mut rest = bytes;
+    for _ in 0..bytes.len() / 2 {
+        let (pair, more) = rest.split_at(2);
+        words.push(u16::from(pair[0]) + 256 * u16::from(pair[1]))?;
+        rest = more;
+    }
+    Ok(words)
+}
+
+// The message of this number, counted from the oldest.
+fn message_at(messages: &Messages, index: usize) -> &[u8]
+    requires { index < length messages.now }
+    ensures { slice_get messages.now index ≡ Some result.now }
+{
+    match messages.get(index) {
+        Some(line) => line.as_slice(),
+        None => &[],
+    }
+}
+
+// Appends the line of a message.
+fn add_message(text: &mut Vec<u8>, message: &[u8]) -> Result<(), AllocError>
+    ensures { OnOk result (text.new.items ≡ text.old.items ++ message_line message.now) }
+{
+    text.extend_from_slice(b"> ")?;
+    text.extend_from_slice(message)?;
+    text.push(b'\n')?;
+    Ok(())
+}
+
+// Messages, one a line.
+fn messages_told(alloc: Global, messages: &Messages) -> Result<Vec<u8>, AllocError>
+    ensures { IfOk result (λ text. text.items ≡ flat_map message_line messages.now) }
+{
+    let mut text = Vec::new(alloc);
+    for index in 0..messages.len() {
+        add_message(&mut text, message_at(messages, index))?;
+    }
+    Ok(text)
+}
+
+// How a playtest stands.
+fn standing_told(alloc: Global, ending: Option<Ending>, tick: u16) -> Result<String, AllocError>
+    ensures { IfOk result (λ text. string_bytes text ≡ standing_line ending tick) }
+{
+    match ending {
+        Some(Ending::Left(board)) => format!(in alloc; "left {board}\n"),
+        Some(Ending::Died) => String::from_str(alloc, "died\n"),
+        Some(Ending::Failed) | None => format!(in alloc; "tick {tick}\n"),
+    }
+}
+
+// The messages of a playtest, and how it stands.
+fn told(alloc: Global, play: &Play) -> Result<Vec<u8>, AllocError>
+    ensures { IfOk result (λ text. text.items ≡ told_of play.now) }
+{
+    let mut text = messages_told(alloc, play.messages())?;
+    let standing = standing_told(alloc, play.ending(), play.tick())?;
+    text.extend_from_slice(standing.as_bytes())?;
+    Ok(text)
+}
+
+// Plays a board of a document's world, until the playtest ends or no key is left, and tells of it.
+fn play_board(
+    alloc: Global,
+    document: Document,
+    board: usize,
+    limit: usize,
+    words: &[u16],
+    screen: Box<dyn Screen>,
+    keys: Box<dyn Keys>,
+) -> Result<Vec<u8>, Refusal>
+    requires sound { document.is_stale ≡ false }
+    requires limit { limit ≤ READ_BODY_LIMIT }
+    ensures { let told = stage (screen_foretells screen) (left keys) (keys_foretell keys) in
+        MatchResult result
+        (λ text. OfSet limit (Ok document.edits) board (IsPlayed told words.now) (Ok text.items))
+        (λ e. (e ≡ Refusal.Memory)
+        ⊎ OfSet limit (Ok document.edits) board (IsPlayed told words.now) (Err e)) }
+{
+    let mut session = Session::new(alloc, document, screen, keys);
+    session.play(board, limit)?;
+    let mut left = words;
+    for _ in 0..MOST_KEYS {
+        let used = session.play_key(left)?;
+        let Some(play) = session.playtest() else {
+            return Err(Refusal::Over);
+        };
+        let Some(used) = used else {
+            return Ok(told(alloc, play)?);
+        };
+        if play.ending().is_some() {
+            return Ok(told(alloc, play)?);
+        }
+        left = left.split_at(used).1;
+    }
+    Err(Refusal::TooManyTurns)
+}
+
+// What is told of a playtest of a board of the world of edit files; the file of chances is read first.
+fn played<H: Host>(
+    alloc: Global,
+    host: &mut H,
+    limit: usize,
+    board: u16,
+    chance: &str,
+    files: &[&str],
+    screen: Box<dyn Screen>,
+    keys: Box<dyn Keys>,
+) -> Result<Vec<u8>, Refusal>
+    requires { limit ≤ READ_BODY_LIMIT }
+    ensures played { (t : HostContents) → H.contents host.old ≡ Some t
+        → let failed = Rose (H.faults host.old) (H.faults host.new) in
+        let told = stage (screen_foretells screen) (left keys) (keys_foretell keys) in
+        MatchResult result
+        (λ text. IsPlayedOf failed told t limit board chance.now
+        (texts_of files.now) (Ok text.items))
+        (λ e. (e ≡ Refusal.Memory)
+        ⊎ IsPlayedOf failed told t limit board chance.now
+        (texts_of files.now) (Err e)) }
+    ensures kept { H.contents host.new ≡ H.contents host.old }
+    ensures rises { H.faults host.old ≤ H.faults host.new }
+    ensures file_only_when { TellsFile result (H.failed host.old) (H.failed host.new) }
+{
+    let bytes = read_one(host, chance)?;
+    let words = words_of(alloc, bytes.as_slice())?;
+    let document = load(alloc, host, files)?;
+    play_board(
+        alloc,
+        document,
+        usize::from(board),
+        limit,
+        words.as_slice(),
+        screen,
+        keys,
+    )
+}
+
+/// Plays a board of the world of edit files, of at most so many bytes a body, by the words of chance of a file, and prints what is told of the playtest.
+pub fn play<H: Host>(
+    alloc: Global,
+    host: &mut H,
+    limit: usize,
+    board: u16,
+    chance: &str,
+    files: &[&str],
+    screen: Box<dyn Screen>,
+    keys: Box<dyn Keys>,
+) -> Result<(), Refusal>
+    requires { limit ≤ READ_BODY_LIMIT }
+    ensures ends { (t : HostContents) → H.contents host.old ≡ Some t
+        → let failed = Rose (H.faults host.old) (H.faults host.new) in
+        let told = stage (screen_foretells screen) (left keys) (keys_foretell keys) in
+        Ends failed (ComesToPlay failed told t limit board chance.now (texts_of files.now)) t
+        result (H.contents host.new) }
+    ensures rises { H.faults host.old ≤ H.faults host.new }
+    ensures file_only_when { TellsFile result (H.failed host.old) (H.failed host.new) }
+{
+    let text = played(alloc, host, limit, board, chance, files, screen, keys)?;
+    print_out(host, text.as_slice())
+}

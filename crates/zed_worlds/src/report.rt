@@ -1,0 +1,97 @@
+//! What `check` prints.
+ghost use Rattle.std.specs.Prelude.{◌≡◌, ◌≤◌, ◌⊎◌, length, Err, IfErr, IfOk, MatchResult, Ok, false, string_bytes};
+ghost use Rattle.std.specs.List.{flat_map};
+ghost use Rattle.zed_types.specs.declared.limits.TheConstants.{READ_BODY_LIMIT};
+ghost use Rattle.zed_world.specs.Writing.{HasText, world_text};
+ghost use Rattle.zed_worlds.specs.Told.{counts_line, warning_line};
+ghost use Rattle.zed_worlds.specs.Made.{file_of, report_on};
+
+use std::alloc::{AllocError, Global};
+use zed_document::Document;
+use zed_export::{Warning, export, warnings};
+use zed_files::Refusal;
+use zed_world::{World, write_world};
+
+/// The world file of a document, of at most so many bytes a body.
+pub(crate) fn world_file(
+    alloc: Global,
+    document: &Document,
+    limit: usize,
+) -> Result<Vec<u8>, Refusal>
+    requires sound { document.now.is_stale ≡ false }
+    requires limit { limit ≤ READ_BODY_LIMIT }
+    ensures { MatchResult result
+        (λ bytes. file_of limit document.now.edits ≡ Ok bytes.items)
+        (λ e. (e ≡ Refusal.Memory) ⊎ (file_of limit document.now.edits ≡ Err e)) }
+{
+    let file = zed_export::save(alloc, document, limit)?;
+    Ok(file)
+}
+
+fn warning_told(alloc: Global, warning: Warning) -> Result<String, AllocError>
+    ensures { IfOk result (λ text. string_bytes text ≡ warning_line warning) }
+{
+    match warning {
+        Warning::PlayerTile(board) => format!(in alloc; "PlayerTile {board}\n"),
+        Warning::OffBoard(board, stat) => format!(in alloc; "OffBoard {board} {stat}\n"),
+        Warning::SamePlace(board, stat) => format!(in alloc; "SamePlace {board} {stat}\n"),
+    }
+}
+
+fn warnings_told(alloc: Global, warnings: &[Warning]) -> Result<Vec<u8>, AllocError>
+    ensures { IfOk result (λ text. text.items ≡ flat_map warning_line warnings.now) }
+{
+    let mut text = Vec::new(alloc);
+    for warning in warnings {
+        let line = warning_told(alloc, *warning)?;
+        text.extend_from_slice(line.as_bytes())?;
+    }
+    Ok(text)
+}
+
+fn counts_told(
+    alloc: Global,
+    edits: usize,
+    held: usize,
+    boards: usize,
+    bytes: usize,
+) -> Result<String, AllocError>
+    ensures { IfOk result (λ text. string_bytes text ≡ counts_line edits held boards bytes) }
+{
+    format!(in alloc; "{edits} edits, {held} held, {boards} boards, {bytes} bytes\n")
+}
+
+// How many bytes the file of a world has of which no body is over a limit.
+#[tactic(auto, unfolding(zed_world::specs::Writing::written))]
+fn size_of(alloc: Global, world: &World, limit: usize) -> Result<usize, Refusal>
+    requires limit { limit ≤ READ_BODY_LIMIT }
+    requires within { HasText limit world.now }
+    ensures { MatchResult result
+        (λ bytes. bytes ≡ length (world_text world.now))
+        (λ e. e ≡ Refusal.Memory) }
+{
+    // The writer can lack nothing but memory.
+    match write_world(alloc, world, limit) {
+        Ok(file) => Ok(file.len()),
+        Err(_) => Err(Refusal::Memory),
+    }
+}
+
+/// The warnings of a document's world, one a line, and then its counts, where no body has more bytes than the limit.
+pub(crate) fn report(alloc: Global, document: &Document, limit: usize) -> Result<Vec<u8>, Refusal>
+    requires sound { document.now.is_stale ≡ false }
+    requires limit { limit ≤ READ_BODY_LIMIT }
+    ensures { MatchResult result
+        (λ text. report_on limit document.now.edits ≡ Ok text.items)
+        (λ e. (e ≡ Refusal.Memory) ⊎ (report_on limit document.now.edits ≡ Err e)) }
+{
+    let world = export(alloc, document, limit)?;
+    let bytes = size_of(alloc, &world, limit)?;
+    let warnings = warnings(alloc, &world)?;
+    let mut text = warnings_told(alloc, warnings.as_slice())?;
+    let edits = document.edits().len();
+    let boards = world.boards().len();
+    let counts = counts_told(alloc, edits, document.held(), boards, bytes)?;
+    text.extend_from_slice(counts.as_bytes())?;
+    Ok(text)
+}
