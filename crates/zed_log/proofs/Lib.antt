@@ -1,0 +1,11 @@
+pub mod Codes
+pub mod Digits
+pub mod Elements
+pub mod Numerals
+pub mod Ops
+pub mod Parts
+pub mod Pieces
+pub mod Printed
+pub mod Registers
+pub mod Stats
+pub mod Strings

@@ -1,0 +1,59 @@
+//! Laws on lines: an edit is known by its line, and edits by their lines.
+ghost use Rattle.std.specs.Prelude.{◌≡◌, length};
+ghost use Rattle.zed_op.specs.declared.op.Edit.{Edit as TheEdit};
+ghost use Rattle.zed_log.specs.Laws.{AreWhole, DiffersFrom, IsKnownByLines, IsOneLine, IsWhole, log_text};
+ghost use Rattle.zed_log.specs.Line.{line_text};
+
+use zed_op::{Edit, Op};
+
+fn bytes_are_six(bytes: [u8; 6])
+    ensures { length bytes ≡ 6 }
+{
+    let [_x, _y, _p1, _p2, _element, _colour] = bytes;
+}
+
+fn numbers_are_three(numbers: [i16; 3])
+    ensures { length numbers ≡ 3 }
+{
+    let [_step_x, _step_y, _cycle] = numbers;
+}
+
+fn op_is_whole(op: &Op)
+    ensures { IsWhole op.now }
+{
+    if let Op::StatAdd(_, fields) = op {
+        bytes_are_six(fields.bytes);
+        numbers_are_three(fields.numbers);
+    }
+}
+
+fn edits_are_whole(edits: &[Edit])
+    ensures { AreWhole edits.now }
+{
+    for edit in edits {
+        op_is_whole(&edit.op);
+    }
+}
+
+/// A line has one line feed, at its end, and no other control byte.
+pub fn each_line_is_one()
+    ensures { (e : TheEdit) → IsOneLine e }
+{}
+
+/// Different edits have different lines, and neither line begins the other.
+pub fn edit_is_known_by_its_line(edit: &Edit, other: &Edit)
+    ensures line { line_text edit.now ≡ line_text other.now → edit.now ≡ other.now }
+    ensures alone { DiffersFrom edit.now other.now }
+{
+    op_is_whole(&edit.op);
+    op_is_whole(&other.op);
+}
+
+/// Different lists of edits have different lines, also where held ones are marked, in whatever way each list is.
+pub fn edits_are_known_by_their_lines(edits: &[Edit], others: &[Edit])
+    ensures plain { log_text edits.now ≡ log_text others.now → edits.now ≡ others.now }
+    ensures marked { IsKnownByLines edits.now others.now }
+{
+    edits_are_whole(edits);
+    edits_are_whole(others);
+}

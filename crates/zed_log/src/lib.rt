@@ -1,0 +1,13 @@
+//! A line for each edit, in words: time, replica, what it does, what it names and sets. Different edits have different lines.
+#![tactic(auto)]
+
+mod laws;
+mod put;
+mod put_fields;
+mod put_op;
+mod settings;
+mod words;
+mod writing;
+
+pub use laws::{each_line_is_one, edit_is_known_by_its_line, edits_are_known_by_their_lines};
+pub use writing::{line, marked_line};
