@@ -1,6 +1,6 @@
 pub mod Finding
+pub mod Growing
 pub mod Held
-pub mod Next
 pub mod Numbering
 pub mod Ordered
 pub mod Places

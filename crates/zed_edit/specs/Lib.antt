@@ -3,7 +3,6 @@ pub mod Document
 pub mod Genesis
 pub mod Header
 pub mod Lent
-pub mod Next
 pub mod NumberLaws
 pub mod Numbers
 pub mod Replay

@@ -1,6 +1,6 @@
 -- What an edit does, and the replay of edits in rising stamp order by one author.
-use Rattle.std.specs.Prelude.{◌≡◌, ◌⊎◌, Bool, true, false, if◌then◌else◌, List, [], ◌∷◌, ◌++◌, Result, Ok, Err}
-use Rattle.std.specs.List.{list_all}
+use Rattle.std.specs.Prelude.{◌≡◌, ◌≢◌, ◌⊎◌, Bool, true, false, if◌then◌else◌, List, [], ◌∷◌, ◌++◌, Result, Ok, Err}
+use Rattle.std.specs.List.{list_all, list_any}
 use Rattle.zed_types.specs.declared.stamp.Stamp.{Stamp}
 use Rattle.zed_types.specs.Text.{run_from, put_after, kill}
 use Rattle.zed_world.specs.Contents.{Contents}
@@ -94,3 +94,7 @@ held_on p (e ∷ es) = if can p e then held_on (step p e) es else e ∷ held_on 
 -- the edits that the replay of a document from the start holds
 abbrev pub held : List Edit → List Edit
 held es = held_on empty_document es
+
+-- a replay may need memory: the document may grow by one of the edits, or one is held
+abbrev pub MayGrowBy : Plain → List Edit → Type 0
+MayGrowBy p es = (list_any (λ e. may_grow e.op) es ≡ true) ⊎ (held_on p es ≢ [])

@@ -1,13 +1,13 @@
 //! One author, who makes each edit as it comes.
 
-ghost use Rattle.std.specs.Prelude.{◌≡◌, ◌<◌, ◌^◌, IsTrue, true, length, IfOk, IfErr, OnErr};
+ghost use Rattle.std.specs.Prelude.{◌≡◌, ◌^◌, IsTrue, true, IfOk, IfErr, OnErr};
 ghost use Rattle.zed_op.specs.declared.op.Op.TheVariants.{BoardAdd, StatAdd, TextAdd};
 ghost use Rattle.zed_op.specs.Growth.{may_grow};
 ghost use Rattle.zed_types.specs.Table.{is_in_table};
 ghost use Rattle.zed_op.specs.Fit.{Fits, is_in_range};
 ghost use Rattle.zed_op.specs.Set.{AllFit, IsRising, StampsRise, stamps_of};
 ghost use Rattle.zed_edit.specs.Document.{empty_document};
-ghost use Rattle.zed_edit.specs.Replay.{MayGrow, do_op, do_edit as done, held as held_of, hold as held_back, step as stepped, replay_on as replayed_on, replay as replayed};
+ghost use Rattle.zed_edit.specs.Replay.{MayGrow, MayGrowBy, do_op, do_edit as done, held as held_of, hold as held_back, step as stepped, replay_on as replayed_on, replay as replayed};
 
 use crate::board::{
     add_to_boards, fill_boards, new_board, remove_boards, remove_stats_on, set_boards, set_stats_on,
@@ -123,7 +123,7 @@ fn replay_on(alloc: Global, plain: &mut Plain, edits: &[Edit]) -> Result<(), Edi
     requires { AllFit edits.now }
     ensures result { IfOk result (λ _. plain.new ≡ replayed_on plain.old edits.now) }
     ensures err { IfErr result (λ e. e ≡ EditError.Memory) }
-    ensures memory_only_when { IfErr result (λ e. 0 < length edits.now) }
+    ensures memory_only_when { OnErr result (MayGrowBy plain.old edits.now) }
 {
     for edit in edits {
         step(alloc, plain, edit)?;
@@ -134,14 +134,15 @@ fn replay_on(alloc: Global, plain: &mut Plain, edits: &[Edit]) -> Result<(), Edi
 /// The document of one author who made these edits, one after the other.
 ///
 /// The caller gives edits that fit. In rising stamp order they are what the union of all authors' edits means. An edit that names a
-/// thing which isn't made yet is held, and told by `held`. `Memory` is the one refusal, and none where there is no edit.
+/// thing which isn't made yet is held, and told by `held`. `Memory` is the one refusal, and none where no edit is held and none
+/// adds a thing, sets a string or puts bytes into a text.
 pub fn replay(alloc: Global, edits: &[Edit]) -> Result<Plain, EditError>
     requires { AllFit edits.now }
     ensures result { IfOk result (λ p. p ≡ replayed edits.now) }
     ensures held { IfOk result (λ p. p.held ≡ stamps_of (held_of edits.now)) }
     ensures sound { IfOk result (λ p. IsRising edits.now → StampsRise p.held) }
     ensures err { IfErr result (λ e. e ≡ EditError.Memory) }
-    ensures memory_only_when { IfErr result (λ e. 0 < length edits.now) }
+    ensures memory_only_when { OnErr result (MayGrowBy empty_document edits.now) }
 {
     let mut plain = Plain::empty(alloc);
     replay_on(alloc, &mut plain, edits)?;

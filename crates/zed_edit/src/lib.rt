@@ -20,7 +20,7 @@ pub use author::{replay, step};
 pub use cells::new_table;
 pub use has::{has_board, has_element, has_stat, has_text, has_thing};
 pub use made::can;
-pub use numbers::{Standing, next_board_has_the_next_number, numbers_are_places};
+pub use numbers::{Standing, numbers_are_places};
 pub use plain::{Board, Header, Plain, Properties, Stat, Text};
 pub use zed_op::{
     Cause, Edit, EditError, Op, Thing, check, edit_has_sizes, edit_joins_a_set, edits_have_sizes,

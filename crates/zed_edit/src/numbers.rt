@@ -5,7 +5,6 @@ ghost use Rattle.zed_types.specs.Names.{same_board};
 ghost use Rattle.zed_edit.specs.Lent.{lent};
 ghost use Rattle.zed_edit.specs.Numbers.{standing_of, standing as standing_in, stands_before, boards_before as before_in, board_with, board_numbered as board_of_number, stat_numbered as stat_of_number};
 ghost use Rattle.zed_edit.specs.NumberLaws.{EachHasItsNumber, NumberedStandAtTheirPlaces, NumbersArePlaces, StandingsSortByNumber};
-ghost use Rattle.zed_edit.specs.Next.{FirstHasNumber0, NextHasNextNumber};
 
 use crate::plain::{Board, Plain, Stat};
 use zed_types::{BoardId, StatId};
@@ -45,12 +44,6 @@ pub fn numbers_are_places()
     ensures places { NumbersArePlaces }
     ensures numbered { NumberedStandAtTheirPlaces }
     ensures all { EachHasItsNumber }
-{}
-
-/// Who goes from a board to the first one behind it goes through the boards by their numbers.
-pub fn next_board_has_the_next_number()
-    ensures first { FirstHasNumber0 }
-    ensures next { NextHasNextNumber }
 {}
 
 fn board_named(plain: &Plain, b: BoardId) -> Option<&Board>

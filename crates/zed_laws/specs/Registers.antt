@@ -1,27 +1,12 @@
 -- What edits write into registers, and what is kept of it.
-use Rattle.std.specs.Prelude.{◌≡◌, ℕ, ℤ, pos, nat_lt, length, slice_index_or, Bool, true, ◌&&◌, ◌==◌, if◌then◌else◌, List, ◌∷◌, ◌++◌, filter_map, find, slice_get, is_some, Option, Some, None, option_map, Result, Ok, Err}
+use Rattle.std.specs.Prelude.{◌≡◌, ℤ, pos, slice_index_or, List, ◌∷◌, ◌++◌, filter_map, Option, Some, None, option_map}
 use Rattle.zed_types.specs.declared.stamp.Stamp.{Stamp}
 use Rattle.zed_types.specs.declared.written.Written.{Written}
-use Rattle.zed_types.specs.declared.names.BoardId.{BoardId}
-use Rattle.zed_types.specs.declared.tile.Tile.{Tile}
-use Rattle.zed_types.specs.Names.{same_board}
-use Rattle.zed_types.specs.Table.{is_inside, place_at}
-use Rattle.zed_types.specs.Register.{keep_later, latest_of, value_or}
+use Rattle.zed_types.specs.Register.{keep_later, latest_of}
 use Rattle.zed_types.specs.declared.header.HeaderNumber.{HeaderNumber}
 use Rattle.zed_types.specs.Header.{header_number_index}
-use Rattle.zed_types.specs.declared.header.HeaderSetting.{HeaderSetting}
-use Rattle.zed_types.specs.declared.header.HeaderSetting.TheVariants.{Number}
-use Rattle.zed_world.specs.Contents.{Contents}
-use Rattle.zed_world.specs.Reading.{world_at}
-use Rattle.zed_world.specs.declared.error.WorldError.{WorldError}
-use Rattle.zed_op.specs.declared.op.Op.{Op}
-use Rattle.zed_op.specs.declared.op.Op.TheVariants.{Genesis, SetHeader, SetCells}
 use Rattle.zed_op.specs.declared.op.Edit.{Edit}
 use Rattle.zed_edit.specs.declared.plain.Header.{Header}
-use Rattle.zed_edit.specs.declared.plain.Board.{Board}
-use Rattle.zed_edit.specs.declared.plain.Plain.{Plain}
-use Rattle.zed_edit.specs.Genesis.{header_of}
-use Rattle.zed_edit.specs.Replay.{can, step, replay_on, taken_on}
 use Rattle.zed_op.specs.Set.{IsRising}
 
 -- a value with the stamp of its write

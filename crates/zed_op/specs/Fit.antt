@@ -2,6 +2,7 @@
 use Rattle.std.specs.Prelude.{ℕ, nat_le, Bool, true, not, ◌&&◌, ◌||◌, if◌then◌else◌, List, length, Option, Some, None, ◌≡◌}
 use Rattle.std.specs.List.{list_all}
 use Rattle.zed_types.specs.declared.stamp.Stamp.{Stamp}
+use Rattle.zed_types.specs.declared.limits.TheConstants.{READ_BODY_LIMIT}
 use Rattle.zed_types.specs.declared.stamp.TheConstants.Stamp.{LAST_TIME}
 use Rattle.zed_types.specs.declared.header.HeaderSetting.{HeaderSetting}
 use Rattle.zed_types.specs.declared.header.HeaderSetting.TheVariants.{WorldName, Flag as FlagSetting}
@@ -69,7 +70,7 @@ is_in_range (BoardAdd name) = is_at_most 50 name
 is_in_range (BoardRemove b) = not (same_board b title)
 is_in_range (SetBoard b setting) = is_property_in_range setting
 is_in_range (SetCells b r tile) = is_in_table r
-is_in_range (TextInsert t after bytes) = nat_le 1 (length bytes) && nat_le (length bytes) 32767
+is_in_range (TextInsert t after bytes) = nat_le 1 (length bytes) && nat_le (length bytes) READ_BODY_LIMIT
 is_in_range (TextDelete t r) = nat_le r.first r.last
 is_in_range _ = true
 

@@ -12,12 +12,13 @@ use crate::naming::names;
 use crate::op::{Edit, Op};
 use std::alloc::Global;
 use zed_types::{
-    BoardId, BoardSetting, BoardText, Bytes, COLUMNS, HeaderSetting, ROWS, Rectangle, Stamp,
+    BoardId, BoardSetting, BoardText, Bytes, COLUMNS, HeaderSetting, READ_BODY_LIMIT, ROWS,
+    Rectangle, Stamp,
 };
 use zed_world::is_canonical;
 
-/// Most bytes that one edit puts into a text.
-const MOST_INSERTED: usize = 32_767;
+/// Most bytes that one edit puts into a text: as many as a board's body may have.
+const MOST_INSERTED: usize = READ_BODY_LIMIT;
 
 /// Most bytes of a world's name, and of a flag.
 const MOST_OF_WORD: usize = 20;

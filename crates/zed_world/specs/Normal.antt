@@ -2,6 +2,7 @@
 use Rattle.std.specs.Prelude.{◌≡◌, ℕ, ℤ, ◌<◌, ◌≤◌, ◌^◌, true, List, [], ◌∷◌, ◌++◌, length, slice_get, Some, IfSome, Ok, FitsSigned}
 use Rattle.std.specs.List.{AllByRecursion}
 use Rattle.std.specs.Int.{w16}
+use Rattle.zed_types.specs.declared.limits.TheConstants.{READ_BODY_LIMIT}
 use Rattle.zed_types.specs.declared.tile.Tile.{Tile}
 use Rattle.zed_types.specs.declared.tile.TheConstants.{TILES}
 use Rattle.zed_world.specs.declared.header.Header.{Header}
@@ -94,7 +95,7 @@ pub record IsNormal (w : Contents) : Type 0 where
 
 -- the body that the writer makes of this board is one that may be read
 abbrev pub HasShortBody : BoardData → Type 0
-HasShortBody b = length (body_text b) ≤ 32767
+HasShortBody b = length (body_text b) ≤ READ_BODY_LIMIT
 
 -- what the writer asks of a board
 pub record IsWritable (b : BoardData) : Type 0 where

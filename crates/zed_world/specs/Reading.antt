@@ -1,6 +1,7 @@
 -- What a world file says: from left to right, with the first fault that is met.
 use Rattle.std.specs.Prelude.{ℕ, zero, suc, ℤ, pos, negsuc, ◌+◌, not, ◌==◌, ◌≤◌, nat_lt, nat_le, if◌then◌else◌, List, [], ◌∷◌, ◌++◌, length, take, drop, slice_get, Option, Some, None, Result, Ok, Err, ◌≡◌, ◌⊎◌}
 use Rattle.byteorder.specs.Endian.{little_number}
+use Rattle.zed_types.specs.declared.limits.TheConstants.{READ_BODY_LIMIT}
 use Rattle.zed_types.specs.declared.tile.Tile.{Tile}
 use Rattle.zed_types.specs.declared.tile.TheConstants.{TILES}
 use Rattle.zed_types.specs.Steps.{◌>>=◌}
@@ -84,7 +85,7 @@ board_at boards body =
 unfoldable pub body_at : List ℕ → Result (List ℕ × List ℕ) WorldError
 body_at bytes =
     if nat_lt (length bytes) 2 then Err Truncated else
-    if nat_lt 32767 (little_number 2 bytes) then Err BadBoardSize else
+    if nat_lt READ_BODY_LIMIT (little_number 2 bytes) then Err BadBoardSize else
     if nat_lt (length (drop 2 bytes)) (little_number 2 bytes) then Err Truncated else Ok (take (little_number 2 bytes) (drop 2 bytes), drop (little_number 2 bytes) (drop 2 bytes))
 
 -- the next board, whatever those before it are, and what follows it

@@ -2,6 +2,7 @@
 ghost use Rattle.std.specs.Prelude.{◌≡◌, ◌+◌, ◌<◌, ◌≤◌, ◌++◌, length, FitsSigned, OnOk, IfOk, IfErr};
 ghost use Rattle.std.specs.Int.{w16};
 ghost use Rattle.std.specs.List.{flat_map, AllByRecursion};
+ghost use Rattle.zed_types.specs.declared.limits.TheConstants.{READ_BODY_LIMIT};
 ghost use Rattle.zed_runs.specs.Runs.{greedy};
 ghost use Rattle.zed_world.specs.Reading.{Gives, world_at};
 ghost use Rattle.zed_world.specs.Writing.{HasText, code_length, stat_text, body_text, board_text, world_text, written};
@@ -109,7 +110,7 @@ fn text_of(alloc: Global, header: &Header, boards: &[BoardData]) -> Result<Vec<u
 /// `BoardOver` for the first board whose body has more, with its number and how many; then `Memory` where a growth was refused.
 /// Unused bytes and pointers are 0, flags are 0 or 1, runs are greedy, and a shared program stands with the stat that owns it.
 pub fn write_world(alloc: Global, world: &World, limit: usize) -> Result<Vec<u8>, WorldError>
-    requires { limit ≤ 32767 }
+    requires { limit ≤ READ_BODY_LIMIT }
     ensures result { Gives (λ v. v.items) result (written limit world.now) }
 
     // What is written is read again.
