@@ -15,14 +15,18 @@ use Rattle.zed_code.proofs.Joins.{length-lists}
 use Rattle.zed_code.proofs.Cuts.{some-pieces}
 use Rattle.zed_code.proofs.Hinting.{all-left, all-right, all-both}
 
--- a run that ends before a range is left alone
-untouched : (x : ByteRange) (r : Run) → lasts x.stamp x.first r ≡ false → pieces x r ≡ r ∷ []
-untouched x r e = rw (misses r.alive (same_stamp r.stamp x.stamp) e) refl
+-- a run that ends before a range has no byte of it
+pub spared : (x : ByteRange) (r : Run) → lasts x.stamp x.first r ≡ false → touches x r ≡ false
+spared x r e = misses r.alive (same_stamp r.stamp x.stamp) e
   where
     misses : (a s : Bool) → (s && ltb x.first (r.first + r.len)) ≡ false → (a && (s && ltb (low x r) (high x r))) ≡ false
     misses false s h = refl
     misses true false h = refl
     misses true true h = let l : r.first + r.len ≤ x.first = grind (arith) in let m : high x r ≤ low x r = omega (arith, l) in grind (arith)
+
+-- it is left alone
+untouched : (x : ByteRange) (r : Run) → lasts x.stamp x.first r ≡ false → pieces x r ≡ r ∷ []
+untouched x r e = rw (spared x r e) refl
 
 pub cut_from : (x : ByteRange) (rs : List Run) (n : ℕ) → NoneFrom x.stamp x.first (take n rs) → take n rs ++ kill_runs x (drop n rs) ≡ kill_runs x rs
 cut_from x rs zero none = refl
@@ -60,7 +64,7 @@ both_same q r a h k = grind (arith)
 not_less : (m n : ℕ) → n ≤ m → ltb m n ≡ false
 not_less m n l = grind (arith)
 
-beyond : (x : ByteRange) (q r : Run) → reaches x q ≡ true → InOrder q r → touches x r ≡ false
+pub beyond : (x : ByteRange) (q r : Run) → reaches x q ≡ true → InOrder q r → touches x r ≡ false
 beyond x q r h behind = go r.alive (same_stamp r.stamp x.stamp) refl
   where
     go : (a s : Bool) → same_stamp r.stamp x.stamp ≡ s → (a && (s && ltb (low x r) (high x r))) ≡ false
@@ -76,7 +80,7 @@ pub cut_done : (x : ByteRange) (q : Run) (rs : List Run) → reaches x q ≡ tru
 cut_done x q [] h behind = refl
 cut_done x q (r ∷ rs) h behind = rw (beyond x q r h behind.0) (ap (λ qs. r ∷ qs) (cut_done x q rs h behind.1))
 
-order-right : (xs ys : List Run) → AllInOrder (xs ++ ys) → AllInOrder ys
+pub order-right : (xs ys : List Run) → AllInOrder (xs ++ ys) → AllInOrder ys
 order-right [] ys h = h
 order-right (x ∷ xs) ys h = order-right xs ys h.1
 
@@ -90,7 +94,7 @@ order-at (rs ∷ ls) zero h = order-left rs (joined ls) h
 order-at (rs ∷ ls) (suc i) h = order-at ls i (order-right rs (joined ls) h)
 
 -- nothing of a range is behind a run that has its end
-reach-touch : (x : ByteRange) (rs qs : List Run) → list_any (reaches x) rs ≡ true → AllInOrder (rs ++ qs) → AllByRecursion (λ r. touches x r ≡ false) qs
+pub reach-touch : (x : ByteRange) (rs qs : List Run) → list_any (reaches x) rs ≡ true → AllInOrder (rs ++ qs) → AllByRecursion (λ r. touches x r ≡ false) qs
 reach-touch x [] qs h ordered = absurd (cc)
 reach-touch x (r ∷ rs) qs h ordered = go (reaches x r) refl h (λ k. reach-touch x rs qs k ordered.1)
   where

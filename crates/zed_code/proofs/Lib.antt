@@ -17,3 +17,5 @@ pub mod ReadBlocks
 pub mod Rests
 pub mod Deaths
 pub mod LiveBytes
+pub mod Touched
+pub mod Passing

@@ -5,6 +5,7 @@ pub mod Cutting
 pub mod Found
 pub mod Halving
 pub mod Kept
+pub mod Looks
 pub mod Pieces
 pub mod Reading
 pub mod Rising

@@ -1,5 +1,5 @@
 -- Runs of a text, and what an insertion and a deletion do to a list of them.
-use Rattle.std.specs.Prelude.{ℕ, zero, suc, ◌+◌, ◌-◌, Bool, true, false, ◌&&◌, if◌then◌else◌, nat_le, nat_lt, List, [], ◌∷◌, ◌++◌, min, Option, Some, None}
+use Rattle.std.specs.Prelude.{ℕ, zero, suc, ◌+◌, ◌-◌, Bool, true, false, ◌&&◌, if◌then◌else◌, nat_le, nat_lt, List, [], ◌∷◌, ◌++◌, length, min, count_by, Option, Some, None}
 use Rattle.std.specs.List.{flat_map}
 use Rattle.zed_types.specs.declared.stamp.Stamp.{Stamp}
 use Rattle.zed_types.specs.declared.names.ElemId.{ElemId}
@@ -41,6 +41,20 @@ pass_runs run (r ∷ rs) = if before run.stamp r.stamp then r ∷ pass_runs run 
 -- how many bytes of a run there are up to a byte of it
 abbrev pub up_to : ElemId → Run → ℕ
 up_to a r = suc (a.name.index - r.first)
+
+-- the runs that follow the one with a byte; none, where more of its bytes follow the byte
+abbrev pub behind : ElemId → List Run → List Run
+behind a [] = []
+behind a (r ∷ rs) = if has a r then (if nat_lt (up_to a r) r.len then [] else rs) else behind a rs
+
+-- how many runs of later edits an insertion passes
+abbrev pub passed_after : Option ElemId → Stamp → List Run → ℕ
+passed_after None s rs = passed s rs
+passed_after (Some a) s rs = passed s (behind a rs)
+
+-- the fewest runs that an insertion looks at: those that it passes, and one more, as far as there are so many
+abbrev pub looks_to_put : Option ElemId → Stamp → List Run → ℕ
+looks_to_put after s rs = min (passed_after after s rs + 1) (length rs)
 
 -- `run` behind a byte of the run `r`
 abbrev pub put_behind : ElemId → Run → Run → List Run → List Run
@@ -99,6 +113,10 @@ killed r = record r { alive = false }
 -- a run, unless it has no byte
 abbrev pub if_any : Run → List Run
 if_any r = if nat_lt 0 r.len then r ∷ [] else []
+
+-- how many runs have alive bytes in a range
+abbrev pub touched : ByteRange → List Run → ℕ
+touched x rs = count_by (touches x) rs
 
 -- a run whose bytes of a range are dead
 abbrev pub pieces : ByteRange → Run → List Run

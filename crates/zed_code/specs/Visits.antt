@@ -9,6 +9,10 @@ greatest = 18446744073709551615
 abbrev pub raised : ℕ → ℕ → ℕ
 raised v n = min (v + n) greatest
 
+-- at least so many more runs were looked at
+abbrev pub LooksAtLeast : ℕ → ℕ → ℕ → Type 0
+LooksAtLeast n old new = raised old n ≤ new
+
 -- so many more runs were looked at: at most one more than n, and at least one, if there is one
 abbrev pub LooksAtSome : ℕ → ℕ → ℕ → Type 0
 LooksAtSome n old new = (k : ℕ) × (new ≡ raised old k) × (k ≤ n + 1) × (0 < n → 0 < k)

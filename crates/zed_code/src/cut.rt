@@ -3,10 +3,10 @@
 ghost use Rattle.std.specs.Prelude.{◌≡◌, ◌∷◌, ◌++◌, ◌<◌, ◌≤◌, ◌+◌, ◌-◌, ℕ, true, length, map, take, drop, set, vec_len, vec_capacity, OnOk, OnErr};
 ghost use Rattle.std.specs.List.{AllByRecursion, list_any};
 ghost use Rattle.zed_code.specs.Blocks.{lists, list_at, runs_of, before_spot, IsIn, NoneEmpty, HasRoom};
-ghost use Rattle.zed_code.specs.Runs.{pieces, kill_runs, reaches as is_reached};
+ghost use Rattle.zed_code.specs.Runs.{pieces, kill_runs, touched, reaches as is_reached};
 ghost use Rattle.zed_code.specs.Kept.{IsSound, AllInOrder, NoneFrom, AreHints};
 ghost use Rattle.zed_code.specs.Found.{IsFound};
-ghost use Rattle.zed_code.specs.Visits.{raised, LooksAtSome};
+ghost use Rattle.zed_code.specs.Visits.{raised, LooksAtSome, LooksAtLeast};
 
 use crate::block::{Block, Spot};
 use crate::blocks::{reserve_from, split_full};
@@ -58,6 +58,7 @@ fn cut_in(runs: &mut Vec<Run>, range: ByteRange, start: usize, visits: &mut u64)
     ensures end { result ≡ true → list_any (is_reached range) runs.old.items ≡ true }
     ensures visits { (k : ℕ) × (visits.new ≡ raised visits.old k)
         × (k + start ≤ length runs.old.items) }
+    ensures looks { LooksAtLeast (touched range runs.old.items) visits.old visits.new }
 {
     let _visits = *visits;
     let mut i = start;
@@ -93,6 +94,8 @@ fn cut_block(
         → list_any (is_reached range) (list_at block (lists blocks.old.items)) ≡ true }
     ensures visits { (k : ℕ) × (visits.new ≡ raised visits.old k)
         × (k + start ≤ length (list_at block (lists blocks.old.items))) }
+    ensures looks { LooksAtLeast
+        (touched range (list_at block (lists blocks.old.items))) visits.old visits.new }
 {
     cut_in(&mut blocks[block].runs, range, start, visits)
 }
@@ -108,6 +111,7 @@ fn cut(blocks: &mut Vec<Block>, range: ByteRange, at: Spot, visits: &mut u64)
     ensures runs { lists blocks.new.items ≡ map (kill_runs range) (lists blocks.old.items) }
     ensures visits { (k : ℕ) × (visits.new ≡ raised visits.old k)
         × (k + before_spot at (lists blocks.old.items) ≤ length (runs_of blocks.old.items)) }
+    ensures looks { LooksAtLeast (touched range (runs_of blocks.old.items)) visits.old visits.new }
 {
     let _visits = *visits;
     let mut start = at.place;
@@ -140,6 +144,9 @@ pub(crate) fn mark_dead(
     ensures hints { AreHints hints.new.entries places.new.items (lists blocks.new.items) }
     ensures visits { OnOk result
         (LooksAtSome (length (runs_of blocks.old.items)) visits.old visits.new) }
+    ensures looks { OnOk result
+        (LooksAtLeast (touched range (runs_of blocks.old.items)) visits.old visits.new) }
+    ensures memory_only_when { OnErr result (0 < length blocks.old.items) }
 {
     let first = ElemId::new(range.stamp, range.first);
     let at = seek(blocks, places, hints, found, first, visits)?;

@@ -5,11 +5,11 @@ ghost use Rattle.std.specs.List.{AllByRecursion};
 ghost use Rattle.zed_code.specs.Targets.{IsTarget, cut_bytes, fronts};
 ghost use Rattle.zed_code.specs.Blocks.{lists, list_at, runs_of, before_spot, IsIn, NoneEmpty, HasRoom};
 ghost use Rattle.zed_code.specs.Halving.{IsSameText};
-ghost use Rattle.zed_code.specs.Runs.{put_run, put_at, pass_runs, found, put_in as put_into};
+ghost use Rattle.zed_code.specs.Runs.{put_run, put_at, pass_runs, found, looks_to_put, put_in as put_into};
 ghost use Rattle.zed_code.specs.There.{IsThere};
 ghost use Rattle.zed_code.specs.Kept.{IsSound, AllInOrder, NoneOf, AreHints};
 ghost use Rattle.zed_code.specs.Found.{IsFound, StandsAt};
-ghost use Rattle.zed_code.specs.Visits.{raised, LooksAtSome};
+ghost use Rattle.zed_code.specs.Visits.{raised, LooksAtSome, LooksAtLeast};
 
 use crate::block::{Block, Cut, Spot, put_in, runs_at};
 use crate::blocks::{reserve_at, split_full};
@@ -37,6 +37,7 @@ fn aim_first(blocks: &[Block], run: Run, visits: &mut u64) -> Target
         ≡ pass_runs run (runs_of blocks.now) }
     ensures aim { IsTarget result (lists blocks.now) }
     ensures visits { LooksAtSome (length (runs_of blocks.now)) visits.old visits.new }
+    ensures looks { LooksAtLeast (looks_to_put None run.stamp (runs_of blocks.now)) visits.old visits.new }
 {
     let head = Spot { block: 0, place: 0 };
     let at = pass(blocks, head, run.stamp, visits);
@@ -54,6 +55,7 @@ fn aim_behind(blocks: &[Block], a: ElemId, at: Spot, run: Run, visits: &mut u64)
     ensures aim { IsTarget result (lists blocks.now) }
     ensures visits { (k : ℕ) × (visits.new ≡ raised visits.old k)
         × (k + before_spot at (lists blocks.now) < length (runs_of blocks.now) + 1) }
+    ensures looks { LooksAtLeast (looks_to_put (Some a) run.stamp (runs_of blocks.now)) visits.old visits.new }
 {
     let _visits = *visits;
     let there = look(runs_at(blocks, at.block), at.place, visits);
@@ -93,6 +95,8 @@ fn aim(
     ensures aim { IfOk result (λ aim. IsTarget aim (lists blocks.now)) }
     ensures visits { OnOk result
         (LooksAtSome (length (runs_of blocks.now)) visits.old visits.new) }
+    ensures looks { OnOk result
+        (LooksAtLeast (looks_to_put after run.stamp (runs_of blocks.now)) visits.old visits.new) }
     ensures hints { AreHints hints.new.entries places.now (lists blocks.now) }
 {
     match after {
@@ -187,6 +191,8 @@ pub(crate) fn put(
     ensures hints { AreHints hints.new.entries places.new.items (lists blocks.new.items) }
     ensures visits { OnOk result
         (LooksAtSome (length (runs_of blocks.old.items)) visits.old visits.new) }
+    ensures looks { OnOk result
+        (LooksAtLeast (looks_to_put after run.stamp (runs_of blocks.old.items)) visits.old visits.new) }
 {
     let _visits = *visits;
     if blocks.is_empty() {

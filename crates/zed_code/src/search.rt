@@ -1,6 +1,6 @@
 //! How the run of a byte is found.
 
-ghost use Rattle.std.specs.Prelude.{◌≡◌, ◌<◌, ◌≤◌, ◌+◌, ℕ, true, length, Some, IfOk, IfSome};
+ghost use Rattle.std.specs.Prelude.{◌≡◌, ◌<◌, ◌≤◌, ◌+◌, ℕ, true, length, Some, IfOk, IfSome, OnErr};
 ghost use Rattle.std.specs.List.{list_any};
 ghost use Rattle.zed_code.specs.Blocks.{lists, runs_of, before_spot, IsIn, NoneEmpty};
 ghost use Rattle.zed_code.specs.Kept.{AreHints, AllInOrder};
@@ -75,6 +75,7 @@ pub(crate) fn seek(
         × (k ≤ before_spot at (lists blocks.now) + 1) × (k ≤ length (runs_of blocks.now))
         × (0 < length (runs_of blocks.now) → 0 < k)) }
     ensures hints { AreHints hints.new.entries places.now (lists blocks.now) }
+    ensures memory_only_when { OnErr result (0 < length blocks.now) }
 {
     match found_of(found, id) {
         Some(last) => {
@@ -105,6 +106,7 @@ fn seek_by_hints(
         × (k ≤ before_spot at (lists blocks.now) + 1) × (k ≤ length (runs_of blocks.now))
         × (0 < length (runs_of blocks.now) → 0 < k)) }
     ensures hints { AreHints hints.new.entries places.now (lists blocks.now) }
+    ensures memory_only_when { OnErr result (0 < length blocks.now) }
 {
     let start = start_of(hints, places, blocks, id);
     let at = find(blocks, start, id.name.stamp, id.name.index, visits);

@@ -2,13 +2,15 @@
 
 ghost use Rattle.std.specs.Prelude.{◌≡◌, ◌↔◌, IsTrue, ◌<◌, ◌≤◌, ◌+◌, ◌^◌, length, [], false, true, map, OnOk, OnErr, IfOk, IfErr, Some, None, MatchOption, slice_get};
 ghost use Rattle.std.specs.List.{AllByRecursion, filter, list_any};
+ghost use Rattle.zed_types.specs.declared.limits.TheConstants.{READ_BODY_LIMIT};
 ghost use Rattle.zed_types.specs.Stamp.{before, same_stamp};
 ghost use Rattle.zed_types.specs.Names.{same_element};
 ghost use Rattle.zed_types.specs.Text.{run_from, put_late, kill, alive_bytes};
 ghost use Rattle.zed_code.specs.Text.{elements, StandsAfter, IsNewStamp, HasMore, alive_names, bytes_from, genesis};
 ghost use Rattle.zed_code.specs.Runs.{if_any, whole};
 ghost use Rattle.zed_code.specs.Blocks.{lists, runs_of, NoneEmpty};
-ghost use Rattle.zed_code.specs.Visits.{raised, LooksAtSome};
+ghost use Rattle.zed_code.specs.Looks.{looks_to_insert, looks_to_delete};
+ghost use Rattle.zed_code.specs.Visits.{raised, LooksAtSome, LooksAtLeast};
 
 use crate::block::Block;
 use crate::cut::mark_dead;
@@ -91,7 +93,7 @@ impl Text {
 
     /// A text of the edit that makes the world: its bytes, numbered from 0. One without bytes takes no memory.
     pub fn genesis(alloc: Global, bytes: &[u8]) -> Result<Text, CodeError>
-        requires { length bytes.now ≤ 32767 }
+        requires { length bytes.now ≤ READ_BODY_LIMIT }
         ensures ok { IfOk result (λ t. elements t ≡ run_from genesis 0 bytes.now) }
         ensures runs { IfOk result (λ t. length t.cutting ≤ 1) }
         ensures visits { IfOk result (λ t. t.visits ≡ 0) }
@@ -127,13 +129,15 @@ impl Text {
     ) -> Result<(), CodeError>
         requires there { StandsAfter after stamp (elements self.old) }
         requires new { IsNewStamp stamp (elements self.old) }
-        requires most { length bytes.now ≤ 32767 }
+        requires most { length bytes.now ≤ READ_BODY_LIMIT }
         ensures ok { OnOk result (elements self.new
             ≡ put_late after stamp (run_from stamp 0 bytes.now) (elements self.old)) }
         ensures kept { OnErr result (self.new ≡ self.old) }
         ensures runs { HasMore 2 self.old self.new }
         ensures visits { OnOk result
             (LooksAtSome (length self.old.cutting) self.old.visits self.new.visits) }
+        ensures looks { OnOk result (0 < length bytes.now → LooksAtLeast
+            (looks_to_insert after stamp self.old.cutting) self.old.visits self.new.visits) }
         ensures memory_only_when { OnErr result (0 < length bytes.now) }
     {
         if bytes.is_empty() {
@@ -152,13 +156,15 @@ impl Text {
         requires there { StandsAfter after stamp (elements self.old) }
         requires new { IsNewStamp stamp (elements self.old) }
         requires some { 0 < length bytes.now }
-        requires most { length bytes.now ≤ 32767 }
+        requires most { length bytes.now ≤ READ_BODY_LIMIT }
         ensures ok { OnOk result (elements self.new
             ≡ put_late after stamp (run_from stamp 0 bytes.now) (elements self.old)) }
         ensures kept { OnErr result (self.new ≡ self.old) }
         ensures runs { HasMore 2 self.old self.new }
         ensures visits { OnOk result
             (LooksAtSome (length self.old.cutting) self.old.visits self.new.visits) }
+        ensures looks { OnOk result (LooksAtLeast
+            (looks_to_insert after stamp self.old.cutting) self.old.visits self.new.visits) }
     {
         self.store
             .reserve(bytes.len())
@@ -187,7 +193,8 @@ impl Text {
         Ok(())
     }
 
-    /// Marks bytes from..to, both included, of the insertion with a stamp dead. Memory leaves the text as it was.
+    /// Marks bytes from..to, both included, of the insertion with a stamp dead. Memory leaves the text as it was. A text without
+    /// a byte takes none.
     pub fn delete(&mut self, stamp: Stamp, from: u32, to: u32) -> Result<(), CodeError>
         ensures ok { OnOk result (elements self.new
             ≡ kill (bytes_from stamp from to) (elements self.old)) }
@@ -195,6 +202,9 @@ impl Text {
         ensures runs { HasMore 2 self.old self.new }
         ensures visits { OnOk result
             (LooksAtSome (length self.old.cutting) self.old.visits self.new.visits) }
+        ensures looks { OnOk result (LooksAtLeast
+            (looks_to_delete (bytes_from stamp from to) self.old.cutting) self.old.visits self.new.visits) }
+        ensures memory_only_when { OnErr result (0 < length self.old.cutting) }
     {
         let range = ByteRange {
             stamp,

@@ -1,5 +1,5 @@
 -- What the counts of texts come to as an edit is taken.
-use Rattle.std.proofs.Common.{◌≡◌, ◌∙◌, ℕ, ◌≤◌, ◌<◌, ◌+◌, ◌-◌, ◌*◌, min, Bool, true, false, cond, List, [], ◌∷◌, length, map, Option, Some, None, refl, ap, sym, subst, arith}
+use Rattle.std.proofs.Common.{◌≡◌, ◌∙◌, ℕ, ◌≤◌, ◌<◌, ◌+◌, ◌-◌, ◌*◌, ◌^◌, min, Bool, true, false, cond, List, [], ◌∷◌, length, map, Option, Some, None, refl, ap, sym, subst, arith}
 use Rattle.std.specs.List.{AllByRecursion, sum_by}
 use Rattle.std.specs.Option.{option_map}
 use Rattle.std.proofs.lemmas.List.Sums.{sum_by-cons}
@@ -8,14 +8,15 @@ use Rattle.zed_types.specs.declared.names.TextId.{TextId}
 use Rattle.zed_types.specs.Names.{same_text}
 use Rattle.zed_types.proofs.StampOrder.{before_irrefl, same_text-true, same_text-itself, same_text-apart}
 use Rattle.zed_types.proofs.Facts.{all_weaker}
+use Rattle.zed_op.specs.declared.op.Edit.{Edit}
 use Rattle.zed_laws.specs.NameOrder.{NamesRise, is_earlier}
 use Rattle.zed_code.specs.Pieces.{Shown}
 use Rattle.zed_code.specs.Visits.{greatest, raised}
 use Rattle.zed_code.specs.Text.{elements}
 use Rattle.zed_texts.specs.ByName.{text_in}
-use Rattle.zed_texts.specs.Looks.{looks_of}
+use Rattle.zed_texts.specs.Looks.{greatest_sum, looks_of}
 use Rattle.zed_texts.specs.Texts.{Texts, elements_of, Grows, AllGrow}
-use Rattle.zed_body.specs.Counts.{HasFew, IsNoLess, NoneFalls}
+use Rattle.zed_body.specs.Counts.{HasFew, HaveFew, IsNoLess, NoneFalls, edits_of}
 use Rattle.zed_document.specs.Counts.{Counts, added, capped, count_of, counts_of, or_zero, total, NoCountFalls}
 
 -- ---- sums
@@ -300,7 +301,7 @@ found-le f t (x ∷ xs) v h = go (same_text t x.0) refl h (λ k. found-le f t xs
 more-than : (x m z k g : ℕ) → m ≡ min (x + k) g → m ≤ z → z < g → 0 < k → 0 < z - x
 more-than x m z k g a b c d = omega (arith, a, b, c, d)
 
-pub looked-at : (t : TextId) (xs mid ys : Texts) (x : Shown) → text_in t xs ≡ Some x → 0 < length x.cutting → Grows true (text_in t xs) (text_in t mid) → IsNoLess (text_in t mid) (text_in t ys) → total (counts_of ys) < greatest → 0 < added (counts_of xs) (counts_of ys)
+pub looked-at : (t : TextId) (xs mid ys : Texts) (x : Shown) → text_in t xs ≡ Some x → 0 < length x.cutting → Grows true (text_in t xs) (text_in t mid) → IsNoLess (text_in t mid) (text_in t ys) → count_of t (counts_of ys) < greatest → 0 < added (counts_of xs) (counts_of ys)
 looked-at t xs mid ys x there some grow less room = go (text_in t mid) (text_in t ys) refl (subst (λ o. Grows true o (text_in t mid)) there grow) less
   where
     go : (p q : Option Shown) → text_in t ys ≡ q → Grows true (Some x) p → IsNoLess p q → 0 < added (counts_of xs) (counts_of ys)
@@ -308,10 +309,10 @@ looked-at t xs mid ys x there some grow less room = go (text_in t mid) (text_in 
     go (Some m) None f g l = absurd l
     go (Some m) (Some z) f g l =
         let has : text_in t (counts_of ys) ≡ Some z.visits = in-counts t ys ∙ ap (option_map (λ y. y.visits)) f in
-        let below = found-le (λ y. y.1) t (counts_of ys) z.visits has in
+        let now : count_of t (counts_of ys) ≡ z.visits = count-is t ys ∙ ap looks f in
         let part = found-le (λ y. y.1 - count_of y.0 (counts_of xs)) t (counts_of ys) z.visits has in
         let was : count_of t (counts_of xs) ≡ x.visits = count-is t xs ∙ ap looks there in
-        let one = more-than x.visits m.visits z.visits g.1.0 greatest g.1.1 l (omega (arith, below, room)) (g.1.3 some) in
+        let one = more-than x.visits m.visits z.visits g.1.0 greatest g.1.1 l (omega (arith, now, room)) (g.1.3 some) in
         omega (arith, part, was, one)
 
 -- ---- the sum that the texts keep
@@ -325,4 +326,20 @@ total-kept (y ∷ ys) =
     omega (arith, kept, all, more)
 
 pub looks_kept : (ys : Texts) → looks_of ys ≡ capped (counts_of ys)
-looks_kept ys = ap (λ n. min n greatest) (total-kept ys)
+looks_kept ys = ap (λ n. min n greatest_sum) (total-kept ys)
+
+-- of fewer than 2^64 texts, whose counts have room each, it has room
+few-each : (es : List Edit) (ys : Texts) → Rise ys → HaveFew es ys → AllByRecursion (λ y. y.1.visits ≤ greatest) ys
+few-each es ys r few =
+    all_weaker (λ y. text_in y.0 ys ≡ Some y.1) (λ y. y.1.visits ≤ greatest) ys
+    (λ y f. (subst (HasFew (edits_of y.0 es)) f (few y.0)).1) (each-found ys r)
+
+total-most : (ys : Texts) → AllByRecursion (λ y. y.1.visits ≤ greatest) ys → total (counts_of ys) ≤ length ys * greatest
+total-most [] a = omega arith
+total-most (y ∷ ys) a =
+    let all = sum_by-cons (λ (z : TextId × ℕ). z.1) (y.0, y.1.visits) (counts_of ys) in
+    let more = total-most ys a.1 in
+    omega (arith, all, more, a.0)
+
+pub total-room : (es : List Edit) (ys : Texts) → Rise ys → HaveFew es ys → length ys < 2 ^ 64 → total (counts_of ys) ≤ greatest_sum
+total-room es ys r few l = let most = total-most ys (few-each es ys r few) in omega (arith, most, l)

@@ -1,5 +1,5 @@
 -- What a delivery tells of its looks.
-use Rattle.std.proofs.Common.{◌≡◌, ◌∙◌, ◌⊎◌, ℕ, ◌≤◌, ◌<◌, ◌+◌, ◌-◌, Bool, true, false, not, List, [], ◌∷◌, length, min, Option, Some, None, refl, ap, sym, subst, arith}
+use Rattle.std.proofs.Common.{◌≡◌, ◌∙◌, ◌⊎◌, ℕ, ◌≤◌, ◌<◌, ◌+◌, ◌-◌, ◌^◌, Bool, true, false, not, List, [], ◌∷◌, length, min, Option, Some, None, refl, ap, sym, subst, arith}
 use Rattle.std.specs.Option.{is_some, option_map}
 use Rattle.std.specs.Prelude.{IfSome}
 use mathlib.Core.Logic.{inl, inr}
@@ -22,6 +22,7 @@ use Rattle.zed_laws.proofs.TakenAlone.{taken_make_all}
 use Rattle.zed_code.specs.Pieces.{Piece, Shown}
 use Rattle.zed_code.specs.Text.{elements}
 use Rattle.zed_code.specs.Visits.{greatest}
+use Rattle.zed_texts.specs.Looks.{greatest_sum}
 use Rattle.zed_texts.specs.ByName.{text_in}
 use Rattle.zed_texts.specs.Texts.{Texts, elements_of, changes_text, Grows, AllGrow}
 use Rattle.zed_texts.specs.Shows.{TextsShow}
@@ -34,10 +35,10 @@ use Rattle.zed_body.specs.Taking.{ComesTo, Tells, held_stamps, is_held}
 use Rattle.zed_body.proofs.Stirring.{none_falls-itself}
 use Rattle.zed_document.specs.declared.delivered.Delivered.{Delivered}
 use Rattle.zed_document.specs.declared.delivered.State.TheVariants.{Taken as as_taken, Held, Known}
-use Rattle.zed_document.specs.Counts.{added, capped, counts_of, total}
+use Rattle.zed_document.specs.Counts.{added, capped, count_of, counts_of, total}
 use Rattle.zed_document.specs.Delivery.{state_of}
-use Rattle.zed_document.specs.Visits.{HasElement, TellsVisits, most_looks, text_changed}
-use Rattle.zed_document.proofs.Looks.{Rise, counts-fall-not, looked-at, most-none, most-one, sum-law, texts-rise}
+use Rattle.zed_document.specs.Visits.{HasElement, CountHasRoom, TellsVisits, most_looks, text_changed}
+use Rattle.zed_document.proofs.Looks.{Rise, counts-fall-not, looked-at, most-none, most-one, sum-law, texts-rise, total-room}
 
 -- ---- a text with an element has a run
 
@@ -64,12 +65,12 @@ most-of es (TextInsert t after bytes) xs ys few s grow = most-one t (edits_of t 
 most-of es (TextDelete t range) xs ys few s grow = most-one t (edits_of t (taken es)) xs ys s grow (few t)
 most-of es _ xs ys few s grow = most-none xs ys s grow
 
-some-at : (es : List Edit) (t : TextId) (xs mid ys : Texts) → TextsShow (taken es) (elements_of xs) → 0 < length (shown_elements (replay es) t) → Grows (same_text t t) (text_in t xs) (text_in t mid) → NoneFalls mid ys → total (counts_of ys) < greatest → 0 < added (counts_of xs) (counts_of ys)
+some-at : (es : List Edit) (t : TextId) (xs mid ys : Texts) → TextsShow (taken es) (elements_of xs) → 0 < length (shown_elements (replay es) t) → Grows (same_text t t) (text_in t xs) (text_in t mid) → NoneFalls mid ys → count_of t (counts_of ys) < greatest → 0 < added (counts_of xs) (counts_of ys)
 some-at es t xs mid ys shows has grow falls room =
     let r = has-run es t xs shows has in
     looked-at t xs mid ys r.0 r.1 r.2 (subst (λ b. Grows b (text_in t xs) (text_in t mid)) (same_text-itself t) grow) (falls t) room
 
-some-of : (es : List Edit) (op : Op) (xs mid ys : Texts) → TextsShow (taken es) (elements_of xs) → HasElement es (text_changed op) → AllGrow (λ t. changes_text t op) xs mid → NoneFalls mid ys → total (counts_of ys) < greatest → 0 < added (counts_of xs) (counts_of ys)
+some-of : (es : List Edit) (op : Op) (xs mid ys : Texts) → TextsShow (taken es) (elements_of xs) → HasElement es (text_changed op) → AllGrow (λ t. changes_text t op) xs mid → NoneFalls mid ys → CountHasRoom (counts_of ys) (text_changed op) → 0 < added (counts_of xs) (counts_of ys)
 some-of es (TextInsert t after bytes) xs mid ys shows has grow falls room = some-at es t xs mid ys shows has (grow t) falls room
 some-of es (TextDelete t range) xs mid ys shows has grow falls room = some-at es t xs mid ys shows has (grow t) falls room
 some-of es _ xs mid ys shows has grow falls room = absurd has
@@ -78,12 +79,9 @@ some-of es _ xs mid ys shows has grow falls room = absurd has
 
 -- the looks since before the edit came, or none where there can be none
 abbrev pub IsTold : Edit → Taken → Texts → Texts → ℕ → Type 0
-IsTold e t xs ys v = (v ≡ capped (counts_of ys) - capped (counts_of xs)) ⊎ ((text_changed e.op ≡ None) × (t.woken ≡ 0) × (v ≡ 0))
+IsTold e t xs ys v = ((v ≡ min (capped (counts_of ys) - capped (counts_of xs)) greatest) × (length ys < 2 ^ 64)) ⊎ ((text_changed e.op ≡ None) × (t.woken ≡ 0) × (v ≡ 0))
 
-told-most : (new old more v : ℕ) → more + old ≡ new → v ≡ min new greatest - min old greatest → v ≤ more
-told-most new old more v h k = omega (arith, h, k)
-
-told-sum : (new old more v : ℕ) → more + old ≡ new → v ≡ min new greatest - min old greatest → new ≤ greatest → v ≡ more
+told-sum : (new old more v : ℕ) → more + old ≡ new → v ≡ min (min new greatest_sum - min old greatest_sum) greatest → new ≤ greatest_sum → v ≡ min more greatest
 told-sum new old more v h k room = omega (arith, h, k, room)
 
 through : (a b c : ℕ) → a ≤ b → b ≤ c → a ≤ c
@@ -121,22 +119,21 @@ tells_visits e es b c t d was now works state woken told = record {
     most-added : t.woken ≡ 0 → more ≤ most_looks es (text_changed e.op)
     most-added w = most-by t.held refl w
 
-    least : d.visits ≤ more
-    least = elim told [ inl k ↦ told-most (total (counts_of c.texts)) (total (counts_of b.texts)) more d.visits law k | inr k ↦ (let z : d.visits ≡ 0 = k.2 in omega (arith, z)) ]
-
-    sum-told : total (counts_of c.texts) ≤ greatest → d.visits ≡ more
-    sum-told room = elim told [
-      | inl k ↦ told-sum (total (counts_of c.texts)) (total (counts_of b.texts)) more d.visits law k room
+    sum-told : d.visits ≡ min more greatest
+    sum-told = elim told [
+      | inl k ↦ told-sum (total (counts_of c.texts)) (total (counts_of b.texts)) more d.visits law k.0 (total-room (taken (with_edit e es)) c.texts rises now.content.few k.1)
       | inr k ↦ (let z : d.visits ≡ 0 = k.2 in let n : more ≤ 0 = subst (λ o. more ≤ most_looks es o) k.0 (most-added k.1) in omega (arith, z, n))
     ]
 
-    some-told : (h : Bool) → t.held ≡ h → d.state ≡ as_taken → HasElement es (text_changed e.op) → total (counts_of c.texts) < greatest → 0 < d.visits
+    least : d.visits ≤ more
+    least = omega (arith, sum-told)
+
+    some-told : (h : Bool) → t.held ≡ h → d.state ≡ as_taken → HasElement es (text_changed e.op) → CountHasRoom (counts_of c.texts) (text_changed e.op) → 0 < d.visits
     some-told true h taken has room = let waits : d.state ≡ Held = state ∙ ap state_of h in absurd (cc)
     some-told false h taken has room =
         let first = works.done h in
         let one = some-of es e.op b.texts first.0 c.texts was.content.texts has first.1 first.2 room in
-        let all = sum-told (omega (arith, room)) in
-        omega (arith, one, all)
+        omega (arith, one, sum-told)
 
     none-told : (h : Bool) → t.held ≡ h → (d.state ≡ as_taken → ⊥) → d.visits ≡ 0
     none-told true h other = let z = none-added h in omega (arith, z, least)
@@ -147,7 +144,7 @@ tells_known e es b d was known visits =
     let rises = texts-rise b.texts was.content.texts.rise in
     let law = sum-law b.texts b.texts rises rises (none_falls-itself b.texts b.texts refl) in
     record {
-      sum = λ room. omega (arith, law, visits);
+      sum = omega (arith, law, visits);
       falls = λ t. omega arith;
       most = λ w. omega (arith, visits);
       some = λ taken has room. absurd (cc);
@@ -166,6 +163,6 @@ none_woken remembered e es b t come tells none =
 -- what is told, by the looks before
 pub told_by : (e : Edit) (t : Taken) (b : Body) (ys : Texts) (before : Option ℕ) (v : ℕ)
     → IfSome before (λ n. n ≡ capped (counts_of b.texts)) → (before ≡ None → is_some (text_changed e.op) ≡ false) → (before ≡ None → length b.inbox ≡ 0)
-    → IfSome before (λ n. v ≡ capped (counts_of ys) - n) → (before ≡ None → v ≡ 0) → (length b.inbox ≡ 0 → t.woken ≡ 0) → IsTold e t b.texts ys v
-told_by e t b ys (Some n) v was none calm since nothing woken = inl (since ∙ ap (λ m. capped (counts_of ys) - m) was)
-told_by e t b ys None v was none calm since nothing woken = inr (none_is (text_changed e.op) (none refl), woken (calm refl), nothing refl)
+    → IfSome before (λ n. v ≡ min (capped (counts_of ys) - n) greatest) → IfSome before (λ n. length ys < 2 ^ 64) → (before ≡ None → v ≡ 0) → (length b.inbox ≡ 0 → t.woken ≡ 0) → IsTold e t b.texts ys v
+told_by e t b ys (Some n) v was none calm since within nothing woken = inl (since ∙ ap (λ m. min (capped (counts_of ys) - m) greatest) was, within)
+told_by e t b ys None v was none calm since within nothing woken = inr (none_is (text_changed e.op) (none refl), woken (calm refl), nothing refl)

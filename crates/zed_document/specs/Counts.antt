@@ -1,7 +1,7 @@
 -- How often runs of texts were looked at, text by text.
 use Rattle.std.specs.Prelude.{◌≤◌, ℕ, ◌-◌, min, map, sum_by, Option, Some, None}
 use Rattle.zed_types.specs.declared.names.TextId.{TextId}
-use Rattle.zed_code.specs.Visits.{greatest}
+use Rattle.zed_texts.specs.Looks.{greatest_sum}
 use Rattle.zed_texts.specs.ByName.{ByName, text_in}
 use Rattle.zed_texts.specs.Texts.{Texts}
 
@@ -26,9 +26,9 @@ count_of t xs = or_zero (text_in t xs)
 abbrev pub total : Counts → ℕ
 total xs = sum_by (λ x. x.1) xs
 
--- the same, as far as one count has room
+-- the same, as far as the sum that is kept has room
 abbrev pub capped : Counts → ℕ
-capped xs = min (total xs) greatest
+capped xs = min (total xs) greatest_sum
 
 -- the sum of what each text has more than before, where one that is new had 0
 abbrev pub added : Counts → Counts → ℕ

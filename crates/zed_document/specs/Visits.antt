@@ -1,5 +1,5 @@
 -- How many runs a delivery says that it looked at.
-use Rattle.std.specs.Prelude.{◌≡◌, ◌≢◌, ◌≤◌, ◌<◌, ℕ, ◌+◌, ◌*◌, List, length, Option, Some, None}
+use Rattle.std.specs.Prelude.{◌≡◌, ◌≢◌, ◌≤◌, ◌<◌, ℕ, ◌+◌, ◌*◌, min, List, length, Option, Some, None}
 use Rattle.zed_types.specs.declared.names.TextId.{TextId}
 use Rattle.zed_op.specs.declared.op.Op.{Op}
 use Rattle.zed_op.specs.declared.op.Op.TheVariants.{TextInsert, TextDelete}
@@ -10,7 +10,7 @@ use Rattle.zed_code.specs.Visits.{greatest}
 use Rattle.zed_body.specs.Counts.{edits_of}
 use Rattle.zed_document.specs.declared.delivered.Delivered.{Delivered}
 use Rattle.zed_document.specs.declared.delivered.State.TheVariants.{Taken}
-use Rattle.zed_document.specs.Counts.{Counts, added, total, NoCountFalls}
+use Rattle.zed_document.specs.Counts.{Counts, added, count_of, NoCountFalls}
 
 -- the text whose bytes an op puts in or takes away, if it is such an op
 abbrev pub text_changed : Op → Option TextId
@@ -28,12 +28,17 @@ abbrev pub HasElement : List Edit → Option TextId → Type 0
 HasElement es None = ⊥
 HasElement es (Some t) = 0 < length (elements (replay es) t)
 
--- what a delivery tells of its looks, as long as the sum of all counts has room: what was added to the counts of all texts. Where it wakes
--- no edit, these are at most two for each edit taken of its text, and two; where it is taken and its text has an element, at least one; and
--- where it isn't taken, none
+-- the count of a text can still rise
+abbrev pub CountHasRoom : Counts → Option TextId → Type 0
+CountHasRoom counts None = Unit {0}
+CountHasRoom counts (Some t) = count_of t counts < greatest
+
+-- what a delivery tells of its looks: what was added to the counts of all texts, as far as the number told has room. Where it wakes no
+-- edit, these are at most two for each edit taken of its text, and two; where it is taken, its text has an element and the count of this
+-- text has room, at least one; and where it isn't taken, none
 pub record TellsVisits (e : Edit) (es : List Edit) (old new : Counts) (d : Delivered) : Type 0 where
-  pub sum : total new ≤ greatest → d.visits ≡ added old new
+  pub sum : d.visits ≡ min (added old new) greatest
   pub falls : NoCountFalls old new
   pub most : d.woken ≡ 0 → d.visits ≤ most_looks es (text_changed e.op)
-  pub some : d.state ≡ Taken → HasElement es (text_changed e.op) → total new < greatest → 0 < d.visits
+  pub some : d.state ≡ Taken → HasElement es (text_changed e.op) → CountHasRoom new (text_changed e.op) → 0 < d.visits
   pub none : d.state ≢ Taken → d.visits ≡ 0

@@ -278,12 +278,14 @@ impl Document {
 
     /// Takes in all edits of another document, held ones too. In this order: Stale of this document; OtherWorld where their worlds have
     /// different numbers; Clash of the least stamp with which they have different edits; nothing changes on these. On Memory the
-    /// document has its own edits and those of the other below some stamp, and may be stale. It takes no memory where it has all
-    /// edits of the other.
+    /// document has its own edits and those of the other below some stamp, and may be stale; one that isn't stale is as before. It
+    /// takes no memory where it has all edits of the other.
     pub fn merge(&mut self, other: &Document) -> Result<(), DocumentError>
         ensures result { AnswersMerge self.old other.now result }
         ensures edits { OnOk result (self.new.edits ≡ union self.old.edits other.now.edits) }
         ensures kept { OnErr result ((result ≢ Err DocumentError.Memory) → self.new ≡ self.old) }
+        ensures refused { result ≡ Err DocumentError.Memory
+            → self.new.is_stale ≡ false → self.new ≡ self.old }
         ensures err { result ≡ Err DocumentError.Memory
             → (s : TheStamp) × (self.new.edits ≡ union self.old.edits (below s other.now.edits)) }
         ensures world { self.new.world ≡ self.old.world }
@@ -313,6 +315,7 @@ impl Document {
         ensures err { IfErr result (λ e. e ≡ DocumentError.Memory) }
         ensures some { OnErr result (new_to self.old.edits other.now ≢ []) }
         ensures kept { OnErr result (self.new.edits ≡ self.old.edits) }
+        ensures refused { OnErr result (self.new.is_stale ≡ false → self.new ≡ self.old) }
         ensures world { self.new.world ≡ self.old.world }
         ensures sound { OnOk result (self.new.is_stale ≡ false) }
         ensures visits { OnOk result (NoCountFalls self.old.counts self.new.counts) }
@@ -332,6 +335,7 @@ impl Document {
         ensures err { IfErr result (λ e. e ≡ DocumentError.Memory) }
         ensures new { OnErr result (HasNew self.old.edits edits.items) }
         ensures kept { OnErr result (self.new.edits ≡ self.old.edits) }
+        ensures refused { OnErr result (self.new.is_stale ≡ false → self.new ≡ self.old) }
         ensures world { self.new.world ≡ self.old.world }
         ensures sound { OnOk result (self.new.is_stale ≡ false) }
         ensures visits { OnOk result (NoCountFalls self.old.counts self.new.counts) }
@@ -352,6 +356,7 @@ impl Document {
         ensures err { IfErr result (λ e. e ≡ DocumentError.Memory) }
         ensures some { OnErr result (edits.items ≢ []) }
         ensures kept { OnErr result (self.new.edits ≡ self.old.edits) }
+        ensures refused { OnErr result (self.new.is_stale ≡ false → self.new ≡ self.old) }
         ensures world { self.new.world ≡ self.old.world }
         ensures sound { OnOk result (self.new.is_stale ≡ false) }
         ensures visits { OnOk result (NoCountFalls self.old.counts self.new.counts) }
@@ -386,6 +391,8 @@ impl Document {
         ensures result { (result ≡ Err DocumentError.Memory)
             ⊎ DeliversEach self.old edits.items result self.new.edits }
         ensures kept { result ≡ Err DocumentError.Memory → self.new.edits ≡ self.old.edits }
+        ensures refused { result ≡ Err DocumentError.Memory
+            → self.new.is_stale ≡ false → self.new ≡ self.old }
         ensures world { self.new.world ≡ self.old.world }
         ensures stale { (result ≢ Err DocumentError.Memory)
             → self.new.is_stale ≡ self.old.is_stale }

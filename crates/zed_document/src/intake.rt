@@ -75,8 +75,8 @@ impl Intake {
     }
 
     /// Accepts an edit that fits, in whatever order edits come. In this order: Stale; Clash where another edit has its stamp, held or
-    /// taken; Memory. The set of edits is as before on each of them. After Memory the document may be stale. An edit that is there
-    /// already takes no memory.
+    /// taken; Memory. The set of edits is as before on each of them. After Memory the document may be stale; else it is as before. An
+    /// edit that is there already takes no memory.
     pub fn deliver(&mut self, edit: Edit) -> Result<Delivered, DocumentError>
         requires { Fits edit }
         ensures result { (result ≡ Err DocumentError.Memory) ⊎ Answers self.old edit result }
@@ -87,6 +87,8 @@ impl Intake {
         ensures stale { (result ≢ Err DocumentError.Memory)
             → self.new.is_stale ≡ self.old.is_stale }
         ensures kept { OnErr result ((result ≢ Err DocumentError.Memory) → self.new ≡ self.old) }
+        ensures refused { result ≡ Err DocumentError.Memory
+            → self.new.is_stale ≡ false → self.new ≡ self.old }
         ensures visits { IfOk result (λ d.
             TellsVisits edit self.old.edits self.old.counts self.new.counts d) }
         ensures memory_only_when { result ≡ Err DocumentError.Memory
@@ -119,6 +121,8 @@ impl Intake {
             ≡ (if is_ok result then with_edit edit self.old.edits else self.old.edits) }
         ensures world { self.new.world ≡ self.old.world }
         ensures sound { OnOk result (self.new.is_stale ≡ false) }
+        ensures refused { result ≡ Err DocumentError.Memory
+            → self.new.is_stale ≡ false → self.new ≡ self.old }
         ensures visits { IfOk result (λ d.
             TellsVisits edit self.old.edits self.old.counts self.new.counts d) }
     {

@@ -13,7 +13,6 @@ use Rattle.zed_op.specs.declared.op.Op.TheVariants.{StatAdd}
 use Rattle.zed_op.specs.declared.op.Edit.{Edit}
 use Rattle.zed_op.specs.declared.thing.Thing.TheVariants as thing
 use Rattle.zed_op.specs.Set.{IsRising}
-use Rattle.zed_edit.specs.declared.plain.Board.{Board}
 use Rattle.zed_edit.specs.declared.plain.Stat.{Stat}
 use Rattle.zed_laws.proofs.MadeThings.{find-any}
 use Rattle.zed_laws.proofs.NamesInOrder.{StampsAre}

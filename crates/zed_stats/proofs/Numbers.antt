@@ -1,17 +1,16 @@
 -- Counting the stats that are not removed up to one of them.
-use Rattle.std.proofs.Common.{◌≡◌, ℕ, suc, ◌+◌, Bool, true, false, not, cond, nat_lt, List, [], ◌∷◌, length, filter, position, Option, None, Some, refl, ap, ◌∙◌, arith}
+use Rattle.std.proofs.Common.{◌≡◌, ◌≤◌, ℕ, suc, ◌+◌, Bool, true, false, not, ◌&&◌, cond, nat_lt, List, [], ◌∷◌, ◌++◌, length, filter, position, Option, None, Some, refl, ap, ◌∙◌, arith, length-append}
 use Rattle.std.specs.List.{position_or_len}
 use Rattle.std.specs.Option.{option_map}
 use Rattle.std.proofs.lemmas.Bool.Decides.{nat_tests}
 use Rattle.zed_types.specs.declared.names.StatId.{StatId}
 use Rattle.zed_types.specs.Names.{same_stat}
 use Rattle.zed_stats.specs.declared.stat.LiveStat.{LiveStat}
-use Rattle.zed_stats.specs.Stats.{number_of}
+use Rattle.zed_stats.specs.Stats.{is_alive_other, is_alive_player, number_of, numbered}
 
--- the number of a stat, where n are counted before these
+-- the number of a stat among these, where n are counted before them
 abbrev pub number_from : StatId → ℕ → List (StatId × LiveStat) → Option ℕ
-number_from id n [] = None
-number_from id n (e ∷ es) = cond ((e.1).removed) (number_from id n es) (cond (same_stat e.0 id) (Some n) (number_from id (n + 1) es))
+number_from id n es = option_map (λ k. n + k) (position (λ e. same_stat e.0 id) es)
 
 position-cons : {X : Type 0} (p : X → Bool) (x : X) (xs : List X) (n : ℕ) → option_map (λ k. n + k) (position p (x ∷ xs)) ≡ cond (p x) (Some n) (option_map (λ k. n + 1 + k) (position p xs))
 position-cons {X} p x xs n = go (p x) refl
@@ -27,29 +26,37 @@ position-cons {X} p x xs n = go (p x) refl
     go true b = rw b (first (length xs))
     go false b = rw b (deep (position_or_len p xs) (length xs) (nat_lt (position_or_len p xs) (length xs)) refl)
 
-pub number_of-from : (id : StatId) (n : ℕ) (es : List (StatId × LiveStat)) → option_map (λ k. n + k) (number_of id es) ≡ number_from id n es
-number_of-from id n [] = refl
-number_of-from id n (e ∷ es) = go ((e.1).removed) (number_of-from id n es) (number_of-from id (n + 1) es)
-  where
-    go : (b : Bool) → option_map (λ k. n + k) (number_of id es) ≡ number_from id n es → option_map (λ k. n + 1 + k) (number_of id es) ≡ number_from id (n + 1) es
-        → option_map (λ k. n + k) (position (λ x. same_stat x.0 id) (cond (not b) (e ∷ filter (λ x. not (x.1).removed) es) (filter (λ x. not (x.1).removed) es)))
-        ≡ cond b (number_from id n es) (cond (same_stat e.0 id) (Some n) (number_from id (n + 1) es))
-    go true same more = same
-    go false same more =
-        position-cons (λ (x : StatId × LiveStat). same_stat x.0 id) e (filter (λ (x : StatId × LiveStat). not (x.1).removed) es) n ∙ ap (cond (same_stat e.0 id) (Some n)) more
+pub from-here : (id : StatId) (n : ℕ) (e : StatId × LiveStat) (es : List (StatId × LiveStat)) → same_stat e.0 id ≡ true → number_from id n (e ∷ es) ≡ Some n
+from-here id n e es s = position-cons (λ (x : StatId × LiveStat). same_stat x.0 id) e es n ∙ ap (λ b. cond b (Some n) (number_from id (n + 1) es)) s
 
-pub from-here : (id : StatId) (n : ℕ) (e : StatId × LiveStat) (es : List (StatId × LiveStat)) → (e.1).removed ≡ false → same_stat e.0 id ≡ true → number_from id n (e ∷ es) ≡ Some n
-from-here id n e es r s = rw (r, s) refl
+pub from-passed : (id : StatId) (n : ℕ) (e : StatId × LiveStat) (es : List (StatId × LiveStat)) → same_stat e.0 id ≡ false → number_from id n (e ∷ es) ≡ number_from id (n + 1) es
+from-passed id n e es s = position-cons (λ (x : StatId × LiveStat). same_stat x.0 id) e es n ∙ ap (λ b. cond b (Some n) (number_from id (n + 1) es)) s
 
-pub from-passed : (id : StatId) (n : ℕ) (e : StatId × LiveStat) (es : List (StatId × LiveStat)) → (e.1).removed ≡ false → same_stat e.0 id ≡ false → number_from id n (e ∷ es) ≡ number_from id (n + 1) es
-from-passed id n e es r s = rw (r, s) refl
-
-pub from-removed : (id : StatId) (n : ℕ) (e : StatId × LiveStat) (es : List (StatId × LiveStat)) → (e.1).removed ≡ true → number_from id n (e ∷ es) ≡ number_from id n es
-from-removed id n e es r = rw r refl
-
-pub number_of-start : (id : StatId) (es : List (StatId × LiveStat)) → number_of id es ≡ number_from id 0 es
-number_of-start id es = go (number_of id es) ∙ number_of-from id 0 es
+pub number_of-start : (id : StatId) (es : List (StatId × LiveStat)) → number_of id es ≡ number_from id 0 (numbered es)
+number_of-start id es = go (number_of id es)
   where
     go : (o : Option ℕ) → o ≡ option_map (λ k. 0 + k) o
     go None = refl
     go (Some k) = ap Some (omega arith)
+
+-- one that passes is the next, and another is left out
+pub one-passes : {X : Type 0} (q : X → Bool) (x : X) (xs ys : List X) → q x ≡ true → filter q (x ∷ xs) ++ ys ≡ x ∷ (filter q xs ++ ys)
+one-passes q x xs ys h = ap (λ b. cond b (x ∷ filter q xs) (filter q xs) ++ ys) h
+
+pub one-fails : {X : Type 0} (q : X → Bool) (x : X) (xs ys : List X) → q x ≡ false → filter q (x ∷ xs) ++ ys ≡ filter q xs ++ ys
+one-fails q x xs ys h = ap (λ b. cond b (x ∷ filter q xs) (filter q xs) ++ ys) h
+
+-- there are no more of both than there are stats
+pub few-numbered : (es : List (StatId × LiveStat)) → length (numbered es) ≤ length es
+few-numbered es = omega (arith, length-append (filter is_alive_player es) (filter is_alive_other es), both es)
+  where
+    step : (e : StatId × LiveStat) (es : List (StatId × LiveStat)) (p r : Bool) → length (filter is_alive_player es) + length (filter is_alive_other es) ≤ length es
+        → length (cond (p && not r) (e ∷ filter is_alive_player es) (filter is_alive_player es)) + length (cond (not p && not r) (e ∷ filter is_alive_other es) (filter is_alive_other es)) ≤ suc (length es)
+    step e es true true h = omega (arith, h)
+    step e es true false h = omega (arith, h)
+    step e es false true h = omega (arith, h)
+    step e es false false h = omega (arith, h)
+
+    both : (es : List (StatId × LiveStat)) → length (filter is_alive_player es) + length (filter is_alive_other es) ≤ length es
+    both [] = omega arith
+    both (e ∷ es) = step e es (e.1).is_player (e.1).removed (both es)

@@ -1,5 +1,5 @@
 -- The stats of a board in the order of their names, removed ones too.
-use Rattle.std.specs.Prelude.{ℕ, Bool, not, List, is_some, Option}
+use Rattle.std.specs.Prelude.{ℕ, Bool, not, ◌&&◌, List, ◌++◌, is_some, Option}
 use Rattle.std.specs.declared.cmp.Ordering.{Ordering}
 use Rattle.std.specs.List.{filter, position}
 use Rattle.zed_types.specs.declared.names.Name.{Name}
@@ -28,6 +28,18 @@ add id s es = names.add stat_name id s es
 abbrev pub change : StatId → (LiveStat → LiveStat) → List (StatId × LiveStat) → List (StatId × LiveStat)
 change id f es = names.change stat_name id f es
 
--- the number of a stat: its place among those not removed, none for a removed one. The player is made with its board, so it is first
+-- whether a stat is a player, and not removed
+abbrev pub is_alive_player : StatId × LiveStat → Bool
+is_alive_player e = (e.1).is_player && not (e.1).removed
+
+-- whether a stat is no player, and not removed
+abbrev pub is_alive_other : StatId × LiveStat → Bool
+is_alive_other e = not (e.1).is_player && not (e.1).removed
+
+-- the stats that are not removed, the player first
+abbrev pub numbered : List (StatId × LiveStat) → List (StatId × LiveStat)
+numbered es = filter is_alive_player es ++ filter is_alive_other es
+
+-- the number of a stat: its place among those not removed, the player first; none for a removed one
 abbrev pub number_of : StatId → List (StatId × LiveStat) → Option ℕ
-number_of id es = position (λ e. same_stat e.0 id) (filter (λ e. not (e.1).removed) es)
+number_of id es = position (λ e. same_stat e.0 id) (numbered es)

@@ -1,6 +1,6 @@
 //! The stats of a board.
 
-ghost use Rattle.std.specs.Prelude.{◌≡◌, ◌<◌, [], length, false, slice_get, OnOk, OnErr, IfErr, IfSome, Some};
+ghost use Rattle.std.specs.Prelude.{◌≡◌, ◌<◌, ◌&&◌, not, [], length, false, slice_get, OnOk, OnErr, IfErr, IfSome, Some};
 ghost use Rattle.zed_stats.specs.Fields.{new_stat, value_of, write, remove as removed};
 ghost use Rattle.zed_stats.specs.Stats.{has as is_there, add as added, change, number_of as number_in};
 
@@ -30,6 +30,20 @@ impl Model for Stats {
     ghost view = { λ s. s.entries.entries };
 
     ghost invariant = { λ s. IsSorted stat_cmp (keys s.entries) };
+}
+
+/// Whether a stat is a player, and not removed.
+fn is_alive_player(stat: &LiveStat) -> bool
+    ensures { result ≡ stat.now.is_player && not stat.now.removed }
+{
+    stat.is_player && !stat.removed
+}
+
+/// Whether a stat is no player, and not removed.
+fn is_alive_other(stat: &LiveStat) -> bool
+    ensures { result ≡ not stat.now.is_player && not stat.now.removed }
+{
+    !stat.is_player && !stat.removed
 }
 
 impl Stats {
@@ -92,13 +106,21 @@ impl Stats {
         }
     }
 
-    /// The number of a stat among those that are not removed; none for a removed one.
+    /// The number of a stat among those that are not removed, the player first; none for a removed one.
     pub fn number_of(&self, id: StatId) -> Option<usize>
         ensures { result ≡ number_in id self.now }
     {
         let mut number = 0;
         for (name, stat) in self.entries.iter() {
-            if !stat.removed {
+            if is_alive_player(stat) {
+                if *name == id {
+                    return Some(number);
+                }
+                number += 1;
+            }
+        }
+        for (name, stat) in self.entries.iter() {
+            if is_alive_other(stat) {
                 if *name == id {
                     return Some(number);
                 }

@@ -8,9 +8,8 @@ use Rattle.zed_types.specs.declared.names.TextId.{TextId}
 use Rattle.zed_laws.specs.NameOrder.{is_earlier}
 use Rattle.zed_names.specs.ByName.{put}
 use Rattle.zed_code.specs.Pieces.{Shown}
-use Rattle.zed_code.specs.Visits.{greatest}
 use Rattle.zed_texts.specs.ByName.{text_name, text_in, add, add_all}
-use Rattle.zed_texts.specs.Looks.{looks_of}
+use Rattle.zed_texts.specs.Looks.{greatest_sum, looks_of}
 use Rattle.zed_texts.specs.Texts.{Texts, IsUnworked}
 
 abbrev count : TextId × Shown → ℕ
@@ -36,11 +35,11 @@ rises-by (y ∷ ys) (suc i) n v w h e =
     let more = rises-by ys i n v w h e in
     omega (arith, old, new, more)
 
-capped-twice : (a b n : ℕ) → b ≡ a + n → min (min a greatest + n) greatest ≡ min b greatest
+capped-twice : (a b n : ℕ) → b ≡ a + n → min (min a greatest_sum + n) greatest_sum ≡ min b greatest_sum
 capped-twice a b n h = omega (arith, h)
 
 -- the text at a place rises by so many
-pub looks-rise : (ys : Texts) (i n : ℕ) (v w : Shown) → Some v ≡ slice_get (values_of ys) i → w.visits ≡ v.visits + n → min (looks_of ys + n) greatest ≡ looks_of (set_value_at ys i w)
+pub looks-rise : (ys : Texts) (i n : ℕ) (v w : Shown) → Some v ≡ slice_get (values_of ys) i → w.visits ≡ v.visits + n → min (looks_of ys + n) greatest_sum ≡ looks_of (set_value_at ys i w)
 looks-rise ys i n v w h e = capped-twice (total ys) (total (set_value_at ys i w)) n (rises-by ys i n v w (sym h) e)
 
 -- ---- some are added that were never looked at
@@ -68,7 +67,7 @@ add_all-total [] ys a = refl
 add_all-total (x ∷ xs) ys a = add_all-total xs (add x.0 x.1 ys) a.1 ∙ add-total x.0 x.1 ys (a.0).1
 
 pub add-looks : (t : TextId) (x : Shown) (ys : Texts) → x.visits ≡ 0 → looks_of (add t x ys) ≡ looks_of ys
-add-looks t x ys h = ap (λ n. min n greatest) (add-total t x ys h)
+add-looks t x ys h = ap (λ n. min n greatest_sum) (add-total t x ys h)
 
 pub add_all-looks : (xs ys : Texts) → AllByRecursion (λ y. IsUnworked y.1) xs → looks_of (add_all xs ys) ≡ looks_of ys
-add_all-looks xs ys a = ap (λ n. min n greatest) (add_all-total xs ys a)
+add_all-looks xs ys a = ap (λ n. min n greatest_sum) (add_all-total xs ys a)

@@ -1,7 +1,8 @@
 //! The texts of a live document, found by their names.
 
-ghost use Rattle.std.specs.Prelude.{◌≡◌, ◌<◌, ◌≤◌, [], true, false, length, is_some, slice_get, Some, IfErr, OnOk, OnErr, option_copied};
+ghost use Rattle.std.specs.Prelude.{◌≡◌, ◌<◌, ◌≤◌, ◌^◌, [], true, false, length, is_some, slice_get, Some, IfErr, OnOk, OnErr, option_copied};
 ghost use Rattle.std.specs.List.{AllByRecursion, list_any};
+ghost use Rattle.zed_types.specs.declared.limits.TheConstants.{READ_BODY_LIMIT};
 ghost use Rattle.zed_types.specs.Names.{same_text, same_element};
 ghost use Rattle.zed_types.specs.Text.{run_from, put_late, kill};
 ghost use Rattle.zed_op.specs.Fit.{Fits};
@@ -27,7 +28,7 @@ use zed_world::read_is_normal;
 pub struct LiveTexts {
     entries: IndexMap<TextId, Text>,
     // the counts of all texts together, kept since they are asked for with each edit of a text
-    looks: u64,
+    looks: u128,
 }
 
 impl Model for LiveTexts {
@@ -113,10 +114,12 @@ impl LiveTexts {
         self.entries.len()
     }
 
-    /// How many runs of all texts were looked at since each was made, up to the greatest number.
-    pub fn looks(&self) -> u64
-        ensures { result ≡ looks_of self.now }
+    /// How many runs of all texts were looked at since each was made.
+    pub fn looks(&self) -> u128
+        ensures result { result ≡ looks_of self.now }
+        ensures within { length self.now < 2 ^ 64 }
     {
+        let _count = self.count();
         self.looks
     }
 
@@ -171,7 +174,7 @@ impl LiveTexts {
         requires there { StandsAfter after stamp
             (elements_or_none (text_in id (elements_of self.old))) }
         requires new { IsNewStamp stamp (elements_or_none (text_in id (elements_of self.old))) }
-        requires most { length bytes.now ≤ 32767 }
+        requires most { length bytes.now ≤ READ_BODY_LIMIT }
         ensures ok { OnOk result (elements_of self.new
             ≡ change id (put_late after stamp (run_from stamp 0 bytes.now))
             (elements_of self.old)) }
@@ -182,7 +185,7 @@ impl LiveTexts {
         if let Some(i) = self.entries.get_index_of(&id) {
             if let Some(text) = self.entries.get_index_mut(i) {
                 let looked = put_into(text, after, stamp, bytes)?;
-                self.looks = self.looks.saturating_add(looked);
+                self.looks = self.looks.saturating_add(u128::from(looked));
                 return Ok(());
             }
         }
@@ -200,7 +203,7 @@ impl LiveTexts {
         if let Some(i) = self.entries.get_index_of(&id) {
             if let Some(text) = self.entries.get_index_mut(i) {
                 let looked = kill_in(text, range)?;
-                self.looks = self.looks.saturating_add(looked);
+                self.looks = self.looks.saturating_add(u128::from(looked));
                 return Ok(());
             }
         }

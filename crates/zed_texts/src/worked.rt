@@ -1,6 +1,7 @@
 //! How one text is changed, and by how many its count of runs looked at rises.
 
 ghost use Rattle.std.specs.Prelude.{◌≡◌, ◌≤◌, ◌+◌, length, IfOk, IfErr, OnOk, OnErr};
+ghost use Rattle.zed_types.specs.declared.limits.TheConstants.{READ_BODY_LIMIT};
 ghost use Rattle.zed_types.specs.Text.{run_from, put_late, kill};
 ghost use Rattle.zed_code.specs.Text.{elements, StandsAfter, IsNewStamp};
 ghost use Rattle.zed_texts.specs.Texts.{IsWorked};
@@ -18,7 +19,7 @@ pub(crate) fn put_into(
 ) -> Result<u64, TextsError>
     requires there { StandsAfter after stamp (elements text.old) }
     requires new { IsNewStamp stamp (elements text.old) }
-    requires most { length bytes.now ≤ 32767 }
+    requires most { length bytes.now ≤ READ_BODY_LIMIT }
     ensures ok { OnOk result (elements text.new
         ≡ put_late after stamp (run_from stamp 0 bytes.now) (elements text.old)) }
     ensures err { IfErr result (λ e. e ≡ TextsError.Memory) }

@@ -1,5 +1,5 @@
 -- The first boards of those that pass are the first of all that pass, in the order of their numbers.
-use Rattle.std.proofs.Common.{◌≡◌, ◌∙◌, ℕ, zero, suc, ◌+◌, ◌<◌, ◌≤◌, Bool, true, false, cond, not, ◌&&◌, List, [], ◌∷◌, length, map, filter, filter_map, find, take, drop, count_by, slice_get, get_or, drop-cons, ◌++◌, IsPermutation, Option, Some, None, option_map, refl, sym, ap, subst, true≢false, arith}
+use Rattle.std.proofs.Common.{◌≡◌, ◌∙◌, ℕ, zero, suc, ◌+◌, ◌<◌, ◌≤◌, Bool, true, false, cond, not, ◌&&◌, List, [], ◌∷◌, length, map, filter, filter_map, take, drop, count_by, slice_get, get_or, drop-cons, ◌++◌, IsPermutation, Option, Some, None, option_map, refl, sym, ap, subst, true≢false, arith}
 use Rattle.std.specs.List.{AllByRecursion, range_with_len}
 use Rattle.std.specs.Ordering.{is_eq, is_lt, ordering_reverse, nat_cmp}
 use Rattle.std.specs.declared.cmp.Ordering.{Ordering}

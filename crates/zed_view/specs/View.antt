@@ -1,5 +1,5 @@
 -- What a view shows, by the numbers of things in the order in which they were made.
-use Rattle.std.specs.Prelude.{ℕ, ℤ, pos, Bool, true, false, List, [], slice_index_or, Option, Some, None}
+use Rattle.std.specs.Prelude.{ℕ, ℤ, pos, nat_le, Bool, true, false, ◌&&◌, List, [], slice_index_or, Option, Some, None}
 use Rattle.zed_types.specs.declared.names.BoardId.{BoardId}
 use Rattle.zed_types.specs.declared.tile.Tile.{Tile}
 use Rattle.zed_types.specs.declared.tile.Place.{Place}
@@ -46,6 +46,10 @@ no_text = record { id = text_of title.name.stamp 0; elements = [] }
 -- text k of those that were made
 abbrev pub text_at : Plain → ℕ → Text
 text_at p k = slice_index_or p.texts k no_text
+
+-- whether a place is one of the table
+abbrev pub is_place : Place → Bool
+is_place place = (nat_le 1 place.x && nat_le place.x 60) && (nat_le 1 place.y && nat_le place.y 25)
 
 -- the tile at a place of a table
 abbrev pub tile_at : List Tile → Place → Tile

@@ -1,9 +1,10 @@
 //! What a document shows, lent from its live parts to who exports it.
-ghost use Rattle.std.specs.Prelude.{◌≡◌, ◌<◌, ◌≤◌, length, slice_get, None, Some, IfSome, MatchOption};
+ghost use Rattle.std.specs.Prelude.{◌≡◌, ◌<◌, ◌≤◌, if◌then◌else◌, length, slice_get, None, Some, IfSome, MatchOption};
 ghost use Rattle.zed_types.specs.Text.{alive_bytes};
 ghost use Rattle.zed_live.specs.Board.{shown_board};
 ghost use Rattle.zed_live.specs.Stat.{shown_stat};
-ghost use Rattle.zed_view.specs.View.{board_at, stat_at, text_at, tile_at, made_board, made_stat};
+ghost use Rattle.zed_view.specs.View.{board_at, stat_at, text_at, is_place, tile_at, made_board, made_stat};
+ghost use Rattle.std.specs.Bool.{OnTrue};
 ghost use Rattle.std.specs.Option.{option_copied};
 ghost use Rattle.zed_code.specs.Text.{elements as spelling};
 ghost use Rattle.zed_edit.specs.Document.{text, elements, find_text};
@@ -17,7 +18,7 @@ use zed_inbox::Inbox;
 use zed_live::{LiveBoard, LiveBoards, LiveDocument};
 use zed_stats::{LiveStat, Stats};
 use zed_texts::LiveTexts;
-use zed_types::{BoardId, Place, StatId, TILES, TextId, Tile};
+use zed_types::{BoardId, COLUMNS, Place, ROWS, StatId, TILES, TextId, Tile};
 
 /// What a document shows, lent: its header, boards, cells, stats and texts, removed and dead things included.
 /// Boards, and the stats of each, go by their numbers in the order in which they were made, which the caller keeps below those told.
@@ -36,6 +37,17 @@ impl<'a> Model for View<'a> {
     ghost Value = { ThePlain };
 
     ghost view = { λ v. shown v.live.now v.texts.now v.inbox.now };
+}
+
+/// Whether a place is one of the table.
+fn is_place(place: Place) -> bool
+    ensures result { result ≡ is_place place }
+    ensures column { OnTrue result ((1 ≤ place.x) × (place.x ≤ 60)) }
+    ensures row { OnTrue result ((1 ≤ place.y) × (place.y ≤ 25)) }
+{
+    let column = usize::from(place.x);
+    let row = usize::from(place.y);
+    1 <= column && column <= COLUMNS && 1 <= row && row <= ROWS
 }
 
 impl<'a> View<'a> {
@@ -91,15 +103,18 @@ impl<'a> View<'a> {
         register.read(&board.properties)
     }
 
-    /// The tile at a place of the table, columns 1 to 60 and rows 1 to 25.
-    pub fn tile(&self, i: usize, place: Place) -> Tile
-        requires board { i < length self.now.boards }
-        requires column { (1 ≤ place.x) × (place.x ≤ 60) }
-        requires row { (1 ≤ place.y) × (place.y ≤ 25) }
-        ensures { result ≡ tile_at (board_at self.now i).tiles place }
+    /// The tile at a place of the table, columns 1 to 60 and rows 1 to 25. None at any other place.
+    pub fn tile(&self, i: usize, place: Place) -> Option<Tile>
+        requires { i < length self.now.boards }
+        ensures { result ≡ (if is_place place
+            then Some (tile_at (board_at self.now i).tiles place) else None) }
     {
         let (_, board) = self.made(i);
-        board.cells.get(place)
+        if is_place(place) {
+            Some(board.cells.get(place))
+        } else {
+            None
+        }
     }
 
     /// All tiles of a board, row after row, lent.

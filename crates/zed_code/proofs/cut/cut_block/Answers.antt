@@ -3,7 +3,7 @@ use Rattle.std.specs.List.{AllByRecursion, list_any}
 use Rattle.zed_code.specs.declared.run.Run.{Run}
 use Rattle.zed_code.specs.Blocks.{lists, HasRoom}
 use Rattle.zed_code.specs.Kept.{IsSound, AllInOrder, NoneFrom}
-use Rattle.zed_code.specs.Runs.{kill_runs, reaches}
+use Rattle.zed_code.specs.Runs.{kill_runs, reaches, touched}
 use Rattle.zed_code.proofs.Joins.{list_at-is}
 use Rattle.zed_code.proofs.Killing.{length-kill_runs}
 use Rattle.zed_code.proofs.Puts.{lists-set}
@@ -71,3 +71,9 @@ returns-clause-visits c =
     let is = ap length (list_at-is bs c.args.block c.index_mut.result.now c.requires.block c.index_mut.ensures.value) in
     let k = c.cut_in.ensures.visits in
     (k.0, k.1, omega (arith, is, k.2))
+
+pub returns-clause-looks : goal.returns-clause-looks
+returns-clause-looks c =
+    let bs = c.args.blocks.now.items in
+    let is = ap (touched c.args.range) (list_at-is bs c.args.block c.index_mut.result.now c.requires.block c.index_mut.ensures.value) in
+    omega (arith, is, c.cut_in.ensures.looks)

@@ -1,6 +1,6 @@
 use Rattle.std.proofs.Common.{◌≡◌, ◌≤◌, ◌+◌, ◌-◌, ◌++◌, true, length, take, drop, vec_len, vec_capacity}
 use Rattle.std.specs.List.{AllByRecursion, list_any}
-use Rattle.zed_code.specs.Runs.{kill_runs, reaches}
+use Rattle.zed_code.specs.Runs.{kill_runs, reaches, touched}
 use Rattle.zed_code.specs.Kept.{IsSound, AllInOrder}
 use Rattle.zed_code.specs.Visits.{raised}
 use Rattle.zed_code.proofs.cut.cut_in.Given as goal
@@ -14,6 +14,7 @@ invariant-loop-i l = record {
   ordered : AllInOrder (drop l.i l.runs.items);
   left : vec_len l.runs - l.i ≤ vec_len l.initial.runs - l.start;
   looked : l.visits ≡ raised l.initial.visits (vec_len l.initial.runs - l.start - (vec_len l.runs - l.i));
+  seen : raised l.initial.visits (touched l.range l.initial.runs.items) ≤ raised l.visits (touched l.range (drop l.i l.runs.items));
   ends : list_any (reaches l.range) (drop l.i l.runs.items) ≡ true → list_any (reaches l.range) l.initial.runs.items ≡ true;
 }
 

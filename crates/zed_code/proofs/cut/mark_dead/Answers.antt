@@ -4,7 +4,7 @@ use Rattle.zed_code.specs.declared.run.Run.{Run}
 use Rattle.zed_code.specs.declared.block.Block.{Block}
 use Rattle.zed_code.specs.Blocks.{lists, joined, before_spot, IsIn, NoneEmpty}
 use Rattle.zed_code.specs.Kept.{AreHints}
-use Rattle.zed_code.specs.Runs.{kill_runs}
+use Rattle.zed_code.specs.Runs.{kill_runs, touched}
 use Rattle.zed_code.specs.Visits.{raised}
 use Rattle.zed_code.proofs.Places.{raised-twice}
 use Rattle.zed_code.proofs.Joins.{length-lists}
@@ -12,6 +12,7 @@ use Rattle.zed_code.proofs.Hinting.{hints-of}
 use Rattle.zed_code.proofs.Kills.{joined-kill, kill-hints, kill-full}
 use Rattle.zed_code.proofs.Deaths.{place-of, kills-none, none-before}
 use Rattle.zed_code.proofs.Finding.{found-of}
+use Rattle.zed_code.proofs.Touched.{touched-nowhere}
 use Rattle.zed_code.proofs.cut.mark_dead.Goals as goal
 
 pub seek-requires-clause-found : goal.seek-requires-clause-found
@@ -93,3 +94,16 @@ returns-clause-visits c =
     let here : before_spot to new ≡ before_spot at ls = ap (before_spot to) c.reserve_from.ensures.kept ∙ c.in_ok-at-2.ensures.ok.place in
     let same : length (joined new) ≡ length (joined ls) = ap length (ap joined c.reserve_from.ensures.kept ∙ c.split_full.ensures.same.runs) in
     (k.0 + m.0, m.1 ∙ ap (λ v. raised v m.0) k.1 ∙ raised-twice c.args.visits.now k.0 m.0, omega (arith, k.2, m.2, was, here, same), λ some. let l = k.4 (omega (arith, some, count)) in omega (arith, l))
+
+pub returns-then-at-len-clause-looks : goal.returns-then-at-len-clause-looks
+returns-then-at-len-clause-looks c =
+    let ls = lists c.args.blocks.now.items in
+    let place = place-of c.in_ok-at.at c.new-first.result (byte_of c.args.range.stamp c.args.range.first) c.deref.result.now c.args.blocks.now.items c.new-first.ensures c.deref.ensures.value c.in_ok-at.ensures.place in
+    let far : length c.deref.result.now ≤ c.in_ok-at.at.block = let n = ap length c.deref.ensures.value in search rules in
+    let end : before_spot c.in_ok-at.at ls ≡ length (joined ls) = ap (λ bs. before_spot c.in_ok-at.at (lists bs)) (sym c.deref.ensures.value) ∙ c.in_ok-at.ensures.end far ∙ ap (λ bs. length (joined (lists bs))) c.deref.ensures.value in
+    omega (arith, touched-nowhere c.args.range (joined ls) (before_spot c.in_ok-at.at ls) place end, (c.in_ok-at.ensures.visits).1)
+
+pub returns-clause-looks : goal.returns-clause-looks
+returns-clause-looks c =
+    let same = ap (touched c.args.range) (ap joined c.reserve_from.ensures.kept ∙ c.split_full.ensures.same.runs) in
+    omega (arith, same, (c.in_ok-at.ensures.visits).1, c.cut.ensures.looks)

@@ -1,9 +1,9 @@
-use Rattle.std.proofs.Common.{◌<◌, ◌+◌, Option, length, ap, ◌∙◌, subst, arith}
+use Rattle.std.proofs.Common.{◌<◌, ◌+◌, Option, length, Some, ap, ◌∙◌, sym, subst, arith}
 use Rattle.zed_types.specs.declared.names.ElemId.{ElemId}
 use Rattle.zed_code.specs.Blocks.{lists, joined}
-use Rattle.zed_code.specs.Visits.{raised}
+use Rattle.zed_code.specs.Visits.{raised, LooksAtLeast}
 use Rattle.zed_code.specs.There.{IsThere}
-use Rattle.zed_code.specs.Runs.{found}
+use Rattle.zed_code.specs.Runs.{found, looks_to_put}
 use Rattle.zed_code.proofs.Places.{raised-twice}
 use Rattle.zed_code.proofs.Hinting.{found-sought, found-any, is-inside}
 use Rattle.zed_code.proofs.insertion.aim.Goals as goal
@@ -28,3 +28,9 @@ returns-in_ok-at-in-Some-clause-visits c =
     let k = c.in_ok-at-in-Some.ensures.visits in
     let m = c.aim_behind.ensures.visits in
     (k.0 + m.0, m.1 ∙ ap (λ v. raised v m.0) k.1 ∙ raised-twice c.args.visits.now k.0 m.0, omega (arith, k.2, m.2), λ some. let l = k.4 some in omega (arith, l))
+
+pub returns-in_ok-at-in-Some-clause-looks : goal.returns-in_ok-at-in-Some-clause-looks
+returns-in_ok-at-in-Some-clause-looks c =
+    let k = c.in_ok-at-in-Some.ensures.visits in
+    let P : Option ElemId → Type 0 = λ o. LooksAtLeast (looks_to_put o c.args.run.stamp (joined (lists c.args.blocks.now))) c.args.visits.now c.aim_behind.new.visits in
+    subst P (sym c.in-Some.is) (omega (arith, k.1, c.aim_behind.ensures.looks))

@@ -1,4 +1,4 @@
-use Rattle.std.proofs.Common.{◌≡◌, ◌∙◌, ◌+◌, ◌*◌, ◌%◌, ◌<◌, ◌≤◌, ℕ, List, length, take, drop, slice_get, Some, None, sym, ap, arith}
+use Rattle.std.proofs.Common.{◌≡◌, ◌∙◌, ◌+◌, ◌*◌, ◌%◌, ◌<◌, ℕ, length, take, drop, Some, ap, arith}
 use Rattle.zed_edit.specs.declared.numbers.Standing.{Standing}
 use Rattle.zed_edit.specs.Numbers.{alive_boards, boards_there}
 use Rattle.zed_view.specs.First.{first_of, is_behind}

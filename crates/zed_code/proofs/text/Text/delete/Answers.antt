@@ -1,13 +1,23 @@
-use Rattle.std.proofs.Common.{◌≡◌, refl, sym, ap, ◌∙◌, arith}
+use Rattle.std.proofs.Common.{◌≡◌, ◌<◌, length, Result, Ok, Err, OnErr, refl, sym, subst, ap, ◌∙◌, arith}
 use Rattle.std.proofs.lemmas.List.{length-map}
 use Rattle.zed_types.specs.Text.{kill}
-use Rattle.zed_code.specs.Blocks.{runs_of}
+use Rattle.zed_code.specs.Blocks.{lists, list_at, runs_of}
 use Rattle.zed_code.specs.Runs.{kill_runs}
 use Rattle.zed_code.specs.Cutting.{piece_in}
+use Rattle.zed_code.specs.Looks.{looks_to_delete}
+use Rattle.zed_code.specs.Pieces.{Shown}
+use Rattle.zed_code.specs.Visits.{LooksAtLeast}
 use Rattle.zed_code.specs.Text.{bytes_from}
 use Rattle.zed_code.proofs.PutBytes.{spelled-cutting, shown}
 use Rattle.zed_code.proofs.Killing.{kill_runs-spell, kill_runs-keep, length-kill_runs}
+use Rattle.zed_code.proofs.Hinting.{full-some}
+use Rattle.zed_code.proofs.Joins.{length-at, length-lists}
+use Rattle.zed_code.proofs.Passing.{looks-to-delete}
 use Rattle.zed_code.proofs.text.Text.delete.Goals as goal
+
+any_err : {A E P : Type 0} (r : Result A E) → P → OnErr r P
+any_err (Ok x) p = tt
+any_err (Err e) p = p
 
 pub invariant_of-self-2 : goal.invariant_of-self-2
 invariant_of-self-2 c =
@@ -34,3 +44,22 @@ returns-clause-runs c =
     let runs = runs_of c.self.inside.blocks.items in
     let made : runs_of c.mark_dead.new.blocks.items ≡ kill_runs (bytes_from c.args.stamp c.args.from c.args.to) runs = c.in_ok-mark_dead.ensures.ok in
     rw (made, ← c.self.view_is) (let a = length-map (kill_runs (bytes_from c.args.stamp c.args.from c.args.to) runs) (piece_in store) in let b = length-map runs (piece_in store) in omega (arith, a, b, length-kill_runs (bytes_from c.args.stamp c.args.from c.args.to) runs c.self.invariant.kept.ordered))
+
+pub returns-clause-looks : goal.returns-clause-looks
+returns-clause-looks c =
+    let store = c.self.inside.store.items in
+    let runs = runs_of c.self.inside.blocks.items in
+    let range = bytes_from c.args.stamp c.args.from c.args.to in
+    let P : Shown → Type 0 = λ t. LooksAtLeast (looks_to_delete range t.cutting) t.visits c.mark_dead.new.visits in
+    subst P c.self.view_is (omega (arith, looks-to-delete store range runs c.self.invariant.kept.each, c.in_ok-mark_dead.ensures.looks))
+
+pub returns-in_err-mark_dead-clause-memory_only_when : goal.returns-in_err-mark_dead-clause-memory_only_when
+returns-in_err-mark_dead-clause-memory_only_when c =
+    let ls = lists c.self.inside.blocks.items in
+    let runs = runs_of c.self.inside.blocks.items in
+    let there : 0 < length c.self.inside.blocks.items = c.in_err-mark_dead.ensures.memory_only_when in
+    let first : 0 < length (list_at 0 ls) = full-some ls 0 (omega (arith, there, length-lists c.self.inside.blocks.items)) c.self.invariant.full in
+    let all = length-at ls 0 (omega (arith, there, length-lists c.self.inside.blocks.items)) in
+    let count = length-map runs (piece_in c.self.inside.store.items) in
+    let P : Shown → Type 0 = λ t. 0 < length t.cutting in
+    any_err c.from_residual.result (subst P c.self.view_is (omega (arith, first, all, count)))

@@ -2,8 +2,12 @@ use Rattle.std.proofs.Common.{rules, ◌≡◌, ◌+◌, ◌++◌, length, refl,
 use Rattle.zed_types.specs.declared.stamp.Stamp.{Stamp}
 use Rattle.zed_code.specs.declared.run.Run.{Run}
 use Rattle.zed_code.specs.Blocks.{lists, joined, runs_of, before_spot}
-use Rattle.zed_code.specs.Runs.{put_run, sought}
+use Rattle.zed_code.specs.Runs.{looks_to_put, put_run, sought}
+use Rattle.zed_code.specs.Looks.{looks_to_insert}
+use Rattle.zed_code.specs.Pieces.{Shown}
+use Rattle.zed_code.specs.Visits.{LooksAtLeast}
 use Rattle.zed_code.proofs.Finding.{last-lasts}
+use Rattle.zed_code.proofs.Passing.{looks-to-insert}
 use Rattle.zed_code.proofs.PutBytes.{spelled-cutting, shown, new_run, names-there, none-yet, put-made, put-spells, put-keeps, put-more}
 use Rattle.zed_code.proofs.text.Text.insert_some.Goals as goal
 
@@ -56,3 +60,12 @@ returns-clause-runs c =
     let made = put-made store c.args.bytes.now c.args.after c.args.stamp runs (runs_of c.put.new.blocks.items) c.whole-run.result c.len.result c.whole-run.ensures (search rules) c.in_ok-at.ensures.ok in
     let stored : c.extend_from_slice.new.self.items ≡ store ++ c.args.bytes.now = search rules in
     rw (made, stored, ← c.self.view_is) (put-more store c.args.bytes.now c.args.after (new_run c.args.stamp store (length c.args.bytes.now)) runs)
+
+pub returns-clause-looks : goal.returns-clause-looks
+returns-clause-looks c =
+    let store = c.self.inside.store.items in
+    let runs = runs_of c.self.inside.blocks.items in
+    let P : Shown → Type 0 = λ t. LooksAtLeast (looks_to_insert c.args.after c.args.stamp t.cutting) t.visits c.put.new.visits in
+    let stamp : c.whole-run.result.stamp ≡ c.args.stamp = ap (λ (r : Run). r.stamp) c.whole-run.ensures in
+    let same = ap (λ s. looks_to_put c.args.after s runs) stamp in
+    subst P c.self.view_is (omega (arith, looks-to-insert store c.args.after c.args.stamp runs c.self.invariant.kept.each, same, c.in_ok-at.ensures.looks))

@@ -65,7 +65,7 @@ returns-clause-visits c =
     let come = comes c.args.edit c.self.inside.log c.self.inside.held c.self.inside.is_stale c.self.inside.body c.self.invariant f new in
     let woken = none_woken c.held_edits_are_remembered.ensures c.args.edit c.self.inside.log c.self.inside.body c.in-Ok.taken come c.in-Ok.ensures.tells in
     let told = told_by c.args.edit c.in-Ok.taken c.self.inside.body c.take.new.self.texts c.visits_before-before.result c.visits_since.result
-    c.visits_before-before.ensures.some c.visits_before-before.ensures.none c.visits_before-before.ensures.calm c.visits_since.ensures.some c.visits_since.ensures.none woken in
+    c.visits_before-before.ensures.some c.visits_before-before.ensures.none c.visits_before-before.ensures.calm c.visits_since.ensures.some c.visits_since.ensures.within c.visits_since.ensures.none woken in
     let all = tells_visits c.args.edit c.self.inside.log c.self.inside.body c.take.new.self c.in-Ok.taken d (c.self.invariant.shown f) (c.in-Ok.ensures.ok c.self.inside.log come) c.in-Ok.ensures.visits c.of_new.ensures refl told in
     let log = subst (λ es. TellsVisits c.args.edit es (counts_of c.self.inside.body.texts) (counts_of c.take.new.self.texts) d) v all in
     subst (λ (n : Counts). TellsVisits c.args.edit c.args.self.now.edits n (counts_of c.take.new.self.texts) d) k log

@@ -1,4 +1,4 @@
-use Rattle.std.proofs.Common.{◌≡◌, ◌∙◌, IsSorted, ap, sym, subst}
+use Rattle.std.proofs.Common.{◌∙◌, IsSorted, ap, sym, subst}
 use Rattle.indexmap.proofs.CallerLemmas.{keys-with_value_at}
 use Rattle.indexmap.specs.IndexMap.{set_value_at}
 use Rattle.zed_texts.specs.Looks.{looks_of}

@@ -5,8 +5,7 @@ use Rattle.indexmap.specs.IndexMap.{set_value_at}
 use Rattle.zed_types.specs.Text.{run_from, put_late}
 use Rattle.zed_code.specs.Text.{StandsAfter, IsNewStamp}
 use Rattle.zed_types.specs.Names.{same_text}
-use Rattle.zed_code.specs.Visits.{greatest}
-use Rattle.zed_texts.specs.Looks.{looks_of}
+use Rattle.zed_texts.specs.Looks.{greatest_sum, looks_of}
 use Rattle.zed_texts.specs.ByName.{text_cmp, text_name, change, text_in}
 use Rattle.zed_texts.specs.Texts.{Texts, elements_of, elements_or_none, AllGrow}
 use Rattle.zed_names.proofs.Changed.{unchanged}
@@ -35,7 +34,8 @@ pub invariant_of-self-in-Some-get_index_mut : goal.invariant_of-self-in-Some-get
 invariant_of-self-in-Some-get_index_mut c = (
   subst (IsSorted text_cmp) (sym (keys-with_value_at c.self.inside.entries c.in-Some.i c.put_into.new.text)) c.self.invariant.0,
   c.saturating_add-self-inside.ensures
-      ∙ ap (λ n. min (n + c.in_ok-looked.looked) greatest) c.self.invariant.1
+      ∙ ap (λ n. min (c.self.inside.looks + n) greatest_sum) c.from.ensures
+      ∙ ap (λ n. min (n + c.in_ok-looked.looked) greatest_sum) c.self.invariant.1
       ∙ looks-rise c.self.inside.entries.entries c.in-Some.i c.in_ok-looked.looked c.in-Some-get_index_mut.text.now c.put_into.new.text c.in-Some-get_index_mut.ensures.value c.in_ok-looked.ensures.visits,
 )
 

@@ -1,4 +1,4 @@
-use Rattle.std.proofs.Common.{◌≡◌, ◌∙◌, ◌-◌, ◌+◌, ◌<◌, ℕ, Bool, true, false, not, ◌&&◌, List, length, map, filter, take, drop, sym, ap, subst, arith}
+use Rattle.std.proofs.Common.{◌≡◌, ◌∙◌, ◌-◌, ◌+◌, ◌<◌, ℕ, not, List, length, filter, take, drop, sym, ap, subst, arith}
 use Rattle.zed_edit.specs.declared.plain.Board.{Board}
 use Rattle.zed_view.specs.First.{IsInOrder, first_of, is_behind, put}
 use Rattle.zed_view.specs.View.{board_at, no_board}
