@@ -40,3 +40,11 @@ pub all_read : (T : Option State → Type 0) (r : Reading) (t : State) (k : ℕ)
 all_read T r t k e further =
     let P : ℕ → Type 0 = λ n. Chain n r t (Some (finished r t)) in
     further (Some (finished r t)) (subst P (sym e) (used_up r t))
+
+-- a run to a command word, within a turn
+pub run_goes : (T : Option State → Type 0) (r q : Reading) (t u : State) (o : Option Reading) (m k : ℕ) → Runs (Ok o) r t u → o ≡ Some q → k ≡ suc m → ((e : Option State) → Chain k r t e → T e) → (e : Option State) → Chain m q u e → T e
+run_goes T r q t u o m k runs is count further e rest =
+    let P : Option Reading → Type 0 = λ x. Runs (Ok x) r t u in
+    let on : (n : ℕ) (f : Option State) → Chain n q u f → Chain (suc n) r t f = subst P is runs in
+    let Q : ℕ → Type 0 = λ n. Chain n r t e in
+    further e (subst Q (sym count) (on m e rest))

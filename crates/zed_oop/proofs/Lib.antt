@@ -7,3 +7,6 @@ pub mod ProgramLemmas
 pub mod OneTurn
 pub mod Drawing
 pub mod TurnFront
+pub mod TurnThere
+pub mod Taking
+pub mod IdleTurns

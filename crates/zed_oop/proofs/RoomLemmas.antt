@@ -88,7 +88,7 @@ settled_no SkipAndEnd start t u q e = cc
 settled_no EndNext start t u q e = cc
 settled_no Error start t u q e = cc
 
-no_command_goes : (d : Drawn (Next × Scene)) (start : ℕ) (t u : State) (q : Reading) → settled_by start d t ≡ goes q u → ⊥
+pub no_command_goes : (d : Drawn (Next × Scene)) (start : ℕ) (t u : State) (q : Reading) → settled_by start d t ≡ goes q u → ⊥
 no_command_goes None start t u q e = cc
 no_command_goes (Some d) start t u q e = settled_no d.0.0 start (record t { scene = d.0.1; left = d.1 }) u q e
 

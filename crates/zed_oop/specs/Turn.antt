@@ -1,5 +1,5 @@
 -- A turn of a program: a chain of instructions.
-use Rattle.std.specs.Prelude.{Result, Ok, Err, MatchResult, ◌+◌, ◌*◌, ◌<◌, ◌≡◌, ◌⊎◌, ℕ, ◌-◌, zero, suc, Bool, if◌then◌else◌, List, [], ◌∷◌, ◌++◌, codes, length, Option, Some, None}
+use Rattle.std.specs.Prelude.{Result, Ok, Err, MatchResult, ◌+◌, ◌*◌, ◌<◌, ◌≡◌, ◌⊎◌, ℕ, ◌-◌, zero, suc, Bool, true, false, if◌then◌else◌, List, [], ◌∷◌, ◌++◌, codes, length, Option, Some, None}
 use Rattle.zed_oop.specs.declared.acting.Next.{Next}
 use Rattle.zed_oop.specs.declared.acting.Next.TheVariants.{Skip, Stay, Command as CommandNext, SkipAndEnd, End as EndNext, Error}
 use Rattle.zed_scene.specs.declared.stat.Stat.{Stat}
@@ -22,7 +22,10 @@ use Rattle.zed_scene.specs.Trying.{try_move}
 use Rattle.zed_script.specs.Command.{CommandAt}
 use Rattle.zed_oop.specs.Effect.{effect}
 use Rattle.zed_oop.specs.Leading.{led}
-use Rattle.zed_script.specs.Line.{InstructionAt}
+use Rattle.zed_script.specs.declared.lines.LineKind.{LineKind}
+use Rattle.zed_script.specs.declared.lines.LineKind.TheVariants.{Step as StepKind, Attempt as AttemptKind, Message as MessageKind}
+use Rattle.zed_script.specs.Line.{InstructionAt, begun_at}
+use Rattle.zed_script.specs.Text.{HasWord}
 use Rattle.zed_scene.specs.Words.{Drawn}
 
 -- a turn in the middle: the board, the words of chance that are left, and the messages so far
@@ -145,6 +148,34 @@ start_of s i ws = record { scene = record s { running = there s i }; left = ws; 
 abbrev pub Turn : Scene → ℕ → List ℕ → Option State → Type 0
 Turn s i ws e = Chain 33 Instructing (start_of s i ws) e
 
+-- ---- want of memory
+
+-- a message is copied, and so are the words of a step, or the error of one without words is told
+abbrev pub is_copied : LineKind → Bool
+is_copied MessageKind = true
+is_copied StepKind = true
+is_copied AttemptKind = true
+is_copied _ = false
+
+-- what is read at a place of a program takes memory: such a line, or the word of a command
+abbrev pub Takes : Reading → List ℕ → ℕ → Type 0
+Takes Instructing p at = is_copied (begun_at p at) ≡ true
+Takes (Commanding start) p at = HasWord p at
+
+-- what the own stat reads takes memory
+abbrev pub ReadingTakes : Reading → State → Type 0
+ReadingTakes r t = (a : Stat) × ((at : ℕ) × (Stands t.scene a at × Takes r (program_of t.scene a.program) at))
+
+-- in a chain of instructions, with at most so many command words, something is read that takes memory
+pub data ChainTakes : ℕ → Reading → State → Type 0 where
+  takes_here : (n : ℕ) (r : Reading) (t : State) → ReadingTakes r t → ChainTakes (suc n) r t
+  takes_further : (n : ℕ) (r q : Reading) (t u : State) → Does r t (goes q u) → ChainTakes (suc n) q u → ChainTakes (suc n) r t
+  takes_behind : (n : ℕ) (r q : Reading) (t u : State) → Does r t (counts q u) → ChainTakes n q u → ChainTakes (suc n) r t
+
+-- a turn of stat i with these words takes memory
+abbrev pub TurnTakes : Scene → ℕ → List ℕ → Type 0
+TurnTakes s i ws = ChainTakes 33 Instructing (start_of s i ws)
+
 -- ---- what calls answer
 
 -- a turn with this board, these words of chance left, and these messages so far
@@ -213,3 +244,10 @@ abbrev pub Runs : Result (Option Reading) OopError → Reading → State → Sta
 Runs (Ok None) r t u = (n : ℕ) → Chain (suc n) r t (Some u)
 Runs (Ok (Some q)) r t u = (n : ℕ) (e : Option State) → Chain n q u e → Chain (suc n) r t e
 Runs (Err e) r t u = (e ≡ Memory) ⊎ ((e ≡ NoWords) × ((n : ℕ) → Chain (suc n) r t None))
+
+-- what takes memory behind steps up to a command word takes it in the chain that begins with them; and where memory was
+-- refused, something in them took it
+abbrev pub RunTakes : Result (Option Reading) OopError → Reading → State → State → Type 0
+RunTakes (Ok None) r t u = Unit {0}
+RunTakes (Ok (Some q)) r t u = (n : ℕ) → ChainTakes n q u → ChainTakes (suc n) r t
+RunTakes (Err e) r t u = e ≡ Memory → (n : ℕ) → ChainTakes (suc n) r t

@@ -15,7 +15,7 @@ mod testing;
 mod turning;
 
 pub use holding::{give, take};
-pub use laws::{first_words_are_used, one_turn};
+pub use laws::{first_words_are_used, idle_turns_take_no_memory, one_turn};
 pub use leading::led;
 pub use sending::send_alone;
 pub use testing::holds;

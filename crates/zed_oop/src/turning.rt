@@ -1,8 +1,9 @@
 //! A turn of a program.
-ghost use Rattle.std.specs.Prelude.{◌≡◌, ◌≤◌, ◌-◌, length, ◌++◌, ◌∷◌, [], ℕ, List, OnOk, IfOk, None, codes};
-ghost use Rattle.zed_oop.specs.Turn.{Comes, DoesStep, HasTurn, IsNearer, Runs, StepsTo, TurnsTo, after, commanded, ends, finished, instructed, settled, state, stepped};
+ghost use Rattle.std.specs.Prelude.{◌≡◌, ◌≤◌, ◌-◌, length, ◌++◌, ◌∷◌, [], ℕ, List, OnOk, IfOk, Err, None, codes, is_some, true};
+ghost use Rattle.zed_oop.specs.Turn.{Comes, DoesStep, HasTurn, IsNearer, ReadingTakes, RunTakes, Runs, StepsTo, TurnTakes, TurnsTo, after, commanded, ends, finished, instructed, is_copied, settled, state, stepped};
 ghost use Rattle.zed_oop.specs.Acting.{with_position};
 ghost use Rattle.zed_scene.specs.Trying.{try_move};
+ghost use Rattle.zed_script.specs.Line.{line_kind};
 
 use crate::acting::{Next, go_to, skip_line};
 use crate::leading::led;
@@ -98,9 +99,11 @@ fn instruct(
     words: &mut Words,
     lines: &mut Seq<Bytes>,
 ) -> Result<After, OopError>
-    ensures { Comes result
+    ensures result { Comes result
         (instructed instruction at next stat (state scene.old words.old lines.old))
         (state scene.new words.new lines.new) }
+    ensures memory_only_when { result ≡ Err OopError.Memory
+        → is_copied (line_kind instruction) ≡ true }
 {
     match instruction {
         Instruction::End => {
@@ -177,9 +180,10 @@ fn command_with(
     words: &mut Words,
     lines: &mut Seq<Bytes>,
 ) -> Result<After, OopError>
-    ensures { Comes result
+    ensures result { Comes result
         (commanded command start next stat (state scene.old words.old lines.old))
         (state scene.new words.new lines.new) }
+    ensures memory_only_when { result ≡ Err OopError.Memory → is_some command ≡ true }
 {
     go_to(scene, Some(next));
     match command {
@@ -202,6 +206,8 @@ fn one_step(
     ensures steps { StepsTo result reading
         (state scene.old words.old lines.old) (state scene.new words.new lines.new) }
     ensures nearer { IfOk result (λ a. IsNearer a reading scene.old scene.new) }
+    ensures memory_only_when { result ≡ Err OopError.Memory
+        → ReadingTakes reading (state scene.old words.old lines.old) }
 {
     let stat = match scene.own() {
         Some(stat) => stat,
@@ -231,7 +237,9 @@ fn run_on(
     words: &mut Words,
     lines: &mut Seq<Bytes>,
 ) -> Result<Option<Reading>, OopError>
-    ensures { Runs result reading
+    ensures result { Runs result reading
+        (state scene.old words.old lines.old) (state scene.new words.new lines.new) }
+    ensures takes { RunTakes result reading
         (state scene.old words.old lines.old) (state scene.new words.new lines.new) }
 {
     let mut next = reading;
@@ -278,7 +286,9 @@ pub fn have_turn(
     stat: usize,
     words: &mut Words,
 ) -> Result<Seq<Bytes>, OopError>
-    ensures { HasTurn result scene.old stat words.old scene.new words.new }
+    ensures result { HasTurn result scene.old stat words.old scene.new words.new }
+    ensures memory_only_when { result ≡ Err OopError.Memory
+        → TurnTakes scene.old stat words.old }
 {
     scene.set_running(stat);
     let mut lines = Seq::new(alloc);
@@ -306,7 +316,9 @@ pub fn turn(
     stat: usize,
     words: &[u16],
 ) -> Result<Effects, OopError>
-    ensures { TurnsTo result scene.old stat words.now scene.new }
+    ensures result { TurnsTo result scene.old stat words.now scene.new }
+    ensures memory_only_when { result ≡ Err OopError.Memory
+        → TurnTakes scene.old stat words.now }
 {
     let mut left = Words::new(words);
     let lines = have_turn(alloc, scene, stat, &mut left)?;

@@ -4,3 +4,4 @@ pub mod Games
 pub mod Keeping
 pub mod Numbering
 pub mod Uniqueness
+pub mod StepThere

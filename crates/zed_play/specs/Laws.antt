@@ -10,6 +10,10 @@ StepHasOneOutcome =
     (key : Key) (p : Playtest) (words : List ℕ) (a b : Option (Playtest × List ℕ)) →
     Step key p words a → Step key p words b → a ≡ b
 
+-- a step by a key, with these words of chance, has an outcome
+abbrev pub StepHasAnOutcome : Type 0
+StepHasAnOutcome = (key : Key) (p : Playtest) (words : List ℕ) → (a : Option (Playtest × List ℕ)) × Step key p words a
+
 -- a step uses words from the front, and those behind can be any others
 abbrev pub LaterWordsDoNotMatter : Type 0
 LaterWordsDoNotMatter =

@@ -1,6 +1,7 @@
 //! The playtest of a board of a world.
 ghost use Rattle.std.specs.Prelude.{◌≡◌, IfOk, length, map};
 ghost use Rattle.zed_play.specs.Opening.{Opens, stat_from, stats_from, bounds_of, bytes_of, counters_in, cycle_in, own_bytes, play_of, position_in, program_at, scene_of};
+ghost use Rattle.zed_play.specs.Playtest.{IsTick};
 
 use crate::error::PlayError;
 use crate::game::{Game, copy_lines};
@@ -153,6 +154,7 @@ impl Play {
     /// where the world has no such board, Memory where a growth was refused.
     pub fn new(alloc: Global, world: World, board: usize, tick: u16) -> Result<Play, PlayError>
         ensures result { Opens result world board tick }
+        ensures within { IsTick tick → IfOk result (λ p. IsTick p.tick) }
     {
         match world.boards().get(board) {
             None => Err(PlayError::NoBoard),

@@ -1,6 +1,7 @@
 //! A playtest.
-ghost use Rattle.std.specs.Prelude.{◌≡◌, ◌⊎◌, Some, None, MatchResult};
+ghost use Rattle.std.specs.Prelude.{◌≡◌, ◌⊎◌, Err, Some, None, MatchResult};
 ghost use Rattle.zed_scene.specs.declared.error.OopError.TheVariants.{Memory, NoWords};
+ghost use Rattle.zed_play.specs.Playtest.{IsTick};
 ghost use Rattle.zed_play.specs.Step.{Looks, Steps, asked, closed_with, from_first, next_tick};
 
 use crate::ending::{Ending, ending_by};
@@ -88,6 +89,8 @@ impl Play {
     /// with which the playtest has ended as failed.
     pub fn step(&mut self, key: Key, words: &[u16]) -> Result<usize, PlayError>
         ensures result { Steps result key self.old words.now self.new }
+        ensures within { IsTick self.old.tick → IsTick self.new.tick }
+        ensures memory_only_when { result ≡ Err PlayError.Memory → self.old.ending ≡ None }
     {
         if self.ending.is_some() {
             return Err(PlayError::Over);

@@ -48,7 +48,7 @@ impl Play {
         &self.game.scene
     }
 
-    /// The tick of the next step, 1 to 420.
+    /// The tick of the next step: 1 to 420, where the playtest began at such a tick.
     pub fn tick(&self) -> u16
         ensures result { result ≡ self.now.tick }
     {

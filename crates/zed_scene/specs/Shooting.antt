@@ -48,6 +48,11 @@ fired n d shooter s =
     if nat_le 151 (length s.stats) then (false, s)
     else (true, put n (record { element = 18; colour = 15 }) (with_stat (bullet n d shooter (tile_at s.tiles n)) s))
 
+-- whether a shot at what is ahead adds a bullet: it may fly there, and fewer than 150 stats are beside the player
+abbrev pub lets_fly : Option Place → Scene → Bool
+lets_fly None s = false
+lets_fly (Some n) s = (is_walkable (element_at s n) || element_at s n == 19) && not (nat_le 151 (length s.stats))
+
 -- a shot at what is ahead: it flies there, or damages what it hits, or fails, as it does off the table
 abbrev pub shot_onto : Option Place → Step → Shooter → Scene → Bool × Scene
 shot_onto None d shooter s = (false, s)

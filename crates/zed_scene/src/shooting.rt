@@ -1,6 +1,7 @@
 //! Bullets.
-ghost use Rattle.std.specs.Prelude.{◌≡◌, OnErr, IfOk};
-ghost use Rattle.zed_scene.specs.Shooting.{bullet, is_hit, p1_of, shot};
+ghost use Rattle.std.specs.Prelude.{◌≡◌, OnErr, IfOk, true};
+ghost use Rattle.zed_scene.specs.Places.{ahead};
+ghost use Rattle.zed_scene.specs.Shooting.{bullet, is_hit, lets_fly, p1_of, shot};
 
 use crate::moving::{PLAYER, is_destructible, is_walkable};
 use crate::scene::Scene;
@@ -79,6 +80,7 @@ impl Scene {
     pub fn shoot(&mut self, from: Place, step: Step, shooter: Shooter) -> Result<bool, AllocError>
         ensures result { IfOk result (λ done. shot from step shooter self.old ≡ (done, self.new)) }
         ensures kept { OnErr result (self.new ≡ self.old) }
+        ensures memory_only_when { OnErr result (lets_fly (ahead from step) self.old ≡ true) }
     {
         let to = match ahead(from, step) {
             Some(to) => to,

@@ -1,5 +1,7 @@
 -- What is built of an argument is one, where the argument is.
-use Rattle.std.proofs.Common.{◌≡◌, ◌∙◌, ℕ, ap, sym}
+use Rattle.std.proofs.Common.{◌≡◌, ◌∙◌, ℕ, Bool, true, false, ◌||◌, List, ap, sym, refl}
+use Rattle.std.specs.Str.{bytes_eq}
+use Rattle.std.proofs.lemmas.Slice.Eq.{bytes_eq-Decides}
 
 -- this is built of an argument that ends at a place
 abbrev pub Built : {A B : Type 0} → (A → B) → (A → ℕ → Type 0) → B → ℕ → Type 0
@@ -16,3 +18,12 @@ built_one make At one b d m n x y =
 
 pub alone_one : {B : Type 0} (c : B) (at : ℕ) (b d : B) (m n : ℕ) → Alone c at b m → Alone c at d n → (b ≡ d) × (m ≡ n)
 alone_one c at b d m n x y = (x.0 ∙ sym y.0, x.1 ∙ sym y.1)
+
+-- of two tests the one passes, or the other
+pub by_either : {X : Type 0} (a b : Bool) → (a ≡ true → X) → (b ≡ true → X) → (a || b) ≡ true → X
+by_either true b one other e = one refl
+by_either false b one other e = other e
+
+-- a word that was found to be another
+pub by_word : {X : Type 0} (w x : List ℕ) → (w ≡ x → X) → bytes_eq w x ≡ true → X
+by_word w x found e = found ((bytes_eq-Decides w x).0 e)

@@ -1,8 +1,8 @@
 -- Conditions, word by word.
 use borrow.Author.Tests.{ltb-true, ltb-false}
-use Rattle.std.proofs.Common.{◌≡◌, ◌∙◌, ℕ, ◌<◌, Bool, true, false, not, List, [], Option, Some, None, refl, arith, sym, subst, nat_lt, codes}
+use Rattle.std.proofs.Common.{◌≡◌, ◌∙◌, ℕ, ◌<◌, Bool, true, false, not, List, [], length, Option, Some, None, refl, arith, sym, subst, nat_lt, codes}
 use Rattle.zed_script.specs.declared.conditions.Test.{Test}
-use Rattle.zed_script.specs.Text.{word_end}
+use Rattle.zed_script.specs.Text.{HasWord, word_end}
 use Rattle.zed_script.specs.Condition.{ConditionAt, PartAt, flipped, plain, negation}
 use Rattle.zed_script.proofs.TextLemmas.{empty_word}
 
@@ -38,3 +38,10 @@ flipped_not false false = refl
 pub flipped_false : (a : Bool) → flipped a false ≡ a
 flipped_false true = refl
 flipped_false false = refl
+
+-- NOT is no empty word
+pub not_named : (p : List ℕ) (at : ℕ) (o : Option Test) (m : ℕ) → PartAt p at o m → o ≡ None → HasWord p at
+not_named p at o m w h =
+    let P : Option Test → Type 0 = λ x. PartAt p at x m in
+    let Q : List ℕ → Type 0 = λ x. 0 < length x in
+    subst Q (sym (subst P h w).0) (omega arith)

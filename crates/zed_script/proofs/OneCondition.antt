@@ -1,5 +1,5 @@
--- At most one condition stands at a place.
-use Rattle.std.proofs.Common.{◌≡◌, ◌∙◌, ◌⊎◌, inl, inr, ℕ, Bool, true, false, not, cond, List, Option, Some, None, refl, sym, ap, subst, codes}
+-- At each place stands one condition.
+use Rattle.std.proofs.Common.{◌≡◌, ◌∙◌, ◌⊎◌, ◌+◌, ◌≤◌, inl, inr, ℕ, zero, suc, length, arith, Bool, true, false, not, cond, List, Option, Some, None, refl, sym, ap, subst, codes}
 use Rattle.std.specs.Str.{bytes_eq}
 use Rattle.zed_script.specs.declared.conditions.Query.{Query}
 use Rattle.zed_script.specs.declared.conditions.Test.{Test}
@@ -9,8 +9,10 @@ use Rattle.zed_script.specs.Text.{word_at, word_end}
 use Rattle.zed_script.specs.Heading.{DirectionAt}
 use Rattle.zed_script.specs.Kind.{kind_at}
 use Rattle.zed_script.specs.Condition.{ConditionAt, PartAt, PartBehind, QueryAt, is_question, negation, plain}
-use Rattle.zed_script.proofs.Building.{Alone, Built, alone_one, built_one}
-use Rattle.zed_script.proofs.OneDirection.{direction_one}
+use Rattle.zed_script.proofs.Building.{Alone, Built, alone_one, built_one, by_either, by_word}
+use Rattle.zed_script.proofs.ConditionLemmas.{not_moves}
+use Rattle.zed_script.proofs.OneDirection.{direction_one, direction_there}
+use Rattle.zed_script.proofs.TextLemmas.{word_end_within}
 
 -- what a word asks
 data Asked : Type 0 where
@@ -121,3 +123,55 @@ query_one p at q r m n x y =
     let make : Bool → Test → Query = λ b t. record { negated = b; test = t } in
     let path : make q.negated q.test ≡ make r.negated r.test = rw (one.0, one.1) refl in
     (path, one.2)
+
+-- ---- that one stands
+
+-- behind a word that asks stands what it asks
+question_there : (p w : List ℕ) (at : ℕ) → is_question w ≡ true → (o : Option Test) × ((end : ℕ) × PartBehind p w at o end)
+unfolding is_question
+question_there p w at =
+    by_either _ _
+    (by_either _ _
+    (by_either _ _
+    (by_either _ _
+    (by_either _ _
+    (by_word w (codes "NOT") (λ e. (None, (at, (e, refl)))))
+    (by_word w (codes "ALLIGNED") (λ e. (Some Aligned, (at, (e, refl))))))
+    (by_word w (codes "CONTACT") (λ e. (Some Contact, (at, (e, refl))))))
+    (by_word w (codes "BLOCKED") (λ e. let d = direction_there p at in (Some (Blocked d.0), (d.1.0, (e, d.1.1))))))
+    (by_word w (codes "ANY") (λ e. (Some (Any (kind_at p at true).0), ((kind_at p at true).1, (e, refl))))))
+    (by_word w (codes "ENERGIZED") (λ e. (Some Energized, (at, (e, refl)))))
+
+-- a test, or NOT, stands at each place
+part_there : (p : List ℕ) (at : ℕ) → (o : Option Test) × ((end : ℕ) × PartAt p at o end)
+part_there p at = by_question (is_question (word_at p at)) refl
+  where
+    by_question : (b : Bool) → is_question (word_at p at) ≡ b → (o : Option Test) × ((end : ℕ) × PartAt p at o end)
+    by_question true e = question_there p (word_at p at) (word_end p at) e
+    by_question false e = (Some (Flag (word_at p at)), (word_end p at, (e, refl, refl)))
+
+condition_there : (k : ℕ) (p : List ℕ) (at : ℕ) → length p ≤ at + k → (b : Bool) × ((t : Test) × ((end : ℕ) × ConditionAt p at b t end))
+condition_there zero p at h = by_part (part_there p at)
+  where
+    by_part : (o : Option Test) × ((end : ℕ) × PartAt p at o end) → (b : Bool) × ((t : Test) × ((end : ℕ) × ConditionAt p at b t end))
+    by_part (Some t, (m, w)) = (false, (t, (m, plain at t m w)))
+    by_part (None, (m, w)) =
+        let moves = not_moves p at None m w refl in
+        let ends = w.1 in
+        let within = word_end_within p at in
+        absurd (omega arith)
+condition_there (suc k) p at h = by_part (part_there p at) (condition_there k p (word_end p at))
+  where
+    by_part : (o : Option Test) × ((end : ℕ) × PartAt p at o end) → (length p ≤ word_end p at + k → (b : Bool) × ((t : Test) × ((end : ℕ) × ConditionAt p (word_end p at) b t end))) → (b : Bool) × ((t : Test) × ((end : ℕ) × ConditionAt p at b t end))
+    by_part (Some t, (m, w)) further = (false, (t, (m, plain at t m w)))
+    by_part (None, (m, w)) further =
+        let moves = not_moves p at None m w refl in
+        let ends = w.1 in
+        let rest = further (omega arith) in
+        (not rest.0, (rest.1.0, (rest.1.1.0, negation at rest.0 rest.1.0 (word_end p at) rest.1.1.0 (w.0, refl) rest.1.1.1)))
+
+-- a condition stands at each place
+pub query_there : (p : List ℕ) (at : ℕ) → (q : Query) × ((end : ℕ) × QueryAt p at q end)
+query_there p at =
+    let found = condition_there (length p) p at (omega arith) in
+    (record { negated = found.0; test = found.1.0 }, (found.1.1.0, found.1.1.1))

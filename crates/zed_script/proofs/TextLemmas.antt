@@ -3,6 +3,7 @@ use Rattle.std.proofs.lemmas.List.{drop_all}
 use borrow.Author.Tests.{ltb-true, ltb-false}
 use Rattle.std.proofs.lemmas.List.Sums.{prefix_len-le-length}
 use Rattle.std.specs.Char.{is_ascii_digit}
+use Rattle.std.specs.Str.{bytes_eq}
 use Rattle.zed_script.specs.declared.text.Class.TheVariants.{Space, Word}
 use Rattle.std.proofs.Common.{Option, Some, None, slice_get, ◌≡◌, ℕ, suc, min, nat_lt, [], ◌∷◌, ◌-◌, ◌*◌, ◌+◌, ◌<◌, ◌≤◌, Bool, true, false, List, length, drop, get_or, cond, arith, add-one, length-drop, max, refl}
 use Rattle.std.proofs.Math.Seq.{drop-cons}
@@ -84,6 +85,14 @@ end_of_word_after p from (Some b) = by_digit (is_ascii_digit b)
     by_digit true = omega arith
     by_digit false = run_end_after Word p from
 
+-- a word doesn't end before the place where it was sought
+pub word_end_after : (p : List ℕ) (at : ℕ) → at ≤ word_end p at
+unfolding word_end
+word_end_after p at =
+    let a = run_end_after Space p at in
+    let b = end_of_word_after p (word_start p at) (slice_get p (word_start p at)) in
+    omega arith
+
 -- a word that doesn't lead on is empty
 pub empty_word : (p : List ℕ) (at : ℕ) → word_end p at ≤ at → word_at p at ≡ []
 unfolding word_at word_end
@@ -92,3 +101,13 @@ empty_word p at h =
     let b = end_of_word_after p (word_start p at) (slice_get p (word_start p at)) in
     let none : end_by_first p (word_start p at) (slice_get p (word_start p at)) - word_start p at ≡ 0 = omega arith in
     rw none refl
+
+-- a word of which something is said isn't empty
+pub word_said : {X : Type 0} (says : List ℕ → Option X) (w : List ℕ) (x : X) → says [] ≡ None → says w ≡ Some x → 0 < length w
+word_said says [] x none is = absurd (cc)
+word_said says (b ∷ w) x none is = omega arith
+
+-- a word that is another isn't empty, unless that is
+pub word_named : (w x : List ℕ) → bytes_eq [] x ≡ false → bytes_eq w x ≡ true → 0 < length w
+word_named [] x none is = absurd (cc)
+word_named (b ∷ w) x none is = omega arith

@@ -1,5 +1,5 @@
 -- Words, values and lines in the bytes of a program.
-use Rattle.std.specs.Prelude.{ℕ, ◌+◌, ◌-◌, ◌*◌, min, Bool, ◌||◌, not, ◌==◌, nat_lt, if◌then◌else◌, List, [], ◌∷◌, length, map, drop, slice_get, slice_range, Option, Some, None}
+use Rattle.std.specs.Prelude.{ℕ, ◌+◌, ◌-◌, ◌*◌, ◌<◌, min, Bool, ◌||◌, not, ◌==◌, nat_lt, if◌then◌else◌, List, [], ◌∷◌, length, map, drop, slice_get, slice_range, Option, Some, None}
 use Rattle.std.specs.List.{prefix_len}
 use Rattle.std.specs.Str.{bytes_eq}
 use Rattle.std.specs.Char.{is_ascii_digit, is_ascii_alphanumeric, to_ascii_uppercase}
@@ -37,6 +37,10 @@ upper = map to_ascii_uppercase
 -- the word at a place, in upper case
 unfoldable pub word_at : List ℕ → ℕ → List ℕ
 word_at p at = upper (slice_range p (word_start p at) (word_end p at))
+
+-- a word stands at a place, and not an empty one
+abbrev pub HasWord : List ℕ → ℕ → Type 0
+HasWord p at = 0 < length (word_at p at)
 
 -- what a number spells with digits behind it
 abbrev pub number : ℕ → List ℕ → ℕ

@@ -1,6 +1,7 @@
 //! Commands as a program writes them.
-ghost use Rattle.std.specs.Prelude.{◌≡◌, ◌≤◌, IfOk, IfSome, Some, length, max};
+ghost use Rattle.std.specs.Prelude.{◌≡◌, ◌≤◌, IfOk, IfSome, OnErr, Some, length, max};
 ghost use Rattle.zed_script.specs.Command.{AimAt, AmountAt, BehindThen, CommandAt, CommandBehind, ThenAt, ExchangeAt, NameAt, counter_of};
+ghost use Rattle.zed_script.specs.Text.{HasWord};
 ghost use Rattle.zed_script.specs.Verbs.{IsBare, IsDeed, IsNaming, bare_word, deed_word, naming_word};
 
 use crate::conditions::{Query, condition};
@@ -412,6 +413,7 @@ fn then_end(alloc: Global, program: &[u8], at: usize) -> Result<Option<usize>, A
     ensures result { IfOk result (λ r. ThenAt program.now at r) }
     ensures within { IfOk result (λ r. IfSome r (λ end. end ≤ max at (length program.now))) }
     ensures ends { IfOk result (λ r. IfSome r (λ end. at ≤ end)) }
+    ensures memory_only_when { OnErr result (HasWord program.now at) }
 {
     let word = word_at(alloc, program, at)?;
     if is_word(word.as_slice(), "THEN") {
@@ -426,6 +428,7 @@ fn behind_then(alloc: Global, program: &[u8], at: usize) -> Result<usize, AllocE
     ensures result { IfOk result (λ r. BehindThen program.now at r) }
     ensures within { IfOk result (λ r. r ≤ max at (length program.now)) }
     ensures ends { IfOk result (λ r. at ≤ r) }
+    ensures memory_only_when { OnErr result (HasWord program.now at) }
 {
     let mut from = at;
     loop {
@@ -436,7 +439,7 @@ fn behind_then(alloc: Global, program: &[u8], at: usize) -> Result<usize, AllocE
     }
 }
 
-#[tactic(auto)]
+#[tactic(auto, using(crate::proofs::CommandLemmas::word_before))]
 /// The command that stands at a place, or None where no word does, and the place behind it. THEN is passed over.
 pub fn next_command(
     alloc: Global,
@@ -446,6 +449,7 @@ pub fn next_command(
     ensures result { IfOk result (λ r. CommandAt program.now at r.0 r.1) }
     ensures within { IfOk result (λ r. r.1 ≤ max at (length program.now)) }
     ensures ends { IfOk result (λ r. at ≤ r.1) }
+    ensures memory_only_when { OnErr result (HasWord program.now at) }
 {
     let from = behind_then(alloc, program, at)?;
     let word = word_at(alloc, program, from)?;

@@ -1,6 +1,7 @@
 //! Conditions as a program writes them.
-ghost use Rattle.std.specs.Prelude.{◌≡◌, ◌≤◌, IfOk, length, max};
+ghost use Rattle.std.specs.Prelude.{◌≡◌, ◌≤◌, ◌<◌, IfOk, OnErr, length, max};
 ghost use Rattle.zed_script.specs.Condition.{PartAt, PartBehind, QueryAt};
+ghost use Rattle.zed_script.specs.Text.{HasWord};
 ghost use Rattle.zed_script.specs.Verbs.{AnyAt, BlockedAt, IsQuestion, question_word};
 
 use crate::heading::{Heading, direction};
@@ -97,6 +98,7 @@ fn asked_behind(
     ensures result { IfOk result (λ r. PartBehind program.now word.now at r.0 r.1) }
     ensures within { IfOk result (λ r. r.1 ≤ max at (length program.now)) }
     ensures ends { IfOk result (λ r. at ≤ r.1) }
+    ensures memory_only_when { OnErr result (0 < length word.now) }
 {
     match question {
         Question::Not => Ok((None, at)),
@@ -118,6 +120,7 @@ fn test_behind(
     ensures result { IfOk result (λ r. PartBehind program.now word at r.0 r.1) }
     ensures within { IfOk result (λ r. r.1 ≤ max at (length program.now)) }
     ensures ends { IfOk result (λ r. at ≤ r.1) }
+    ensures memory_only_when { OnErr result (0 < length word) }
 {
     match question_of(word.as_slice()) {
         Some(question) => asked_behind(alloc, program, &word, question, at),
@@ -130,6 +133,7 @@ fn test_at(alloc: Global, program: &[u8], at: usize) -> Result<(Option<Test>, us
     ensures result { IfOk result (λ r. PartAt program.now at r.0 r.1) }
     ensures within { IfOk result (λ r. r.1 ≤ max at (length program.now)) }
     ensures ends { IfOk result (λ r. at ≤ r.1) }
+    ensures memory_only_when { OnErr result (HasWord program.now at) }
 {
     let word = word_at(alloc, program, at)?;
     let end = word_end(program, at);
@@ -141,6 +145,7 @@ pub fn condition(alloc: Global, program: &[u8], at: usize) -> Result<(Query, usi
     ensures result { IfOk result (λ r. QueryAt program.now at r.0 r.1) }
     ensures within { IfOk result (λ r. r.1 ≤ max at (length program.now)) }
     ensures ends { IfOk result (λ r. at ≤ r.1) }
+    ensures memory_only_when { OnErr result (HasWord program.now at) }
 {
     let mut negated = false;
     let mut to = at;

@@ -1,6 +1,7 @@
 //! Directions as a program writes them.
-ghost use Rattle.std.specs.Prelude.{◌≡◌, ◌≤◌, IfOk, Some, length, max};
+ghost use Rattle.std.specs.Prelude.{◌≡◌, ◌≤◌, IfOk, OnErr, Some, length, max};
 ghost use Rattle.zed_script.specs.Heading.{DirectionAt, IsPiece, chosen_of, course_of, turning_of};
+ghost use Rattle.zed_script.specs.Text.{HasWord};
 
 use crate::text::{is_word, word_at, word_end};
 use std::alloc::{AllocError, Global};
@@ -110,6 +111,7 @@ fn piece_at(alloc: Global, program: &[u8], at: usize) -> Result<Piece, AllocErro
     ensures result { IfOk result (λ r. IsPiece program.now at r.turning r.course r.end) }
     ensures within { IfOk result (λ r. r.end ≤ max at (length program.now)) }
     ensures ends { IfOk result (λ r. at ≤ r.end) }
+    ensures memory_only_when { OnErr result (HasWord program.now at) }
 {
     let word = word_at(alloc, program, at)?;
     let turning = turning_of(word.as_slice());
@@ -127,6 +129,7 @@ pub fn direction(alloc: Global, program: &[u8], at: usize) -> Result<(Heading, u
     ensures result { IfOk result (λ r. DirectionAt program.now at r.0 r.1) }
     ensures within { IfOk result (λ r. r.1 ≤ max at (length program.now)) }
     ensures ends { IfOk result (λ r. at ≤ r.1) }
+    ensures memory_only_when { OnErr result (HasWord program.now at) }
 {
     let mut turns = Seq::new(alloc);
     let mut to = at;

@@ -1,6 +1,7 @@
 //! Kinds of tiles as a program writes them.
-ghost use Rattle.std.specs.Prelude.{◌≡◌, ◌≤◌, IfOk, length, max};
+ghost use Rattle.std.specs.Prelude.{◌≡◌, ◌≤◌, IfOk, OnErr, length, max};
 ghost use Rattle.zed_script.specs.Kind.{allowed, colour_of, element_below, element_of, is_element, kind_at, kind_of, matches, tile_of};
+ghost use Rattle.zed_script.specs.Text.{HasWord};
 
 use crate::text::{is_word, word_at, word_end};
 use std::alloc::{AllocError, Global};
@@ -120,7 +121,7 @@ fn kind_of(colour: Option<u8>, word: &[u8], player: bool) -> Option<TileKind>
     }
 }
 
-#[tactic(auto, unfolding(crate::specs::Kind::kind_at))]
+#[tactic(auto, unfolding(crate::specs::Kind::kind_at), using(crate::proofs::KindLemmas::coloured))]
 /// The kind that stands at a place, or None where none does, and the place behind its words. The player is a kind only where that
 /// is allowed.
 pub fn kind(
@@ -132,6 +133,7 @@ pub fn kind(
     ensures result { IfOk result (λ r. r ≡ kind_at program.now at player) }
     ensures within { IfOk result (λ r. r.1 ≤ max at (length program.now)) }
     ensures ends { IfOk result (λ r. at ≤ r.1) }
+    ensures memory_only_when { OnErr result (HasWord program.now at) }
 {
     let first = word_at(alloc, program, at)?;
     let end = word_end(program, at);

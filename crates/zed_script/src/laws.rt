@@ -16,14 +16,17 @@ pub fn one_direction()
         → DirectionAt p at h m → DirectionAt p at g n → (h ≡ g) × (m ≡ n) }
 {}
 
-/// At most one condition stands at a place, and it ends at one place.
+/// A condition stands at each place, and no other does there, nor one that ends elsewhere.
 pub fn one_condition()
+    ensures stands { (p : List ℕ) (at : ℕ) → (q : Query) × ((end : ℕ) × QueryAt p at q end) }
     ensures alone { (p : List ℕ) (at : ℕ) (q r : Query) (m n : ℕ)
         → QueryAt p at q m → QueryAt p at r n → (q ≡ r) × (m ≡ n) }
 {}
 
-/// At most one command stands at a place, or no word does, and it ends at one place.
+/// A command stands at each place, or no word does, and no other does there, nor one that ends elsewhere.
 pub fn one_command()
+    ensures stands { (p : List ℕ) (at : ℕ)
+        → (c : Option Command) × ((end : ℕ) × CommandAt p at c end) }
     ensures alone { (p : List ℕ) (at : ℕ) (c d : Option Command) (m n : ℕ)
         → CommandAt p at c m → CommandAt p at d n → (c ≡ d) × (m ≡ n) }
 {}

@@ -1,6 +1,6 @@
 //! Instructions and lines as a program writes them.
-ghost use Rattle.std.specs.Prelude.{◌≡◌, ◌≤◌, IfOk, length, max};
-ghost use Rattle.zed_script.specs.Line.{InstructionAt, IsAhead, LineAt, LinesFrom, line_text, begun_at, begun_by};
+ghost use Rattle.std.specs.Prelude.{◌≡◌, ◌<◌, ◌≤◌, IfOk, OnErr, length, max};
+ghost use Rattle.zed_script.specs.Line.{Copies, InstructionAt, IsAhead, LineAt, LinesFrom, line_text, begun_at, begun_by};
 
 use crate::heading::{Heading, direction};
 use crate::text::{line_after, line_end, part};
@@ -101,6 +101,7 @@ pub fn standing_at(
 ) -> Result<(Instruction, usize), AllocError>
     ensures result { IfOk result (λ r. InstructionAt program.now at r.0 r.1) }
     ensures ends { IfOk result (λ r. IsAhead r.0 at r.1 (length program.now)) }
+    ensures memory_only_when { OnErr result (Copies program.now at) }
 {
     if at >= program.len() {
         return Ok((Instruction::End, at));
@@ -140,7 +141,8 @@ fn line_at(program: &[u8], at: usize) -> Line
 impl<'a> Program<'a> {
     /// The lines of a program, each a part of its bytes.
     pub fn parse(alloc: Global, program: &'a [u8]) -> Result<Program<'a>, AllocError>
-        ensures { IfOk result (λ r. LinesFrom program.now 0 r.lines) }
+        ensures result { IfOk result (λ r. LinesFrom program.now 0 r.lines) }
+        ensures memory_only_when { OnErr result (0 < length program.now) }
     {
         let mut lines = Seq::new(alloc);
         let mut at = 0;

@@ -1,7 +1,7 @@
 //! Words, values and lines in the bytes of a program.
-ghost use Rattle.std.specs.Prelude.{◌≡◌, ◌<◌, ◌≤◌, IfOk, IsTrue, length, max, min, slice_get, slice_range};
+ghost use Rattle.std.specs.Prelude.{◌≡◌, ◌<◌, ◌≤◌, IfOk, OnErr, IsTrue, length, max, min, slice_get, slice_range};
 ghost use Rattle.std.specs.Str.{bytes_eq};
-ghost use Rattle.zed_script.specs.Text.{is_of, end_by_first, number, with_digit, value_at, line_after, line_end, run_end, upper, value_end, word_at, word_end, word_start};
+ghost use Rattle.zed_script.specs.Text.{HasWord, is_of, end_by_first, number, with_digit, value_at, line_after, line_end, run_end, upper, value_end, word_at, word_end, word_start};
 
 use std::alloc::{AllocError, Global};
 use zed_types::Bytes;
@@ -93,7 +93,8 @@ pub fn word_end(program: &[u8], at: usize) -> usize
 
 /// Bytes in upper case.
 fn upper(alloc: Global, bytes: &[u8]) -> Result<Bytes, AllocError>
-    ensures { IfOk result (λ b. b ≡ upper bytes.now) }
+    ensures result { IfOk result (λ b. b ≡ upper bytes.now) }
+    ensures memory_only_when { OnErr result (0 < length bytes.now) }
 {
     let mut out = Vec::new(alloc);
     for byte in bytes {
@@ -105,7 +106,8 @@ fn upper(alloc: Global, bytes: &[u8]) -> Result<Bytes, AllocError>
 #[tactic(auto, unfolding(crate::specs::Text::word_at, crate::specs::Text::word_end))]
 /// The word that stands at a place, in upper case.
 pub fn word_at(alloc: Global, program: &[u8], at: usize) -> Result<Bytes, AllocError>
-    ensures { IfOk result (λ w. w ≡ word_at program.now at) }
+    ensures result { IfOk result (λ w. w ≡ word_at program.now at) }
+    ensures memory_only_when { OnErr result (HasWord program.now at) }
 {
     let from = word_start(program, at);
     let to = end_of_word(program, from);

@@ -1,6 +1,6 @@
 use Rattle.std.proofs.Common.{◌<◌, ◌≤◌, ℕ, Option, IfSome, length, max, subst, arith}
 use Rattle.zed_script.specs.Command.{ThenAt, there}
-use Rattle.zed_script.proofs.CommandLemmas.{then_moves, then_passed}
+use Rattle.zed_script.proofs.CommandLemmas.{then_moves, then_named, then_passed}
 use Rattle.zed_script.proofs.commands.behind_then.Goals as goal
 
 pub loop-end-smaller : goal.loop-end-smaller
@@ -21,6 +21,7 @@ loop-end-preserved c =
       so_far = λ e rest. c.loop-end.invariant.so_far e (then_passed c.args.program.now c.loop-end.from c.in-Some.end e (subst P c.in-Some.is c.in_ok-end.ensures.result) rest);
       within = (let a : c.in-Some.end ≤ max c.loop-end.from (length c.args.program.now) = subst W c.in-Some.is c.in_ok-end.ensures.within in let b = c.loop-end.invariant.within in omega arith);
       after = omega arith;
+      named = λ _. c.loop-end.invariant.named (then_named c.args.program.now c.loop-end.from (subst P c.in-Some.is c.in_ok-end.ensures.result).0);
     }
 
 pub returns-in-None-clause-result : goal.returns-in-None-clause-result

@@ -1,6 +1,6 @@
 use Rattle.std.proofs.Common.{◌<◌, Bool, false, not, subst, arith}
 use Rattle.zed_script.specs.Condition.{ConditionAt}
-use Rattle.zed_script.proofs.ConditionLemmas.{first_not, flipped_false, flipped_not, last_test, not_moves}
+use Rattle.zed_script.proofs.ConditionLemmas.{first_not, flipped_false, flipped_not, last_test, not_moves, not_named}
 use Rattle.zed_script.proofs.conditions.condition.Goals as goal
 
 pub loop-test-smaller : goal.loop-test-smaller
@@ -18,6 +18,7 @@ loop-test-preserved c = record {
       (first_not c.args.program.now c.loop-test.to c.in_ok-test.test c.in_ok-test.end b t e c.in_ok-test.ensures.result c.in-None.is rest));
   within = (let a = c.in_ok-test.ensures.within in let b = c.loop-test.invariant.within in omega arith);
   after = (let a = c.in_ok-test.ensures.ends in omega arith);
+  named = λ _. c.loop-test.invariant.named (not_named c.args.program.now c.loop-test.to c.in_ok-test.test c.in_ok-test.end c.in_ok-test.ensures.result c.in-None.is);
 }
 
 pub returns-in-Some-clause-result : goal.returns-in-Some-clause-result

@@ -1,8 +1,9 @@
 use Rattle.std.proofs.Common.{◌∙◌, ◌<◌, ◌++◌, ◌∷◌, [], List, subst, sym, ap, append_assoc, arith}
 use Rattle.std.proofs.lemmas.List.{append-nil}
+use Rattle.std.proofs.lemmas.Result.{err_from_is_err_and}
 use Rattle.zed_script.specs.declared.heading.Turning.{Turning}
 use Rattle.zed_script.specs.Heading.{HeadingAt}
-use Rattle.zed_script.proofs.HeadingLemmas.{first_piece, last_piece, piece_moves}
+use Rattle.zed_script.proofs.HeadingLemmas.{first_piece, last_piece, piece_moves, piece_named}
 use Rattle.zed_script.proofs.heading.direction.Goals as goal
 
 pub loop-turns-smaller : goal.loop-turns-smaller
@@ -23,6 +24,7 @@ loop-turns-preserved c =
           (first_piece c.args.program.now c.loop-turns.to w.turning c.in-Some.turning w.course w.end ts d e c.in_ok-piece.ensures.result c.in-Some.is rest));
       within = (let a = c.in_ok-piece.ensures.within in let b = c.loop-turns.invariant.within in omega arith);
       after = (let a = c.in_ok-piece.ensures.ends in omega arith);
+      named = λ _. c.loop-turns.invariant.named (piece_named c.args.program.now c.loop-turns.to w.turning c.in-Some.turning w.course w.end c.in_ok-piece.ensures.result c.in-Some.is);
     }
 
 pub returns-in-None-clause-result : goal.returns-in-None-clause-result
@@ -32,3 +34,11 @@ returns-in-None-clause-result c =
     subst P (append-nil c.loop-turns.turns)
     (c.loop-turns.invariant.so_far [] w.course w.end
     (last_piece c.args.program.now c.loop-turns.to w.turning w.course w.end c.in_ok-piece.ensures.result c.in-None.is))
+
+pub returns-in_err-push-in-Some-clause-memory_only_when : goal.returns-in_err-push-in-Some-clause-memory_only_when
+returns-in_err-push-in-Some-clause-memory_only_when c =
+    let w = c.in_ok-piece.piece in
+    let p = err_from_is_err_and c.from_residual-in_err-push-in-Some.result c.from_residual-in_err-push-in-Some.ensures.1 in
+    rw p.1
+    (c.loop-turns.invariant.named
+    (piece_named c.args.program.now c.loop-turns.to w.turning c.in-Some.turning w.course w.end c.in_ok-piece.ensures.result c.in-Some.is))

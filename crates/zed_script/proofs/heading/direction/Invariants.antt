@@ -2,6 +2,7 @@ use Rattle.std.proofs.Common.{ℕ, ◌++◌, ◌-◌, ◌≤◌, List, Option, l
 use Rattle.zed_script.specs.declared.heading.Course.{Course}
 use Rattle.zed_script.specs.declared.heading.Turning.{Turning}
 use Rattle.zed_script.specs.Heading.{HeadingAt}
+use Rattle.zed_script.specs.Text.{HasWord}
 use Rattle.zed_script.proofs.heading.direction.Given as goal
 
 abbrev pub invariant-loop-turns : goal.invariant-loop-turns
@@ -9,6 +10,7 @@ invariant-loop-turns l = record {
   so_far : (ts : List Turning) (c : Option Course) (e : ℕ) → HeadingAt l.program l.to ts c e → HeadingAt l.program l.fn.at (l.turns ++ ts) c e;
   within : l.to ≤ max l.fn.at (length l.program);
   after : l.fn.at ≤ l.to;
+  named : HasWord l.program l.to → HasWord l.program l.fn.at;
 }
 
 abbrev pub decreases-loop-turns : goal.decreases-loop-turns

@@ -4,7 +4,7 @@ use Rattle.zed_script.specs.declared.lines.Line.{Line}
 use Rattle.zed_script.specs.Line.{LinesFrom}
 use Rattle.zed_script.proofs.lines.Program.parse.Goals as goal
 
-pub returns : goal.returns
-returns c =
+pub returns-clause-result : goal.returns-clause-result
+returns-clause-result c =
     let P : List Line → Type 0 = λ l. LinesFrom c.args.program.now 0 l in
     subst P (append-nil c.loop-at.lines) (c.loop-at.invariant.so_far [] (omega arith))
