@@ -63,6 +63,21 @@ author_is d replica o e h = go d.is_stale (is_spent_for d.edits o) h
     go false true h = not_refused e _ h
     go false false h = to_do_is (fault (authored d.edits replica o)) d.edits (authored d.edits replica o) e h
 
+-- what was authored had a time left
+pub author_left : (d : Replica) (replica : ℕ) (o : Op) (e : Edit) → AnswersAuthor d replica o (Ok e) → is_spent_for d.edits o ≡ false
+author_left d replica o e h = go d.is_stale (is_spent_for d.edits o) refl h
+  where
+    go : (b s : Bool) → is_spent_for d.edits o ≡ s
+        → MatchBool b (Ok e ≡ Err document.Stale) (MatchBool s (Ok e ≡ Err document.ClockSpent) (AnswersToDo (fault (authored d.edits replica o)) d.edits (authored d.edits replica o) (Ok e)))
+        → is_spent_for d.edits o ≡ false
+    go true s is h = not_refused e _ h
+    go false true is h = not_refused e _ h
+    go false false is h = is
+
+-- a refusal for memory is one of the document's
+pub memory_is : (e : DocumentError) → refusal_of e ≡ memory → e ≡ document.Memory
+memory_is e same = cc
+
 match_both : (b : Bool) {A B C D : Type 0} → (A → C) → (B → D) → MatchBool b A B → MatchBool b C D
 match_both true f g h = f h
 match_both false f g h = g h

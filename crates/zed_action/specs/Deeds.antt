@@ -1,5 +1,5 @@
 -- What an action does to a document.
-use Rattle.std.specs.Prelude.{◌≡◌, ◌⊎◌, ℕ, zero, suc, ℤ, pos, List, [], ◌∷◌, ◌++◌, Option, Some, None, Result, Ok, Err, MatchResult, take}
+use Rattle.std.specs.Prelude.{◌≡◌, ◌⊎◌, false, ℕ, zero, suc, ℤ, pos, List, [], ◌∷◌, ◌++◌, Option, Some, None, Result, Ok, Err, MatchResult, take}
 use Rattle.zed_types.specs.declared.names.BoardId.{BoardId}
 use Rattle.zed_types.specs.declared.names.StatId.{StatId}
 use Rattle.zed_types.specs.declared.names.TextId.{TextId}
@@ -19,7 +19,7 @@ use Rattle.zed_edit.specs.Replay.{replay}
 use Rattle.zed_op.specs.Set.{with_edit}
 use Rattle.zed_document.specs.declared.error.DocumentError.{DocumentError}
 use Rattle.zed_document.specs.declared.error.DocumentError.TheVariants as document
-use Rattle.zed_document.specs.Authoring.{AnswersAuthor, AnswersDeletion, AnswersInsertion, authored, deletions_of, insertion_at}
+use Rattle.zed_document.specs.Authoring.{AnswersAuthor, AnswersDeletion, AnswersInsertion, MayTakeMemory, MayTakeMemoryAt, MayTakeMemoryToDelete, authored, deletions_of, insertion_at, is_spent_for}
 use Rattle.zed_document.specs.Reading.{text_of}
 use Rattle.zed_document.specs.Replica.{Replica}
 use Rattle.zed_action.specs.declared.error.ActionError.{ActionError}
@@ -29,7 +29,7 @@ use Rattle.zed_action.specs.declared.action.Action.TheVariants as action
 use Rattle.zed_action.specs.declared.deed.Deed.{Deed}
 use Rattle.zed_action.specs.declared.deed.Deed.TheVariants.{Make, Insert, Start, Delete}
 use Rattle.zed_action.specs.Refusals.{memory, refusal_of}
-use Rattle.zed_action.specs.Words.{Word, action_of}
+use Rattle.zed_action.specs.Words.{KeepsBytes, Word, action_of}
 
 -- ---- what the numbers of an action name
 
@@ -244,3 +244,30 @@ LeavesAction d replica (Some a) e left = LeavesDeed d replica (deed_of (replay d
 -- what is left where the words are refused
 abbrev pub LeavesWords : Replica → ℕ → List Word → ActionError → List Edit → Type 0
 LeavesWords d replica words e left = LeavesAction d replica (action_of words) e left
+
+-- ---- where memory may be wanted
+
+-- authoring an edit may take memory
+abbrev pub MayTakeToAuthor : Replica → ℕ → Op → Type 0
+MayTakeToAuthor d replica o = (is_spent_for d.edits o ≡ false) × MayTakeMemory d.edits (authored d.edits replica o)
+
+-- a deed may take memory; a stat's new text may as long as a time is left
+abbrev pub DeedMayTake : Replica → ℕ → Deed → Type 0
+DeedMayTake d replica (Make o) = MayTakeToAuthor d replica o
+DeedMayTake d replica (Insert t position bytes) = MayTakeMemoryAt d replica t position bytes
+DeedMayTake d replica (Start s bytes) = is_spent_for d.edits op.TextAdd ≡ false
+DeedMayTake d replica (Delete t from to) = MayTakeMemoryToDelete d t from to
+
+-- a deed that an action comes to may take memory; what is refused in its place is nothing that does
+abbrev pub AnyMayTake : Replica → ℕ → Result Deed DocumentError → Type 0
+AnyMayTake d replica (Err none) = ⊥
+AnyMayTake d replica (Ok deed) = DeedMayTake d replica deed
+
+-- an action may take memory, by the deed that it comes to
+abbrev pub ActionMayTake : Replica → ℕ → Option Action → Type 0
+ActionMayTake d replica None = ⊥
+ActionMayTake d replica (Some a) = AnyMayTake d replica (deed_of (replay d.edits) a)
+
+-- words may take memory: to keep their bytes, or for what they do
+abbrev pub WordsMayTake : Replica → ℕ → List Word → Type 0
+WordsMayTake d replica words = KeepsBytes (action_of words) ⊎ ActionMayTake d replica (action_of words)

@@ -1,5 +1,5 @@
 -- What the words of an action say.
-use Rattle.std.specs.Prelude.{◌≡◌, ◌⊎◌, MatchResult, Result, ℕ, ℤ, pos, nat_le, Bool, ◌&&◌, ◌==◌, if◌then◌else◌, List, [], ◌∷◌, length, map, codes, Option, Some, None, option_and_then, option_map}
+use Rattle.std.specs.Prelude.{◌≡◌, ◌⊎◌, ◌<◌, MatchResult, Result, ℕ, ℤ, pos, nat_le, Bool, ◌&&◌, ◌==◌, if◌then◌else◌, List, [], ◌∷◌, length, map, codes, Option, Some, None, option_and_then, option_map}
 use Rattle.std.specs.Borrow.{Bor}
 use Rattle.std.specs.List.{list_all}
 use Rattle.std.specs.Str.{bytes_eq}
@@ -191,6 +191,18 @@ action_of (verb ∷ rest) =
     if bytes_eq verb (codes "board-name") then board_name_of rest else
     if bytes_eq verb (codes "insert") then insert_of rest else numbered_of verb rest
 
--- an action that is what the words say, or BadAction where they are none; want of memory aside
+-- the bytes of its words that an action keeps
+abbrev pub kept_bytes : Action → List ℕ
+kept_bytes (BoardAdd name) = name
+kept_bytes (BoardName b name) = name
+kept_bytes (Insert b s p bytes) = bytes
+kept_bytes _ = []
+
+-- words are an action that keeps bytes of them
+abbrev pub KeepsBytes : Option Action → Type 0
+KeepsBytes None = ⊥
+KeepsBytes (Some a) = 0 < length (kept_bytes a)
+
+-- an action that is what the words say, or BadAction where they are none; or want of memory where bytes of them are kept
 abbrev pub Says : Result Action ActionError → Option Action → Type 0
-Says result said = MatchResult result (λ a. said ≡ Some a) (λ e. (e ≡ memory) ⊎ ((e ≡ BadAction) × (said ≡ None)))
+Says result said = MatchResult result (λ a. said ≡ Some a) (λ e. ((e ≡ memory) × KeepsBytes said) ⊎ ((e ≡ BadAction) × (said ≡ None)))

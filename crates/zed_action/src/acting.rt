@@ -1,7 +1,7 @@
 //! Actions done on a document, by the edits that they come to.
 ghost use Rattle.std.specs.Prelude.{◌≡◌, ◌≢◌, ◌≤◌, Err, false, IfErr, IfOk, OnErr, OnOk};
-ghost use Rattle.zed_document.specs.Authoring.{authored};
-ghost use Rattle.zed_action.specs.Deeds.{Acts, Authors, Deletes, Ends, Inserts, Leaves, LeavesDeletion, LeavesStart, LeavesWords, Performs, Starts};
+ghost use Rattle.zed_document.specs.Authoring.{MayTakeMemoryAt, MayTakeMemoryToDelete, authored, is_spent_for};
+ghost use Rattle.zed_action.specs.Deeds.{Acts, Authors, DeedMayTake, Deletes, Ends, Inserts, Leaves, LeavesDeletion, LeavesStart, LeavesWords, MayTakeToAuthor, Performs, Starts, WordsMayTake};
 ghost use Rattle.zed_action.specs.Refusals.{memory};
 ghost use Rattle.zed_action.specs.Words.{words_of};
 
@@ -22,6 +22,9 @@ fn author(document: &mut Document, replica: u16, op: Op) -> Result<Edit, ActionE
     ensures sound { OnOk result (document.new.is_stale ≡ false) }
     ensures stale { (result ≢ Err memory) → document.new.is_stale ≡ false }
     ensures world { document.new.world ≡ document.old.world }
+    ensures left { OnOk result (is_spent_for document.old.edits op ≡ false) }
+    ensures memory_only_when { result ≡ Err memory
+        → MayTakeToAuthor document.old replica op }
 {
     let edit = document.author(replica, op)?;
     Ok(edit)
@@ -42,6 +45,8 @@ fn insert(
     ensures sound { OnOk result (document.new.is_stale ≡ false) }
     ensures stale { (result ≢ Err memory) → document.new.is_stale ≡ false }
     ensures world { document.new.world ≡ document.old.world }
+    ensures memory_only_when { result ≡ Err memory
+        → MayTakeMemoryAt document.old replica text position bytes }
 {
     document.insert_text(replica, text, position as usize, bytes)?;
     Ok(())
@@ -62,6 +67,8 @@ fn delete(
         LeavesDeletion document.old replica text from to e document.new.edits) }
     ensures stale { (result ≢ Err memory) → document.new.is_stale ≡ false }
     ensures world { document.new.world ≡ document.old.world }
+    ensures memory_only_when { result ≡ Err memory
+        → MayTakeMemoryToDelete document.old text from to }
 {
     document.delete_text(replica, text, from as usize, to as usize)?;
     Ok(())
@@ -79,6 +86,8 @@ fn start(
     ensures kept { OnErr result (LeavesStart document.old replica bytes document.new.edits) }
     ensures stale { (result ≢ Err memory) → document.new.is_stale ≡ false }
     ensures world { document.new.world ≡ document.old.world }
+    ensures memory_only_when { result ≡ Err memory
+        → is_spent_for document.old.edits Op.TextAdd ≡ false }
 {
     let edit = author(document, replica, Op::TextAdd)?;
     let text = TextId::new(edit.stamp, 0);
@@ -95,6 +104,7 @@ fn perform(document: &mut Document, replica: u16, deed: Deed) -> Result<(), Acti
     ensures kept { IfErr result (λ e. Leaves document.old replica deed e document.new.edits) }
     ensures stale { (result ≢ Err memory) → document.new.is_stale ≡ false }
     ensures world { document.new.world ≡ document.old.world }
+    ensures memory_only_when { result ≡ Err memory → DeedMayTake document.old replica deed }
 {
     match deed {
         Deed::Make(op) => {
@@ -111,7 +121,7 @@ fn perform(document: &mut Document, replica: u16, deed: Deed) -> Result<(), Acti
 /// words that are no action; NoSuch for a number without a board, stat or text, and OutOfRange for a position over 0 in the program
 /// of a stat without a text; then what the document's own calls answer. A program that a stat doesn't have yet takes three edits: a
 /// text, its bytes, and the stat's register. A refusal leaves the document as it was, but for the first of these three, and for the
-/// first of several deletions where memory ran out.
+/// first of several deletions where memory ran out. Words that keep no bytes and come to nothing take no memory.
 pub fn act(
     alloc: Global,
     document: &mut Document,
@@ -125,6 +135,8 @@ pub fn act(
         LeavesWords document.old replica (words_of words.now) e document.new.edits) }
     ensures stale { (result ≢ Err memory) → document.new.is_stale ≡ false }
     ensures world { document.new.world ≡ document.old.world }
+    ensures memory_only_when { result ≡ Err memory
+        → WordsMayTake document.old replica (words_of words.now) }
 {
     let action = parse(alloc, words)?;
     let deed = deed_of(document, action)?;

@@ -1,5 +1,5 @@
 //! What words of an action say: sides, rectangles, tiles, texts.
-ghost use Rattle.std.specs.Prelude.{◌≡◌, IfOk};
+ghost use Rattle.std.specs.Prelude.{◌≡◌, ◌<◌, length, IfOk, OnErr};
 ghost use Rattle.zed_action.specs.Words.{end_for, rectangle_of, side_of, tile_of, with_line_ends};
 
 use crate::number::byte;
@@ -45,11 +45,13 @@ pub(crate) fn tile(element: &str, colour: &str) -> Option<Tile>
     Some(Tile { element, colour })
 }
 
-/// The bytes of a word.
+/// The bytes of a word. An empty one takes no memory.
 pub(crate) fn plain(alloc: Global, word: &str) -> Result<Bytes, AllocError>
-    ensures { IfOk result (λ bytes. bytes ≡ word.now) }
+    ensures ok { IfOk result (λ bytes. bytes ≡ word.now) }
+    ensures memory_only_when { OnErr result (0 < length word.now) }
 {
-    let bytes = Vec::from_slice(alloc, word.as_bytes())?;
+    let mut bytes = Vec::new(alloc);
+    bytes.extend_from_slice(word.as_bytes())?;
     Ok(Bytes::new(bytes))
 }
 
@@ -60,9 +62,10 @@ fn with_end(byte: u8) -> u8
     if byte == b'|' { b'\r' } else { byte }
 }
 
-/// The bytes of a word, in which `|` stands for the end of a line.
+/// The bytes of a word, in which `|` stands for the end of a line. An empty one takes no memory.
 pub(crate) fn with_ends(alloc: Global, word: &str) -> Result<Bytes, AllocError>
-    ensures { IfOk result (λ bytes. bytes ≡ with_line_ends word.now) }
+    ensures ok { IfOk result (λ bytes. bytes ≡ with_line_ends word.now) }
+    ensures memory_only_when { OnErr result (0 < length (with_line_ends word.now)) }
 {
     let mut bytes = Vec::new(alloc);
     for byte in word.as_bytes() {

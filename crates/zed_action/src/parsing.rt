@@ -163,7 +163,8 @@ fn numbered(verb: &str, rest: &[&str]) -> Option<Action>
 /// stands for the end of a line, and `delete B S FROM TO`. Numbers are digits alone.
 ///
 /// # Errors
-/// `BadAction` exactly where the words are none of these, or a number is unreadable or too large for its field; `Memory`.
+/// `BadAction` exactly where the words are none of these, or a number is unreadable or too large for its field; `Memory`, only where a
+/// name or a text has bytes, which the action keeps.
 #[tactic(auto, unfolding(crate::specs::Words::action_of))]
 pub fn parse(alloc: Global, words: &[&str]) -> Result<Action, ActionError>
     ensures { Says result (action_of (words_of words.now)) }

@@ -1,5 +1,5 @@
 //! Writing a file of a real folder.
-ghost use Rattle.std.specs.Prelude.{None};
+ghost use Rattle.std.specs.Prelude.{◌≡◌, ◌||◌, None, is_err};
 
 use crate::folder::{Folder, replace};
 use crate::place::{Spot, is_at};
@@ -22,7 +22,7 @@ const OWN: u32 = 0o600;
 /// The permissions that are asked for where there is no old file.
 const COMMON: u32 = 0o666;
 
-/// A real folder. It doesn't tell what it holds.
+/// A real folder. It doesn't tell what it holds, but whether a step of it failed.
 #[derive(Drop)]
 struct RealFolder<'a> {
     rt: &'a HostRuntime,
@@ -30,6 +30,7 @@ struct RealFolder<'a> {
     old: Option<Metadata>,
     folder: File,
     fresh: Option<File>,
+    has_failed: bool,
 }
 
 // Opens a new file and takes its lock, which tells others that its process lives. Nothing where another took the file away before.
@@ -88,34 +89,76 @@ fn missing() -> io::Error {
     io::Error::from(ErrorKind::NotFound)
 }
 
+// Keeps in mind whether a step failed.
+fn note(has_failed: &mut bool, step: &io::Result<()>)
+    ensures { has_failed.new ≡ (is_err step.now || has_failed.old) }
+{
+    if step.is_err() {
+        *has_failed = true;
+    }
+}
+
+// Gives a new file its bytes, and what it is to have of the old one.
+fn fill_fresh(fresh: &mut Option<File>, old: &Option<Metadata>, bytes: &[u8]) -> io::Result<()> {
+    let Some(file) = fresh else {
+        return Err(missing());
+    };
+    if let Some(old) = old {
+        keep(file, old)?;
+    }
+    file.write_all(bytes)
+}
+
+fn sync_fresh(fresh: &Option<File>) -> io::Result<()> {
+    match fresh {
+        Some(file) => file.sync_all(),
+        None => Err(missing()),
+    }
+}
+
+fn sync_folder(folder: &File) -> io::Result<()> {
+    match folder.sync_all() {
+        // a file system that can't bring a folder by itself onto its disk
+        Err(error) if error.kind() == ErrorKind::InvalidInput => Ok(()),
+        synced => synced,
+    }
+}
+
 impl Folder for RealFolder<'_> {
     ghost told = { λ _. None };
 
+    ghost has_failed = { λ folder. folder.has_failed };
+
     fn create(&mut self) -> io::Result<()> {
         let mode = if self.old.is_some() { OWN } else { COMMON };
-        self.fresh = Some(make_fresh(self.rt, self.spot.fresh(), mode)?);
-        Ok(())
+        match make_fresh(self.rt, self.spot.fresh(), mode) {
+            Ok(file) => {
+                self.fresh = Some(file);
+                Ok(())
+            }
+            Err(error) => {
+                self.has_failed = true;
+                Err(error)
+            }
+        }
     }
 
     fn fill(&mut self, bytes: &[u8]) -> io::Result<()> {
-        let Some(file) = &mut self.fresh else {
-            return Err(missing());
-        };
-        if let Some(old) = &self.old {
-            keep(file, old)?;
-        }
-        file.write_all(bytes)
+        let filled = fill_fresh(&mut self.fresh, &self.old, bytes);
+        note(&mut self.has_failed, &filled);
+        filled
     }
 
     fn sync(&mut self) -> io::Result<()> {
-        match &self.fresh {
-            Some(file) => file.sync_all(),
-            None => Err(missing()),
-        }
+        let synced = sync_fresh(&self.fresh);
+        note(&mut self.has_failed, &synced);
+        synced
     }
 
     fn rename(&mut self) -> io::Result<()> {
-        fs::rename(self.rt, self.spot.fresh(), self.spot.path())
+        let renamed = fs::rename(self.rt, self.spot.fresh(), self.spot.path());
+        note(&mut self.has_failed, &renamed);
+        renamed
     }
 
     fn remove(&mut self) {
@@ -125,11 +168,9 @@ impl Folder for RealFolder<'_> {
     }
 
     fn sync_place(&mut self) -> io::Result<()> {
-        match self.folder.sync_all() {
-            // a file system that can't bring a folder by itself onto its disk
-            Err(error) if error.kind() == ErrorKind::InvalidInput => Ok(()),
-            synced => synced,
-        }
+        let synced = sync_folder(&self.folder);
+        note(&mut self.has_failed, &synced);
+        synced
     }
 }
 
@@ -151,6 +192,7 @@ fn put(rt: &HostRuntime, spot: &Spot, old: Option<Metadata>, bytes: &[u8]) -> io
         old,
         folder,
         fresh: None,
+        has_failed: false,
     };
     replace(&mut folder, bytes)
 }

@@ -96,6 +96,16 @@ stays bytes x found p e g r = elim r [
 pub feeds_nothing : (x : List ℕ) (before : List Edit) (p : Progress) (e : EditFileError) → p.fault ≡ Some e → Feeds x before before p p
 feeds_nothing x before p e g = record { edits = []; gained = sym (append-nil before); good = tt; reads = λ bytes found r. stays bytes x found p e g r }
 
+-- an empty piece changes nothing
+pub feeds_empty : (before : List Edit) (p : Progress) → Feeds [] before before p p
+feeds_empty before p = record {
+  edits = [];
+  gained = sym (append-nil before);
+  good = tt;
+  reads = λ bytes found r.
+      subst (λ (b : List ℕ). Reads b (found ++ []) p) (sym (append-nil bytes)) (subst (λ (f : List Edit). Reads bytes f p) (sym (append-nil found)) r);
+}
+
 -- ---- going on
 
 abbrev at_rest : Option ℕ → Option ℕ → ℕ → List ℕ → Progress

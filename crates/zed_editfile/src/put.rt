@@ -24,15 +24,6 @@ pub(crate) fn put_u32(out: &mut Vec<u8>, n: u32) -> Result<(), AllocError>
     out.extend_from_slice(&bytes)
 }
 
-#[tactic(auto, unfolding(crate::specs::Spelling::number))]
-pub(crate) fn put_u64(out: &mut Vec<u8>, n: u64) -> Result<(), AllocError>
-    ensures { OnOk result (out.new.items ≡ out.old.items ++ number 8 n) }
-{
-    let mut bytes = [0; 8];
-    LittleEndian::write_u64(&mut bytes, n);
-    out.extend_from_slice(&bytes)
-}
-
 /// Appends the lowest six bytes of a time: a time that fits has no others.
 #[tactic(auto, unfolding(crate::specs::Spelling::number))]
 fn put_time(out: &mut Vec<u8>, time: u64) -> Result<(), AllocError>

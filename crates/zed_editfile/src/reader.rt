@@ -1,5 +1,5 @@
 //! The reader of an edit file.
-ghost use Rattle.std.specs.Prelude.{◌≡◌, ℕ, List, [], Option, Some, None, IfSome, IsOk, OnOk, IfErr, Err, ◌++◌};
+ghost use Rattle.std.specs.Prelude.{◌≡◌, ◌⊎◌, ◌<◌, ℕ, List, [], Option, Some, None, IfSome, IsOk, OnOk, IfErr, Err, ◌++◌, length};
 ghost use Rattle.zed_op.specs.declared.op.Edit.{Edit};
 ghost use Rattle.zed_editfile.specs.Stream.{Reads, Feeds, AreRecords, IsTextOf, ending, verdict_of};
 
@@ -55,7 +55,7 @@ impl EditReader {
     /// differs, `NewVersion` at a version byte other than 1 and 2, `OtherWorld` at the last byte of a head with another number
     /// than the one asked for, `RecordLength` at the fourth byte of a length below 9 or above 4,194,304, `BadEdit` at the
     /// end of a record that spells no edit that fits. `Memory` comes where a growth was refused. After a fault, `Memory`
-    /// too, each later call answers it again, and nothing changes.
+    /// too, each later call answers it again, and nothing changes. An empty piece changes nothing, and takes no memory.
     pub fn feed(&mut self, piece: &[u8], out: &mut Vec<Edit>) -> Result<(), EditFileError>
         // What was read of any bytes before, with the edits appended, is what is read of those bytes and the piece.
         ensures feeds { Feeds piece.now out.old.items out.new.items self.old self.new }
@@ -64,9 +64,14 @@ impl EditReader {
         ensures err { IfErr result (λ e. self.new.fault ≡ Some e) }
         ensures again { IfSome self.old.fault (λ e. (result ≡ Err e)
             × (self.new ≡ self.old) × (out.new.items ≡ out.old.items)) }
+        ensures memory_only_when { result ≡ Err EditFileError.Memory
+            → (self.old.fault ≡ Some EditFileError.Memory) ⊎ (0 < length piece.now) }
     {
         if let Some(fault) = self.fault {
             return Err(fault);
+        }
+        if piece.is_empty() {
+            return Ok(());
         }
         match advance(
             self.alloc,

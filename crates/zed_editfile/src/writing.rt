@@ -1,6 +1,7 @@
 //! Writing heads and records.
-ghost use Rattle.std.specs.Prelude.{◌≡◌, ◌++◌, IfOk, IfErr, OnOk, OnErr};
+ghost use Rattle.std.specs.Prelude.{◌≡◌, ◌++◌, ◌+◌, ◌<◌, IfOk, IfErr, OnOk, OnErr, vec_len};
 ghost use Rattle.std.specs.List.{flat_map};
+ghost use Rattle.std.specs.Vec.{vec_capacity};
 ghost use Rattle.zed_op.specs.Fit.{Fits};
 ghost use Rattle.zed_op.specs.Set.{AllFit};
 ghost use Rattle.zed_editfile.specs.Spelling.{file_text, number, spelling, record_text, head_text};
@@ -8,8 +9,9 @@ ghost use Rattle.zed_editfile.specs.Stream.{IsRecord};
 
 use crate::error::EditFileError;
 use crate::laws::fitting_edits_are_records;
-use crate::put::{put_length, put_stamp, put_u64};
+use crate::put::{put_length, put_stamp};
 use crate::put_op::put_op;
+use byteorder::{ByteOrder, LittleEndian};
 use std::alloc::{AllocError, Global};
 use zed_op::Edit;
 
@@ -26,14 +28,13 @@ fn body_of(alloc: Global, edit: &Edit) -> Result<Vec<u8>, AllocError>
 }
 
 /// The head of a file of edits of a world, of version 2.
-#[tactic(auto, unfolding(crate::specs::Spelling::head_text))]
-fn head_of(alloc: Global, world: u64) -> Result<Vec<u8>, AllocError>
-    ensures { IfOk result (λ head. head.items ≡ head_text 2 world) }
+#[tactic(auto, unfolding(crate::specs::Spelling::head_text, crate::specs::Spelling::number))]
+fn head_of(world: u64) -> [u8; 12]
+    ensures { result ≡ head_text 2 world }
 {
-    let mut head = Vec::new(alloc);
-    head.extend_from_slice(b"ZED\x02")?;
-    put_u64(&mut head, world)?;
-    Ok(head)
+    let mut head = *b"ZED\x02........";
+    LittleEndian::write_u64(&mut head[4..], world);
+    head
 }
 
 /// A record: the length of its body, and the body.
@@ -52,14 +53,14 @@ fn record_of(alloc: Global, edit: &Edit) -> Result<Vec<u8>, AllocError>
 /// Appends the head of an edit file of the world with this number: the letters `ZED`, the version 2, and the number in
 /// eight bytes, the lowest first.
 ///
-/// Refused with `Memory` alone; nothing is appended then.
+/// Refused with `Memory` alone, only where the vector has no room for the 12 bytes; nothing is appended then.
 pub fn write_head(world: u64, out: &mut Vec<u8>) -> Result<(), EditFileError>
     ensures ok { OnOk result (out.new.items ≡ out.old.items ++ head_text 2 world) }
     ensures err { IfErr result (λ e. e ≡ EditFileError.Memory) }
     ensures kept { OnErr result (out.new.items ≡ out.old.items) }
+    ensures memory_only_when { OnErr result (vec_capacity out.old < vec_len out.old + 12) }
 {
-    let head = head_of(*out.allocator(), world)?;
-    out.extend_from_slice(&head)?;
+    out.extend_from_slice(&head_of(world))?;
     Ok(())
 }
 

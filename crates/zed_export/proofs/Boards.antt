@@ -1,6 +1,7 @@
 -- The limits of one board.
 use Rattle.std.proofs.Common.{◌≡◌, ℕ, suc, ◌-◌, ◌<◌, ◌≤◌, true, false, ltb, List, [], ◌∷◌, ◌++◌, length, ap, refl, arith, Option, Some, None}
 use Rattle.std.proofs.lemmas.Bool.{lt-ltb, le-ltb}
+use Rattle.zed_types.specs.declared.limits.TheConstants.{READ_BODY_LIMIT}
 use Rattle.zed_types.specs.declared.names.TextId.{TextId}
 use Rattle.zed_world.specs.declared.board.BoardData.{BoardData}
 use Rattle.zed_world.specs.Writing.{body_text}
@@ -21,13 +22,13 @@ stats_over limit n stats b e lt =
     let h : ltb 150 (length b.stats - 1) ≡ true = lt-ltb _ _ (omega arith) in
     rw (h, e) refl
 
-pub body_over : (limit n bytes : ℕ) (b : BoardData) → length b.stats - 1 ≤ 150 → limit ≤ 32767 → bytes ≡ told (length (body_text b)) → limit < bytes → Some (BoardOver n bytes) ≡ board_refusal limit n b
+pub body_over : (limit n bytes : ℕ) (b : BoardData) → length b.stats - 1 ≤ 150 → limit ≤ READ_BODY_LIMIT → bytes ≡ told (length (body_text b)) → limit < bytes → Some (BoardOver n bytes) ≡ board_refusal limit n b
 body_over limit n bytes b few low e lt =
     let h : ltb 150 (length b.stats - 1) ≡ false = le-ltb _ _ few in
     let k : ltb limit (length (body_text b)) ≡ true = lt-ltb _ _ (omega arith) in
     rw (h, k, e) refl
 
-pub not_over : (limit n bytes : ℕ) (b : BoardData) → length b.stats - 1 ≤ 150 → limit ≤ 32767 → bytes ≡ told (length (body_text b)) → bytes ≤ limit → None ≡ board_refusal limit n b
+pub not_over : (limit n bytes : ℕ) (b : BoardData) → length b.stats - 1 ≤ 150 → limit ≤ READ_BODY_LIMIT → bytes ≡ told (length (body_text b)) → bytes ≤ limit → None ≡ board_refusal limit n b
 not_over limit n bytes b few low e le =
     let h : ltb 150 (length b.stats - 1) ≡ false = le-ltb _ _ few in
     let k : ltb limit (length (body_text b)) ≡ false = le-ltb _ _ (omega arith) in

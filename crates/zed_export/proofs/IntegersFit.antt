@@ -2,6 +2,7 @@
 use Rattle.std.proofs.Common.{◌≡◌, ◌≤◌, ℕ, zero, suc, ℤ, pos, get_or, rules, not, List, [], ◌∷◌, ◌++◌, map, Option, None}
 use Rattle.std.specs.Prelude.{filter}
 use Rattle.std.specs.List.{AllByRecursion}
+use Rattle.zed_types.specs.declared.limits.TheConstants.{READ_BODY_LIMIT}
 use Rattle.zed_types.specs.declared.names.TextId.{TextId}
 use Rattle.zed_world.specs.Normal.{HasNormalParts, IsInteger}
 use Rattle.zed_edit.specs.declared.plain.Board.{Board}
@@ -38,7 +39,7 @@ boards_fit p (b ∷ bs) h =
     let live = each_filtered StatHasIntegers (λ s. not s.removed) b.stats h.0.stats in
     (record { time_limit = h.0.time_limit; stats = stats_fit p b [] (filter (λ s. not s.removed) b.stats) live }, boards_fit p bs h.1)
 
-pub integers_normal : (limit : ℕ) (p : Plain) → IsRegular p → IsOrdered p → HasIntegers p → limit ≤ 32767 → refusal_of limit p ≡ None → HasNormalParts (world_of p)
+pub integers_normal : (limit : ℕ) (p : Plain) → IsRegular p → IsOrdered p → HasIntegers p → limit ≤ READ_BODY_LIMIT → refusal_of limit p ≡ None → HasNormalParts (world_of p)
 integers_normal limit p regular ordered integers low within =
     let number : (i : ℕ) → IsInteger (get_or p.header.numbers i (pos 0)) = λ i. number_fits p.header.numbers i integers.header in
     world_normal limit p regular ordered low within

@@ -14,4 +14,5 @@ pub mod Ordered
 pub mod Searching
 pub mod Shares
 pub mod Sizes
+pub mod Warned
 pub mod Within

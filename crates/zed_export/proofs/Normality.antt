@@ -4,6 +4,7 @@ use Rattle.std.specs.Prelude.{option_and_then, position, unwrap_or}
 use Rattle.std.specs.List.{AllByRecursion, flat_map}
 use Rattle.std.proofs.lemmas.Bool.{ltb-true}
 use Rattle.std.proofs.lemmas.List.{length-map, length_push}
+use Rattle.zed_types.specs.declared.limits.TheConstants.{READ_BODY_LIMIT}
 use Rattle.zed_types.specs.declared.names.BoardId.{BoardId}
 use Rattle.zed_types.specs.declared.names.StatId.{StatId}
 use Rattle.zed_types.specs.declared.names.TextId.{TextId}
@@ -60,7 +61,7 @@ stat_below b (Some s) n e = rw e (found_within (λ (x : Stat). same_stat x.id s)
 
 stats_normal : (p : Plain) → IsOrdered p → (b : Board) (n : ℕ) → n ≡ length (alive_stats b) → 1 ≤ length (alive_boards p) → (lower : List (Option TextId)) (done : List StatData) (ss : List Stat)
     → length done ≡ length lower → IsOwned p lower done
-    → AllByRecursion FitsStat (exported_above p b lower ss) → AllByRecursion (λ (s : StatData). length (code_text s.code) ≤ 32767) (exported_above p b lower ss)
+    → AllByRecursion FitsStat (exported_above p b lower ss) → AllByRecursion (λ (s : StatData). length (code_text s.code) ≤ READ_BODY_LIMIT) (exported_above p b lower ss)
     → AreNormalStats (length (alive_boards p)) n b.tiles done (exported_above p b lower ss)
 stats_normal p h b n e some lower done [] long owned fits short = tt
 stats_normal p h b n e some lower done (s ∷ ss) long owned fits short =
@@ -87,7 +88,7 @@ texts_fit (name ∷ []) h = absurd h
 texts_fit (name ∷ message ∷ []) h = h
 texts_fit (name ∷ message ∷ more ∷ xs) h = absurd h
 
-board_normal : (limit number : ℕ) (p : Plain) → IsOrdered p → (b : Board) → limit ≤ 32767 → 1 ≤ length (alive_boards p) → IsRegularBoard b → board_refusal limit number (exported_board p b) ≡ None → FitsBoard (exported_board p b) → IsNormalBoard (length (alive_boards p)) (exported_board p b)
+board_normal : (limit number : ℕ) (p : Plain) → IsOrdered p → (b : Board) → limit ≤ READ_BODY_LIMIT → 1 ≤ length (alive_boards p) → IsRegularBoard b → board_refusal limit number (exported_board p b) ≡ None → FitsBoard (exported_board p b) → IsNormalBoard (length (alive_boards p)) (exported_board p b)
 board_normal limit number p ordered b low some r h fits =
     let x = exported_board p b in
     let within = board_within limit number x h in
@@ -95,7 +96,7 @@ board_normal limit number p ordered b low some r h fits =
     let first : 1 ≤ length (alive_stats b) = some_stat b.stats r.player in
     let texts = texts_fit b.properties.texts r.texts in
     let whole = length_body x texts.0 texts.1 in
-    let programs : length (flat_map stat_text x.stats) ≤ 32767 = omega (arith, within.1) in
+    let programs : length (flat_map stat_text x.stats) ≤ READ_BODY_LIMIT = omega (arith, within.1) in
     record {
       name = texts.0;
       tiles = r.tiles;
@@ -109,17 +110,17 @@ board_normal limit number p ordered b low some r h fits =
       };
       some = omega arith;
       few = within.0;
-      stats = stats_normal p ordered b (length x.stats) same some [] [] (alive_stats b) refl (owned_first p) fits.stats (programs_below x.stats 32767 programs);
+      stats = stats_normal p ordered b (length x.stats) same some [] [] (alive_stats b) refl (owned_first p) fits.stats (programs_below x.stats READ_BODY_LIMIT programs);
     }
 
-all_normal : (limit number : ℕ) (p : Plain) → IsOrdered p → (bs : List Board) → limit ≤ 32767 → 1 ≤ length (alive_boards p) → AllByRecursion IsRegularBoard bs → boards_refusal limit number (map (exported_board p) bs) ≡ None → AllByRecursion FitsBoard (map (exported_board p) bs)
+all_normal : (limit number : ℕ) (p : Plain) → IsOrdered p → (bs : List Board) → limit ≤ READ_BODY_LIMIT → 1 ≤ length (alive_boards p) → AllByRecursion IsRegularBoard bs → boards_refusal limit number (map (exported_board p) bs) ≡ None → AllByRecursion FitsBoard (map (exported_board p) bs)
     → AllByRecursion (IsNormalBoard (length (alive_boards p))) (map (exported_board p) bs)
 all_normal limit number p ordered [] low some r h fits = tt
 all_normal limit number p ordered (b ∷ bs) low some r h fits =
     let both = neither (board_refusal limit number (exported_board p b)) (boards_refusal limit (number + 1) (map (exported_board p) bs)) h in
     (board_normal limit number p ordered b low some r.0 both.0 fits.0, all_normal limit (number + 1) p ordered bs low some r.1 both.1 fits.1)
 
-pub world_normal : (limit : ℕ) (p : Plain) → IsRegular p → IsOrdered p → limit ≤ 32767 → refusal_of limit p ≡ None → FitsHeader (world_of p).header → AllByRecursion FitsBoard (world_of p).boards → HasNormalParts (world_of p)
+pub world_normal : (limit : ℕ) (p : Plain) → IsRegular p → IsOrdered p → limit ≤ READ_BODY_LIMIT → refusal_of limit p ≡ None → FitsHeader (world_of p).header → AllByRecursion FitsBoard (world_of p).boards → HasNormalParts (world_of p)
 world_normal limit p r ordered low h fits_header fits_boards =
     let n = length (alive_boards p) in
     let same : length (exported_boards p) ≡ n = length-map (alive_boards p) (exported_board p) in

@@ -4,6 +4,7 @@ use Rattle.std.specs.Prelude.{◌||◌, filter}
 use Rattle.std.specs.List.{AllByRecursion, flat_map, list_any}
 use Rattle.std.proofs.lemmas.Bool.{ltb-false, le-ltb}
 use Rattle.std.proofs.lemmas.List.{length-append}
+use Rattle.zed_types.specs.declared.limits.TheConstants.{READ_BODY_LIMIT}
 use Rattle.zed_types.specs.Names.{same_board}
 use Rattle.zed_world.specs.declared.board.BoardData.{BoardData}
 use Rattle.zed_world.specs.declared.stat.StatData.{StatData}
@@ -105,7 +106,7 @@ programs_below (s ∷ ss) most h =
     (omega arith, programs_below ss most (omega arith))
 
 -- no body is too large for a reader
-pub all_readable : (limit n : ℕ) (bs : List BoardData) → limit ≤ 32767 → boards_refusal limit n bs ≡ None → AllByRecursion (λ (b : BoardData). length (body_text b) ≤ 32767) bs
+pub all_readable : (limit n : ℕ) (bs : List BoardData) → limit ≤ READ_BODY_LIMIT → boards_refusal limit n bs ≡ None → AllByRecursion (λ (b : BoardData). length (body_text b) ≤ READ_BODY_LIMIT) bs
 all_readable limit n [] low h = tt
 all_readable limit n (b ∷ bs) low h =
     let both = neither (board_refusal limit n b) (boards_refusal limit (n + 1) bs) h in

@@ -1,6 +1,7 @@
 //! The world that a document shows, and its file, which is read as that world.
 ghost use Rattle.std.specs.Prelude.{◌≡◌, ◌<◌, ◌≤◌, None, Ok, IfErr, IfOk, MatchResult, length, map};
 ghost use Rattle.std.specs.List.{All, AllByRecursion};
+ghost use Rattle.zed_types.specs.declared.limits.TheConstants.{READ_BODY_LIMIT};
 ghost use Rattle.zed_world.specs.Reading.{world_at};
 ghost use Rattle.zed_world.specs.Writing.{world_text};
 ghost use Rattle.zed_world.specs.Normal.{IsNormal};
@@ -53,7 +54,7 @@ fn boards_of(
 fn world_within(alloc: Global, view: &View, limit: usize) -> Result<World, AllocError>
     requires regular { IsRegular view.now }
     requires ordered { IsOrdered view.now }
-    requires limit { limit ≤ 32767 }
+    requires limit { limit ≤ READ_BODY_LIMIT }
     requires within { refusal_of limit view.now ≡ None }
     ensures { IfOk result (λ world. world ≡ world_of view.now) }
 {
@@ -70,7 +71,7 @@ fn world_within(alloc: Global, view: &View, limit: usize) -> Result<World, Alloc
 fn file_within(alloc: Global, view: &View, limit: usize) -> Result<Vec<u8>, ExportError>
     requires regular { IsRegular view.now }
     requires ordered { IsOrdered view.now }
-    requires limit { limit ≤ 32767 }
+    requires limit { limit ≤ READ_BODY_LIMIT }
     requires within { refusal_of limit view.now ≡ None }
     ensures result { MatchResult result
         (λ file. file.items ≡ world_text (world_of view.now))
@@ -91,7 +92,7 @@ fn shown_within<'d>(
     document: &'d Document,
     limit: usize,
 ) -> Result<View<'d>, ExportError>
-    requires { limit ≤ 32767 }
+    requires { limit ≤ READ_BODY_LIMIT }
     ensures ok { IfOk result (λ p. IsShown limit document.entry.now p) }
     ensures err { IfErr result (λ e. IsRefusal limit document.entry.now e) }
 {
@@ -111,7 +112,7 @@ fn shown_within<'d>(
 /// beside the title; then board by board StatsOver where more than 150 stats stand beside the player, and BoardOver where the body is
 /// over the limit, in bytes; Memory. None but Memory takes memory. The limit is at most 32,767.
 pub fn export(alloc: Global, document: &Document, limit: usize) -> Result<World, ExportError>
-    requires { limit ≤ 32767 }
+    requires { limit ≤ READ_BODY_LIMIT }
     ensures result { Answers (λ world. world) (unless_stale document.now (exported limit)) result }
     ensures normal { IfOk result (λ world. IsNormal world) }
 {
@@ -121,7 +122,7 @@ pub fn export(alloc: Global, document: &Document, limit: usize) -> Result<World,
 
 /// The file of the world that a document shows, with the refusals of `export` in their order.
 pub fn save(alloc: Global, document: &Document, limit: usize) -> Result<Vec<u8>, ExportError>
-    requires { limit ≤ 32767 }
+    requires { limit ≤ READ_BODY_LIMIT }
     ensures result { Answers (λ file. file.items) (unless_stale document.now (saved limit)) result }
 
     // What is saved is read as the exported world.

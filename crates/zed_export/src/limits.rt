@@ -1,6 +1,7 @@
 //! Which limit of a world file a document goes over.
 ghost use Rattle.std.specs.Prelude.{◌≡◌, ◌<◌, ◌≤◌, length, map, None};
 ghost use Rattle.std.specs.List.{All};
+ghost use Rattle.zed_types.specs.declared.limits.TheConstants.{READ_BODY_LIMIT};
 ghost use Rattle.zed_op.specs.declared.thing.Thing.TheVariants as thing;
 ghost use Rattle.zed_types.specs.Names.{title};
 ghost use Rattle.zed_edit.specs.Document.{has};
@@ -63,7 +64,7 @@ fn over(alloc: Global, view: &View, limit: usize, i: usize, number: usize) -> Op
     requires regular { IsRegular view.now }
     requires ordered { IsOrdered view.now }
     requires board { i < length view.now.boards }
-    requires limit { limit ≤ 32767 }
+    requires limit { limit ≤ READ_BODY_LIMIT }
     ensures { result ≡ board_refusal limit number (exported_board view.now (board_at view.now i)) }
 {
     let stats = alive_stats(view, i).saturating_sub(1);
@@ -89,7 +90,7 @@ fn first_over(alloc: Global, view: &View, limit: usize, places: &[usize]) -> Opt
     requires regular { IsRegular view.now }
     requires ordered { IsOrdered view.now }
     requires places { All (λ i. i < length view.now.boards) places.now }
-    requires limit { limit ≤ 32767 }
+    requires limit { limit ≤ READ_BODY_LIMIT }
     ensures { result ≡ boards_refusal limit 0
         (map (λ i. exported_board view.now (board_at view.now i)) places.now) }
 {
@@ -106,7 +107,7 @@ fn first_over(alloc: Global, view: &View, limit: usize, places: &[usize]) -> Opt
 pub(crate) fn first_limit(alloc: Global, view: &View, limit: usize) -> Option<ExportError>
     requires regular { IsRegular view.now }
     requires ordered { IsOrdered view.now }
-    requires limit { limit ≤ 32767 }
+    requires limit { limit ≤ READ_BODY_LIMIT }
     ensures { result ≡ refusal_of limit view.now }
 {
     if !has_title(view) {

@@ -1,5 +1,6 @@
 //! What replicas that accepted the same edits have in common, by what the calls on them answer.
 ghost use Rattle.std.specs.Prelude.{◌≡◌, ◌≤◌, IfOk, IsOkAnd, Ok, true};
+ghost use Rattle.zed_types.specs.declared.limits.TheConstants.{READ_BODY_LIMIT};
 ghost use Rattle.zed_edit.specs.Replay.{held, replay};
 ghost use Rattle.zed_world.specs.Reading.{world_at};
 ghost use Rattle.zed_export.specs.Limits.{Answers, exported, saved};
@@ -35,7 +36,7 @@ pub fn headline<'a>(
     limit: usize,
 ) -> SideBySide<'a>
     requires accepted { HaveAcceptedTheSame one.now other.now }
-    requires limit { limit ≤ 32767 }
+    requires limit { limit ≤ READ_BODY_LIMIT }
     ensures same { result.same ≡ Ok true }
     ensures document { IsOkAnd result.view (λ v. IsOneAuthors one.now.edits v) }
     ensures other_document { IsOkAnd result.other_view (λ v. IsOneAuthors one.now.edits v) }

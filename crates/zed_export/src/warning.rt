@@ -1,5 +1,6 @@
 //! What is odd about a world that can be saved.
-ghost use Rattle.std.specs.Prelude.{◌≡◌, ◌++◌, [], OnOk, MatchResult};
+ghost use Rattle.std.specs.Prelude.{◌≡◌, ◌<◌, ◌≤◌, ◌+◌, ◌++◌, [], length, OnOk, OnErr, MatchResult, vec_len};
+ghost use Rattle.std.specs.Vec.{vec_capacity};
 ghost use Rattle.zed_export.specs.Warnings.{is_in_table, is_player_at, has_place, place_warnings, board_warnings, boards_warnings, warnings_of};
 
 use crate::error::ExportError;
@@ -48,7 +49,10 @@ fn is_taken(stats: &[StatData], x: u8, y: u8) -> bool
 
 /// Appends the warnings on the places of the stats of a board.
 fn add_places(out: &mut Vec<Warning>, number: usize, stats: &[StatData]) -> Result<(), AllocError>
-    ensures { OnOk result (out.new.items ≡ out.old.items ++ place_warnings number [] stats.now) }
+    ensures ok { OnOk result (out.new.items ≡ out.old.items ++ place_warnings number [] stats.now) }
+    ensures memory_only_when { OnErr result
+        (vec_capacity out.old < vec_len out.old + length (place_warnings number [] stats.now)) }
+    ensures capacity { vec_capacity out.old ≤ vec_capacity out.new }
 {
     for (j, stat) in stats.iter().enumerate() {
         if !is_inside(stat.x, stat.y) {
@@ -62,7 +66,10 @@ fn add_places(out: &mut Vec<Warning>, number: usize, stats: &[StatData]) -> Resu
 
 /// Appends the warnings on a board.
 fn add_board(out: &mut Vec<Warning>, number: usize, board: &BoardData) -> Result<(), AllocError>
-    ensures { OnOk result (out.new.items ≡ out.old.items ++ board_warnings number board.now) }
+    ensures ok { OnOk result (out.new.items ≡ out.old.items ++ board_warnings number board.now) }
+    ensures memory_only_when { OnErr result
+        (vec_capacity out.old < vec_len out.old + length (board_warnings number board.now)) }
+    ensures capacity { vec_capacity out.old ≤ vec_capacity out.new }
 {
     let stats = board.stats.as_slice();
     if let Some(player) = stats.first() {
@@ -74,7 +81,9 @@ fn add_board(out: &mut Vec<Warning>, number: usize, board: &BoardData) -> Result
 }
 
 fn add_boards(out: &mut Vec<Warning>, boards: &[BoardData]) -> Result<(), AllocError>
-    ensures { OnOk result (out.new.items ≡ out.old.items ++ boards_warnings 0 boards.now) }
+    ensures ok { OnOk result (out.new.items ≡ out.old.items ++ boards_warnings 0 boards.now) }
+    ensures memory_only_when { OnErr result
+        (vec_capacity out.old < vec_len out.old + length (boards_warnings 0 boards.now)) }
 {
     for (number, board) in boards.iter().enumerate() {
         add_board(out, number, board)?;
@@ -83,11 +92,13 @@ fn add_boards(out: &mut Vec<Warning>, boards: &[BoardData]) -> Result<(), AllocE
 }
 
 /// What is odd about a world: board by board PlayerTile where its player stands on no player tile, and then stat by stat OffBoard where
-/// it is outside the table, else SamePlace where a lower stat has its place. Nothing but Memory is refused.
+/// it is outside the table, else SamePlace where a lower stat has its place. Nothing but Memory is refused, and no memory is taken where
+/// nothing is odd.
 pub fn warnings(alloc: Global, world: &World) -> Result<Vec<Warning>, ExportError>
-    ensures { MatchResult result
+    ensures result { MatchResult result
         (λ warnings. warnings.items ≡ warnings_of world.now)
         (λ e. e ≡ ExportError.Memory) }
+    ensures memory_only_when { OnErr result (0 < length (warnings_of world.now)) }
 {
     let mut out = Vec::new(alloc);
     match add_boards(&mut out, world.boards()) {

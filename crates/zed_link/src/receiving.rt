@@ -1,6 +1,7 @@
 //! Edit files received over a link.
 ghost use Rattle.std.specs.Prelude.{◌≡◌, ◌≢◌, ◌≤◌, ◌+◌, ◌↔◌, List, [], ◌∷◌, length, take, true, false, Some, None, Ok, Err, IfOk, IfErr, OnOk, OnErr, MatchResult};
 ghost use Rattle.zed_types.specs.declared.stamp.Stamp.{Stamp as TheStamp};
+ghost use Rattle.zed_document.specs.Counts.{NoCountFalls};
 ghost use Rattle.zed_op.specs.declared.op.Edit.{Edit as TheEdit};
 ghost use Rattle.zed_op.specs.Fit.{Fits};
 ghost use Rattle.zed_op.specs.Set.{AllFit};
@@ -36,6 +37,8 @@ fn deliver_one(intake: &mut Intake, edit: Edit) -> Result<State, LinkError>
     ensures world { intake.new.world ≡ intake.old.world }
     ensures stale { (result ≢ Err LinkError.Memory)
         → intake.new.is_stale ≡ intake.old.is_stale }
+    ensures visits { (result ≢ Err LinkError.Memory)
+        → NoCountFalls intake.old.counts intake.new.counts }
 {
     match intake.deliver(edit) {
         Ok(told) => Ok(told.state),
@@ -61,6 +64,8 @@ fn deliver_each(intake: &mut Intake, edits: Vec<Edit>) -> Result<Pulled, LinkErr
     ensures world { intake.new.world ≡ intake.old.world }
     ensures stale { (result ≢ Err LinkError.Memory)
         → intake.new.is_stale ≡ intake.old.is_stale }
+    ensures visits { (result ≢ Err LinkError.Memory)
+        → NoCountFalls intake.old.counts intake.new.counts }
 {
     let mut pulled = Pulled::NONE;
     for edit in edits {
@@ -85,6 +90,8 @@ fn take_piece(
     ensures world { intake.new.world ≡ intake.old.world }
     ensures stale { (result ≢ Err LinkError.Memory)
         → intake.new.is_stale ≡ intake.old.is_stale }
+    ensures visits { (result ≢ Err LinkError.Memory)
+        → NoCountFalls intake.old.counts intake.new.counts }
 {
     let mut edits = Vec::new(alloc);
     let fed = reader.feed(piece, &mut edits);
@@ -128,6 +135,8 @@ fn receive_into(
     ensures world { intake.new.world ≡ intake.old.world }
     ensures stale { (result ≢ Err LinkError.Memory)
         → intake.new.is_stale ≡ intake.old.is_stale }
+    ensures visits { (result ≢ Err LinkError.Memory)
+        → NoCountFalls intake.old.counts intake.new.counts }
     ensures reads { reads link.new ≤ reads link.old + most_reads }
     ensures failures { Counts (is_fault result) (failed link.old) (failed link.new) }
     ensures stalls { stalls link.new ≡ stalls link.old }
@@ -155,7 +164,7 @@ fn receive_into(
 /// # Errors
 /// Stale first, and then nothing is read. Else what comes first: LinkFault where a read fails; the refusals of an edit file; Clash; Memory,
 /// after which the document may be stale; TooManyTurns after 1,048,576 reads that weren't the end. What was delivered before stays,
-/// and after what comes first nothing more is read.
+/// and after what comes first nothing more is read. But for Memory no count of looks is lower than before.
 pub fn receive(
     alloc: Global,
     link: &mut dyn Link,
@@ -170,6 +179,8 @@ pub fn receive(
     ensures world { document.new.world ≡ document.old.world }
     ensures stale { (result ≢ Err LinkError.Memory)
         → document.new.is_stale ≡ document.old.is_stale }
+    ensures visits { (result ≢ Err LinkError.Memory)
+        → NoCountFalls document.old.counts document.new.counts }
     ensures reads { reads link.new ≤ reads link.old + most_reads }
     ensures failures { Counts (is_fault result) (failed link.old) (failed link.new) }
     ensures stalls { stalls link.new ≡ stalls link.old }

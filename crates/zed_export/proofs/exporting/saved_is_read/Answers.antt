@@ -1,6 +1,7 @@
 use Rattle.std.proofs.Common.{◌≡◌, ℕ, ◌≤◌, ◌++◌, List, [], length, Option, Some, None, Ok, refl, sym, ap, ◌∙◌}
 use Rattle.std.specs.List.{AllByRecursion}
 use Rattle.std.proofs.lemmas.List.{append-nil}
+use Rattle.zed_types.specs.declared.limits.TheConstants.{READ_BODY_LIMIT}
 use Rattle.zed_world.specs.Contents.{Contents}
 use Rattle.zed_world.specs.Normal.{HasNormalParts}
 use Rattle.zed_world.specs.Reading.{world_at}
@@ -23,7 +24,7 @@ use Rattle.zed_export.proofs.Within.{boards_within, all_readable}
 use Rattle.zed_export.proofs.exporting.saved_is_read.Goals as goal
 
 WrittenIsRead : Type 0
-WrittenIsRead = (w : Contents) (rest : List ℕ) → HasNormalParts w → AllByRecursion (λ b. length (body_text b) ≤ 32767) w.boards → world_at (world_text w ++ rest) ≡ Ok w
+WrittenIsRead = (w : Contents) (rest : List ℕ) → HasNormalParts w → AllByRecursion (λ b. length (body_text b) ≤ READ_BODY_LIMIT) w.boards → world_at (world_text w ++ rest) ≡ Ok w
 
 read_again : WrittenIsRead → SavedIsRead
 unfolding WrittenIsRead

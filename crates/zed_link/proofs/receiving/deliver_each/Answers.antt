@@ -1,8 +1,11 @@
 use Rattle.std.proofs.Common.{◌≡◌, ◌∙◌, ◌++◌, [], ◌∷◌, Ok, arith, ap, length}
 use Rattle.std.proofs.lemmas.List.{length-append}
 use Rattle.std.proofs.lemmas.Result.{err_from_is_err_and}
+use Rattle.zed_link.specs.declared.error.LinkError.TheVariants.{Memory}
 use Rattle.zed_link.specs.Tally.{tally}
 use Rattle.zed_link.proofs.Deliveries.{counted_more, delivered_more, one_behind, one_stops}
+use Rattle.zed_link.proofs.Falls.{falls_more}
+use Rattle.zed_link.proofs.Outcomes.{refused}
 use Rattle.zed_link.proofs.Tallies.{tally_below}
 use Rattle.zed_link.proofs.receiving.deliver_each.Goals as goal
 
@@ -13,6 +16,14 @@ returns-in_err-state-clause-result c =
     let same : p.0 ≡ c.in_err-state.field-0.0 = p.2 in
     rw (p.1, same) (one_stops c.args.intake.now c.loop-edit.intake old.done c.next.new.self.rest.items c.args.edits.items c.in-Some.edit c.in_err-state.field-0.0 c.deliver_one.new.intake.edits
     old.world old.sound (old.whole ∙ ap (λ z. old.done ++ z) c.in-Some.ensures.steps.0) old.all c.in_err-state.ensures.result)
+
+pub returns-in_err-state-clause-visits : goal.returns-in_err-state-clause-visits
+returns-in_err-state-clause-visits c = λ other.
+    let p = err_from_is_err_and c.from_residual.result c.from_residual.ensures.1 in
+    let same : p.0 ≡ c.in_err-state.field-0.0 = p.2 in
+    falls_more _ _ _ c.loop-edit.invariant.falls (c.in_err-state.ensures.visits (λ bad.
+    let lack : c.in_err-state.field-0.0 ≡ Memory = cc in
+    other (p.1 ∙ ap refused (same ∙ lack))))
 
 pub count-requires-clause-taken : goal.count-requires-clause-taken
 count-requires-clause-taken c =
@@ -60,4 +71,5 @@ loop-edit-preserved c =
           old.counted (ap (λ s. tally (s ∷ [])) one.1) c.count.ensures;
       world = c.in_ok-state.ensures.world ∙ old.world;
       sound = sound ∙ old.sound;
+      falls = falls_more _ _ _ old.falls (c.in_ok-state.ensures.visits (λ bad. cc));
     }

@@ -1,9 +1,10 @@
 use Rattle.std.proofs.Common.{◌≡◌, ◌∙◌, ◌≤◌, Ok, rules, ap, length}
 use Rattle.std.proofs.lemmas.Result.{err_from_is_err_and}
-use Rattle.zed_link.specs.declared.error.LinkError.TheVariants.{LinkFault}
+use Rattle.zed_link.specs.declared.error.LinkError.TheVariants.{LinkFault, Memory}
 use Rattle.zed_link.specs.Refusals.{file_refusal}
 use Rattle.zed_link.specs.Pull.{most_reads}
 use Rattle.zed_link.proofs.EndsLaws.{one_within}
+use Rattle.zed_link.proofs.Falls.{falls_more}
 use Rattle.zed_link.proofs.Outcomes.{ends_cut, ends_well, goes_on, piece_refused, read_failed, refused, room}
 use Rattle.zed_link.proofs.Paces.{piece_keeps_pace}
 use Rattle.zed_link.proofs.receiving.receive_into.Goals as goal
@@ -80,6 +81,7 @@ loop-reads-preserved g c =
       calm = c.in_ok-count.ensures.failures ∙ old.calm;
       flowing = c.in_ok-count.ensures.stalls ∙ old.flowing;
       steady = c.in_ok-count.ensures.accepts ∙ old.steady;
+      falls = falls_more _ _ _ old.falls (c.in_ok-take_piece.ensures.visits (λ bad. cc));
     }
 
 pub returns-in_err-count-clause-reads : goal.returns-in_err-count-clause-reads
@@ -93,3 +95,11 @@ returns-then-count-eq0-clause-reads g c = one_within c.loop-reads.reads most_rea
 
 pub returns-in_err-take_piece-clause-reads : goal.returns-in_err-take_piece-clause-reads
 returns-in_err-take_piece-clause-reads g c = one_within c.loop-reads.reads most_reads _ _ _ c.loop-reads-test.true c.loop-reads.invariant.going.made c.in_ok-count.ensures.reads
+
+pub returns-in_err-take_piece-clause-visits : goal.returns-in_err-take_piece-clause-visits
+returns-in_err-take_piece-clause-visits g c = λ other.
+    let p = err_from_is_err_and c.from_residual-in_err-take_piece.result c.from_residual-in_err-take_piece.ensures.1 in
+    let same : p.0 ≡ c.in_err-take_piece.field-0.0 = p.2 in
+    falls_more _ _ _ c.loop-reads.invariant.falls (c.in_err-take_piece.ensures.visits (λ bad.
+    let lack : c.in_err-take_piece.field-0.0 ≡ Memory = cc in
+    other (p.1 ∙ ap refused (same ∙ lack))))

@@ -1,7 +1,8 @@
-use Rattle.std.proofs.Common.{Option, Some, None, [], sym, subst}
+use Rattle.std.proofs.Common.{◌≡◌, ℕ, List, length, Option, Some, None, [], sym, subst, arith}
+use Rattle.std.proofs.lemmas.List.{nil_from_length}
 use Rattle.zed_editfile.specs.declared.error.EditFileError.{EditFileError}
 use Rattle.zed_editfile.specs.Stream.{Progress, Feeds}
-use Rattle.zed_editfile.proofs.Found.{feeds_nothing, goes_on}
+use Rattle.zed_editfile.proofs.Found.{feeds_empty, feeds_nothing, goes_on}
 use Rattle.zed_editfile.proofs.reader.EditReader.feed.Goals as goal
 
 pub returns-in-Some-clause-feeds : goal.returns-in-Some-clause-feeds
@@ -9,6 +10,15 @@ returns-in-Some-clause-feeds c =
     let P : Progress → Type 0 = λ p. Feeds c.args.piece.now c.args.out.now.items c.args.out.now.items p p in
     let here : Progress = record { asked = c.self.inside.asked; world = c.self.inside.world; version = c.self.inside.version; rest = c.self.inside.kept.items; fault = c.self.inside.fault } in
     subst P c.self.view_is (feeds_nothing c.args.piece.now c.args.out.now.items here c.in-Some.fault c.in-Some.is)
+
+pub returns-then-is_empty-clause-feeds : goal.returns-then-is_empty-clause-feeds
+returns-then-is_empty-clause-feeds c =
+    let before = c.args.out.now.items in
+    let here : Progress = record { asked = c.self.inside.asked; world = c.self.inside.world; version = c.self.inside.version; rest = c.self.inside.kept.items; fault = c.self.inside.fault } in
+    let none : length c.args.piece.now ≡ 0 = grind arith in
+    let nil : c.args.piece.now ≡ [] = nil_from_length c.args.piece.now none in
+    let P : Progress → Type 0 = λ p. Feeds c.args.piece.now before before p p in
+    subst P c.self.view_is (subst (λ (x : List ℕ). Feeds x before before here here) (sym nil) (feeds_empty before here))
 
 pub returns-in-Ok-clause-feeds : goal.returns-in-Ok-clause-feeds
 returns-in-Ok-clause-feeds c =

@@ -1,0 +1,22 @@
+use Rattle.std.proofs.Common.{◌≡◌, ◌∙◌, sym}
+use Rattle.std.proofs.lemmas.Result.{err_from_is_err_and}
+use Rattle.zed_action.specs.Refusals.{refusal_of}
+use Rattle.zed_action.proofs.Calls.{memory_is}
+use Rattle.zed_action.proofs.Wants.{deed_wants, is_lack, parse_wants, perform_wants}
+use Rattle.zed_action.proofs.acting.act.Goals as goal
+
+pub returns-in_err-action-clause-memory_only_when : goal.returns-in_err-action-clause-memory_only_when
+returns-in_err-action-clause-memory_only_when c = λ lack.
+    let p = err_from_is_err_and c.from_residual.result c.from_residual.ensures.1 in
+    let same : p.0 ≡ c.in_err-action.field-0.0 = p.2 in
+    parse_wants c.args.document.now c.args.replica _ c.in_err-action.field-0.0 (sym same ∙ is_lack _ _ p.1 lack) c.in_err-action.ensures
+
+pub returns-in_err-deed-clause-memory_only_when : goal.returns-in_err-deed-clause-memory_only_when
+returns-in_err-deed-clause-memory_only_when c = λ lack.
+    let p = err_from_is_err_and c.from_residual-in_err-deed.result c.from_residual-in_err-deed.ensures.1 in
+    let same : p.0 ≡ refusal_of c.in_err-deed.field-0.0 = p.2 in
+    deed_wants c.args.document.now c.args.replica _ c.in_ok-action.action c.in_err-deed.field-0.0 (memory_is _ (sym same ∙ is_lack _ _ p.1 lack)) (sym c.in_err-deed.ensures)
+
+pub returns-clause-memory_only_when : goal.returns-clause-memory_only_when
+returns-clause-memory_only_when c = λ lack.
+    perform_wants c.args.document.now c.args.replica _ c.in_ok-action.action c.in_ok-deed.deed c.in_ok-action.ensures c.in_ok-deed.ensures (c.perform.ensures.memory_only_when lack)
