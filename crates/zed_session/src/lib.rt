@@ -22,3 +22,4 @@ pub use playing::Playing;
 pub use screen::{Failed, Screen};
 pub use session::Session;
 pub use stage::Stage;
+pub use zed_link::{Link, LinkError, Pulled, receive, send};
