@@ -1,3 +1,4 @@
+pub mod Asked
 pub mod Deliveries
 pub mod Endings
 pub mod Failures

@@ -1,3 +1,4 @@
+pub mod Asked
 pub mod Collected
 pub mod Effects
 pub mod Faults

@@ -4,11 +4,13 @@ ghost use Rattle.zed_types.specs.declared.stamp.Stamp.{Stamp as TheStamp};
 ghost use Rattle.zed_op.specs.declared.op.Edit.{Edit as TheEdit};
 ghost use Rattle.zed_op.specs.Set.{Agrees, AllFit, set_of};
 ghost use Rattle.zed_document.specs.Delivery.{IsFirstClash};
+ghost use Rattle.zed_files.specs.Asked.{Asks, reading, refusal_in};
 ghost use Rattle.zed_files.specs.Files.{IsFile, edits_then, end_of as no_world};
 ghost use Rattle.zed_files.specs.Collected.{Collects, IsStreamIn};
 ghost use Rattle.zed_files.specs.Texts.{texts_of};
 ghost use Rattle.zed_files.specs.Faults.{TellsFile};
 ghost use Rattle.zed_files.specs.Refusals.{is_file_refusal};
+ghost use Rattle.zed_host.specs.Calls.{Reading, call};
 ghost use Rattle.zed_host.specs.Counting.{Counts, Rose};
 ghost use Rattle.zed_host.specs.HostContents.{HostContents, IsRead, file_in};
 
@@ -38,6 +40,8 @@ pub fn read_one<H: Host>(host: &mut H, name: &str) -> Result<Vec<u8>, Refusal>
         → IfErr result (λ e. e ≡ Refusal.Memory → is_some (file_in t name.now) ≡ true) }
     ensures kept { H.contents host.new ≡ H.contents host.old }
     ensures err { IfErr result (λ e. (e ≡ Refusal.Memory) ⊎ (e ≡ Refusal.File)) }
+    ensures asked { H.called host.old
+        (call (Reading name.now) (is_file_refusal result)) host.new }
     ensures failures { Counts (is_file_refusal result) (H.failed host.old) (H.failed host.new) }
     ensures calm { OnOk result (H.faults host.new ≡ H.faults host.old) }
     ensures rises { H.faults host.old ≤ H.faults host.new }
@@ -107,6 +111,9 @@ fn read_all<H: Host>(alloc: Global, host: &mut H, names: &[&str]) -> Result<Stre
     ensures fit { IfOk result (λ s. AllFit s.edits.items) }
     ensures kept { H.contents host.new ≡ H.contents host.old }
     ensures err { IfErr result (λ e. e ≡ Refusal.Memory) }
+    ensures asked { MatchResult result
+        (λ s. Asks H.called (reading (texts_of names.now)) [] s.refusal host.old host.new)
+        (λ e. Asks H.called (reading (texts_of names.now)) [] (Some e) host.old host.new) }
     ensures rises { H.faults host.old ≤ H.faults host.new }
     ensures file_only_when { IfOk result (λ s. s.refusal ≡ Some Refusal.File
         → Rose (H.failed host.old) (H.failed host.new)) }
@@ -156,6 +163,8 @@ pub fn load<H: Host>(alloc: Global, host: &mut H, names: &[&str]) -> Result<Docu
         (λ e. (e ≡ Refusal.Memory) ⊎ Collects failed t (texts_of names.now) (Err e)) }
     ensures sound { IfOk result (λ d. d.is_stale ≡ false) }
     ensures kept { H.contents host.new ≡ H.contents host.old }
+    ensures asked { Asks H.called (reading (texts_of names.now)) []
+        (refusal_in result) host.old host.new }
     ensures rises { H.faults host.old ≤ H.faults host.new }
     ensures file_only_when { TellsFile result (H.failed host.old) (H.failed host.new) }
 {

@@ -1,6 +1,8 @@
 //! What a command leaves with the host.
-ghost use Rattle.std.specs.Prelude.{◌≡◌, IfErr, OnErr, OnOk, Some, is_err};
+ghost use Rattle.std.specs.Prelude.{[], ◌∷◌, ◌≡◌, IfErr, OnErr, OnOk, Some, is_err};
+ghost use Rattle.zed_files.specs.Asked.{Asks, refusal_in, writing};
 ghost use Rattle.zed_files.specs.Effects.{HalfDone, Prints, Writes, after};
+ghost use Rattle.zed_host.specs.Calls.{Printing};
 ghost use Rattle.zed_host.specs.Counting.{Counts};
 ghost use Rattle.zed_host.specs.HostContents.{HostContents, StillTells};
 
@@ -14,6 +16,7 @@ pub fn write_out<H: Host>(host: &mut H, out: &str, bytes: &[u8], line: &str) -> 
     ensures half { (t : HostContents) → H.contents host.old ≡ Some t → OnErr result
         (StillTells (HalfDone (Writes out.now bytes.now line.now) t) (H.contents host.new)) }
     ensures err { IfErr result (λ e. e ≡ Refusal.File) }
+    ensures asked { Asks H.called [] (writing out.now) (refusal_in result) host.old host.new }
     ensures failures { Counts (is_err result) (H.failed host.old) (H.failed host.new) }
     ensures faults { Counts (is_err result) (H.faults host.old) (H.faults host.new) }
 {
@@ -31,6 +34,7 @@ pub fn print_out<H: Host>(host: &mut H, text: &[u8]) -> Result<(), Refusal>
     ensures half { (t : HostContents) → H.contents host.old ≡ Some t
         → OnErr result (StillTells (HalfDone (Prints text.now) t) (H.contents host.new)) }
     ensures err { IfErr result (λ e. e ≡ Refusal.File) }
+    ensures asked { Asks H.called [] (Printing ∷ []) (refusal_in result) host.old host.new }
     ensures failures { Counts (is_err result) (H.failed host.old) (H.failed host.new) }
     ensures faults { Counts (is_err result) (H.faults host.old) (H.faults host.new) }
 {

@@ -1,3 +1,4 @@
+pub mod Calls
 pub mod Counting
 pub mod Faults
 pub mod HostContents

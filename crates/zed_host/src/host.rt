@@ -1,5 +1,6 @@
 //! What the program reads and writes.
-ghost use Rattle.std.specs.Prelude.{◌≡◌, ℕ, None, Option, Some, IfErr, IfOk, IfSome, OnErr, OnOk, option_map, is_err, true, is_some};
+ghost use Rattle.std.specs.Prelude.{◌≡◌, ◌≤◌, ℕ, None, false, Option, Some, IfErr, IfOk, IfSome, OnErr, OnOk, option_map, is_err, true, is_some};
+ghost use Rattle.zed_host.specs.Calls.{Call, Complaining, Printing, Reading, Writing, call};
 ghost use Rattle.zed_host.specs.Counting.{Counts};
 ghost use Rattle.zed_host.specs.HostContents.{HalfComplained, HalfPrinted, HalfWritten, HostContents, StillTells, file_in, with_complaint, with_file, with_printed};
 ghost use Rattle.zed_host.specs.Faults.{is_failure, is_fault};
@@ -30,6 +31,10 @@ pub trait Host {
     /// How many calls failed by a fault of the device.
     ghost faults: { Self → ℕ };
 
+    /// Whether a call leads from the one state to the other. Nothing but the calls below tells that it does: so who states which calls
+    /// lead from a host to what it becomes tells all that was asked of it.
+    ghost called: { Self → Call → Self → Type 0 };
+
     /// The bytes of a file.
     fn read(&mut self, name: &str) -> Result<Vec<u8>, ReadError>
         ensures bytes { IfOk result (λ bytes.
@@ -39,6 +44,7 @@ pub trait Host {
         ensures memory_only_when { IfErr result (λ e. e ≡ ReadError.Memory
             → IfSome (contents self.old) (λ t. is_some (file_in t name.now) ≡ true)) }
         ensures kept { contents self.new ≡ contents self.old }
+        ensures asked { called self.old (call (Reading name.now) (is_failure result)) self.new }
         ensures failures { Counts (is_failure result) (failed self.old) (failed self.new) }
         ensures faults { Counts (is_fault result) (faults self.old) (faults self.new) };
 
@@ -48,6 +54,7 @@ pub trait Host {
             (contents self.new ≡ option_map (with_file name.now bytes.now) (contents self.old)) }
         ensures half { OnErr result (IfSome (contents self.old)
             (λ t. StillTells (HalfWritten name.now bytes.now t) (contents self.new))) }
+        ensures asked { called self.old (call (Writing name.now) (is_err result)) self.new }
         ensures failures { Counts (is_err result) (failed self.old) (failed self.new) }
         ensures faults { Counts (is_err result) (faults self.old) (faults self.new) };
 
@@ -57,6 +64,7 @@ pub trait Host {
             (contents self.new ≡ option_map (with_printed bytes.now) (contents self.old)) }
         ensures half { OnErr result (IfSome (contents self.old)
             (λ t. StillTells (HalfPrinted bytes.now t) (contents self.new))) }
+        ensures asked { called self.old (call Printing (is_err result)) self.new }
         ensures failures { Counts (is_err result) (failed self.old) (failed self.new) }
         ensures faults { Counts (is_err result) (faults self.old) (faults self.new) };
 
@@ -66,10 +74,20 @@ pub trait Host {
             (contents self.new ≡ option_map (with_complaint bytes.now) (contents self.old)) }
         ensures half { OnErr result (IfSome (contents self.old)
             (λ t. StillTells (HalfComplained bytes.now t) (contents self.new))) }
+        ensures asked { called self.old (call (Complaining bytes.now) (is_err result)) self.new }
         ensures failures { Counts (is_err result) (failed self.old) (failed self.new) }
         ensures faults { Counts (is_err result) (faults self.old) (faults self.new) };
 
     /// How many calls failed, up to the greatest `u64`.
     fn failures(&self) -> u64
-        ensures { result ≡ failed self.now };
+        ensures result { result ≡ failed self.now }
+        ensures within { faults self.now ≤ failed self.now };
+
+    /// A call that failed is counted, and no other.
+    ghost counts_failures: { (old : Self) (call : Call) (new : Self)
+        → called old call new → Counts call.failed (failed old) (failed new) };
+
+    /// A call that didn't fail is no fault of the device.
+    ghost counts_no_fault: { (old : Self) (call : Call) (new : Self)
+        → called old call new → call.failed ≡ false → faults new ≡ faults old };
 }

@@ -2,7 +2,7 @@
 ghost use Rattle.std.specs.Prelude.{◌≡◌, ◌-◌, ◌<◌, ◌∷◌, nat_lt, IfOk, OnErr, OnOk, Some, ◌++◌, option_map, string_bytes};
 ghost use Rattle.std.specs.FinMap as map;
 ghost use Rattle.zed_host.specs.Counting.{Rose, most_counted};
-ghost use Rattle.zed_host.specs.Memory.{entries_of, files_of, empty_memory, contents_of};
+ghost use Rattle.zed_host.specs.Memory.{called_in, contents_of, empty_memory, entries_of, failed_in, files_of};
 
 use crate::host::{Host, ReadError, WriteError};
 use std::alloc::{AllocError, Global};
@@ -22,9 +22,9 @@ pub struct MemoryHost {
     entries: Vec<Entry>,
     printed: Vec<u8>,
     complained: Vec<u8>,
-    // the calls that failed
-    failures: u64,
-    // those of them that didn't fail for want of a file
+    // the reads that failed for want of a file
+    missing: u64,
+    // the calls that failed otherwise
     faults: u64,
     // the calls that pass before the device fails
     passing: u64,
@@ -36,7 +36,7 @@ impl Model for MemoryHost {
 
     ghost Value = { MemoryState };
 
-    ghost view = { λ s. record { entries = entries_of s.entries.items; printed = s.printed.items; complained = s.complained.items; failures = s.failures; faults = s.faults; passing = s.passing } };
+    ghost view = { λ s. record { entries = entries_of s.entries.items; printed = s.printed.items; complained = s.complained.items; missing = s.missing; faults = s.faults; passing = s.passing } };
 }
 
 impl MemoryHost {
@@ -49,7 +49,7 @@ impl MemoryHost {
             entries: Vec::new(alloc),
             printed: Vec::new(alloc),
             complained: Vec::new(alloc),
-            failures: 0,
+            missing: 0,
             faults: 0,
             passing,
         }
@@ -159,13 +159,14 @@ fn append(passing: &mut u64, out: &mut Vec<u8>, bytes: &[u8]) -> Result<(), Writ
 impl Host for MemoryHost {
     ghost contents = { λ s. Some (contents_of s) };
 
-    ghost failed = { λ s. s.failures };
+    ghost failed = { failed_in };
 
     ghost faults = { λ s. s.faults };
 
+    ghost called = { called_in };
+
     fn read(&mut self, name: &str) -> Result<Vec<u8>, ReadError> {
         if !passes(&mut self.passing) {
-            count(&mut self.failures);
             count(&mut self.faults);
             return Err(ReadError::File);
         }
@@ -175,7 +176,7 @@ impl Host for MemoryHost {
                 Err(_) => Err(ReadError::Memory),
             },
             None => {
-                count(&mut self.failures);
+                count(&mut self.missing);
                 Err(ReadError::NoFile)
             }
         }
@@ -191,7 +192,6 @@ impl Host for MemoryHost {
         ) {
             Ok(()) => Ok(()),
             Err(error) => {
-                count(&mut self.failures);
                 count(&mut self.faults);
                 Err(error)
             }
@@ -202,7 +202,6 @@ impl Host for MemoryHost {
         match append(&mut self.passing, &mut self.printed, bytes) {
             Ok(()) => Ok(()),
             Err(error) => {
-                count(&mut self.failures);
                 count(&mut self.faults);
                 Err(error)
             }
@@ -213,7 +212,6 @@ impl Host for MemoryHost {
         match append(&mut self.passing, &mut self.complained, bytes) {
             Ok(()) => Ok(()),
             Err(error) => {
-                count(&mut self.failures);
                 count(&mut self.faults);
                 Err(error)
             }
@@ -221,6 +219,10 @@ impl Host for MemoryHost {
     }
 
     fn failures(&self) -> u64 {
-        self.failures
+        self.faults.saturating_add(self.missing)
     }
+
+    ghost counts_failures = { λ old call new is. is.0 };
+
+    ghost counts_no_fault = { λ old call new is. is.1 };
 }

@@ -1,10 +1,11 @@
 //! An action of an author on an edit file.
-ghost use Rattle.std.specs.Prelude.{[], ◌≡◌, ◌≤◌, ◌⊎◌, Err, IfErr, IfOk, MatchResult, Ok, Some, false};
+ghost use Rattle.std.specs.Prelude.{[], ◌∷◌, ◌≡◌, ◌≤◌, ◌⊎◌, Err, IfErr, IfOk, MatchResult, Ok, Some, false};
 ghost use Rattle.zed_op.specs.Set.{Agrees, AllFit, set_of};
 ghost use Rattle.zed_types.specs.declared.stamp.Stamp.{Stamp as TheStamp};
 ghost use Rattle.zed_document.specs.Delivery.{IsFirstClash};
 ghost use Rattle.zed_editfile.specs.Spelling.{file_text};
 ghost use Rattle.zed_making.specs.Edited.{ComesToEdit, HasEdits, IsEdited, IsOpened, OpensAs};
+ghost use Rattle.zed_files.specs.Asked.{Asks, reading, refusal_in, writing};
 ghost use Rattle.zed_files.specs.Effects.{Ends};
 ghost use Rattle.zed_files.specs.Texts.{texts_of};
 ghost use Rattle.zed_host.specs.Counting.{Rose};
@@ -58,6 +59,8 @@ fn open<H: Host>(alloc: Global, host: &mut H, file: &str) -> Result<Document, Re
         (λ e. (e ≡ Refusal.Memory) ⊎ OpensAs failed t file.now (Err e)) }
     ensures sound { IfOk result (λ d. d.is_stale ≡ false) }
     ensures kept { H.contents host.new ≡ H.contents host.old }
+    ensures asked { Asks H.called (reading (file.now ∷ [])) []
+        (refusal_in result) host.old host.new }
     ensures rises { H.faults host.old ≤ H.faults host.new }
     ensures file_only_when { TellsFile result (H.failed host.old) (H.failed host.new) }
 {
@@ -79,6 +82,8 @@ fn edited<H: Host>(
         (λ e. (e ≡ Refusal.Memory)
         ⊎ IsEdited failed t file.now replica (texts_of words.now) (Err e)) }
     ensures kept { H.contents host.new ≡ H.contents host.old }
+    ensures asked { Asks H.called (reading (file.now ∷ [])) []
+        (refusal_in result) host.old host.new }
     ensures rises { H.faults host.old ≤ H.faults host.new }
     ensures file_only_when { TellsFile result (H.failed host.old) (H.failed host.new) }
 {
@@ -112,6 +117,8 @@ pub fn edit<H: Host>(
         → let failed = Rose (H.faults host.old) (H.faults host.new) in
         Ends failed (ComesToEdit failed t file.now replica (texts_of words.now)) t
         result (H.contents host.new) }
+    ensures asked { Asks H.called (reading (file.now ∷ [])) (writing file.now)
+        (refusal_in result) host.old host.new }
     ensures rises { H.faults host.old ≤ H.faults host.new }
     ensures file_only_when { TellsFile result (H.failed host.old) (H.failed host.new) }
 {

@@ -1,10 +1,11 @@
 //! Edit files joined to one.
-ghost use Rattle.std.specs.Prelude.{◌≡◌, ◌≤◌, ◌<◌, Err, IfOk, MatchResult, Ok, OnOk, Some, false, length, map};
+ghost use Rattle.std.specs.Prelude.{[], ◌≡◌, ◌≤◌, ◌<◌, Err, IfOk, MatchResult, Ok, OnOk, Some, false, length, map};
 ghost use Rattle.zed_session.specs.Links.{PullsOver, seen};
 ghost use Rattle.zed_host.specs.Counting.{Rose};
 ghost use Rattle.zed_files.specs.Faults.{TellsFile};
 ghost use Rattle.zed_host.specs.HostContents.{HostContents};
 ghost use Rattle.zed_making.specs.Merged.{ComesToMerge, IsMerged};
+ghost use Rattle.zed_files.specs.Asked.{Asks, refusal_in, writing};
 ghost use Rattle.zed_files.specs.Effects.{Ends};
 ghost use Rattle.zed_files.specs.Refusals.{link_refusal};
 
@@ -73,6 +74,7 @@ pub fn merge<H: Host>(
         Ends failed (ComesToMerge (map (λ link. seen (ends link) (reads link)) links.items)
         out.now world (length files.now)) t result (H.contents host.new) }
     ensures no_link { length links.items < length files.now → result ≡ Err Refusal.NoLink }
+    ensures asked { Asks H.called [] (writing out.now) (refusal_in result) host.old host.new }
     ensures rises { H.faults host.old ≤ H.faults host.new }
     ensures file_only_when { TellsFile result (H.failed host.old) (H.failed host.new) }
 {

@@ -6,6 +6,7 @@ ghost use Rattle.zed_world.specs.Canonical.{IsCanonical};
 ghost use Rattle.zed_making.specs.Fresh.{ComesToNew, fresh_header, fresh_properties, fresh_world, genesis_of, made_by, name_or_none, refused_as, rewritten, taken_from, title_of, IsFirstWorld};
 ghost use Rattle.zed_world.specs.Writing.{written};
 ghost use Rattle.zed_world.specs.Reading.{world_at};
+ghost use Rattle.zed_files.specs.Asked.{Asks, named, reading, refusal_in, writing};
 ghost use Rattle.zed_files.specs.Effects.{Ends};
 ghost use Rattle.zed_files.specs.Texts.{text_in};
 ghost use Rattle.zed_host.specs.Counting.{Rose};
@@ -164,6 +165,8 @@ fn first<H: Host>(
         ⊎ IsFirstWorld failed t (text_in from.entry) (text_in name.entry) (Err e)) }
     ensures canonical { IfOk result (λ bytes. IsCanonical bytes.items) }
     ensures kept { H.contents host.new ≡ H.contents host.old }
+    ensures asked { Asks H.called (reading (named (text_in from.entry))) []
+        (refusal_in result) host.old host.new }
     ensures rises { H.faults host.old ≤ H.faults host.new }
     ensures file_only_when { TellsFile result (H.failed host.old) (H.failed host.new) }
 {
@@ -205,6 +208,8 @@ pub fn make_new<H: Host>(
         → let failed = Rose (H.faults host.old) (H.faults host.new) in
         Ends failed (ComesToNew failed t out.now world (text_in from.entry) (text_in name.entry)) t
         result (H.contents host.new) }
+    ensures asked { Asks H.called (reading (named (text_in from.entry))) (writing out.now)
+        (refusal_in result) host.old host.new }
     ensures rises { H.faults host.old ≤ H.faults host.new }
     ensures file_only_when { TellsFile result (H.failed host.old) (H.failed host.new) }
 {

@@ -1,3 +1,4 @@
+pub mod Asked
 pub mod Devices
 pub mod Joining
 pub mod Limit

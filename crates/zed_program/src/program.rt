@@ -5,6 +5,8 @@ ghost use Rattle.zed_op.specs.declared.op.Edit.{Edit as TheEdit};
 ghost use Rattle.zed_session.specs.Links.{seen};
 ghost use Rattle.zed_files.specs.Files.{joined};
 ghost use Rattle.zed_program.specs.Joining.{AsksToMerge, MergesSet};
+ghost use Rattle.zed_files.specs.Asked.{Asks, refusal_in};
+ghost use Rattle.zed_program.specs.Asked.{Complains, RunAsks, last_of, reads_of};
 ghost use Rattle.zed_program.specs.Devices.{devices};
 ghost use Rattle.zed_files.specs.Effects.{Ends};
 ghost use Rattle.zed_program.specs.Outcome.{ComesTo, EndsCalmly, EndsRun, IsTold};
@@ -36,6 +38,7 @@ fn complain_of<H: Host>(alloc: Global, host: &mut H, refusal: &Refusal)
     ensures told { (t : HostContents) → H.contents host.old ≡ Some t
         → let failed = Rose (H.faults host.old) (H.faults host.new) in
         IsTold failed refusal.now t (H.contents host.new) }
+    ensures asked { Complains H.called refusal.now host.old host.new }
     ensures rises { H.faults host.old ≤ H.faults host.new }
     ensures failures { H.failed host.old ≤ H.failed host.new }
 {
@@ -61,6 +64,8 @@ fn act<H: Host>(
         let told = devices (map (λ link. seen (ends link) (reads link)) links.items)
         (screen_foretells screen) (left keys) (keys_foretell keys) in
         Ends failed (ComesTo failed told (meaning_of command.now) t) t result (H.contents host.new) }
+    ensures asked { Asks H.called (reads_of (meaning_of command.now))
+        (last_of (meaning_of command.now)) (refusal_in result) host.old host.new }
     ensures rises { H.faults host.old ≤ H.faults host.new }
     ensures file_only_when { TellsFile result (H.failed host.old) (H.failed host.new) }
 {
@@ -141,6 +146,8 @@ fn run_words<H: Host>(
         (command_of (map string_bytes words.now)) t
         (H.faults host.old) (H.faults host.new) (Rose (H.failed host.old) (H.failed host.new))
         result (H.contents host.new) }
+    ensures asked { RunAsks H.called (command_of (map string_bytes words.now))
+        result host.old host.new }
     ensures accepted { IsSome (command_of (map string_bytes words.now))
         → (result ≡ 0) ⊎ (result ≡ 1) }
     ensures refused { command_of (map string_bytes words.now) ≡ None
@@ -193,6 +200,15 @@ pub fn run<H: Host>(
         (command_of (map string_bytes words.now)) t
         (H.faults host.old) (H.faults host.new) (Rose (H.failed host.old) (H.failed host.new))
         result (H.contents host.new) }
+
+    // What was asked of the host, call by call.
+    ensures asked { RunAsks H.called (command_of (map string_bytes words.now))
+        result host.old host.new }
+
+    // Where its `failures()` stay as they were, nothing failed.
+    ensures calm { H.faults host.old ≤ H.failed host.old
+        → NothingFailed (H.failed host.old) (H.failed host.new)
+        → NothingFailed (H.faults host.old) (H.faults host.new) }
 
     // Where nothing fails.
     ensures ends_calmly { (t : HostContents) (command : Asked)

@@ -1,11 +1,13 @@
 //! Boards played.
-ghost use Rattle.std.specs.Prelude.{◌≡◌, ◌≤◌, ◌<◌, ◌⊎◌, ◌++◌, Err, IfOk, MatchResult, Ok, OnOk, Some, false, length, slice_get, string_bytes};
+ghost use Rattle.std.specs.Prelude.{[], ◌∷◌, ◌≡◌, ◌≤◌, ◌<◌, ◌⊎◌, ◌++◌, Err, IfOk, MatchResult, Ok, OnOk, Some, false, length, slice_get, string_bytes};
 ghost use Rattle.std.specs.List.{flat_map};
 ghost use Rattle.zed_types.specs.declared.limits.TheConstants.{READ_BODY_LIMIT};
+ghost use Rattle.zed_host.specs.Calls.{Printing};
 ghost use Rattle.zed_host.specs.Counting.{Rose};
 ghost use Rattle.zed_files.specs.Faults.{TellsFile};
 ghost use Rattle.zed_host.specs.HostContents.{HostContents};
 ghost use Rattle.zed_worlds.specs.Told.{message_line, standing_line, told_of};
+ghost use Rattle.zed_files.specs.Asked.{Asks, reading, refusal_in};
 ghost use Rattle.zed_files.specs.Effects.{Ends};
 ghost use Rattle.zed_worlds.specs.Shown.{ComesToPlay, IsPlayed, IsPlayedOf, OfSet, words_in};
 ghost use Rattle.zed_worlds.specs.Stage.{stage};
@@ -147,6 +149,8 @@ fn played<H: Host>(
         ⊎ IsPlayedOf failed told t limit board chance.now
         (texts_of files.now) (Err e)) }
     ensures kept { H.contents host.new ≡ H.contents host.old }
+    ensures asked { Asks H.called (reading (chance.now ∷ texts_of files.now)) []
+        (refusal_in result) host.old host.new }
     ensures rises { H.faults host.old ≤ H.faults host.new }
     ensures file_only_when { TellsFile result (H.failed host.old) (H.failed host.new) }
 {
@@ -181,6 +185,8 @@ pub fn play<H: Host>(
         let told = stage (screen_foretells screen) (left keys) (keys_foretell keys) in
         Ends failed (ComesToPlay failed told t limit board chance.now (texts_of files.now)) t
         result (H.contents host.new) }
+    ensures asked { Asks H.called (reading (chance.now ∷ texts_of files.now)) (Printing ∷ [])
+        (refusal_in result) host.old host.new }
     ensures rises { H.faults host.old ≤ H.faults host.new }
     ensures file_only_when { TellsFile result (H.failed host.old) (H.failed host.new) }
 {

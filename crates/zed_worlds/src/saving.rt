@@ -1,8 +1,10 @@
 //! Worlds saved, and reported on.
-ghost use Rattle.std.specs.Prelude.{◌≡◌, ◌≤◌, ◌⊎◌, false, MatchResult, Ok, Err, Some};
+ghost use Rattle.std.specs.Prelude.{[], ◌∷◌, ◌≡◌, ◌≤◌, ◌⊎◌, false, MatchResult, Ok, Err, Some};
 ghost use Rattle.zed_types.specs.declared.limits.TheConstants.{READ_BODY_LIMIT};
+ghost use Rattle.zed_host.specs.Calls.{Printing};
 ghost use Rattle.zed_host.specs.Counting.{Rose};
 ghost use Rattle.zed_host.specs.HostContents.{HostContents};
+ghost use Rattle.zed_files.specs.Asked.{Asks, reading, refusal_in, writing};
 ghost use Rattle.zed_files.specs.Effects.{Ends};
 ghost use Rattle.zed_files.specs.Faults.{TellsFile};
 ghost use Rattle.zed_files.specs.Texts.{texts_of};
@@ -57,6 +59,7 @@ fn made_from<H: Host>(
         (λ e. (e ≡ Refusal.Memory)
         ⊎ IsMade failed t (texts_of files.now) (product_of product limit) (Err e)) }
     ensures kept { H.contents host.new ≡ H.contents host.old }
+    ensures asked { Asks H.called (reading (texts_of files.now)) [] (refusal_in result) host.old host.new }
     ensures rises { H.faults host.old ≤ H.faults host.new }
     ensures file_only_when { TellsFile result (H.failed host.old) (H.failed host.new) }
 {
@@ -77,6 +80,8 @@ pub fn save<H: Host>(
         → let failed = Rose (H.faults host.old) (H.faults host.new) in
         Ends failed (ComesToSave failed t limit out.now (texts_of files.now)) t
         result (H.contents host.new) }
+    ensures asked { Asks H.called (reading (texts_of files.now)) (writing out.now)
+        (refusal_in result) host.old host.new }
     ensures rises { H.faults host.old ≤ H.faults host.new }
     ensures file_only_when { TellsFile result (H.failed host.old) (H.failed host.new) }
 {
@@ -96,6 +101,8 @@ pub fn check<H: Host>(
     ensures ends { (t : HostContents) → H.contents host.old ≡ Some t
         → let failed = Rose (H.faults host.old) (H.faults host.new) in
         Ends failed (ComesToCheck failed t limit (texts_of files.now)) t result (H.contents host.new) }
+    ensures asked { Asks H.called (reading (texts_of files.now)) (Printing ∷ [])
+        (refusal_in result) host.old host.new }
     ensures rises { H.faults host.old ≤ H.faults host.new }
     ensures file_only_when { TellsFile result (H.failed host.old) (H.failed host.new) }
 {

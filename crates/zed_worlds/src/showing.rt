@@ -1,9 +1,10 @@
 //! Boards shown.
-ghost use Rattle.std.specs.Prelude.{◌≡◌, ◌≤◌, ◌⊎◌, Err, MatchResult, Ok, Some, false};
+ghost use Rattle.std.specs.Prelude.{[], ◌≡◌, ◌≤◌, ◌⊎◌, Err, MatchResult, Ok, Some, false};
 ghost use Rattle.zed_types.specs.declared.limits.TheConstants.{READ_BODY_LIMIT};
 ghost use Rattle.zed_host.specs.Counting.{Rose};
 ghost use Rattle.zed_files.specs.Faults.{TellsFile};
 ghost use Rattle.zed_host.specs.HostContents.{HostContents};
+ghost use Rattle.zed_files.specs.Asked.{Asks, reading, refusal_in};
 ghost use Rattle.zed_files.specs.Effects.{Ends};
 ghost use Rattle.zed_files.specs.Texts.{texts_of};
 ghost use Rattle.zed_worlds.specs.Shown.{ComesToShow, IsShown, OfSet};
@@ -52,6 +53,7 @@ pub fn show<H: Host>(
         let told = stage (screen_foretells screen) (left keys) (keys_foretell keys) in
         Ends failed (ComesToShow failed told t limit board (texts_of files.now)) t
         result (H.contents host.new) }
+    ensures asked { Asks H.called (reading (texts_of files.now)) [] (refusal_in result) host.old host.new }
     ensures rises { H.faults host.old ≤ H.faults host.new }
     ensures file_only_when { TellsFile result (H.failed host.old) (H.failed host.new) }
 {

@@ -1,5 +1,5 @@
 //! Real files and streams as a host.
-ghost use Rattle.std.specs.Prelude.{◌≡◌, None, is_err};
+ghost use Rattle.std.specs.Prelude.{◌≡◌, None, false, is_err};
 ghost use Rattle.zed_host.specs.Counting.{Counts};
 
 use std::alloc::{AllocError, Global};
@@ -194,6 +194,9 @@ impl Host for SystemHost {
 
     ghost faults = { λ s. s.failures };
 
+    ghost called = { λ old call new. Counts call.failed old.failures new.failures
+        × (call.failed ≡ false → new.failures ≡ old.failures) };
+
     fn read(&mut self, name: &str) -> Result<Vec<u8>, ReadError> {
         match self.read_named(name) {
             Ok(bytes) => Ok(bytes),
@@ -223,4 +226,8 @@ impl Host for SystemHost {
     fn failures(&self) -> u64 {
         self.failures
     }
+
+    ghost counts_failures = { λ old call new is. is.0 };
+
+    ghost counts_no_fault = { λ old call new is. is.1 };
 }

@@ -4,6 +4,8 @@ use Rattle.std.proofs.lemmas.Result.{err_from_is_err_and}
 use Rattle.zed_files.specs.Files.{edits_then}
 use Rattle.zed_files.specs.Texts.{texts_of}
 use Rattle.zed_files.proofs.Streams.{all_collected, clash_first, file_first}
+use Rattle.zed_files.specs.Asked.{reading}
+use Rattle.zed_files.proofs.Asked.{refused_instead, told_so}
 use Rattle.zed_files.proofs.Failures.{memory_is_other}
 use Rattle.zed_files.proofs.collect.load.Goals as goal
 
@@ -39,3 +41,26 @@ returns-in_err-deliver_all-clause-file_only_when g c =
 pub returns-in-Some-clause-file_only_when : goal.returns-in-Some-clause-file_only_when
 returns-in-Some-clause-file_only_when g c =
     (c.in_ok-world.ensures.failures, λ is. c.in_ok-world.ensures.file_only_when (c.in-Some.is ∙ ap (λ e. Some e) is))
+
+pub returns-in_err-world-clause-asked : goal.returns-in_err-world-clause-asked
+returns-in_err-world-clause-asked g c =
+    let p = err_from_is_err_and c.from_residual.result c.from_residual.ensures.1 in
+    let same : p.0 ≡ c.in_err-world.field-0.0 = p.2 in
+    rw (p.1, same) c.in_err-world.ensures.asked
+
+pub returns-in_err-deliver_all-clause-asked : goal.returns-in_err-deliver_all-clause-asked
+returns-in_err-deliver_all-clause-asked g c =
+    let p = err_from_is_err_and c.from_residual-in_err-deliver_all.result c.from_residual-in_err-deliver_all.ensures.1 in
+    let same : p.0 ≡ c.in_err-deliver_all.field-0.0 = p.2 in
+    rw (p.1, same) (refused_instead g.H.Host.called (reading (texts_of c.args.names.now)) c.in_ok-world.field-0.refusal c.in_err-deliver_all.field-0.0 _ _
+    (λ is. elim c.in_err-deliver_all.ensures.err [
+      | inl memory ↦ memory_is_other _ memory is
+      | inr clash ↦ (let no = clash.2 in cc)
+    ])
+    c.in_ok-world.ensures.asked)
+
+pub returns-in-Some-clause-asked : goal.returns-in-Some-clause-asked
+returns-in-Some-clause-asked g c = told_so g.H.Host.called (reading (texts_of c.args.names.now)) _ _ _ _ c.in-Some.is c.in_ok-world.ensures.asked
+
+pub returns-in-None-clause-asked : goal.returns-in-None-clause-asked
+returns-in-None-clause-asked g c = told_so g.H.Host.called (reading (texts_of c.args.names.now)) _ _ _ _ c.in-None.is c.in_ok-world.ensures.asked

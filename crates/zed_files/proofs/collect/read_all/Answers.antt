@@ -2,12 +2,13 @@ use Rattle.std.proofs.Common.{◌∙◌, ◌+◌, ◌≤◌, ◌∷◌, [], arit
 use mathlib.Core.Logic.{inl, inr}
 use Rattle.zed_host.specs.Counting.{Rose}
 use Rattle.zed_host.specs.HostContents.{file_in}
-use Rattle.zed_files.specs.declared.refusal.Refusal.TheVariants.{File}
+use Rattle.zed_files.specs.declared.refusal.Refusal.TheVariants.{File, Memory}
 use Rattle.zed_files.specs.Collected.{IsStreamIn}
 use Rattle.zed_files.specs.Texts.{texts_of}
 use Rattle.zed_host.proofs.ReadFiles.{as_held, read_so}
 use Rattle.zed_host.proofs.Counts.{rose_later}
-use Rattle.zed_files.proofs.Failures.{file_is_other, no_world_is_other}
+use Rattle.zed_files.proofs.Asked.{next_lost, next_refused, read_enough, read_next, read_whole}
+use Rattle.zed_files.proofs.Failures.{file_is_other, memory_is_other, no_world_is_other}
 use Rattle.zed_files.proofs.Streams.{all_read, file_fits, fit_append, last_file, next_file, next_read, none_left, unread_file}
 use Rattle.zed_files.proofs.collect.read_all.Goals as goal
 
@@ -17,6 +18,7 @@ loop-name-init g c = record {
   calm = refl;
   uncounted = refl;
   fit = search rules;
+  asked = ([], refl, refl);
   read = λ t now rest at reads s is. (rest, reads, search rules);
 }
 
@@ -30,6 +32,7 @@ loop-name-preserved g c =
       calm = c.in-Ok.ensures.calm ∙ old.calm;
       uncounted = c.in-Ok.ensures.failures ∙ old.uncounted;
       fit = rw file.2 (fit_append _ _ old.fit (file_fits _ _ _ _ file.1));
+      asked = read_next g.H.Host.called c.args.names.now c.loop-name.name-index _ _ _ _ c.loop-name-test.true old.asked c.in-Ok.ensures.asked;
       read = λ t now rest at reads s is.
           let first = c.in-Ok.ensures.bytes t (old.same ∙ at) in
           rw file.2 (next_file (IsStreamIn (Rose (g.H.Host.faults c.args.host.now) now) t (texts_of c.args.names.now)) c.loop-name.asked c.in-Ok.bytes.items rest _ c.loop-name.edits.items file.0 c.in-Ok-read_file.world
@@ -55,6 +58,8 @@ returns-in_default g c =
         fit = rw file.2 (fit_append _ _ old.fit (file_fits _ _ _ _ file.1));
         kept = c.in-Ok.ensures.kept ∙ old.same;
         err = tt;
+        asked = read_enough g.H.Host.called c.args.names.now (c.loop-name.name-index + 1) _ _ c.from.result (λ is. file_is_other c.in-Err-read_file.error (sym c.from.ensures ∙ is))
+            (read_next g.H.Host.called c.args.names.now c.loop-name.name-index _ _ _ _ c.loop-name-test.true old.asked c.in-Ok.ensures.asked);
         rises = let same = c.in-Ok.ensures.calm in let calm = old.calm in omega arith;
         file_only_when = λ is. absurd (file_is_other c.in-Err-read_file.error (let same = c.from.ensures in cc));
         failures = let same = c.in-Ok.ensures.failures in let before = old.uncounted in omega arith;
@@ -81,6 +86,7 @@ returns-in-Err-File g c =
       fit = old.fit;
       kept = c.in-Err-File.ensures.kept ∙ old.same;
       err = tt;
+      asked = next_lost g.H.Host.called c.args.names.now c.loop-name.name-index _ _ _ _ c.in-Err-File.field-0 File c.loop-name-test.true old.asked c.in-Err-File.ensures.asked (search rules);
       rises = up;
       file_only_when = λ is. rw (← old.uncounted) (c.in-Err-File.ensures.file_only_when.1 (search rules));
       failures = let count = c.in-Err-File.ensures.file_only_when.0 in let before = old.uncounted in omega arith;
@@ -88,3 +94,16 @@ returns-in-Err-File g c =
 
 pub returns-clause-file_only_when : goal.returns-clause-file_only_when
 returns-clause-file_only_when g c = λ is. absurd (no_world_is_other c.loop-name.asked (let same = c.end_of.ensures in cc))
+
+pub returns-clause-asked : goal.returns-clause-asked
+returns-clause-asked g c =
+    read_whole g.H.Host.called c.args.names.now c.loop-name.name-index _ _ c.end_of.result c.loop-name-test.false (λ is. no_world_is_other c.loop-name.asked (sym c.end_of.ensures ∙ is)) c.loop-name.invariant.asked
+
+pub returns-in-Err-clause-asked : goal.returns-in-Err-clause-asked
+returns-in-Err-clause-asked g c =
+    next_refused g.H.Host.called c.args.names.now c.loop-name.name-index _ _ _ _ c.in-Err.field-0 Memory c.loop-name-test.true (memory_is_other Memory refl) c.loop-name.invariant.asked c.in-Err.ensures.asked c.in-Err.ensures.err
+
+pub returns-in-Memory-clause-asked : goal.returns-in-Memory-clause-asked
+returns-in-Memory-clause-asked g c =
+    read_enough g.H.Host.called c.args.names.now (c.loop-name.name-index + 1) _ _ Memory (memory_is_other Memory refl)
+    (read_next g.H.Host.called c.args.names.now c.loop-name.name-index _ _ _ _ c.loop-name-test.true c.loop-name.invariant.asked c.in-Ok.ensures.asked)

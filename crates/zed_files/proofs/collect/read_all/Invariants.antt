@@ -5,6 +5,7 @@ use Rattle.zed_files.specs.Collected.{IsStreamIn}
 use Rattle.zed_files.specs.Texts.{texts_of}
 use Rattle.zed_host.specs.Counting.{Rose}
 use Rattle.zed_host.specs.HostContents.{AreRead, HostContents}
+use Rattle.zed_files.proofs.Asked.{ReadSoFar}
 use Rattle.zed_files.proofs.collect.read_all.Given as goal
 
 -- the host is as it was, and what was read, before what the other files come to, is the stream
@@ -14,6 +15,7 @@ invariant-loop-name g l = record {
   calm : g.H.Host.faults l.host ≡ g.H.Host.faults l.fn.host;
   uncounted : g.H.Host.failed l.host ≡ g.H.Host.failed l.fn.host;
   fit : AllFit l.edits.items;
+  asked : ReadSoFar g.H.Host.called l.names l.name-index l.fn.host l.host;
   read : (t : HostContents) (now : ℕ) (rest : List (Option (List ℕ))) → g.H.Host.contents l.fn.host ≡ Some t
       → AreRead (Rose (g.H.Host.faults l.fn.host) now) t (texts_of (drop l.name-index l.names)) rest
       → (s : Stream) → IsStream l.asked rest s

@@ -10,6 +10,9 @@ use Rattle.zed_making.proofs.Endings.{edit_so}
 use Rattle.zed_making.proofs.Opened.{not_edited}
 use Rattle.std.proofs.lemmas.Result.{err_from_is_err_and}
 use Rattle.zed_files.proofs.Failures.{memory_is_other, tells_later, write_tells}
+use Rattle.std.proofs.Common.{[], ◌∷◌}
+use Rattle.zed_files.specs.Asked.{reading, refusal_in, writing}
+use Rattle.zed_files.proofs.Asked.{refused_after, refused_at, then_last}
 use Rattle.zed_making.proofs.editing.edit.Goals as goal
 
 pub returns-clause-ends : goal.returns-clause-ends
@@ -60,3 +63,23 @@ returns-in_err-line-clause-file_only_when g c =
 pub returns-clause-file_only_when : goal.returns-clause-file_only_when
 returns-clause-file_only_when g c =
     tells_later c.write_out.result _ _ _ c.in_ok-document.ensures.file_only_when.0 (write_tells c.write_out.result _ _ c.write_out.ensures.failures)
+
+pub returns-in_err-document-clause-asked : goal.returns-in_err-document-clause-asked
+returns-in_err-document-clause-asked g c =
+    let p = err_from_is_err_and c.from_residual.result c.from_residual.ensures.1 in
+    let same : p.0 ≡ c.in_err-document.field-0.0 = p.2 in
+    rw (p.1, same) (refused_at g.H.Host.called (reading (c.args.file.now ∷ [])) (writing c.args.file.now) c.in_err-document.field-0.0 _ _ c.in_err-document.ensures.asked)
+
+pub returns-in_err-text-clause-asked : goal.returns-in_err-text-clause-asked
+returns-in_err-text-clause-asked g c =
+    let p = err_from_is_err_and c.from_residual-in_err-text.result c.from_residual-in_err-text.ensures.1 in
+    rw p.1 (refused_after g.H.Host.called (reading (c.args.file.now ∷ [])) (writing c.args.file.now) p.0 _ _ (memory_is_other p.0 (p.2 ∙ c.in_err-text.ensures.err)) c.in_ok-document.ensures.asked)
+
+pub returns-in_err-line-clause-asked : goal.returns-in_err-line-clause-asked
+returns-in_err-line-clause-asked g c =
+    let p = err_from_is_err_and c.from_residual-in_err-line.result c.from_residual-in_err-line.ensures.1 in
+    rw p.1 (refused_after g.H.Host.called (reading (c.args.file.now ∷ [])) (writing c.args.file.now) p.0 _ _ (memory_is_other p.0 (p.2)) c.in_ok-document.ensures.asked)
+
+pub returns-clause-asked : goal.returns-clause-asked
+returns-clause-asked g c =
+    then_last g.H.Host.called (reading (c.args.file.now ∷ [])) (writing c.args.file.now) (refusal_in c.write_out.result) _ _ _ c.in_ok-document.ensures.asked c.write_out.ensures.asked

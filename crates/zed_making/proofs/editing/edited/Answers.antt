@@ -3,6 +3,9 @@ use Rattle.std.proofs.lemmas.Result.{err_from_is_err_and}
 use Rattle.zed_files.specs.Texts.{texts_of}
 use Rattle.zed_making.proofs.Opened.{edited_done, edited_not_opened, edited_refused}
 use Rattle.zed_files.proofs.Failures.{action_is_other}
+use Rattle.std.proofs.Common.{[], ◌∷◌}
+use Rattle.zed_files.specs.Asked.{reading}
+use Rattle.zed_files.proofs.Asked.{refused_after}
 use Rattle.zed_making.proofs.editing.edited.Goals as goal
 
 pub returns-in_err-act-clause-edited : goal.returns-in_err-act-clause-edited
@@ -33,3 +36,14 @@ pub returns-in_err-act-clause-file_only_when : goal.returns-in_err-act-clause-fi
 returns-in_err-act-clause-file_only_when g c =
     let p = err_from_is_err_and c.from_residual-in_err-act.result c.from_residual-in_err-act.ensures.1 in
     rw p.1 (c.in_ok-document.ensures.file_only_when.0, λ is. absurd (action_is_other c.in_err-act.field-0.0 (sym p.2 ∙ is)))
+
+pub returns-in_err-document-clause-asked : goal.returns-in_err-document-clause-asked
+returns-in_err-document-clause-asked g c =
+    let p = err_from_is_err_and c.from_residual.result c.from_residual.ensures.1 in
+    let same : p.0 ≡ c.in_err-document.field-0.0 = p.2 in
+    rw (p.1, same) c.in_err-document.ensures.asked
+
+pub returns-in_err-act-clause-asked : goal.returns-in_err-act-clause-asked
+returns-in_err-act-clause-asked g c =
+    let p = err_from_is_err_and c.from_residual-in_err-act.result c.from_residual-in_err-act.ensures.1 in
+    rw p.1 (refused_after g.H.Host.called (reading (c.args.file.now ∷ [])) [] p.0 _ _ (λ is. action_is_other c.in_err-act.field-0.0 (sym p.2 ∙ is)) c.in_ok-document.ensures.asked)

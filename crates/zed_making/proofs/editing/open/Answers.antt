@@ -3,6 +3,9 @@ use Rattle.std.proofs.lemmas.Result.{err_from_is_err_and}
 use Rattle.zed_making.proofs.Opened.{read_opens, unread_opens}
 use Rattle.zed_making.proofs.Others.{opened_is_other}
 use Rattle.zed_files.proofs.Failures.{other_tells}
+use Rattle.std.proofs.Common.{[], ◌∷◌}
+use Rattle.zed_files.specs.Asked.{reading}
+use Rattle.zed_files.proofs.Asked.{answer_after, read_passed, read_refused}
 use Rattle.zed_making.proofs.editing.open.Goals as goal
 
 pub returns-clause-opened : goal.returns-clause-opened
@@ -24,3 +27,13 @@ returns-in_err-bytes-clause-file_only_when g c =
 pub returns-clause-file_only_when : goal.returns-clause-file_only_when
 returns-clause-file_only_when g c =
     other_tells _ _ c.opened.result _ _ c.in_ok-bytes.ensures.file_only_when.0 c.opened.ensures.opened (opened_is_other c.as_slice.result.now)
+
+pub returns-in_err-bytes-clause-asked : goal.returns-in_err-bytes-clause-asked
+returns-in_err-bytes-clause-asked g c =
+    let p = err_from_is_err_and c.from_residual.result c.from_residual.ensures.1 in
+    let same : p.0 ≡ c.in_err-bytes.field-0.0 = p.2 in
+    rw (p.1, same) (read_refused g.H.Host.called c.args.file.now [] c.in_err-bytes.field-0.0 _ _ c.in_err-bytes.ensures.asked c.in_err-bytes.ensures.err)
+
+pub returns-clause-asked : goal.returns-clause-asked
+returns-clause-asked g c =
+    answer_after _ _ g.H.Host.called (reading (c.args.file.now ∷ [])) c.opened.result _ _ (read_passed g.H.Host.called c.args.file.now _ _ c.in_ok-bytes.ensures.asked) c.opened.ensures.opened (opened_is_other c.as_slice.result.now)

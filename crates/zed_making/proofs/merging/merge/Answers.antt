@@ -10,6 +10,9 @@ use Rattle.zed_files.proofs.Endings.{effect_ends, refused_ends}
 use Rattle.zed_making.proofs.Pulls.{each_of, merge_comes, merge_so, not_merged}
 use Rattle.zed_files.proofs.Failures.{memory_is_other, write_tells}
 use Rattle.zed_making.proofs.Others.{merged_is_other}
+use Rattle.std.proofs.Common.{[]}
+use Rattle.zed_files.specs.Asked.{writing}
+use Rattle.zed_files.proofs.Asked.{asks_nothing}
 use Rattle.zed_making.proofs.merging.merge.Goals as goal
 
 pub returns-clause-ends : goal.returns-clause-ends
@@ -68,3 +71,19 @@ returns-in_err-line-clause-file_only_when g c =
 pub returns-clause-file_only_when : goal.returns-clause-file_only_when
 returns-clause-file_only_when g c =
     write_tells c.write_out.result _ _ c.write_out.ensures.failures
+
+pub returns-in_err-document-clause-asked : goal.returns-in_err-document-clause-asked
+returns-in_err-document-clause-asked g c =
+    let p = err_from_is_err_and c.from_residual.result c.from_residual.ensures.1 in
+    let same : p.0 ≡ c.in_err-document.field-0.0 = p.2 in
+    rw (p.1, same) (asks_nothing g.H.Host.called [] (writing c.args.out.now) c.in_err-document.field-0.0 _ (merged_is_other c.args.world _ _ c.in_err-document.field-0.0 c.in_err-document.ensures.pulled))
+
+pub returns-in_err-text-clause-asked : goal.returns-in_err-text-clause-asked
+returns-in_err-text-clause-asked g c =
+    let p = err_from_is_err_and c.from_residual-in_err-text.result c.from_residual-in_err-text.ensures.1 in
+    rw p.1 (asks_nothing g.H.Host.called [] (writing c.args.out.now) p.0 _ (memory_is_other p.0 (p.2 ∙ c.in_err-text.ensures.err)))
+
+pub returns-in_err-line-clause-asked : goal.returns-in_err-line-clause-asked
+returns-in_err-line-clause-asked g c =
+    let p = err_from_is_err_and c.from_residual-in_err-line.result c.from_residual-in_err-line.ensures.1 in
+    rw p.1 (asks_nothing g.H.Host.called [] (writing c.args.out.now) p.0 _ (memory_is_other p.0 p.2))

@@ -4,6 +4,9 @@ use Rattle.zed_files.specs.Texts.{text_in}
 use Rattle.zed_making.proofs.Endings.{read_made}
 use Rattle.zed_files.proofs.Failures.{other_tells}
 use Rattle.zed_making.proofs.Others.{world_taken_is_other}
+use Rattle.std.proofs.Common.{[], ◌∷◌, refl}
+use Rattle.zed_files.specs.Asked.{reading}
+use Rattle.zed_files.proofs.Asked.{answer_after, read_passed, read_refused}
 use Rattle.zed_making.proofs.new.first.Goals as goal
 
 pub returns-in_ok-bytes-in-Some-clause-result : goal.returns-in_ok-bytes-in-Some-clause-result
@@ -24,3 +27,17 @@ returns-in_ok-bytes-in-Some-clause-file_only_when g c =
 pub returns-in-None-clause-file_only_when : goal.returns-in-None-clause-file_only_when
 returns-in-None-clause-file_only_when g c =
     other_tells _ _ c.made.result _ _ (omega arith) c.made.ensures.result (world_taken_is_other _)
+
+pub returns-in_err-bytes-in-Some-clause-asked : goal.returns-in_err-bytes-in-Some-clause-asked
+returns-in_err-bytes-in-Some-clause-asked g c =
+    let p = err_from_is_err_and c.from_residual.result c.from_residual.ensures.1 in
+    let same : p.0 ≡ c.in_err-bytes-in-Some.field-0.0 = p.2 in
+    rw (c.in-Some.is, p.1, same) (read_refused g.H.Host.called c.in-Some.file.now [] c.in_err-bytes-in-Some.field-0.0 _ _ c.in_err-bytes-in-Some.ensures.asked c.in_err-bytes-in-Some.ensures.err)
+
+pub returns-in_ok-bytes-in-Some-clause-asked : goal.returns-in_ok-bytes-in-Some-clause-asked
+returns-in_ok-bytes-in-Some-clause-asked g c =
+    rw c.in-Some.is (answer_after _ _ g.H.Host.called (reading (c.in-Some.file.now ∷ [])) c.written_again.result _ _ (read_passed g.H.Host.called c.in-Some.file.now _ _ c.in_ok-bytes-in-Some.ensures.asked) c.written_again.ensures.result (world_taken_is_other _))
+
+pub returns-in-None-clause-asked : goal.returns-in-None-clause-asked
+returns-in-None-clause-asked g c =
+    rw c.in-None.is (answer_after _ _ g.H.Host.called [] c.made.result _ _ ([], refl, refl) c.made.ensures.result (world_taken_is_other _))

@@ -9,6 +9,8 @@ use Rattle.zed_host.proofs.Counts.{counted_up}
 use Rattle.zed_files.proofs.Endings.{effect_ends, refused_ends}
 use Rattle.zed_making.proofs.Endings.{create_so, not_begun}
 use Rattle.zed_files.proofs.Failures.{memory_is_other, tells_later, write_tells}
+use Rattle.zed_files.specs.Asked.{named, reading, refusal_in, writing}
+use Rattle.zed_files.proofs.Asked.{refused_after, refused_at, then_last}
 use Rattle.zed_making.proofs.new.make_new.Goals as goal
 
 pub returns-clause-ends : goal.returns-clause-ends
@@ -58,3 +60,23 @@ returns-in_err-line-clause-file_only_when g c =
 pub returns-clause-file_only_when : goal.returns-clause-file_only_when
 returns-clause-file_only_when g c =
     tells_later c.write_out.result _ _ _ c.in_ok-bytes.ensures.file_only_when.0 (write_tells c.write_out.result _ _ c.write_out.ensures.failures)
+
+pub returns-in_err-bytes-clause-asked : goal.returns-in_err-bytes-clause-asked
+returns-in_err-bytes-clause-asked g c =
+    let p = err_from_is_err_and c.from_residual.result c.from_residual.ensures.1 in
+    let same : p.0 ≡ c.in_err-bytes.field-0.0 = p.2 in
+    rw (p.1, same) (refused_at g.H.Host.called (reading (named (text_in c.args.from))) (writing c.args.out.now) c.in_err-bytes.field-0.0 _ _ c.in_err-bytes.ensures.asked)
+
+pub returns-in_err-file-clause-asked : goal.returns-in_err-file-clause-asked
+returns-in_err-file-clause-asked g c =
+    let p = err_from_is_err_and c.from_residual-in_err-file.result c.from_residual-in_err-file.ensures.1 in
+    rw p.1 (refused_after g.H.Host.called (reading (named (text_in c.args.from))) (writing c.args.out.now) p.0 _ _ (memory_is_other p.0 (p.2 ∙ c.in_err-file.ensures.err)) c.in_ok-bytes.ensures.asked)
+
+pub returns-in_err-line-clause-asked : goal.returns-in_err-line-clause-asked
+returns-in_err-line-clause-asked g c =
+    let p = err_from_is_err_and c.from_residual-in_err-line.result c.from_residual-in_err-line.ensures.1 in
+    rw p.1 (refused_after g.H.Host.called (reading (named (text_in c.args.from))) (writing c.args.out.now) p.0 _ _ (memory_is_other p.0 (p.2)) c.in_ok-bytes.ensures.asked)
+
+pub returns-clause-asked : goal.returns-clause-asked
+returns-clause-asked g c =
+    then_last g.H.Host.called (reading (named (text_in c.args.from))) (writing c.args.out.now) (refusal_in c.write_out.result) _ _ _ c.in_ok-bytes.ensures.asked c.write_out.ensures.asked

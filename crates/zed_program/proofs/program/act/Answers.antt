@@ -32,3 +32,24 @@ returns-in-Show-clause-ends g c = λ t at.
 pub returns-in-Play-clause-ends : goal.returns-in-Play-clause-ends
 returns-in-Play-clause-ends g c = λ t at.
     rw c.in-Play.is (play_as _ _ _ _ _ _ _ _ t _ _ c.limit_of-in-Play.ensures.result (ap texts_of c.as_slice-in-Play.ensures.value) (c.play.ensures.ends t at))
+
+pub returns-in-Save-clause-asked : goal.returns-in-Save-clause-asked
+returns-in-Save-clause-asked g c = rw (c.in-Save.is, ← c.as_slice.ensures.value) c.save.ensures.asked
+
+pub returns-in-Check-clause-asked : goal.returns-in-Check-clause-asked
+returns-in-Check-clause-asked g c = rw (c.in-Check.is, ← c.as_slice-in-Check.ensures.value) c.check.ensures.asked
+
+pub returns-in-Edit-clause-asked : goal.returns-in-Edit-clause-asked
+returns-in-Edit-clause-asked g c = rw c.in-Edit.is c.edit.ensures.asked
+
+pub returns-in-New-clause-asked : goal.returns-in-New-clause-asked
+returns-in-New-clause-asked g c = rw c.in-New.is c.make_new.ensures.asked
+
+pub returns-in-Merge-clause-asked : goal.returns-in-Merge-clause-asked
+returns-in-Merge-clause-asked g c = rw c.in-Merge.is c.merge.ensures.asked
+
+pub returns-in-Show-clause-asked : goal.returns-in-Show-clause-asked
+returns-in-Show-clause-asked g c = rw (c.in-Show.is, ← c.as_slice-in-Show.ensures.value) c.show.ensures.asked
+
+pub returns-in-Play-clause-asked : goal.returns-in-Play-clause-asked
+returns-in-Play-clause-asked g c = rw (c.in-Play.is, ← c.as_slice-in-Play.ensures.value) c.play.ensures.asked

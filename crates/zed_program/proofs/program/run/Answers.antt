@@ -7,6 +7,7 @@ use Rattle.zed_program.proofs.Endings.{run_calmly}
 use Rattle.zed_making.proofs.Pulls.{each_of}
 use Rattle.zed_program.proofs.Joined.{run_of_links}
 use Rattle.zed_program.proofs.FileTexts.{option_adds, run_of_texts, reads_back, written_is_read}
+use Rattle.zed_program.proofs.Asked.{run_calm}
 use Rattle.zed_program.proofs.program.run.Goals as goal
 
 pub returns-clause-ends_calmly : goal.returns-clause-ends_calmly
@@ -49,3 +50,7 @@ returns-clause-merges_sets g c = λ t out world lists asks at calm.
     ((goal.Keys-dyn g (c.args.keys.vtable, c.args.keys.value)).keys_foretell c.args.keys.value) in
     run_of_links c.files_are_pulled.ensures c.deliveries_go_on.ensures c.deliveries_come_to_sets.ensures (map string_bytes c.args.words.now) all t out world lists c.run_words.result _ asks
     (returns-clause-ends_calmly g c t (Merge out world asks.files) asks.asks at calm)
+
+pub returns-clause-calm : goal.returns-clause-calm
+returns-clause-calm g c = λ within calm.
+    run_calm g.H.Host.called g.H.Host.failed g.H.Host.faults g.met.H.Host.counts_failures g.met.H.Host.counts_no_fault (command_of (map string_bytes c.args.words.now)) c.run_words.result _ _ c.run_words.ensures.asked within calm

@@ -2,6 +2,8 @@ use Rattle.std.proofs.Common.{map, string_bytes}
 use Rattle.zed_words.specs.Commands.{meaning_of, command_of}
 use Rattle.zed_host.proofs.Counts.{counted_up, rose_before}
 use Rattle.zed_program.proofs.Endings.{complained, memory_run, refused_run}
+use Rattle.std.proofs.Common.{inl, inr, refl, is_err}
+use Rattle.zed_program.proofs.Asked.{memory_asks}
 use Rattle.zed_program.proofs.program.run_words.Goals as goal
 
 pub returns-in-Ok-clause-ends : goal.returns-in-Ok-clause-ends
@@ -15,3 +17,9 @@ pub returns-in-Err-Memory-clause-ends : goal.returns-in-Err-Memory-clause-ends
 returns-in-Err-Memory-clause-ends g c = λ t at.
     memory_run _ (command_of (map string_bytes c.args.words.now)) t _ _ _ _ (counted_up _ _ _ c.complain.ensures.faults)
     (complained c.complain.result _ _ _ t _ _ at (rw at at c.complain.ensures.complained) c.complain.ensures.half c.complain.ensures.faults)
+
+pub returns-in-Ok-clause-asked : goal.returns-in-Ok-clause-asked
+returns-in-Ok-clause-asked g c = rw c.in-Ok.ensures (inr (refl, (c.in-Err.refusal, _, c.in-Err.ensures.asked, c.complain_of.ensures.asked)))
+
+pub returns-in-Err-Memory-clause-asked : goal.returns-in-Err-Memory-clause-asked
+returns-in-Err-Memory-clause-asked g c = memory_asks g.H.Host.called (command_of (map string_bytes c.args.words.now)) _ _ (is_err c.complain.result, c.complain.ensures.asked)

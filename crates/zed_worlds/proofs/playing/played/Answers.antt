@@ -7,6 +7,10 @@ use Rattle.zed_worlds.proofs.Endings.{not_collected, not_read, played_result}
 use Rattle.zed_host.proofs.Counts.{rose_later}
 use Rattle.zed_files.proofs.Failures.{memory_is_other, other_tells}
 use Rattle.zed_worlds.proofs.Others.{played_is_other}
+use Rattle.std.proofs.Common.{◌∷◌, None, Some}
+use Rattle.zed_host.specs.Calls.{Reading}
+use Rattle.zed_files.specs.Asked.{reading}
+use Rattle.zed_files.proofs.Asked.{answer_after, read_before, read_refused, read_then_stopped}
 use Rattle.zed_worlds.proofs.playing.played.Goals as goal
 
 pub returns-in_err-bytes-clause-played : goal.returns-in_err-bytes-clause-played
@@ -72,3 +76,30 @@ returns-clause-file_only_when g c =
     let first = c.in_ok-bytes.ensures.file_only_when.0 in
     let then = c.in_ok-document.ensures.file_only_when.0 in
     other_tells _ _ c.play_board.result _ _ (omega arith) c.play_board.ensures (played_is_other c.args.limit c.in_ok-document.document.edits c.from.result told c.as_slice-2.result.now)
+
+pub returns-in_err-bytes-clause-asked : goal.returns-in_err-bytes-clause-asked
+returns-in_err-bytes-clause-asked g c =
+    let p = err_from_is_err_and c.from_residual.result c.from_residual.ensures.1 in
+    let same : p.0 ≡ c.in_err-bytes.field-0.0 = p.2 in
+    rw (p.1, same) (read_refused g.H.Host.called c.args.chance.now (reading (texts_of c.args.files.now)) c.in_err-bytes.field-0.0 _ _ c.in_err-bytes.ensures.asked c.in_err-bytes.ensures.err)
+
+pub returns-in_err-words-clause-asked : goal.returns-in_err-words-clause-asked
+returns-in_err-words-clause-asked g c =
+    let p = err_from_is_err_and c.from_residual-in_err-words.result c.from_residual-in_err-words.ensures.1 in
+    rw p.1 (read_then_stopped g.H.Host.called c.args.chance.now (reading (texts_of c.args.files.now)) p.0 _ _ (memory_is_other p.0 p.2) c.in_ok-bytes.ensures.asked)
+
+pub returns-in_err-document-clause-asked : goal.returns-in_err-document-clause-asked
+returns-in_err-document-clause-asked g c =
+    let p = err_from_is_err_and c.from_residual-in_err-document.result c.from_residual-in_err-document.ensures.1 in
+    let same : p.0 ≡ c.in_err-document.field-0.0 = p.2 in
+    rw (p.1, same) (read_before g.H.Host.called (Reading c.args.chance.now) (reading (texts_of c.args.files.now)) (Some c.in_err-document.field-0.0) _ _ _ c.in_ok-bytes.ensures.asked c.in_err-document.ensures.asked)
+
+pub returns-clause-asked : goal.returns-clause-asked
+returns-clause-asked g c =
+    let told : Stage =
+    stage ((goal.Screen-dyn g (c.args.screen.vtable, c.args.screen.value)).screen_foretells c.args.screen.value)
+    ((goal.Keys-dyn g (c.args.keys.vtable, c.args.keys.value)).left c.args.keys.value)
+    ((goal.Keys-dyn g (c.args.keys.vtable, c.args.keys.value)).keys_foretell c.args.keys.value) in
+    answer_after _ _ g.H.Host.called (reading (c.args.chance.now ∷ texts_of c.args.files.now)) c.play_board.result _ _
+    (read_before g.H.Host.called (Reading c.args.chance.now) (reading (texts_of c.args.files.now)) None _ _ _ c.in_ok-bytes.ensures.asked c.in_ok-document.ensures.asked)
+    c.play_board.ensures (played_is_other c.args.limit c.in_ok-document.document.edits c.from.result told c.as_slice-2.result.now)

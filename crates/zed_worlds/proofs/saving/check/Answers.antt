@@ -7,6 +7,10 @@ use Rattle.zed_host.proofs.Counts.{counted_up}
 use Rattle.zed_files.proofs.Endings.{effect_ends, refused_ends}
 use Rattle.zed_worlds.proofs.Endings.{check_so, not_reported}
 use Rattle.zed_files.proofs.Failures.{tells_later, write_tells}
+use Rattle.std.proofs.Common.{[], ◌∷◌}
+use Rattle.zed_host.specs.Calls.{Printing}
+use Rattle.zed_files.specs.Asked.{reading, refusal_in}
+use Rattle.zed_files.proofs.Asked.{refused_at, then_last}
 use Rattle.zed_worlds.proofs.saving.check.Goals as goal
 
 pub returns-clause-ends : goal.returns-clause-ends
@@ -34,3 +38,13 @@ returns-in_err-text-clause-file_only_when g c =
 pub returns-clause-file_only_when : goal.returns-clause-file_only_when
 returns-clause-file_only_when g c =
     tells_later c.print_out.result _ _ _ c.in_ok-text.ensures.file_only_when.0 (write_tells c.print_out.result _ _ c.print_out.ensures.failures)
+
+pub returns-in_err-text-clause-asked : goal.returns-in_err-text-clause-asked
+returns-in_err-text-clause-asked g c =
+    let p = err_from_is_err_and c.from_residual.result c.from_residual.ensures.1 in
+    let same : p.0 ≡ c.in_err-text.field-0.0 = p.2 in
+    rw (p.1, same) (refused_at g.H.Host.called (reading (texts_of c.args.files.now)) (Printing ∷ []) c.in_err-text.field-0.0 _ _ c.in_err-text.ensures.asked)
+
+pub returns-clause-asked : goal.returns-clause-asked
+returns-clause-asked g c =
+    then_last g.H.Host.called (reading (texts_of c.args.files.now)) (Printing ∷ []) (refusal_in c.print_out.result) _ _ _ c.in_ok-text.ensures.asked c.print_out.ensures.asked

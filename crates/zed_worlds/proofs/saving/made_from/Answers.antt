@@ -5,6 +5,8 @@ use Rattle.zed_files.specs.Texts.{texts_of}
 use Rattle.zed_worlds.proofs.Endings.{made_result, not_made}
 use Rattle.zed_files.proofs.Failures.{other_tells}
 use Rattle.zed_worlds.proofs.Others.{product_is_other}
+use Rattle.zed_files.specs.Asked.{reading}
+use Rattle.zed_files.proofs.Asked.{answer_after}
 use Rattle.zed_worlds.proofs.saving.made_from.Goals as goal
 
 pub returns-in_err-document-clause-made : goal.returns-in_err-document-clause-made
@@ -27,3 +29,13 @@ returns-in_err-document-clause-file_only_when g c =
 pub returns-clause-file_only_when : goal.returns-clause-file_only_when
 returns-clause-file_only_when g c =
     other_tells _ _ c.product_of.result _ _ c.in_ok-document.ensures.file_only_when.0 c.product_of.ensures (product_is_other c.args.product c.args.limit c.in_ok-document.document.edits)
+
+pub returns-in_err-document-clause-asked : goal.returns-in_err-document-clause-asked
+returns-in_err-document-clause-asked g c =
+    let p = err_from_is_err_and c.from_residual.result c.from_residual.ensures.1 in
+    let same : p.0 ≡ c.in_err-document.field-0.0 = p.2 in
+    rw (p.1, same) c.in_err-document.ensures.asked
+
+pub returns-clause-asked : goal.returns-clause-asked
+returns-clause-asked g c =
+    answer_after _ _ g.H.Host.called (reading (texts_of c.args.files.now)) c.product_of.result _ _ c.in_ok-document.ensures.asked c.product_of.ensures (product_is_other c.args.product c.args.limit c.in_ok-document.document.edits)

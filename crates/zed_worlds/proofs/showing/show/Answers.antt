@@ -7,6 +7,8 @@ use Rattle.zed_worlds.proofs.Endings.{not_shown, show_ends}
 use Rattle.zed_files.proofs.Endings.{refused_ends}
 use Rattle.zed_files.proofs.Failures.{other_tells}
 use Rattle.zed_worlds.proofs.Others.{shown_is_other}
+use Rattle.zed_files.specs.Asked.{reading}
+use Rattle.zed_files.proofs.Asked.{answer_after}
 use Rattle.zed_worlds.proofs.showing.show.Goals as goal
 
 pub returns-in_err-document-clause-ends : goal.returns-in_err-document-clause-ends
@@ -38,3 +40,13 @@ returns-in_err-document-clause-file_only_when g c =
 pub returns-clause-file_only_when : goal.returns-clause-file_only_when
 returns-clause-file_only_when g c =
     other_tells _ _ c.show_board.result _ _ c.in_ok-document.ensures.file_only_when.0 c.show_board.ensures (shown_is_other c.args.limit c.in_ok-document.document.edits c.from.result _)
+
+pub returns-in_err-document-clause-asked : goal.returns-in_err-document-clause-asked
+returns-in_err-document-clause-asked g c =
+    let p = err_from_is_err_and c.from_residual.result c.from_residual.ensures.1 in
+    let same : p.0 ≡ c.in_err-document.field-0.0 = p.2 in
+    rw (p.1, same) c.in_err-document.ensures.asked
+
+pub returns-clause-asked : goal.returns-clause-asked
+returns-clause-asked g c =
+    answer_after _ _ g.H.Host.called (reading (texts_of c.args.files.now)) c.show_board.result _ _ c.in_ok-document.ensures.asked c.show_board.ensures (shown_is_other c.args.limit c.in_ok-document.document.edits c.from.result _)
