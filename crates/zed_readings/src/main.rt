@@ -4,7 +4,7 @@
 //! A table is a text file. Empty lines, and lines that begin with `#`, are skipped. `bytes NAME PIECE..` names bytes: a piece is pairs
 //! of hexadecimal digits, `'` and letters, `=` and a number of two bytes, or `@` and the name of other bytes, and is repeated where `*`
 //! and a number stand behind it. `change NAME FROM AT BYTE ..` names the same bytes but for these. Other lines are rows: `world`,
-//! `edits` or `program`, what is done, and with what. The lines behind a row that begin with `> ` are all that is to be seen of it.
+//! `edits`, `record` or `program`, what is done, and with what. The lines behind a row that begin with `> ` are all that is to be seen of it.
 //! In a program `|` is the byte 13, and `\` with two digits any byte.
 #![tactic(auto)]
 
@@ -14,6 +14,7 @@ mod dice;
 mod edits;
 mod line;
 mod programs;
+mod records;
 mod stage;
 mod trouble;
 mod worlds;

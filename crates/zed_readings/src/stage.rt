@@ -4,6 +4,7 @@ use crate::dice::{Dice, put_random};
 use crate::edits::put_edits;
 use crate::line::{Line, byte_of, number_of};
 use crate::programs::put_program;
+use crate::records::put_record;
 use crate::trouble::Trouble;
 use crate::worlds::put_world;
 use std::alloc::Global;
@@ -100,6 +101,7 @@ impl Stage {
             "random" => put_random(alloc, &mut self.dice, &mut line, seen),
             "world" => put_world(alloc, self, &mut line, seen),
             "edits" => put_edits(alloc, self, &mut line, seen),
+            "record" => put_record(alloc, self, &mut line, seen),
             "program" => put_program(alloc, &mut line, seen),
             _ => Err(Trouble::Line),
         }
