@@ -15,7 +15,7 @@ use crate::things::has_thing;
 use std::alloc::Global;
 use zed_inbox::Inbox;
 use zed_live::{LiveDocument, document_shows_its_edits};
-use zed_op::{Edit, Thing, edit_has_sizes, names};
+use zed_op::{Edit, Thing, all_named, edit_has_sizes};
 use zed_texts::{LiveTexts, texts_show_their_edits};
 
 /// A header, boards and texts, each with what the edits done make of them, and the edits that wait for what isn't made yet.
@@ -58,11 +58,10 @@ impl Body {
     }
 
     /// Whether an edit can be done: everything that it names was made.
-    pub fn can(&self, alloc: Global, edit: &Edit) -> bool
+    pub fn can(&self, edit: &Edit) -> bool
         ensures { result ≡ can_do self.now.live.boards self.now.texts edit.now }
     {
-        let things = names(alloc, edit);
-        things.as_slice().iter().all(|thing| self.has(*thing))
+        all_named(&edit.op, |thing| self.has(thing))
     }
 
     /// Puts an edit in that can be done, whenever it comes. On Memory a part of it may be in.
@@ -153,7 +152,7 @@ impl Body {
             ≤ length self.old.inbox + (length done.old.items + 1)) }
         ensures visits { OnOk result (Stirs 1 self.old self.new) }
     {
-        if self.can(alloc, &edit) {
+        if self.can(&edit) {
             self.do_and_add(alloc, done, edit)
         } else {
             self.hold_one(edit)?;

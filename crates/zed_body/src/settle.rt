@@ -11,6 +11,16 @@ use crate::body::Body;
 use crate::error::BodyError;
 use std::alloc::Global;
 use zed_op::Edit;
+use zed_types::Stamp;
+
+fn tell(woken: &mut Vec<Stamp>, stamp: Stamp) -> Result<(), BodyError>
+    ensures err { IfErr result (λ e. e ≡ BodyError.Memory) }
+{
+    match woken.push(stamp) {
+        Ok(()) => Ok(()),
+        Err(_) => Err(BodyError::Memory),
+    }
+}
 
 impl Body {
     /// Tries what waits for the things of an edit that nobody needs any longer.
@@ -33,8 +43,13 @@ impl Body {
     }
 
     /// Tries what waits for the things of edits done, and what waits for the things of those, until no edit is left
-    /// whose things are to come. Memory may leave a part of it done.
-    pub(crate) fn settle(&mut self, alloc: Global, done: Vec<Edit>) -> Result<(), BodyError>
+    /// whose things are to come. Their stamps are told. Memory may leave a part of it done.
+    pub(crate) fn settle(
+        &mut self,
+        alloc: Global,
+        done: Vec<Edit>,
+        woken: &mut Vec<Stamp>,
+    ) -> Result<(), BodyError>
         requires fit { AllFit done.items }
         requires hand { AreInHand [] done.items self.old }
         ensures ok { OnOk result (AreSettled done.items self.old [] self.new) }
@@ -44,6 +59,7 @@ impl Body {
     {
         let mut rest = done;
         while let Some(edit) = rest.pop() {
+            tell(woken, edit.stamp)?;
             self.wake_last(alloc, &mut rest, edit)?;
         }
         Ok(())

@@ -10,6 +10,7 @@ use crate::body::Body;
 use crate::error::BodyError;
 use std::alloc::Global;
 use zed_op::Edit;
+use zed_types::Stamp;
 
 /// What became of an edit that a body took.
 #[derive(Clone, Copy, Debug, PartialEq, Eq)]
@@ -22,7 +23,12 @@ pub struct Taken {
 
 impl Body {
     /// Does a new edit that can be done, and what waits for it.
-    fn do_with_all(&mut self, alloc: Global, edit: &Edit) -> Result<(), BodyError>
+    fn do_with_all(
+        &mut self,
+        alloc: Global,
+        edit: &Edit,
+        woken: &mut Vec<Stamp>,
+    ) -> Result<(), BodyError>
         requires fits { Fits edit.now }
         requires new { IsNewTo edit.now self.old }
         requires can { can_do self.old.live.boards self.old.texts edit.now ≡ true }
@@ -34,7 +40,7 @@ impl Body {
         let mut done = Vec::new(alloc);
         self.do_one(alloc, edit)?;
         self.wake(alloc, &mut done, edit)?;
-        self.settle(alloc, done)?;
+        self.settle(alloc, done, woken)?;
         Ok(())
     }
 
@@ -61,7 +67,12 @@ impl Body {
     }
 
     /// Takes a new edit. Memory may leave a part of it done.
-    fn bring(&mut self, alloc: Global, edit: &Edit) -> Result<Taken, BodyError>
+    fn bring(
+        &mut self,
+        alloc: Global,
+        edit: &Edit,
+        woken: &mut Vec<Stamp>,
+    ) -> Result<Taken, BodyError>
         requires fits { Fits edit.now }
         requires new { IsNewTo edit.now self.old }
         ensures ok { OnOk result (ShowsOneMore edit.now self.old self.new) }
@@ -69,7 +80,7 @@ impl Body {
         ensures err { IfErr result (λ e. e ≡ BodyError.Memory) }
         ensures visits { IfOk result (λ t. Works edit.now t self.old.texts self.new.texts) }
     {
-        if !self.can(alloc, edit) {
+        if !self.can(edit) {
             self.hold_copy(edit)?;
             return Ok(Taken {
                 held: true,
@@ -77,7 +88,7 @@ impl Body {
             });
         }
         let before = self.inbox.held();
-        self.do_with_all(alloc, edit)?;
+        self.do_with_all(alloc, edit, woken)?;
         Ok(Taken {
             held: false,
             woken: before - self.inbox.held(),
@@ -85,8 +96,14 @@ impl Body {
     }
 
     /// Takes an edit whose stamp is new, whenever it comes: does it, and all that waits for it, or holds it where a
-    /// thing that it names isn't made. Memory leaves the body empty.
-    pub fn take(&mut self, alloc: Global, edit: &Edit) -> Result<Taken, BodyError>
+    /// thing that it names isn't made. The stamps of those that waited and are done are put behind others. Memory leaves the body
+    /// empty.
+    pub fn take(
+        &mut self,
+        alloc: Global,
+        edit: &Edit,
+        woken: &mut Vec<Stamp>,
+    ) -> Result<Taken, BodyError>
         requires fits { Fits edit.now }
         requires new { IsNewTo edit.now self.old }
         ensures ok { OnOk result (ShowsOneMore edit.now self.old self.new) }
@@ -96,7 +113,7 @@ impl Body {
         ensures visits { IfOk result (λ t. Works edit.now t self.old.texts self.new.texts) }
     {
         self.expect(edit);
-        match self.bring(alloc, edit) {
+        match self.bring(alloc, edit, woken) {
             Ok(taken) => Ok(taken),
             Err(error) => {
                 *self = Body::new(alloc);

@@ -23,8 +23,10 @@ impl Body {
         ensures visits { OnOk result (NoneFalls self.old.texts self.new.texts) }
         ensures memory_only_when { OnErr result (0 < length edits.now) }
     {
+        let mut woken = Vec::new(alloc);
         for edit in edits {
-            self.take(alloc, edit)?;
+            self.take(alloc, edit, &mut woken)?;
+            woken.clear();
         }
         Ok(())
     }

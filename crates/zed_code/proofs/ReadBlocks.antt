@@ -20,7 +20,7 @@ next-block bs i b l e =
     joined-drop (lists bs) i (omega (arith, l, length-lists bs))
     ∙ ap (λ xs. xs ++ joined (drop (i + 1) (lists bs))) (list_at-is bs i b l e)
 
-live-append : (xs ys : List Run) → live (xs ++ ys) ≡ live xs + live ys
+pub live-append : (xs ys : List Run) → live (xs ++ ys) ≡ live xs + live ys
 live-append [] ys = omega arith
 live-append (r ∷ xs) ys = go r.alive (live-append xs ys)
   where

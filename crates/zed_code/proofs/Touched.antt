@@ -1,12 +1,12 @@
 -- How many runs a deletion touches.
-use Rattle.std.proofs.Common.{◌≡◌, ◌≤◌, ◌<◌, ◌∙◌, ℕ, zero, suc, ◌+◌, Bool, true, false, cond, List, [], ◌∷◌, ◌++◌, length, take, drop, count_by, refl, ap, subst, arith}
+use Rattle.std.proofs.Common.{◌≡◌, ◌≤◌, ◌<◌, ◌∙◌, ℕ, zero, suc, ◌+◌, Bool, true, false, cond, List, [], ◌∷◌, ◌++◌, length, take, drop, refl, ap, subst, arith}
 use Rattle.std.specs.List.{AllByRecursion, list_any}
 use Rattle.std.proofs.lemmas.List.{take_all}
 use Rattle.std.proofs.lemmas.List.Sums.{sum_by-cons}
 use Rattle.zed_types.specs.declared.text.ByteRange.{ByteRange}
 use Rattle.zed_code.specs.declared.run.Run.{Run}
 use Rattle.zed_code.specs.Blocks.{joined, list_at}
-use Rattle.zed_code.specs.Runs.{lasts, reaches, sought, touched, touches}
+use Rattle.zed_code.specs.Runs.{reaches, sought, touched, touches}
 use Rattle.zed_code.specs.Kept.{AllInOrder, InOrder, NoneFrom}
 use Rattle.zed_code.proofs.Joins.{joined-at, joined-cut, joined-drop, drop-none, none-sought}
 use Rattle.zed_code.proofs.Kills.{beyond, order-right, reach-touch, spared}

@@ -10,7 +10,7 @@ use crate::block::{Block, Spot, reserve, runs_at};
 use crate::error::CodeError;
 
 /// How many runs a block has at most before it is halved.
-const MOST: usize = 256;
+const MOST: usize = 64;
 
 /// Moves a place by one if it is behind a block.
 fn move_place(place: &mut usize, block: usize)

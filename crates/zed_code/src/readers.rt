@@ -1,6 +1,6 @@
 //! What is read of runs.
 
-ghost use Rattle.std.specs.Prelude.{◌≡◌, ◌<◌, ◌^◌, ◌++◌, OnOk};
+ghost use Rattle.std.specs.Prelude.{◌≡◌, ◌<◌, ◌≤◌, ◌+◌, ◌^◌, ◌++◌, vec_len, vec_capacity};
 ghost use Rattle.std.specs.List.{AllByRecursion};
 ghost use Rattle.zed_types.specs.Text.{alive_bytes};
 ghost use Rattle.zed_code.specs.Blocks.{runs_of};
@@ -9,7 +9,6 @@ ghost use Rattle.zed_code.specs.Kept.{total, IsRun};
 ghost use Rattle.zed_code.specs.Reading.{live, live_at as place_of};
 
 use crate::block::Block;
-use crate::error::CodeError;
 use crate::run::Run;
 
 /// How many bytes of runs are alive.
@@ -70,17 +69,17 @@ pub(crate) fn live_at(blocks: &[Block], k: usize) -> Option<(Run, u32)>
     None
 }
 
-/// Appends the live bytes of runs.
-pub(crate) fn push_live(out: &mut Vec<u8>, store: &[u8], runs: &[Run]) -> Result<(), CodeError>
-    requires { AllByRecursion (IsRun store.now) runs.now }
-    ensures ok { OnOk result
-        (out.new.items ≡ out.old.items ++ alive_bytes (spelled store.now runs.now)) }
+/// Appends the live bytes of runs, for which there is room.
+pub(crate) fn push_live(out: &mut Vec<u8>, store: &[u8], runs: &[Run])
+    requires each { AllByRecursion (IsRun store.now) runs.now }
+    requires room { vec_len out.old + live runs.now ≤ vec_capacity out.old }
+    ensures items { out.new.items ≡ out.old.items ++ alive_bytes (spelled store.now runs.now) }
+    ensures len { vec_len out.new ≡ vec_len out.old + live runs.now }
+    ensures capacity { vec_capacity out.old ≤ vec_capacity out.new }
 {
     for run in runs {
         if run.alive {
-            out.extend_from_slice(run.bytes_of(store))
-                .map_err(CodeError::of_growth)?;
+            out.extend_from_slice(run.bytes_of(store)).unwrap();
         }
     }
-    Ok(())
 }

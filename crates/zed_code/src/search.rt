@@ -25,7 +25,7 @@ pub struct Found {
 }
 
 /// What was found, if it is this byte.
-fn found_of(found: Option<Found>, id: ElemId) -> Option<Found>
+pub(crate) fn found_of(found: Option<Found>, id: ElemId) -> Option<Found>
     ensures found { IfSome result (λ last. found ≡ Some last) }
     ensures id { IfSome result (λ last. last.id ≡ id) }
 {

@@ -1,6 +1,6 @@
 //! A text as contracts see it.
 
-ghost use Rattle.std.specs.Prelude.{◌≡◌, ◌↔◌, IsTrue, ◌<◌, ◌≤◌, ◌+◌, ◌^◌, length, [], false, true, map, OnOk, OnErr, IfOk, IfErr, Some, None, MatchOption, slice_get};
+ghost use Rattle.std.specs.Prelude.{◌≡◌, ◌↔◌, IsTrue, ◌<◌, ◌≤◌, ◌+◌, ◌++◌, ◌^◌, vec_len, vec_capacity, length, [], false, true, map, OnOk, OnErr, IfOk, IfErr, Some, None, MatchOption, slice_get};
 ghost use Rattle.std.specs.List.{AllByRecursion, filter, list_any};
 ghost use Rattle.zed_types.specs.declared.limits.TheConstants.{READ_BODY_LIMIT};
 ghost use Rattle.zed_types.specs.Stamp.{before, same_stamp};
@@ -20,7 +20,7 @@ use crate::place::look_once;
 use crate::readers::{count_live, live_at, push_live};
 use crate::run::Run;
 use crate::same::spell_same;
-use crate::search::{Found, any_has, find_asked};
+use crate::search::{Found, any_has, find_asked, found_of};
 use std::alloc::Global;
 use std::collections::BTreeMap;
 use std::marker::Model;
@@ -231,14 +231,24 @@ impl Text {
         ensures ok { IfOk result (λ bytes. bytes.items ≡ alive_bytes (elements self.now)) }
         ensures memory_only_when { OnErr result (0 < length (alive_bytes (elements self.now))) }
     {
-        if self.length() == 0 {
-            return Ok(Vec::new(*self.store.allocator()));
-        }
         let mut out = Vec::new(*self.store.allocator());
-        for block in &self.blocks {
-            push_live(&mut out, &self.store, &block.runs)?;
-        }
+        self.append_to(&mut out)?;
         Ok(out)
+    }
+
+    /// Appends the live bytes, in order. Refused with Memory, only where the vector has no room for them; nothing is appended then.
+    pub fn append_to(&self, out: &mut Vec<u8>) -> Result<(), CodeError>
+        ensures ok { OnOk result
+            (out.new.items ≡ out.old.items ++ alive_bytes (elements self.now)) }
+        ensures kept { OnErr result (out.new.items ≡ out.old.items) }
+        ensures memory_only_when { OnErr result
+            (vec_capacity out.old < vec_len out.old + length (alive_bytes (elements self.now))) }
+    {
+        out.reserve(self.length()).map_err(CodeError::of_growth)?;
+        for block in &self.blocks {
+            push_live(out, &self.store, &block.runs);
+        }
+        Ok(())
     }
 
     /// Whether two texts have the same elements, dead ones included.
@@ -260,6 +270,9 @@ impl Text {
     pub fn expect(&mut self, id: ElemId)
         ensures { self.new ≡ self.old }
     {
+        if found_of(self.found, id).is_some() {
+            return;
+        }
         let asked = find_asked(&self.blocks, &self.places, &self.hints, id);
         if asked.at.block < self.blocks.len() {
             self.found = Some(asked);

@@ -18,8 +18,8 @@ pub mod Merging
 pub mod Opened
 pub mod Parts
 pub mod Passed
+pub mod Runs
 pub mod Spots
-pub mod Stamped
 pub mod Stretched
 pub mod Taking
 pub mod Times

@@ -9,20 +9,20 @@ use Rattle.zed_op.specs.SetLaws.{EditKeepsRising, UnionKeepsRising, RisingIsItsE
 use Rattle.zed_document.specs.Batch.{first_of}
 use Rattle.zed_document.specs.Delivery.{edit_with}
 use Rattle.zed_document.proofs.Clashing.{edit_with-there, edit_with-stands}
-use Rattle.zed_document.proofs.Spots.{AllAbove, edit_with-none}
+use Rattle.zed_document.specs.Open.{AllAbove}
+use Rattle.zed_document.proofs.Spots.{above-later, edit_with-none}
 use Rattle.zed_types.proofs.StampOrder.{same_stamp-true}
-use Rattle.zed_document.proofs.Walks.{above-later}
 
 abbrev Found : Type 0
 Found = Option Edit
 
-first_of-none : (o : Found) → o ≡ first_of o None
-first_of-none None = refl
-first_of-none (Some x) = refl
+pub first-none : (o : Found) → first_of o None ≡ o
+first-none None = refl
+first-none (Some x) = refl
 
-first_of-assoc : (a b c : Found) → first_of (first_of a b) c ≡ first_of a (first_of b c)
-first_of-assoc None b c = refl
-first_of-assoc (Some x) b c = refl
+pub first-assoc : (a b c : Found) → first_of (first_of a b) c ≡ first_of a (first_of b c)
+first-assoc None b c = refl
+first-assoc (Some x) b c = refl
 
 -- one more edit is found where there is none of its stamp
 pub found-with_edit : (s : Stamp) (e : Edit) (es : List Edit) → IsRising es → edit_with s (with_edit e es) ≡ first_of (edit_with s es) (edit_with s (e ∷ []))
@@ -37,21 +37,21 @@ found-with_edit s e (f ∷ fs) r =
         let above : AllAbove e.stamp (f ∷ fs) = (hp, above-later e.stamp f.stamp fs hp r.0) in
         let none : edit_with s (f ∷ fs) ≡ None = subst (λ k. edit_with k (f ∷ fs) ≡ None) (same_stamp-true e.stamp s ht) (edit_with-none e.stamp (f ∷ fs) above) in
         rw (hp, none, ht) refl
-    go true q false u hp hq ht hu more = rw (hp, ht) (first_of-none (edit_with s (f ∷ fs)))
+    go true q false u hp hq ht hu more = rw (hp, ht) (sym (first-none (edit_with s (f ∷ fs))))
     go false true true u hp hq ht hu more =
         let same : same_stamp f.stamp s ≡ true = subst (λ k. same_stamp k s ≡ true) (same_stamp-true e.stamp f.stamp hq) ht in
         rw (hp, hq, same) refl
-    go false true false u hp hq ht hu more = rw (hp, hq, ht) (first_of-none (edit_with s (f ∷ fs)))
+    go false true false u hp hq ht hu more = rw (hp, hq, ht) (sym (first-none (edit_with s (f ∷ fs))))
     go false false t true hp hq ht hu more = rw (hp, hq, hu) refl
     go false false t false hp hq ht hu more = rw (hp, hq, hu) more
 
 -- of two logs in one the first has its own where both have a stamp
 pub found-union : EditKeepsRising → (s : Stamp) (es fs : List Edit) → IsRising es → edit_with s (union es fs) ≡ first_of (edit_with s es) (edit_with s fs)
-found-union rises s es [] r = first_of-none (edit_with s es)
+found-union rises s es [] r = sym (first-none (edit_with s es))
 found-union rises s es (f ∷ fs) r =
     found-union rises s (with_edit f es) fs (rises f es r)
     ∙ ap (λ o. first_of o (edit_with s fs)) (found-with_edit s f es r)
-    ∙ first_of-assoc (edit_with s es) (edit_with s (f ∷ [])) (edit_with s fs)
+    ∙ first-assoc (edit_with s es) (edit_with s (f ∷ [])) (edit_with s fs)
     ∙ ap (first_of (edit_with s es)) (head (same_stamp f.stamp s))
   where
     head : (b : Bool) → first_of (cond b (Some f) None) (edit_with s fs) ≡ cond b (Some f) (edit_with s fs)
@@ -75,6 +75,6 @@ union-with_edit rises joins known own ms e r q =
     same s =
         found-union rises s own (with_edit e ms) r
         ∙ ap (first_of (edit_with s own)) (found-with_edit s e ms q)
-        ∙ sym (first_of-assoc (edit_with s own) (edit_with s ms) (edit_with s (e ∷ [])))
+        ∙ sym (first-assoc (edit_with s own) (edit_with s ms) (edit_with s (e ∷ [])))
         ∙ ap (λ o. first_of o (edit_with s (e ∷ []))) (sym (found-union rises s own ms r))
         ∙ sym (found-with_edit s e (union own ms) (joins own ms r))

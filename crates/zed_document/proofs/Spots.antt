@@ -1,6 +1,7 @@
 -- Where an edit with a stamp stands in a log, or belongs.
 use Rattle.std.proofs.Common.{◌≡◌, ℕ, zero, suc, ◌<◌, ◌≤◌, ◌-◌, Bool, true, false, get_or, List, [], ◌∷◌, ◌++◌, Some, None, take, drop, length, refl, ap, sym, subst, ◌∙◌, arith}
 use Rattle.std.proofs.lemmas.List.{take-append-drop}
+use Rattle.std.specs.Bool.{OnTrue}
 use Rattle.std.specs.Prelude.{insert, not}
 use Rattle.std.specs.List.{AllByRecursion, AllWithin}
 use Rattle.std.specs.List.Sorted.{IsPartitionedBy}
@@ -11,10 +12,8 @@ use Rattle.zed_op.specs.declared.op.Edit.{Edit}
 use Rattle.zed_op.specs.Set.{IsRising, with_edit}
 use Rattle.zed_document.specs.Delivery.{edit_with}
 use Rattle.zed_document.specs.Kept.{AllBelow}
+use Rattle.zed_document.specs.Open.{AllAbove}
 use Rattle.zed_types.proofs.StampOrder.{same_stamp-itself, before_irrefl, before_trans, before_asym, before_differs, before_differs_after}
-
-abbrev pub AllAbove : Stamp → List Edit → Type 0
-AllAbove s es = AllByRecursion (λ f. before s f.stamp ≡ true) es
 
 -- an edit goes between those below it and those above it
 pub with_edit-between : (e : Edit) (low high : List Edit) → AllBelow e.stamp low → AllAbove e.stamp high → with_edit e (low ++ high) ≡ low ++ e ∷ high
@@ -148,3 +147,33 @@ pub get-at : (es : List Edit) (i : ℕ) (x : Edit) → i < length es → x ≡ s
 get-at [] i x l h = absurd (omega arith)
 get-at (y ∷ ys) zero x l h = ap Some (sym h)
 get-at (y ∷ ys) (suc i) x l h = get-at ys i x (omega arith) h
+
+pub above-later : (s t : Stamp) (es : List Edit) → before s t ≡ true → AllAbove t es → AllAbove s es
+above-later s t [] b a = tt
+above-later s t (e ∷ es) b a = (before_trans s t e.stamp b a.0, above-later s t es b a.1)
+
+above-from : (s : Stamp) (es : List Edit) (p : ℕ) (x : Edit) → IsRising es → slice_get es p ≡ Some x → before s x.stamp ≡ true → AllAbove s (drop p es)
+above-from s [] zero x r at b = tt
+above-from s [] (suc p) x r at b = tt
+above-from s (y ∷ ys) zero x r at b =
+    let is : y ≡ x = cc in
+    let first : before s y.stamp ≡ true = subst (λ (z : Edit). before s z.stamp ≡ true) (sym is) b in
+    (first, above-later s y.stamp ys first r.0)
+above-from s (y ∷ ys) (suc p) x r at b = above-from s ys p x r.1 at b
+
+-- all from an edit on that comes after a stamp come after it
+pub above-on : (b : Bool) (s : Stamp) (es : List Edit) (p : ℕ) (x : Edit) → IsRising es → p < length es → slice_get es p ≡ Some x → b ≡ before s x.stamp
+    → OnTrue b ((p ≤ length es) × AllAbove s (drop p es))
+above-on true s es p x r l at is = (omega arith, above-from s es p x r at (sym is))
+above-on false s es p x r l at is = tt
+
+-- all behind an edit of a stamp come after it
+pub behind-on : (s : Stamp) (es : List Edit) (p : ℕ) → IsRising es → IfSome (slice_get es p) (λ f. f.stamp ≡ s) → p < length es → AllAbove s (drop (suc p) es)
+behind-on s [] p r h l = absurd (omega arith)
+behind-on s (y ∷ ys) zero r h l = subst (λ (t : Stamp). AllAbove t ys) h r.0
+behind-on s (y ∷ ys) (suc p) r h l = behind-on s ys p r.1 h (omega arith)
+
+pub at-not-before : (s : Stamp) (es : List Edit) (p : ℕ) → IfSome (slice_get es p) (λ f. f.stamp ≡ s) → IfSome (slice_get es p) (λ f. before s f.stamp ≡ false)
+at-not-before s [] p h = tt
+at-not-before s (y ∷ ys) zero h = rw h (before_irrefl s)
+at-not-before s (y ∷ ys) (suc p) h = at-not-before s ys p h

@@ -8,8 +8,9 @@ use Rattle.zed_op.specs.declared.op.Edit.{Edit}
 use Rattle.zed_op.specs.Set.{IsRising}
 use Rattle.zed_document.specs.Kept.{AllBelow}
 use Rattle.zed_document.specs.Merge.{AllFrom}
+use Rattle.zed_document.specs.Open.{AllAbove}
 use Rattle.zed_types.proofs.StampOrder.{before_trans, before_other_after}
-use Rattle.zed_document.proofs.Spots.{AllBelow-take, AllAbove}
+use Rattle.zed_document.proofs.Spots.{AllBelow-take, above-later}
 
 from-trans : (a b c : Stamp) → before a b ≡ true → before a c ≡ false → before b c ≡ false
 from-trans a b c p q = grind (arith)
@@ -43,10 +44,6 @@ AllBelow-append s (e ∷ es) fs a b = (a.0, AllBelow-append s es fs a.1 b)
 pub AllBelow-later : (s t : Stamp) (es : List Edit) → before s t ≡ true → AllBelow s es → AllBelow t es
 AllBelow-later s t [] b a = tt
 AllBelow-later s t (e ∷ es) b a = (before_trans e.stamp s t a.0 b, AllBelow-later s t es b a.1)
-
-pub above-later : (s t : Stamp) (es : List Edit) → before s t ≡ true → AllByRecursion (λ f. before t f.stamp ≡ true) es → AllAbove s es
-above-later s t [] b a = tt
-above-later s t (e ∷ es) b a = (before_trans s t e.stamp b a.0, above-later s t es b a.1)
 
 -- a rising log from a stamp on that doesn't begin with it is above it
 pub above-rising : (s : Stamp) (es : List Edit) → IsRising es → AllFrom s es → IfSome (slice_get es 0) (λ f. same_stamp s f.stamp ≡ false) → AllAbove s es

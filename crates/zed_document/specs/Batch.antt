@@ -1,5 +1,5 @@
 -- Many edits at once: those that join a log, one after the other.
-use Rattle.std.specs.Prelude.{◌≡◌, ◌≢◌, ◌⊎◌, List, [], ◌∷◌, map, Option, Some, None, Result, Ok, Err, IfSome, IsSomeAnd}
+use Rattle.std.specs.Prelude.{◌≡◌, ◌≢◌, ◌⊎◌, List, [], ◌∷◌, Option, Some, None, Result, Ok, Err, IfSome, IsSomeAnd}
 use Rattle.std.specs.List.{AllByRecursion}
 use Rattle.zed_types.specs.declared.stamp.Stamp.{Stamp}
 use Rattle.zed_op.specs.declared.op.Edit.{Edit}
@@ -12,10 +12,6 @@ use Rattle.zed_document.specs.Delivery.{edit_with}
 abbrev pub first_of : {X : Type 0} → Option X → Option X → Option X
 first_of (Some x) o = Some x
 first_of None o = o
-
--- edits, each under its stamp
-abbrev pub stamped : List Edit → List (Stamp × Edit)
-stamped es = map (λ e. (e.stamp, e)) es
 
 -- a log has no other edit of the stamp of this one
 abbrev pub IsFree : List Edit → Edit → Type 0

@@ -1,19 +1,12 @@
 -- A log to which edits come in any order.
-use Rattle.std.specs.Prelude.{◌≡◌, ◌+◌, ◌++◌, ◌≤◌, ◌⊎◌, ℕ, true, List, reverse}
+use Rattle.std.specs.Prelude.{◌≡◌, ◌+◌, ◌++◌, ◌≤◌, ◌⊎◌, ℕ, true, List, [], ◌∷◌, Option, None, length, reverse}
 use Rattle.std.specs.List.{AllByRecursion}
-use Rattle.std.specs.Map.{values_of}
 use Rattle.zed_types.specs.declared.stamp.Stamp.{Stamp}
 use Rattle.zed_types.specs.Stamp.{before}
 use Rattle.zed_op.specs.declared.op.Edit.{Edit}
-use Rattle.zed_op.specs.Set.{IsRising}
-use Rattle.zed_document.specs.Batch.{AreNew, stamped}
-
--- the edits that came in order and those that came late are two sets in stamp order, the late ones each under its stamp, and no stamp is in both
-pub record IsOpen (log : List Edit) (late : List (Stamp × Edit)) : Type 0 where
-  pub rising : IsRising log
-  pub late_rising : IsRising (values_of late)
-  pub under : late ≡ stamped (values_of late)
-  pub apart : AreNew log (values_of late)
+use Rattle.zed_op.specs.Set.{IsRising, union}
+use Rattle.zed_document.specs.Batch.{AreNew, first_of}
+use Rattle.zed_document.specs.Delivery.{edit_with}
 
 -- so many late edits can be joined to a log without memory: behind it there is room for them, and elsewhere for all, unless none is late
 abbrev pub HasRoom : ℕ → ℕ → ℕ → ℕ → Type 0
@@ -27,3 +20,23 @@ AllAbove s es = AllByRecursion (λ f. before s f.stamp ≡ true) es
 abbrev pub MovesLater : Stamp → List Edit → List Edit → List Edit → List Edit → Type 0
 MovesLater s log list log' list' =
     (later : List Edit) × (log ≡ log' ++ later) × (list' ≡ list ++ reverse later) × AllAbove s later
+
+-- the edits of runs together; where more than one has a stamp, the first has its own
+abbrev pub joined : List (List Edit) → List Edit
+joined [] = []
+joined (r ∷ rs) = union r (joined rs)
+
+-- the edit with a stamp in runs, if there is one
+abbrev pub found_in : Stamp → List (List Edit) → Option Edit
+found_in s [] = None
+found_in s (r ∷ rs) = first_of (edit_with s r) (found_in s rs)
+
+-- in each run stamps rise, and no stamp is in two
+abbrev pub AreRuns : List (List Edit) → Type 0
+AreRuns [] = Unit {0}
+AreRuns (r ∷ rs) = IsRising r × AllByRecursion (AreNew r) rs × AreRuns rs
+
+-- how many edits runs have
+abbrev pub count_in : List (List Edit) → ℕ
+count_in [] = 0
+count_in (r ∷ rs) = length r + count_in rs

@@ -73,7 +73,7 @@ impl Document {
         ensures { result ≡ can (replay self.now.edits) edit.now }
     {
         bodies_have_what_is_made();
-        self.body().can(self.alloc(), edit)
+        self.body().can(edit)
     }
 
     /// Makes an edit: the world, or an edit later than all others.
@@ -154,7 +154,7 @@ impl Document {
             → edit_with edit.stamp self.old.edits ≡ None }
     {
         are_late_edits_taken(self.edits(), &edit);
-        match spot_of(self.edits(), edit.stamp) {
+        match spot_of(self.edits(), self.edits().len(), edit.stamp) {
             Ok(there) => {
                 if there.is_same(&edit) {
                     Ok(edit)

@@ -35,7 +35,8 @@ fn put(log: &[Edit], gathered: &mut OpenLog, edit: Edit) -> Result<(), DocumentE
         (λ f. f ≢ edit))) }
 {
     let stamp = edit.stamp;
-    let there = match spot_of(log, stamp) {
+    gathered.seek(stamp);
+    let there = match spot_of(log, log.len(), stamp) {
         Ok(there) => Some(there),
         Err(_) => gathered.find(stamp),
     };

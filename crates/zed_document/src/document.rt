@@ -196,7 +196,7 @@ impl Document {
         ensures memory_only_when { result ≡ Err DocumentError.Memory
             → edit_with edit.stamp self.old.edits ≡ None }
     {
-        match spot_of(&self.edits, edit.stamp) {
+        match spot_of(&self.edits, self.edits.len(), edit.stamp) {
             Ok(there) => {
                 if there.is_same(&edit) {
                     Ok(Delivered::KNOWN)
@@ -238,11 +238,12 @@ impl Document {
         let before = visits_before(&self.body, &edit);
         // until all is done; what fails midway leaves it so
         self.is_stale = true;
-        let Ok(taken) = self.body.take(alloc, &edit) else {
+        let mut woken = Vec::new(alloc);
+        let Ok(taken) = self.body.take(alloc, &edit, &mut woken) else {
             return Err(DocumentError::Memory);
         };
-        let found = self.held.follow(alloc, &edit, taken, &self.body)?;
-        self.held.wake(taken.woken, &found, &self.body.inbox);
+        self.held.follow(edit.stamp, taken.held)?;
+        self.held.wake(taken.woken, &woken, &self.body.inbox);
         self.edits.insert(place, edit).unwrap();
         self.is_stale = false;
         Ok(Delivered {
@@ -375,7 +376,6 @@ impl Document {
         let Ok(()) = self.body.take_all(alloc, &edits) else {
             return Err(DocumentError::Memory);
         };
-        self.held.list_all(alloc, &edits, &self.body)?;
         let stamps = waiting(alloc, &self.body.inbox)?;
         join(&mut self.edits, edits)?;
         self.held.replace(stamps);

@@ -1,5 +1,5 @@
 //! The stamps of the edits that are held.
-ghost use Rattle.std.specs.Prelude.{◌≡◌, ◌≤◌, ◌<◌, ◌+◌, [], if◌then◌else◌, length, filter, IfErr, IfOk, IfSome, IfNone, OnOk, OnErr};
+ghost use Rattle.std.specs.Prelude.{◌≡◌, ◌<◌, [], if◌then◌else◌, length, filter, IfErr, IfOk, OnOk, OnErr};
 ghost use Rattle.std.specs.BTreeMap.{is_at};
 ghost use Rattle.std.specs.BTreeSet.{insert_key};
 ghost use Rattle.std.specs.Set.{remove_key};
@@ -11,18 +11,13 @@ use crate::error::DocumentError;
 use std::alloc::Global;
 use std::collections::BTreeSet;
 use std::marker::Model;
-use zed_body::{Body, Taken};
-use zed_edit::Edit;
 use zed_inbox::Inbox;
-use zed_op::names;
 use zed_types::Stamp;
 
 /// The stamps of the edits that are held. Contracts see them in order.
 #[derive(Drop)]
 pub(crate) struct HeldStamps {
     stamps: BTreeSet<Stamp>,
-    /// The stamp of each thing that a held edit names and that wasn't made, with that of the edit. By it alone those are found soon that an edit woke.
-    waits: BTreeSet<(Stamp, Stamp)>,
 }
 
 impl Model for HeldStamps {
@@ -32,68 +27,6 @@ impl Model for HeldStamps {
     ghost Value = { List TheStamp };
 
     ghost view = { λ h. h.stamps.keys };
-}
-
-/// Lists the stamp of an edit under the stamps of the things that it names and that a body doesn't have.
-fn list(
-    alloc: Global,
-    waits: &mut BTreeSet<(Stamp, Stamp)>,
-    edit: &Edit,
-    body: &Body,
-) -> Result<(), DocumentError>
-    ensures err { IfErr result (λ e. e ≡ DocumentError.Memory) }
-{
-    for thing in names(alloc, edit) {
-        if !body.has(thing) && waits.insert((thing.stamp(), edit.stamp)).is_err() {
-            return Err(DocumentError::Memory);
-        }
-    }
-    Ok(())
-}
-
-/// What is listed first under a stamp.
-fn first_under(waits: &BTreeSet<(Stamp, Stamp)>, maker: Stamp) -> Option<(Stamp, Stamp)> {
-    let first = Stamp {
-        time: 0,
-        replica: 0,
-    };
-    match waits.range((maker, first)..).next() {
-        Some(wait) if wait.0 == maker => Some(*wait),
-        _ => None,
-    }
-}
-
-/// Takes a stamp off that is listed under another.
-fn unlist_one(waits: &mut BTreeSet<(Stamp, Stamp)>, maker: Stamp) -> Option<Stamp>
-    ensures some { IfSome result (λ s. length waits.new.keys + 1 ≡ length waits.old.keys) }
-    ensures none { IfNone result (length waits.new.keys ≤ length waits.old.keys) }
-{
-    let wait = first_under(waits, maker)?;
-    if waits.remove(&wait) {
-        Some(wait.1)
-    } else {
-        None
-    }
-}
-
-/// Adds those listed under a stamp that wait no longer, and lists them there no more.
-fn find_under(
-    waits: &mut BTreeSet<(Stamp, Stamp)>,
-    maker: Stamp,
-    inbox: &Inbox,
-    found: &mut Vec<Stamp>,
-) -> Result<(), DocumentError>
-    ensures err { IfErr result (λ e. e ≡ DocumentError.Memory) }
-    ensures few { OnOk result (length waits.new.keys + length found.new.items
-        ≤ length waits.old.keys + length found.old.items) }
-    ensures more { OnOk result (length found.old.items ≤ length found.new.items) }
-{
-    while let Some(stamp) = unlist_one(waits, maker) {
-        if !inbox.is_held(stamp) && found.push(stamp).is_err() {
-            return Err(DocumentError::Memory);
-        }
-    }
-    Ok(())
 }
 
 /// Removes a stamp, unless the edit with it waits.
@@ -151,7 +84,6 @@ impl HeldStamps {
     {
         HeldStamps {
             stamps: BTreeSet::new(alloc),
-            waits: BTreeSet::new(alloc),
         }
     }
 
@@ -169,58 +101,17 @@ impl HeldStamps {
         self.stamps.contains(&stamp)
     }
 
-    /// One more edit is held. Memory leaves the stamps as they were.
-    fn hold(&mut self, alloc: Global, edit: &Edit, body: &Body) -> Result<(), DocumentError>
-        ensures ok { OnOk result (self.new ≡ insert_key stamp_cmp self.old edit.now.stamp) }
+    /// Holds an edit that a body took, if it waits. Memory leaves the stamps as they were.
+    pub(crate) fn follow(&mut self, stamp: Stamp, is_held: bool) -> Result<(), DocumentError>
+        ensures ok { OnOk result (self.new ≡ (if is_held
+            then insert_key stamp_cmp self.old stamp else self.old)) }
         ensures err { IfErr result (λ e. e ≡ DocumentError.Memory) }
         ensures kept { OnErr result (self.new ≡ self.old) }
     {
-        list(alloc, &mut self.waits, edit, body)?;
-        match self.stamps.insert(edit.stamp) {
-            Ok(_) => Ok(()),
-            Err(_) => Err(DocumentError::Memory),
+        if is_held && self.stamps.insert(stamp).is_err() {
+            return Err(DocumentError::Memory);
         }
-    }
-
-    /// The edits that one with a stamp woke, and those that these woke: those of them that are found.
-    fn woken_by(
-        &mut self,
-        alloc: Global,
-        stamp: Stamp,
-        inbox: &Inbox,
-    ) -> Result<Vec<Stamp>, DocumentError>
-        ensures kept { self.new ≡ self.old }
-        ensures err { IfErr result (λ e. e ≡ DocumentError.Memory) }
-    {
-        let mut found = Vec::new(alloc);
-        find_under(&mut self.waits, stamp, inbox, &mut found)?;
-        let mut next = 0;
-        while next < found.len() {
-            let maker = found[next];
-            find_under(&mut self.waits, maker, inbox, &mut found)?;
-            next += 1;
-        }
-        Ok(found)
-    }
-
-    /// Holds an edit that a body took, if it waits, and else finds those that it woke. Memory leaves the stamps as they were.
-    pub(crate) fn follow(
-        &mut self,
-        alloc: Global,
-        edit: &Edit,
-        taken: Taken,
-        body: &Body,
-    ) -> Result<Vec<Stamp>, DocumentError>
-        ensures ok { OnOk result (self.new ≡ (if taken.held
-            then insert_key stamp_cmp self.old edit.now.stamp else self.old)) }
-        ensures err { IfErr result (λ e. e ≡ DocumentError.Memory) }
-        ensures kept { OnErr result (self.new ≡ self.old) }
-    {
-        if taken.held {
-            self.hold(alloc, edit, body)?;
-            return Ok(Vec::new(alloc));
-        }
-        self.woken_by(alloc, edit.stamp, &body.inbox)
+        Ok(())
     }
 
     /// Holds an edit no longer that came last, unless it didn't wait.
@@ -231,24 +122,6 @@ impl HeldStamps {
         if is_held {
             self.stamps.remove(&stamp);
         }
-    }
-
-    /// Lists those of some edits that wait, so that they are found when they are woken.
-    pub(crate) fn list_all(
-        &mut self,
-        alloc: Global,
-        edits: &[Edit],
-        body: &Body,
-    ) -> Result<(), DocumentError>
-        ensures kept { self.new ≡ self.old }
-        ensures err { IfErr result (λ e. e ≡ DocumentError.Memory) }
-    {
-        for edit in edits {
-            if body.inbox.is_held(edit.stamp) {
-                list(alloc, &mut self.waits, edit, body)?;
-            }
-        }
-        Ok(())
     }
 
     /// Other stamps take their place.

@@ -98,6 +98,7 @@ impl Intake {
             return Err(DocumentError::Stale);
         }
         edit_joins_a_set();
+        self.log.seek(edit.stamp);
         match self.log.find(edit.stamp) {
             Some(there) => {
                 if there.is_same(&edit) {
@@ -135,16 +136,17 @@ impl Intake {
         let before = visits_before(&self.body, &edit);
         // until all is done; what fails midway leaves it so
         self.is_stale = true;
-        let Ok(taken) = self.body.take(alloc, &edit) else {
+        let mut woken = Vec::new(alloc);
+        let Ok(taken) = self.body.take(alloc, &edit, &mut woken) else {
             return Err(DocumentError::Memory);
         };
         let stamp = edit.stamp;
-        let found = self.held.follow(alloc, &edit, taken, &self.body)?;
+        self.held.follow(stamp, taken.held)?;
         let Ok(()) = self.log.add(edit) else {
             self.held.undo(stamp, taken.held);
             return Err(DocumentError::Memory);
         };
-        self.held.wake(taken.woken, &found, &self.body.inbox);
+        self.held.wake(taken.woken, &woken, &self.body.inbox);
         self.is_stale = false;
         Ok(Delivered {
             state: State::of_new(taken.held),

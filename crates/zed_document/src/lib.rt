@@ -18,6 +18,7 @@ mod moving;
 mod open_log;
 mod place;
 mod readers;
+mod run;
 mod same;
 mod visits;
 

@@ -43,27 +43,33 @@ pub(crate) fn move_later(log: &mut Vec<Edit>, stamp: Stamp, into: &mut Vec<Edit>
 }
 
 /// Moves edits behind a log, the last one first.
-pub(crate) fn move_back(log: &mut Vec<Edit>, mut from: Vec<Edit>)
-    requires { length log.old.items + length from.items ≤ vec_capacity log.old }
-    ensures { log.new.items ≡ log.old.items ++ reverse from.items }
+fn move_back(log: &mut Vec<Edit>, from: &mut Vec<Edit>)
+    requires { length log.old.items + length from.old.items ≤ vec_capacity log.old }
+    ensures moved { log.new.items ≡ log.old.items ++ reverse from.old.items }
+    ensures empty { from.new.items ≡ [] }
+    ensures log_room { vec_capacity log.new ≡ vec_capacity log.old }
+    ensures room { vec_capacity from.new ≡ vec_capacity from.old }
 {
     while let Some(edit) = from.pop() {
         log.push_reserved(edit);
     }
 }
 
-/// Moves edits of new stamps to their places in a log, by a list that has room for all.
-fn move_in(log: &mut Vec<Edit>, mut edits: Vec<Edit>, mut by: Vec<Edit>)
+/// Moves edits of new stamps to their places in a log, by an empty list that has room for all.
+pub(crate) fn move_in(log: &mut Vec<Edit>, mut edits: Vec<Edit>, by: &mut Vec<Edit>)
     requires log_rising { IsRising log.old.items }
     requires rising { IsRising edits.items }
     requires new { AreNew log.old.items edits.items }
-    requires empty { by.items ≡ [] }
+    requires empty { by.old.items ≡ [] }
     requires log_room { length log.old.items + length edits.items ≤ vec_capacity log.old }
-    requires room { length log.old.items + length edits.items ≤ vec_capacity by }
-    ensures { log.new.items ≡ union log.old.items edits.items }
+    requires room { length log.old.items + length edits.items ≤ vec_capacity by.old }
+    ensures joined { log.new.items ≡ union log.old.items edits.items }
+    ensures empty { by.new.items ≡ [] }
+    ensures log_room { vec_capacity log.new ≡ vec_capacity log.old }
+    ensures by_room { vec_capacity by.new ≡ vec_capacity by.old }
 {
     while let Some(edit) = edits.pop() {
-        move_later(log, edit.stamp, &mut by);
+        move_later(log, edit.stamp, by);
         by.push_reserved(edit);
     }
     move_back(log, by);
@@ -90,6 +96,6 @@ pub(crate) fn join(log: &mut Vec<Edit>, edits: Vec<Edit>) -> Result<(), Document
     if by.reserve(log.len() + edits.len()).is_err() {
         return Err(DocumentError::Memory);
     }
-    move_in(log, edits, by);
+    move_in(log, edits, &mut by);
     Ok(())
 }

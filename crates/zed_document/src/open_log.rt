@@ -1,23 +1,23 @@
 //! A log to which edits come in any order.
-ghost use Rattle.std.specs.Prelude.{◌≡◌, ◌≤◌, ◌<◌, ◌+◌, ◌++◌, ◌∷◌, ◌^◌, [], true, false, None, Some, length, reverse, vec_len, vec_capacity, IfSome, IfNone, IfErr, OnOk, OnErr};
-ghost use Rattle.std.specs.BTreeMap.{insert_entry};
-ghost use Rattle.std.specs.Map.{values_of};
-ghost use Rattle.zed_types.specs.Stamp.{before, stamp_cmp};
+ghost use Rattle.std.specs.Prelude.{◌≡◌, ◌≢◌, ◌≤◌, ◌<◌, ◌+◌, ◌++◌, ◌∷◌, [], true, false, None, Some, List, length, vec_len, vec_capacity, IfSome, IfNone, IfErr, OnOk, OnErr};
+ghost use Rattle.zed_types.specs.declared.stamp.Stamp.{Stamp as TheStamp};
 ghost use Rattle.zed_op.specs.declared.op.Edit.{Edit as TheEdit};
-ghost use Rattle.zed_op.specs.Set.{IsRising, union, with_edit};
-ghost use Rattle.zed_document.specs.Batch.{AreNew, stamped};
+ghost use Rattle.zed_op.specs.Set.{IsRising, with_edit};
+ghost use Rattle.zed_document.specs.Batch.{first_of};
 ghost use Rattle.zed_document.specs.Delivery.{edit_with};
-ghost use Rattle.zed_document.specs.Open.{HasRoom, IsOpen, MovesLater};
+ghost use Rattle.zed_document.specs.Kept.{AllBelow};
+ghost use Rattle.zed_document.specs.Open.{AreRuns, HasRoom, count_in, found_in, joined};
 
 use crate::error::DocumentError;
-use crate::moving::{move_back, move_later};
-use crate::place::{is_latest, spot_of};
+use crate::moving::move_in;
+use crate::place::{is_latest, place_of, spot_of};
+use crate::run::{Run, find_in, seek_in, settle};
 use std::alloc::Global;
-use std::collections::BTreeMap;
 use std::marker::Model;
+use std::mem::replace;
 use zed_edit::Edit;
-use zed_op::{edit_joins_a_set, rising_lists_are_sets, sets_rise};
-use zed_types::{Stamp, one_order};
+use zed_op::{rising_lists_are_sets, sets_rise};
+use zed_types::Stamp;
 
 /// Edits in stamp order, to which others come in any order: one that comes late moves none of those that are there, until the log
 /// is closed. Contracts see the edits.
@@ -25,41 +25,31 @@ use zed_types::{Stamp, one_order};
 pub(crate) struct OpenLog {
     /// Those that the log began with, and those that came as the latest.
     log: Vec<Edit>,
-    late: BTreeMap<Stamp, Edit>,
+    /// Where one was last sought in the log: the next one is sought there first.
+    at: usize,
+    /// Runs of late edits that ended.
+    settled: Vec<Run>,
+    /// The late edits that came last, in stamp order.
+    run: Vec<Edit>,
+    /// So many are late, or fewer.
+    late: usize,
     /// Room for all, so that closing takes no memory.
     spare: Vec<Edit>,
 }
 
 impl Model for OpenLog {
-    ghost use Rattle.std.specs.Prelude.{◌≡◌, [], List, length, vec_capacity};
-    ghost use Rattle.std.specs.Map.{values_of};
+    ghost use Rattle.std.specs.Prelude.{◌≡◌, ◌≤◌, ◌++◌, ◌∷◌, [], List, length, vec_capacity};
     ghost use Rattle.zed_op.specs.declared.op.Edit.{Edit as TheEdit};
-    ghost use Rattle.zed_op.specs.Set.{union};
-    ghost use Rattle.zed_document.specs.Open.{HasRoom, IsOpen};
+    ghost use Rattle.zed_document.specs.Open.{AreRuns, HasRoom, count_in, joined};
 
     ghost Value = { List TheEdit };
 
-    ghost view = { λ l. union l.log.items (values_of l.late.entries) };
+    ghost view = { λ l. joined (l.log.items ∷ (l.settled.items ++ l.run.items ∷ [])) };
 
-    ghost invariant = { λ l. IsOpen l.log.items l.late.entries × (l.spare.items ≡ [])
-        × HasRoom (length l.log.items) (length l.late.entries) (vec_capacity l.log) (vec_capacity l.spare) };
-}
-
-/// Moves late edits, and those of a log that come after one of them, to a list, the last of all first.
-fn move_joined(log: &mut Vec<Edit>, mut late: BTreeMap<Stamp, Edit>, into: &mut Vec<Edit>)
-    requires open { IsOpen log.old.items late.entries }
-    requires empty { into.old.items ≡ [] }
-    requires room { length log.old.items + length late.entries ≤ vec_capacity into.old }
-    ensures joins { log.new.items ++ reverse into.new.items
-        ≡ union log.old.items (values_of late.entries) }
-    ensures count { length log.new.items + length into.new.items
-        ≡ length log.old.items + length late.entries }
-    ensures capacity { vec_capacity log.new ≡ vec_capacity log.old }
-{
-    while let Some((stamp, edit)) = late.pop_last() {
-        move_later(log, stamp, into);
-        into.push_reserved(edit);
-    }
+    ghost invariant = { λ l. AreRuns (l.log.items ∷ (l.settled.items ++ l.run.items ∷ []))
+        × (l.spare.items ≡ [])
+        × HasRoom (length l.log.items) l.late (vec_capacity l.log) (vec_capacity l.spare)
+        × (count_in (l.settled.items ++ l.run.items ∷ []) ≤ l.late) };
 }
 
 /// Makes room behind a log for so many late edits and one more, and elsewhere for all of them, unless none is late.
@@ -93,17 +83,120 @@ fn make_room(
     Ok(())
 }
 
-/// Puts an edit among the late ones.
-fn put_late(late: &mut BTreeMap<Stamp, Edit>, edit: Edit) -> Result<(), DocumentError>
-    ensures ok { OnOk result
-        (late.new.entries ≡ insert_entry stamp_cmp late.old.entries edit.stamp edit) }
-    ensures few { OnOk result (length late.new.entries ≤ length late.old.entries + 1) }
+/// Ends a run, and begins one that has room for an edit. Memory leaves all as it was.
+fn start_run(
+    alloc: Global,
+    settled: &mut Vec<Run>,
+    run: &mut Vec<Edit>,
+    spare: &mut Vec<Edit>,
+) -> Result<(), DocumentError>
+    requires runs { AreRuns (settled.old.items ++ run.old.items ∷ []) }
+    requires empty { spare.old.items ≡ [] }
+    requires room { count_in (settled.old.items ++ run.old.items ∷ []) ≤ vec_capacity spare.old }
+    ensures empty { OnOk result (run.new.items ≡ []) }
+    ensures free { OnOk result (vec_len run.new < vec_capacity run.new) }
+    ensures runs { OnOk result ((before : List (List TheEdit))
+        → AreRuns (before ++ (settled.old.items ++ run.old.items ∷ []))
+        → AreRuns (before ++ settled.new.items)) }
+    ensures found { OnOk result ((s : TheStamp) → found_in s settled.new.items
+        ≡ found_in s (settled.old.items ++ run.old.items ∷ [])) }
+    ensures count { OnOk result (count_in settled.new.items
+        ≤ count_in (settled.old.items ++ run.old.items ∷ [])) }
     ensures err { IfErr result (λ e. e ≡ DocumentError.Memory) }
-    ensures kept { OnErr result (late.new.entries ≡ late.old.entries) }
+    ensures kept { OnErr result ((settled.new.items ≡ settled.old.items)
+        × (run.new.items ≡ run.old.items)) }
+    ensures spare { (spare.new.items ≡ []) × (vec_capacity spare.new ≡ vec_capacity spare.old) }
 {
-    match late.insert(edit.stamp, edit) {
-        Ok(_) => Ok(()),
-        Err(_) => Err(DocumentError::Memory),
+    let mut next = Vec::new(alloc);
+    if next.reserve(1).is_err() || settled.reserve(1).is_err() {
+        return Err(DocumentError::Memory);
+    }
+    settle(settled, replace(run, next), spare);
+    Ok(())
+}
+
+/// Begins a run with a new edit. Memory leaves all as it was.
+fn begin_with(
+    alloc: Global,
+    settled: &mut Vec<Run>,
+    run: &mut Vec<Edit>,
+    spare: &mut Vec<Edit>,
+    edit: Edit,
+) -> Result<(), DocumentError>
+    requires runs { AreRuns (settled.old.items ++ run.old.items ∷ []) }
+    requires empty { spare.old.items ≡ [] }
+    requires room { count_in (settled.old.items ++ run.old.items ∷ []) ≤ vec_capacity spare.old }
+    requires new { found_in edit.stamp (settled.old.items ++ run.old.items ∷ []) ≡ None }
+    ensures runs { OnOk result ((log : List TheEdit)
+        → AreRuns (log ∷ (settled.old.items ++ run.old.items ∷ []))
+        → edit_with edit.stamp log ≡ None
+        → AreRuns (log ∷ (settled.new.items ++ run.new.items ∷ []))) }
+    ensures found { OnOk result ((s : TheStamp)
+        → found_in s (settled.new.items ++ run.new.items ∷ [])
+        ≡ first_of (found_in s (settled.old.items ++ run.old.items ∷ []))
+        (edit_with s (edit ∷ []))) }
+    ensures count { OnOk result (count_in (settled.new.items ++ run.new.items ∷ [])
+        ≤ count_in (settled.old.items ++ run.old.items ∷ []) + 1) }
+    ensures err { IfErr result (λ e. e ≡ DocumentError.Memory) }
+    ensures kept { OnErr result ((settled.new.items ≡ settled.old.items)
+        × (run.new.items ≡ run.old.items)) }
+    ensures spare { (spare.new.items ≡ []) × (vec_capacity spare.new ≡ vec_capacity spare.old) }
+{
+    sets_rise();
+    rising_lists_are_sets();
+    start_run(alloc, settled, run, spare)?;
+    run.push_reserved(edit);
+    Ok(())
+}
+
+/// Puts a new edit behind the last run, or begins one. Memory leaves all as it was.
+fn put_late(
+    alloc: Global,
+    settled: &mut Vec<Run>,
+    run: &mut Vec<Edit>,
+    spare: &mut Vec<Edit>,
+    edit: Edit,
+) -> Result<(), DocumentError>
+    requires runs { AreRuns (settled.old.items ++ run.old.items ∷ []) }
+    requires empty { spare.old.items ≡ [] }
+    requires room { count_in (settled.old.items ++ run.old.items ∷ []) ≤ vec_capacity spare.old }
+    requires new { found_in edit.stamp (settled.old.items ++ run.old.items ∷ []) ≡ None }
+    ensures runs { OnOk result ((log : List TheEdit)
+        → AreRuns (log ∷ (settled.old.items ++ run.old.items ∷ []))
+        → edit_with edit.stamp log ≡ None
+        → AreRuns (log ∷ (settled.new.items ++ run.new.items ∷ []))) }
+    ensures found { OnOk result ((s : TheStamp)
+        → found_in s (settled.new.items ++ run.new.items ∷ [])
+        ≡ first_of (found_in s (settled.old.items ++ run.old.items ∷ []))
+        (edit_with s (edit ∷ []))) }
+    ensures count { OnOk result (count_in (settled.new.items ++ run.new.items ∷ [])
+        ≤ count_in (settled.old.items ++ run.old.items ∷ []) + 1) }
+    ensures err { IfErr result (λ e. e ≡ DocumentError.Memory) }
+    ensures kept { OnErr result ((settled.new.items ≡ settled.old.items)
+        × (run.new.items ≡ run.old.items)) }
+    ensures spare { (spare.new.items ≡ []) × (vec_capacity spare.new ≡ vec_capacity spare.old) }
+{
+    sets_rise();
+    rising_lists_are_sets();
+    if !is_latest(run, edit.stamp) {
+        return begin_with(alloc, settled, run, spare, edit);
+    }
+    if run.reserve(1).is_err() {
+        return Err(DocumentError::Memory);
+    }
+    run.push_reserved(edit);
+    Ok(())
+}
+
+/// The edit with a stamp in a run, if there is one.
+fn find_last(run: &[Edit], stamp: Stamp) -> Option<&Edit>
+    requires { IsRising run.now }
+    ensures some { IfSome result (λ f. edit_with stamp run.now ≡ Some f.now) }
+    ensures none { IfNone result (edit_with stamp run.now ≡ None) }
+{
+    match spot_of(run, run.len(), stamp) {
+        Ok(there) => Some(there),
+        Err(_) => None,
     }
 }
 
@@ -116,7 +209,10 @@ impl OpenLog {
         let alloc = *log.allocator();
         OpenLog {
             log,
-            late: BTreeMap::new(alloc),
+            at: 0,
+            settled: Vec::new(alloc),
+            run: Vec::new(alloc),
+            late: 0,
             spare: Vec::new(alloc),
         }
     }
@@ -126,16 +222,28 @@ impl OpenLog {
         *self.log.allocator()
     }
 
+    /// Looks for the place of a stamp, where the next call seeks it first.
+    pub(crate) fn seek(&mut self, stamp: Stamp)
+        ensures { self.new ≡ self.old }
+    {
+        self.at = place_of(&self.log, self.at, stamp);
+        seek_in(&mut self.settled, stamp);
+    }
+
     /// The edit with a stamp, if there is one.
     pub(crate) fn find(&self, stamp: Stamp) -> Option<&Edit>
         ensures some { IfSome result (λ f. edit_with stamp self.now ≡ Some f.now) }
         ensures none { IfNone result (edit_with stamp self.now ≡ None) }
     {
         sets_rise();
-        match spot_of(&self.log, stamp) {
-            Ok(there) => Some(there),
-            Err(_) => self.late.get(&stamp),
+        rising_lists_are_sets();
+        if let Ok(there) = spot_of(&self.log, self.at.saturating_sub(1), stamp) {
+            return Some(there);
         }
+        if let Some(there) = find_in(&self.settled, stamp) {
+            return Some(there);
+        }
+        find_last(&self.run, stamp)
     }
 
     /// Adds an edit of a new stamp.
@@ -147,13 +255,21 @@ impl OpenLog {
     {
         sets_rise();
         rising_lists_are_sets();
+        let alloc = *self.log.allocator();
         let is_latest = is_latest(&self.log, edit.stamp);
-        make_room(&mut self.log, self.late.len(), is_latest, &mut self.spare)?;
+        make_room(&mut self.log, self.late, is_latest, &mut self.spare)?;
         if is_latest {
             self.log.push_reserved(edit);
             return Ok(());
         }
-        put_late(&mut self.late, edit)?;
+        put_late(
+            alloc,
+            &mut self.settled,
+            &mut self.run,
+            &mut self.spare,
+            edit,
+        )?;
+        self.late += 1;
         Ok(())
     }
 
@@ -161,14 +277,22 @@ impl OpenLog {
     pub(crate) fn close(self) -> Vec<Edit>
         ensures { result.items ≡ self }
     {
+        sets_rise();
+        rising_lists_are_sets();
         let OpenLog {
             mut log,
+            at: _,
+            mut settled,
+            run,
             late,
             mut spare,
         } = self;
-        if !late.is_empty() {
-            move_joined(&mut log, late, &mut spare);
-            move_back(&mut log, spare);
+        if late == 0 {
+            return log;
+        }
+        move_in(&mut log, run, &mut spare);
+        while let Some(ended) = settled.pop() {
+            move_in(&mut log, ended.into_edits(), &mut spare);
         }
         log
     }

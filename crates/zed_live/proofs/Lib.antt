@@ -22,6 +22,7 @@ pub mod Places
 pub mod PropertiesShown
 pub mod PropertiesTake
 pub mod Shown
+pub mod Standing
 pub mod StatSettings
 pub mod StatShown
 pub mod StatTakes

@@ -13,6 +13,7 @@ use crate::board::LiveBoard;
 use crate::error::LiveError;
 use crate::index::{home_of, list_added, list_made, pass_listed};
 use crate::making::made_by;
+use crate::seek::seek;
 use indexmap::IndexMap;
 use std::alloc::Global;
 use std::collections::BTreeSet;
@@ -26,6 +27,8 @@ pub struct LiveBoards {
     entries: IndexMap<BoardId, LiveBoard>,
     // each stat with each board that it is on, and maybe with others
     homes: BTreeSet<(StatId, BoardId)>,
+    // where the board stands that was changed last: many edits in a row are of one board
+    last: usize,
 }
 
 impl Model for LiveBoards {
@@ -69,9 +72,11 @@ fn add_each(entries: &mut IndexMap<BoardId, LiveBoard>, boards: Vec<(BoardId, Li
     }
 }
 
-/// Puts an edit of one board in, if that is there. Memory leaves the boards as they were.
+/// Puts an edit of one board in, if that is there. It is looked for first where the last one stood. Memory leaves the boards as they
+/// were.
 fn change_board(
     entries: &mut IndexMap<BoardId, LiveBoard>,
+    last: &mut usize,
     id: BoardId,
     edit: &Edit,
 ) -> Result<(), LiveError>
@@ -83,7 +88,8 @@ fn change_board(
     ensures keys { keys entries.new ≡ keys entries.old }
     ensures memory_only_when { OnErr result (may_grow edit.now.op ≡ true) }
 {
-    if let Some(i) = entries.get_index_of(&id) {
+    if let Some(i) = seek(entries, *last, id) {
+        *last = i;
         if let Some(board) = entries.get_index_mut(i) {
             return board.take(edit);
         }
@@ -118,6 +124,7 @@ impl LiveBoards {
         LiveBoards {
             entries: IndexMap::new(alloc),
             homes: BTreeSet::new(alloc),
+            last: 0,
         }
     }
 
@@ -125,7 +132,13 @@ impl LiveBoards {
     pub fn get(&self, id: BoardId) -> Option<&LiveBoard>
         ensures { option_copied result ≡ board_in id self.now }
     {
-        self.entries.get(&id)
+        match seek(&self.entries, self.last, id) {
+            Some(i) => {
+                let (_, board) = self.entries.get_index(i)?;
+                Some(board)
+            }
+            None => None,
+        }
     }
 
     /// The board that a stat is on, removed or not, if it was made.
@@ -183,7 +196,7 @@ impl LiveBoards {
         ensures memory_only_when { OnErr result (may_grow edit.now.op ≡ true) }
     {
         list_added(&mut self.homes, id, edit)?;
-        change_board(&mut self.entries, id, edit)
+        change_board(&mut self.entries, &mut self.last, id, edit)
     }
 
     /// Puts an edit of one stat in. It takes no memory.

@@ -12,6 +12,7 @@ mod laws;
 mod making;
 mod properties;
 mod reading;
+mod seek;
 mod stats;
 
 pub use board::LiveBoard;

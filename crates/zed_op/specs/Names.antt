@@ -1,5 +1,5 @@
 -- What an edit names.
-use Rattle.std.specs.Prelude.{List, [], ◌∷◌, ◌++◌, Option, Some, None}
+use Rattle.std.specs.Prelude.{◌≡◌, Bool, List, [], ◌∷◌, ◌++◌, Option, Some, None}
 use Rattle.zed_types.specs.declared.stamp.Stamp.{Stamp}
 use Rattle.zed_types.specs.declared.names.BoardId.{BoardId}
 use Rattle.zed_types.specs.declared.names.StatId.{StatId}
@@ -84,3 +84,7 @@ stamp_of (board b) = b.name.stamp
 stamp_of (stat s) = s.name.stamp
 stamp_of (text t) = t.name.stamp
 stamp_of (element t a) = a.name.stamp
+
+-- a test answers for each thing as this tells
+abbrev pub TestsAs : (Thing → Bool) → (Thing → Bool → Type 0) → Type 0
+TestsAs good answers = (x : Thing) (r : Bool) → answers x r → r ≡ good x

@@ -8,7 +8,7 @@ ghost use Rattle.zed_op.specs.Names.{names_of, stamp_of};
 ghost use Rattle.zed_op.specs.Verdict.{verdict, is_genesis, BeginsItsWorld, HangsOnItsWorld};
 
 use crate::cause::{Cause, EditError};
-use crate::naming::names;
+use crate::naming::all_named;
 use crate::op::{Edit, Op};
 use std::alloc::Global;
 use zed_types::{
@@ -50,20 +50,16 @@ fn is_own_stamp(op: &Op, stamp: Stamp) -> bool
     }
 }
 
-fn names_stamps(alloc: Global, edit: &Edit) -> bool
-    ensures { result ≡ list_all (λ x. is_stamp (stamp_of x)) (names_of edit.now.op) }
+fn names_stamps(op: &Op) -> bool
+    ensures { result ≡ list_all (λ x. is_stamp (stamp_of x)) (names_of op.now) }
 {
-    let things = names(alloc, edit);
-    things
-        .as_slice()
-        .iter()
-        .all(|thing| is_stamp(thing.stamp()))
+    all_named(op, |thing| is_stamp(thing.stamp()))
 }
 
-fn has_good_stamps(alloc: Global, edit: &Edit) -> bool
+fn has_good_stamps(edit: &Edit) -> bool
     ensures { result ≡ has_good_stamps edit.now }
 {
-    is_own_stamp(&edit.op, edit.stamp) && names_stamps(alloc, edit)
+    is_own_stamp(&edit.op, edit.stamp) && names_stamps(&edit.op)
 }
 
 fn is_in_table(cells: &Rectangle) -> bool
@@ -124,14 +120,10 @@ fn is_in_range(op: &Op) -> bool
     }
 }
 
-fn names_earlier(alloc: Global, edit: &Edit) -> bool
+fn names_earlier(edit: &Edit) -> bool
     ensures { result ≡ names_earlier edit.now }
 {
-    let things = names(alloc, edit);
-    things
-        .as_slice()
-        .iter()
-        .all(|thing| thing.stamp().is_before(edit.stamp))
+    all_named(&edit.op, |thing| thing.stamp().is_before(edit.stamp))
 }
 
 fn has_good_world(alloc: Global, op: &Op) -> Result<bool, EditError>
@@ -157,13 +149,13 @@ pub fn check(alloc: Global, edit: &Edit) -> Result<(), EditError>
     ensures fits { IfOk result (λ _. Fits edit.now) }
     ensures err { result ≡ Err Memory → HangsOnItsWorld edit.now }
 {
-    if !has_good_stamps(alloc, edit) {
+    if !has_good_stamps(edit) {
         return Err(EditError::BadEdit(Cause::Stamp));
     }
     if !is_in_range(&edit.op) {
         return Err(EditError::BadEdit(Cause::Range));
     }
-    if !names_earlier(alloc, edit) {
+    if !names_earlier(edit) {
         return Err(EditError::BadEdit(Cause::Order));
     }
     if !has_good_world(alloc, &edit.op)? {

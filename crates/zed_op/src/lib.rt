@@ -17,7 +17,7 @@ pub use laws::{
     edit_joins_a_set, fit_is_of_parts, rising_lists_are_sets, set_is_its_edits, sets_rise,
     sets_stay_fit, union_is_of_sets,
 };
-pub use naming::names;
+pub use naming::{all_named, names};
 pub use op::{Edit, Op};
 pub use sizes::{edit_has_sizes, edits_have_sizes};
 pub use thing::Thing;

@@ -1,9 +1,11 @@
 //! What an edit names.
-ghost use Rattle.std.specs.Prelude.{◌≡◌, ◌++◌};
+ghost use Rattle.std.specs.Prelude.{◌≡◌, ◌++◌, Bool};
+ghost use Rattle.std.specs.List.{list_all};
 ghost use Rattle.std.specs.Option.{option_to_list};
 ghost use Rattle.zed_types.specs.Names.{byte_of as byte_at};
 ghost use Rattle.smallvec.specs.SmallVec.{HasRoomFor};
-ghost use Rattle.zed_op.specs.Names.{target_named, header_names, board_names, stat_names, names_of, stamp_of};
+ghost use Rattle.zed_op.specs.declared.thing.Thing.{Thing as TheThing};
+ghost use Rattle.zed_op.specs.Names.{TestsAs, target_named, header_names, board_names, stat_names, names_of, stamp_of};
 
 use crate::op::{Edit, Op};
 use crate::thing::Thing;
@@ -121,4 +123,52 @@ pub fn names(alloc: Global, edit: &Edit) -> SmallVec<Thing, 3>
         }
     }
     things
+}
+
+/// Whether a thing passes a test, if there is one.
+fn passes<F: Fn(Thing) -> bool>(test: &F, thing: Option<Thing>) -> bool
+    requires { F.IsAlwaysCallable test.now }
+    ensures { (good : TheThing → Bool)
+        → TestsAs good (F.post test.now)
+        → result ≡ list_all good (option_to_list thing) }
+{
+    match thing {
+        Some(thing) => test(thing),
+        None => true,
+    }
+}
+
+/// Whether all things that an edit names pass a test, which is asked of one after the other. This is asked of each edit that is read, so
+/// no list is made for it.
+pub fn all_named<F: Fn(Thing) -> bool>(op: &Op, test: F) -> bool
+    requires { F.IsAlwaysCallable test }
+    ensures { (good : TheThing → Bool)
+        → TestsAs good (F.post test)
+        → result ≡ list_all good (names_of op.now) }
+{
+    match op {
+        Op::Genesis(_) | Op::BoardAdd(_) | Op::TextAdd => true,
+        Op::SetHeader(setting) => passes(&test, in_header_setting(setting)),
+        Op::BoardRemove(board) | Op::SetCells(board, _, _) => test(Thing::Board(*board)),
+        Op::SetBoard(board, setting) => {
+            test(Thing::Board(*board)) && passes(&test, in_board_setting(setting))
+        }
+        Op::StatAdd(board, fields) => {
+            test(Thing::Board(*board))
+                && passes(&test, in_target(&fields.p3))
+                && passes(&test, fields.text.map(Thing::Text))
+        }
+        Op::StatRemove(stat) => test(Thing::Stat(*stat)),
+        Op::SetStat(stat, setting) => {
+            test(Thing::Stat(*stat)) && passes(&test, in_stat_setting(setting))
+        }
+        Op::TextInsert(text, after, _) => {
+            test(Thing::Text(*text)) && passes(&test, after.map(|byte| Thing::Element(*text, byte)))
+        }
+        Op::TextDelete(text, range) => {
+            test(Thing::Text(*text))
+                && test(Thing::Element(*text, byte_of(range, range.first)))
+                && test(Thing::Element(*text, byte_of(range, range.last)))
+        }
+    }
 }

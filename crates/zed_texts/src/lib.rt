@@ -4,6 +4,7 @@
 mod error;
 mod laws;
 mod made;
+mod seek;
 mod texts;
 mod worked;
 

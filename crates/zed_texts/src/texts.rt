@@ -14,6 +14,7 @@ ghost use Rattle.zed_texts.specs.Looks.{looks_of};
 
 use crate::error::TextsError;
 use crate::made::{add, add_each, all_as_made};
+use crate::seek::seek;
 use crate::worked::{kill_in, put_into};
 use indexmap::IndexMap;
 use std::alloc::Global;
@@ -29,6 +30,8 @@ pub struct LiveTexts {
     entries: IndexMap<TextId, Text>,
     // the counts of all texts together, kept since they are asked for with each edit of a text
     looks: u128,
+    // where the text was found that was asked for last, since an edit names its text several times
+    last: usize,
 }
 
 impl Model for LiveTexts {
@@ -54,6 +57,7 @@ impl LiveTexts {
         LiveTexts {
             entries: IndexMap::new(alloc),
             looks: 0,
+            last: 0,
         }
     }
 
@@ -61,14 +65,20 @@ impl LiveTexts {
     pub fn get(&self, id: TextId) -> Option<&Text>
         ensures { option_copied result ≡ text_in id self.now }
     {
-        self.entries.get(&id)
+        match seek(&self.entries, self.last, id) {
+            Some(i) => {
+                let (_, text) = self.entries.get_index(i)?;
+                Some(text)
+            }
+            None => None,
+        }
     }
 
     /// Whether a text was made.
     pub fn has(&self, id: TextId) -> bool
         ensures { result ≡ is_some (text_in id self.now) }
     {
-        self.entries.contains_key(&id)
+        seek(&self.entries, self.last, id).is_some()
     }
 
     /// Whether a byte was put into the text of a name, dead or not.
@@ -100,7 +110,8 @@ impl LiveTexts {
     fn expect_byte(&mut self, id: TextId, byte: ElemId)
         ensures { self.new ≡ self.old }
     {
-        if let Some(i) = self.entries.get_index_of(&id) {
+        if let Some(i) = seek(&self.entries, self.last, id) {
+            self.last = i;
             if let Some(text) = self.entries.get_index_mut(i) {
                 text.expect(byte);
             }
@@ -182,7 +193,7 @@ impl LiveTexts {
         ensures kept { OnErr result (self.new ≡ self.old) }
         ensures runs { OnOk result (AllGrow (λ t. same_text id t) self.old self.new) }
     {
-        if let Some(i) = self.entries.get_index_of(&id) {
+        if let Some(i) = seek(&self.entries, self.last, id) {
             if let Some(text) = self.entries.get_index_mut(i) {
                 let looked = put_into(text, after, stamp, bytes)?;
                 self.looks = self.looks.saturating_add(u128::from(looked));
@@ -200,7 +211,7 @@ impl LiveTexts {
         ensures kept { OnErr result (self.new ≡ self.old) }
         ensures runs { OnOk result (AllGrow (λ t. same_text id t) self.old self.new) }
     {
-        if let Some(i) = self.entries.get_index_of(&id) {
+        if let Some(i) = seek(&self.entries, self.last, id) {
             if let Some(text) = self.entries.get_index_mut(i) {
                 let looked = kill_in(text, range)?;
                 self.looks = self.looks.saturating_add(u128::from(looked));

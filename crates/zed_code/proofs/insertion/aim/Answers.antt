@@ -1,4 +1,4 @@
-use Rattle.std.proofs.Common.{◌<◌, ◌+◌, Option, length, Some, ap, ◌∙◌, sym, subst, arith}
+use Rattle.std.proofs.Common.{◌<◌, ◌+◌, Option, length, ap, ◌∙◌, sym, subst, arith}
 use Rattle.zed_types.specs.declared.names.ElemId.{ElemId}
 use Rattle.zed_code.specs.Blocks.{lists, joined}
 use Rattle.zed_code.specs.Visits.{raised, LooksAtLeast}

@@ -1,4 +1,4 @@
-use Rattle.std.proofs.Common.{◌≡◌, ◌≤◌, ◌<◌, ◌+◌, ◌-◌, suc, min, [], length-drop, length, true, false, drop, sym, ap, ◌∙◌, subst, arith, ltb}
+use Rattle.std.proofs.Common.{◌≡◌, ◌≤◌, ◌<◌, ◌+◌, ◌-◌, suc, min, length-drop, length, true, false, drop, sym, ap, ◌∙◌, subst, arith, ltb}
 use Rattle.zed_code.specs.declared.run.Run.{Run}
 use Rattle.zed_code.specs.Blocks.{lists, joined, before_spot}
 use Rattle.zed_code.specs.Runs.{behind, found, passed, up_to, put_in}

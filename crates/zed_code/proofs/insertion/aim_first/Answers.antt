@@ -1,4 +1,4 @@
-use Rattle.std.proofs.Common.{◌≡◌, ◌+◌, ◌-◌, min, length, ap, ◌∙◌, arith}
+use Rattle.std.proofs.Common.{◌≡◌, ap, ◌∙◌, arith}
 use Rattle.zed_code.specs.Blocks.{lists, joined, before_spot}
 use Rattle.zed_code.specs.Runs.{passed, put_in}
 use Rattle.zed_code.proofs.Puts.{put_in-passed}

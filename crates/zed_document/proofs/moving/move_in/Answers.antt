@@ -1,26 +1,31 @@
-use Rattle.std.proofs.Common.{◌≡◌, ◌++◌, ◌∷◌, [], arith, ap, rules, length}
+use Rattle.std.proofs.Common.{◌≡◌, ◌∙◌, refl, ◌++◌, ◌∷◌, [], append-nil, arith, ap, rules, length}
 use Rattle.std.proofs.lemmas.List.{length-append, length-reverse}
 use Rattle.std.specs.Prelude.{reverse}
 use Rattle.zed_op.specs.Set.{union}
-use Rattle.zed_document.specs.Batch.{stamped}
-use Rattle.zed_document.proofs.Opened.{last_is_new, moving-on, stamped-begins, stamped-cut}
+use Rattle.zed_document.proofs.Opened.{last_is_new, moving-on}
 use Rattle.zed_document.proofs.moving.move_in.Goals as goal
 
 pub loop-edit-init : goal.loop-edit-init
 loop-edit-init c =
-    let none : length c.args.by.items ≡ 0 = ap length c.requires.empty in
+    let none : length c.args.by.now.items ≡ 0 = ap length c.requires.empty in
     record {
-      moving = stamped-begins c.args.log.now.items c.args.edits.items c.args.by.items c.requires.log_rising c.requires.rising c.requires.new c.requires.empty;
+      moving = record {
+        rising = c.requires.log_rising;
+        edits_rising = c.requires.rising;
+        apart = c.requires.new;
+        joins = rw c.requires.empty (append-nil (union c.args.log.now.items c.args.edits.items));
+      };
       count = omega (arith, none);
       few = c.requires.room;
+      log_room = refl;
+      by_room = refl;
       room = c.requires.log_room;
     }
 
 pub move_later-requires-clause-new : goal.move_later-requires-clause-new
 move_later-requires-clause-new c =
     let last : c.loop-edit.edits.items ≡ c.pop.new.self.items ++ c.in-Some.edit ∷ [] = search rules in
-    last_is_new c.loop-edit.log.items (stamped c.loop-edit.edits.items) (stamped c.pop.new.self.items) (c.in-Some.edit.stamp, c.in-Some.edit) c.loop-edit.invariant.moving.opened
-    (stamped-cut c.loop-edit.edits.items c.pop.new.self.items c.in-Some.edit last)
+    last_is_new c.loop-edit.log.items c.pop.new.self.items c.loop-edit.edits.items c.in-Some.edit c.loop-edit.invariant.moving.apart last
 
 pub loop-edit-preserved : goal.loop-edit-preserved
 loop-edit-preserved c =
@@ -39,9 +44,10 @@ loop-edit-preserved c =
     let pushed_sum = length-append c.move_later.new.into.items (c.in-Some.edit ∷ []) in
     record {
       moving = moving-on (union c.args.log.now.items c.args.edits.items) c.loop-edit.log.items c.move_later.new.log.items c.loop-edit.by.items c.move_later.new.into.items
-          c.push_reserved.new.self.items (stamped c.loop-edit.edits.items) (stamped c.pop.new.self.items) (c.in-Some.edit.stamp, c.in-Some.edit) old.moving
-          (stamped-cut c.loop-edit.edits.items c.pop.new.self.items c.in-Some.edit last) moved c.move_later.ensures.below c.push_reserved.ensures.items;
+          c.push_reserved.new.self.items c.loop-edit.edits.items c.pop.new.self.items c.in-Some.edit old.moving last moved c.move_later.ensures.below c.push_reserved.ensures.items;
       count = omega (arith, old.count);
       few = omega (arith, old.few, c.push_reserved.ensures.capacity, c.move_later.ensures.room);
+      log_room = c.move_later.ensures.log_room ∙ old.log_room;
+      by_room = c.push_reserved.ensures.capacity ∙ c.move_later.ensures.room ∙ old.by_room;
       room = omega (arith, old.room, c.move_later.ensures.log_room);
     }

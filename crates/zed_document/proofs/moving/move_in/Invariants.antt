@@ -1,14 +1,15 @@
 use Rattle.std.proofs.Common.{◌≡◌, ◌≤◌, ◌+◌, length, vec_capacity}
 use Rattle.zed_op.specs.Set.{union}
-use Rattle.zed_document.specs.Batch.{stamped}
 use Rattle.zed_document.proofs.Opened.{IsMoving}
 use Rattle.zed_document.proofs.moving.move_in.Given as goal
 
 abbrev pub invariant-loop-edit : goal.invariant-loop-edit
 invariant-loop-edit l = record {
-  moving : IsMoving (union l.fn.log.items l.fn.edits.items) l.log.items (stamped l.edits.items) l.by.items;
+  moving : IsMoving (union l.fn.log.items l.fn.edits.items) l.log.items l.edits.items l.by.items;
   count : length l.log.items + (length l.edits.items + length l.by.items) ≡ length l.fn.log.items + length l.fn.edits.items;
   few : length l.fn.log.items + length l.fn.edits.items ≤ vec_capacity l.by;
+  log_room : vec_capacity l.log ≡ vec_capacity l.fn.log;
+  by_room : vec_capacity l.by ≡ vec_capacity l.fn.by;
   room : length l.fn.log.items + length l.fn.edits.items ≤ vec_capacity l.log;
 }
 

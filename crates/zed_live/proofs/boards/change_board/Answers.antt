@@ -23,7 +23,7 @@ returns-in-Some-get_index_mut-clause-kept c =
 pub returns-in_default-clause-ok : goal.returns-in_default-clause-ok
 returns-in_default-clause-ok c =
     let f = board_after c.args.edit.now.stamp c.args.edit.now.op in
-    let none = sym c.get_index_of.ensures.found ∙ ap is_some c.in_default.is in
+    let none = sym c.seek.ensures.found ∙ ap is_some c.in_default.is in
     change-none board_name c.args.id f c.args.entries.now.entries none
 
 pub returns-in-Some-get_index_mut-clause-keys : goal.returns-in-Some-get_index_mut-clause-keys

@@ -25,14 +25,14 @@ wake-requires c = λ some.
     let new : edit_with c.args.edit.stamp c.self.inside.log ≡ None = ap (edit_with c.args.edit.stamp) v ∙ c.requires.new in
     let come = comes c.args.edit c.self.inside.log c.self.inside.held c.self.inside.is_stale c.self.inside.body c.self.invariant f new in
     rest_waits c.held_edits_are_remembered.ensures c.args.edit c.self.inside.log c.self.inside.held c.follow.new.self c.self.inside.body c.take.new.self c.in-Ok.taken
-    come c.requires.fits c.self.invariant.held (c.in-Ok.ensures.ok c.self.inside.log come) c.in-Ok.ensures.tells c.in_ok-found.ensures.ok some
+    come c.requires.fits c.self.invariant.held (c.in-Ok.ensures.ok c.self.inside.log come) c.in-Ok.ensures.tells c.in_ok-follow.ensures.ok some
 
 pub invariant_of-self-2 : goal.invariant_of-self-2
 invariant_of-self-2 c =
     let v : c.self.inside.log ≡ c.args.self.now.edits = ap (λ (r : Replica). r.edits) c.self.view_is in
     let f : c.self.inside.is_stale ≡ false = ap (λ (r : Replica). r.is_stale) c.self.view_is ∙ c.requires.sound in
     let new : edit_with c.args.edit.stamp c.self.inside.log ≡ None = ap (edit_with c.args.edit.stamp) v ∙ c.requires.new in
-    let renewed = is_renewed c.in-Ok.taken c.args.edit c.take.new.self.inbox c.self.inside.held c.follow.new.self c.wake.new.self c.in-Ok.taken.woken refl c.in_ok-found.ensures.ok c.wake.ensures.some c.wake.ensures.none in
+    let renewed = is_renewed c.in-Ok.taken c.args.edit c.take.new.self.inbox c.self.inside.held c.follow.new.self c.wake.new.self c.in-Ok.taken.woken refl c.in_ok-follow.ensures.ok c.wake.ensures.some c.wake.ensures.none in
     let kept = one_more c.held_edits_are_remembered.ensures c.calm_edits_hold_the_same.ensures c.sets_rise.ensures.edit c.sets_stay_fit.ensures.edit
     c.args.edit c.self.inside.log c.self.inside.held c.wake.new.self c.self.inside.is_stale c.self.inside.body c.take.new.self c.in-Ok.taken
     c.self.invariant f new c.requires.fits (c.edit_has_sizes.ensures c.requires.fits) c.in-Ok.ensures.ok c.in-Ok.ensures.tells renewed in
@@ -42,7 +42,7 @@ pub invariant_of-self-in_default-add : goal.invariant_of-self-in_default-add
 invariant_of-self-in_default-add c =
     let v : c.self.inside.log ≡ c.args.self.now.edits = ap (λ (r : Replica). r.edits) c.self.view_is in
     let new : edit_with c.args.edit.stamp c.self.inside.log ≡ None = ap (edit_with c.args.edit.stamp) v ∙ c.requires.new in
-    let kept = not_kept c.args.edit c.self.inside.log c.self.inside.held c.follow.new.self c.undo.new.self c.self.inside.is_stale c.self.inside.body c.take.new.self c.in-Ok.taken c.self.invariant new c.in_ok-found.ensures.ok c.undo.ensures in
+    let kept = not_kept c.args.edit c.self.inside.log c.self.inside.held c.follow.new.self c.undo.new.self c.self.inside.is_stale c.self.inside.body c.take.new.self c.in-Ok.taken c.self.invariant new c.in_ok-follow.ensures.ok c.undo.ensures in
     let same : c.add.new.self ≡ c.self.inside.log = search rules in
     subst (λ es. IsKept es c.undo.new.self true c.take.new.self) (sym same) kept
 

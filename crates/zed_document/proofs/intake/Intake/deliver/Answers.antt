@@ -1,4 +1,4 @@
-use Rattle.std.proofs.Common.{◌≡◌, false, Some, ap, refl, sym, subst, rules}
+use Rattle.std.proofs.Common.{◌≡◌, ◌∙◌, false, Some, ap, refl, sym, subst, rules}
 use Rattle.std.specs.Prelude.{Contains}
 use Rattle.zed_op.specs.Set.{IsRising}
 use Rattle.zed_document.specs.Delivery.{edit_with}
@@ -17,7 +17,7 @@ returns-then-is_same-clause-edits c =
     let there : edit_with c.args.edit.stamp c.args.self.now.edits ≡ Some c.in-Some.there.now = search rules in
     let same : c.in-Some.there.now ≡ c.args.edit = search rules in
     let stands : Contains c.args.self.now.edits c.args.edit = subst (Contains c.args.self.now.edits) same (edit_with-stands c.args.edit.stamp c.args.self.now.edits c.in-Some.there.now there).0 in
-    sym (c.edit_joins_a_set.ensures.there c.args.edit c.args.self.now.edits (subst IsRising v c.self.invariant.rising) stands)
+    c.seek.ensures ∙ v ∙ sym (c.edit_joins_a_set.ensures.there c.args.edit c.args.self.now.edits (subst IsRising v c.self.invariant.rising) stands)
 
 pub returns-then-is_same-clause-visits : goal.returns-then-is_same-clause-visits
 returns-then-is_same-clause-visits c =
@@ -27,4 +27,4 @@ returns-then-is_same-clause-visits c =
     let k : counts_of c.self.inside.body.texts ≡ c.args.self.now.counts = ap (λ (r : Replica). r.counts) c.self.view_is in
     let known = tells_known c.args.edit c.self.inside.log c.self.inside.body d (c.self.invariant.shown f) refl refl in
     let log = subst (λ es. TellsVisits c.args.edit es (counts_of c.self.inside.body.texts) (counts_of c.self.inside.body.texts) d) v known in
-    subst (λ (n : Counts). TellsVisits c.args.edit c.args.self.now.edits n n d) k log
+    subst (λ (n : Counts). TellsVisits c.args.edit c.args.self.now.edits n (counts_of c.self.inside.body.texts) d) k log

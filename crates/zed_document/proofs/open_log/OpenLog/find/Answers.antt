@@ -1,28 +1,59 @@
-use Rattle.std.proofs.Common.{◌≡◌, ◌∙◌, ap, sym, subst, rules, Some, None, List}
-use Rattle.std.specs.Map.{values_of}
+use Rattle.std.proofs.Common.{◌≡◌, ◌∙◌, ◌++◌, ◌∷◌, [], None, Some, Option, ap, rules}
 use Rattle.zed_op.specs.declared.op.Edit.{Edit}
-use Rattle.zed_op.specs.Set.{union}
+use Rattle.zed_op.specs.Set.{IsRising}
+use Rattle.zed_document.specs.Batch.{first_of}
 use Rattle.zed_document.specs.Delivery.{edit_with}
-use Rattle.zed_document.proofs.Opened.{find-first, find-second}
+use Rattle.zed_document.specs.Open.{found_in}
+use Rattle.zed_document.proofs.Opened.{SetsHold}
+use Rattle.zed_document.proofs.Runs.{found-append, found-last, found-whole, last-rises}
 use Rattle.zed_document.proofs.open_log.OpenLog.find.Goals as goal
 
 pub returns-in-Ok-clause-some : goal.returns-in-Ok-clause-some
 returns-in-Ok-clause-some c =
-    let v : union c.self.inside.log.items (values_of c.self.inside.late.entries) ≡ c.args.self.now = c.self.view_is in
-    let there : edit_with c.args.stamp c.self.inside.log.items ≡ Some c.in-Ok.there.now = search rules in
-    subst (λ (es : List Edit). edit_with c.args.stamp es ≡ Some c.in-Ok.there.now) v
-    (find-first c.sets_rise.ensures.edit c.self.inside.log.items c.self.inside.late.entries c.args.stamp c.in-Ok.there.now c.self.invariant.0 there)
+    let laws : SetsHold = record { rises = c.sets_rise.ensures.edit; joins = c.sets_rise.ensures.union; known = c.rising_lists_are_sets.ensures.known } in
+    let log = c.self.inside.log.items in
+    let late = c.self.inside.settled.items ++ c.self.inside.run.items ∷ [] in
+    let there : edit_with c.args.stamp log ≡ Some c.in-Ok.there.now = search rules in
+    found-whole laws c.args.stamp (log ∷ late) c.args.self.now c.self.invariant.0 c.self.view_is ∙ ap (λ (o : Option Edit). first_of o (found_in c.args.stamp late)) there
 
-pub returns-in-Err-clause-some : goal.returns-in-Err-clause-some
-returns-in-Err-clause-some c =
-    let v : union c.self.inside.log.items (values_of c.self.inside.late.entries) ≡ c.args.self.now = c.self.view_is in
-    let none : edit_with c.args.stamp c.self.inside.log.items ≡ None = search rules in
-    let is = sym (ap (edit_with c.args.stamp) v) ∙ find-second c.sets_rise.ensures.edit c.self.inside.log.items c.self.inside.late.entries c.args.stamp c.self.invariant.0 none in
-    rw is (search rules)
+pub returns-in-Some-clause-some : goal.returns-in-Some-clause-some
+returns-in-Some-clause-some c =
+    let laws : SetsHold = record { rises = c.sets_rise.ensures.edit; joins = c.sets_rise.ensures.union; known = c.rising_lists_are_sets.ensures.known } in
+    let log = c.self.inside.log.items in
+    let settled = c.self.inside.settled.items in
+    let last = c.self.inside.run.items ∷ [] in
+    let none : edit_with c.args.stamp log ≡ None = search rules in
+    let there : found_in c.args.stamp settled ≡ Some c.in-Some.there.now = search rules in
+    found-whole laws c.args.stamp (log ∷ (settled ++ last)) c.args.self.now c.self.invariant.0 c.self.view_is
+    ∙ ap (λ (o : Option Edit). first_of o (found_in c.args.stamp (settled ++ last))) none
+    ∙ found-append c.args.stamp settled last
+    ∙ ap (λ (o : Option Edit). first_of o (found_in c.args.stamp last)) there
 
-pub returns-in-Err-clause-none : goal.returns-in-Err-clause-none
-returns-in-Err-clause-none c =
-    let v : union c.self.inside.log.items (values_of c.self.inside.late.entries) ≡ c.args.self.now = c.self.view_is in
-    let none : edit_with c.args.stamp c.self.inside.log.items ≡ None = search rules in
-    let is = sym (ap (edit_with c.args.stamp) v) ∙ find-second c.sets_rise.ensures.edit c.self.inside.log.items c.self.inside.late.entries c.args.stamp c.self.invariant.0 none in
-    rw is (search rules)
+pub find_last-requires : goal.find_last-requires
+find_last-requires c =
+    let rises : IsRising c.self.inside.run.items = last-rises c.self.inside.settled.items c.self.inside.run.items c.self.invariant.0.2 in
+    search rules
+
+pub returns-clause-some : goal.returns-clause-some
+returns-clause-some c =
+    let laws : SetsHold = record { rises = c.sets_rise.ensures.edit; joins = c.sets_rise.ensures.union; known = c.rising_lists_are_sets.ensures.known } in
+    let log = c.self.inside.log.items in
+    let settled = c.self.inside.settled.items in
+    let run = c.self.inside.run.items in
+    let none : edit_with c.args.stamp log ≡ None = search rules in
+    let others : found_in c.args.stamp settled ≡ None = search rules in
+    let last : edit_with c.args.stamp c.args.self.now ≡ edit_with c.args.stamp run =
+    found-whole laws c.args.stamp (log ∷ (settled ++ run ∷ [])) c.args.self.now c.self.invariant.0 c.self.view_is ∙ found-last c.args.stamp log run settled none others in
+    rw last (search rules)
+
+pub returns-clause-none : goal.returns-clause-none
+returns-clause-none c =
+    let laws : SetsHold = record { rises = c.sets_rise.ensures.edit; joins = c.sets_rise.ensures.union; known = c.rising_lists_are_sets.ensures.known } in
+    let log = c.self.inside.log.items in
+    let settled = c.self.inside.settled.items in
+    let run = c.self.inside.run.items in
+    let none : edit_with c.args.stamp log ≡ None = search rules in
+    let others : found_in c.args.stamp settled ≡ None = search rules in
+    let last : edit_with c.args.stamp c.args.self.now ≡ edit_with c.args.stamp run =
+    found-whole laws c.args.stamp (log ∷ (settled ++ run ∷ [])) c.args.self.now c.self.invariant.0 c.self.view_is ∙ found-last c.args.stamp log run settled none others in
+    rw last (search rules)

@@ -58,10 +58,10 @@ returns-in-Some-get_index_mut-clause-runs c =
 pub returns-in_default-clause-ok : goal.returns-in_default-clause-ok
 returns-in_default-clause-ok c =
     let f = put_late c.args.after c.args.stamp (run_from c.args.stamp 0 c.args.bytes.now) in
-    let none = sym c.get_index_of.ensures.found ∙ ap is_some c.in_default.is in
+    let none = sym c.seek.ensures.found ∙ ap is_some c.in_default.is in
     subst (λ ys. elements_of ys ≡ change c.args.id f (elements_of ys)) c.self.view_is (none-elements c.args.id f c.self.inside.entries.entries none)
 
 pub returns-in_default-clause-runs : goal.returns-in_default-clause-runs
 returns-in_default-clause-runs c =
-    let none = sym c.get_index_of.ensures.found ∙ ap is_some c.in_default.is in
+    let none = sym c.seek.ensures.found ∙ ap is_some c.in_default.is in
     subst (λ (ys : Texts). AllGrow (λ t. same_text c.args.id t) ys ys) c.self.view_is (none-grow c.args.id c.self.inside.entries.entries none)
