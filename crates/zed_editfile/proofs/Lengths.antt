@@ -26,7 +26,7 @@ use Rattle.zed_op.specs.Fit.{is_header_in_range, is_property_in_range, is_in_ran
 use Rattle.std.specs.List.{flat_map}
 use Rattle.zed_op.specs.Sizes.{IsStatFields, IsOp}
 use Rattle.zed_editfile.specs.Stream.{is_length}
-use Rattle.zed_editfile.specs.Spelling.{integer, stamp, name, optional, board_name, stat_name, text_name, element_name, third_parameter, header_setting, board_setting, stat_setting, stat_fields, op_text, spelling}
+use Rattle.zed_editfile.specs.Spelling.{integer, stamp, name, optional, board_name, stat_name, text_name, element_name, third_parameter, header_setting, board_setting, stat_setting, stat_fields, op_text, spelling, record_text}
 use Rattle.zed_editfile.proofs.Numbers.{length_number}
 
 -- ---- the world of a Genesis
@@ -37,7 +37,10 @@ AreShort = (bytes : List ℕ) → IsCanonical bytes → length bytes ≤ 512 + 1
 
 -- ---- fields
 
-length_name : (n : ThingName) → length (name n) ≡ 12
+pub length_both : (a b : List ℕ) → length (a ++ b) ≡ length a + length b
+length_both a b = length-append a b
+
+pub length_name : (n : ThingName) → length (name n) ≡ 12
 unfolding name
 length_name n = simp (length-append, length_number) refl
 
@@ -61,7 +64,7 @@ length_target : (p : ThirdParameter) → length (third_parameter p) ≤ 13
 length_target (third.Byte n) = omega arith
 length_target (third.Board b) = omega (arith, length_board b)
 
-length_integer : (z : ℤ) → length (integer z) ≡ 2
+pub length_integer : (z : ℤ) → length (integer z) ≡ 2
 length_integer z = length_number 2 _
 
 -- a register and its value
@@ -90,7 +93,7 @@ length_register (stat.Follower s) = omega (arith, length_optional stat_name 12 l
 length_register (stat.Leader s) = omega (arith, length_optional stat_name 12 length_stat s)
 length_register (stat.Text t) = omega (arith, length_optional text_name 12 length_text t)
 
-length_integers : (ns : List ℤ) → length (flat_map integer ns) ≡ 2 * length ns
+pub length_integers : (ns : List ℤ) → length (flat_map integer ns) ≡ 2 * length ns
 length_integers [] = refl
 length_integers (n ∷ ns) = omega (arith, length-append (integer n) (flat_map integer ns), length_integer n, length_integers ns)
 
@@ -101,7 +104,7 @@ length_fields f g =
 
 -- ---- edits
 
-length_stamp : (s : Stamp) → length (stamp s) ≡ 8
+pub length_stamp : (s : Stamp) → length (stamp s) ≡ 8
 length_stamp s = simp (length-append, length_number) refl
 
 -- one byte for the number of the op, and what follows it
@@ -120,6 +123,10 @@ length_op law (TextInsert t after bytes) h k g =
     let most : length bytes ≤ 32767 = leb-true (length bytes) 32767 (and_parts (leb 1 (length bytes)) (leb (length bytes) 32767) h).1 in
     (omega arith, simp length-append (omega (arith, length_text t, length_optional element_name 12 length_element after)))
 length_op law (TextDelete t r) h k g = (omega arith, simp (length-append, length_number) (omega (arith, length_text t)))
+
+pub length_record : (e : Edit) → length (record_text e) ≡ 4 + length (spelling e)
+unfolding record_text
+length_record e = simp (length-append, length_number) refl
 
 pub body_is_short : AreShort → (e : Edit) → is_in_range e.op ≡ true → has_good_world e.op ≡ true → IsOp e.op → is_length (length (spelling e)) ≡ true
 unfolding spelling

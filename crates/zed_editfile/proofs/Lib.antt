@@ -12,4 +12,5 @@ pub mod Numbers
 pub mod Once
 pub mod Registers
 pub mod Lengths
+pub mod Putting
 pub mod Records

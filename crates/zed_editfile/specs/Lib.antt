@@ -3,3 +3,4 @@ pub mod Spelling
 pub mod Stream
 pub mod Laws
 pub mod Refusals
+pub mod Room

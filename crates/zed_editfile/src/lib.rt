@@ -10,6 +10,7 @@ mod put_op;
 mod reader;
 mod reading;
 mod settings;
+mod sizes;
 mod stream;
 mod writing;
 

@@ -1,31 +1,21 @@
 //! Writing heads and records.
-ghost use Rattle.std.specs.Prelude.{◌≡◌, ◌++◌, ◌+◌, ◌<◌, IfOk, IfErr, OnOk, OnErr, vec_len};
+ghost use Rattle.std.specs.Prelude.{◌≡◌, ◌++◌, ◌+◌, ◌<◌, true, IfOk, IfErr, OnOk, OnErr, length, vec_len};
 ghost use Rattle.std.specs.List.{flat_map};
 ghost use Rattle.std.specs.Vec.{vec_capacity};
-ghost use Rattle.zed_op.specs.Fit.{Fits};
+ghost use Rattle.zed_op.specs.Fit.{Fits, is_in_range};
 ghost use Rattle.zed_op.specs.Set.{AllFit};
-ghost use Rattle.zed_editfile.specs.Spelling.{file_text, number, spelling, record_text, head_text};
+ghost use Rattle.zed_editfile.specs.Room.{HasRoom, Appends};
+ghost use Rattle.zed_editfile.specs.Spelling.{file_text, spelling, record_text, head_text};
 ghost use Rattle.zed_editfile.specs.Stream.{IsRecord};
 
 use crate::error::EditFileError;
 use crate::laws::fitting_edits_are_records;
-use crate::put::{put_length, put_stamp};
+use crate::put::{put_stamp, put_u32};
 use crate::put_op::put_op;
+use crate::sizes::body_len;
 use byteorder::{ByteOrder, LittleEndian};
-use std::alloc::{AllocError, Global};
+use std::alloc::Global;
 use zed_op::Edit;
-
-/// The body of a record.
-#[tactic(auto, unfolding(crate::specs::Spelling::spelling))]
-fn body_of(alloc: Global, edit: &Edit) -> Result<Vec<u8>, AllocError>
-    requires { Fits edit.now }
-    ensures { IfOk result (λ body. body.items ≡ spelling edit.now) }
-{
-    let mut body = Vec::new(alloc);
-    put_stamp(&mut body, edit.stamp)?;
-    put_op(&mut body, &edit.op)?;
-    Ok(body)
-}
 
 /// The head of a file of edits of a world, of version 2.
 #[tactic(auto, unfolding(crate::specs::Spelling::head_text, crate::specs::Spelling::number))]
@@ -35,19 +25,6 @@ fn head_of(world: u64) -> [u8; 12]
     let mut head = *b"ZED\x02........";
     LittleEndian::write_u64(&mut head[4..], world);
     head
-}
-
-/// A record: the length of its body, and the body.
-#[tactic(auto, unfolding(crate::specs::Spelling::record_text))]
-fn record_of(alloc: Global, edit: &Edit) -> Result<Vec<u8>, AllocError>
-    requires { Fits edit.now }
-    ensures { IfOk result (λ text. text.items ≡ record_text edit.now) }
-{
-    let body = body_of(alloc, edit)?;
-    let mut record = Vec::new(alloc);
-    put_length(&mut record, body.len() as u64)?;
-    record.extend_from_slice(&body)?;
-    Ok(record)
 }
 
 /// Appends the head of an edit file of the world with this number: the letters `ZED`, the version 2, and the number in
@@ -64,21 +41,38 @@ pub fn write_head(world: u64, out: &mut Vec<u8>) -> Result<(), EditFileError>
     Ok(())
 }
 
+/// Appends a record, for which there is room, with the length of its body.
+#[tactic(auto, unfolding(crate::specs::Spelling::record_text, crate::specs::Spelling::spelling))]
+fn put_record(out: &mut Vec<u8>, len: u32, edit: &Edit)
+    requires range { is_in_range edit.now.op ≡ true }
+    requires len { len ≡ length (spelling edit.now) }
+    requires room { HasRoom (record_text edit.now) out.old }
+    ensures { Appends (record_text edit.now) out.old out.new }
+{
+    put_u32(out, len);
+    put_stamp(out, edit.stamp);
+    put_op(out, &edit.op);
+}
+
 /// Appends the record of an edit: the length of its body in four bytes, the lowest first, and the body.
 ///
-/// Refused with `Memory` alone; nothing is appended then.
+/// Refused with `Memory` alone, only where the vector has no room for the record; nothing is appended then.
+#[tactic(auto, using(crate::proofs::Lengths::length_record))]
 pub fn write_edit(edit: &Edit, out: &mut Vec<u8>) -> Result<(), EditFileError>
     requires { Fits edit.now }
     ensures ok { OnOk result (out.new.items ≡ out.old.items ++ record_text edit.now) }
     ensures err { IfErr result (λ e. e ≡ EditFileError.Memory) }
     ensures kept { OnErr result (out.new.items ≡ out.old.items) }
+    ensures memory_only_when { OnErr result
+        (vec_capacity out.old < vec_len out.old + length (record_text edit.now)) }
 
     // What the laws on records ask.
     ensures record { IsRecord edit.now }
 {
     fitting_edits_are_records(edit);
-    let record = record_of(*out.allocator(), edit)?;
-    out.extend_from_slice(&record)?;
+    let len = body_len(edit);
+    out.reserve(4 + len as usize)?;
+    put_record(out, len, edit);
     Ok(())
 }
 

@@ -1,5 +1,5 @@
-//! The bytes of a text that a view shows, appended. This takes memory, so it stands beside the view.
-ghost use Rattle.std.specs.Prelude.{◌≡◌, ◌<◌, ◌++◌, length, OnOk, OnErr};
+//! The bytes of a text that a view shows, appended. This may take memory, so it stands beside the view.
+ghost use Rattle.std.specs.Prelude.{◌≡◌, ◌<◌, ◌+◌, ◌++◌, length, vec_len, vec_capacity, OnOk, OnErr};
 ghost use Rattle.zed_types.specs.Text.{alive_bytes};
 ghost use Rattle.zed_code.specs.Text.{elements};
 ghost use Rattle.zed_edit.specs.Document.{text as text_shown};
@@ -10,28 +10,27 @@ use std::alloc::AllocError;
 use zed_code::Text;
 use zed_types::TextId;
 
-/// Appends the live bytes of a live text, or nothing.
+/// Appends the live bytes of a live text.
 fn append_live(text: &Text, out: &mut Vec<u8>) -> Result<(), AllocError>
     ensures ok { OnOk result
         (out.new.items ≡ out.old.items ++ alive_bytes (elements text.now)) }
     ensures err { OnErr result (out.new.items ≡ out.old.items) }
-    ensures memory_only_when { OnErr result (0 < length (alive_bytes (elements text.now))) }
+    ensures memory_only_when { OnErr result
+        (vec_capacity out.old < vec_len out.old + length (alive_bytes (elements text.now))) }
 {
-    if text.length() == 0 {
-        return Ok(());
-    }
-    match text.text() {
-        Ok(bytes) => out.extend_from_slice(bytes.as_slice()),
+    match text.append_to(out) {
+        Ok(()) => Ok(()),
         Err(_) => Err(AllocError),
     }
 }
 
-/// Appends the live bytes of a text, or nothing. Nothing takes no memory.
+/// Appends the live bytes of a text, or nothing. Memory comes only where the vector has no room for them; nothing is appended then.
 #[tactic(auto, using(crate::proofs::NamedTexts::of_some_text, crate::proofs::NamedTexts::of_no_text))]
 pub fn append_text(view: &View, id: TextId, out: &mut Vec<u8>) -> Result<(), AllocError>
     ensures ok { OnOk result (out.new.items ≡ out.old.items ++ text_shown view.now id) }
     ensures err { OnErr result (out.new.items ≡ out.old.items) }
-    ensures memory_only_when { OnErr result (0 < length (text_shown view.now id)) }
+    ensures memory_only_when { OnErr result
+        (vec_capacity out.old < vec_len out.old + length (text_shown view.now id)) }
 {
     match view.text(id) {
         Some(text) => append_live(text, out),
@@ -39,13 +38,14 @@ pub fn append_text(view: &View, id: TextId, out: &mut Vec<u8>) -> Result<(), All
     }
 }
 
-/// Appends the live bytes of the text of a number, or nothing. Nothing takes no memory.
+/// Appends the live bytes of the text of a number, or nothing. Memory comes only where the vector has no room for them; nothing is appended then.
 pub fn append_text_at(view: &View, k: usize, out: &mut Vec<u8>) -> Result<(), AllocError>
     requires { k < length view.now.texts }
     ensures ok { OnOk result
         (out.new.items ≡ out.old.items ++ alive_bytes (text_at view.now k).elements) }
     ensures err { OnErr result (out.new.items ≡ out.old.items) }
-    ensures memory_only_when { OnErr result (0 < length (alive_bytes (text_at view.now k).elements)) }
+    ensures memory_only_when { OnErr result
+        (vec_capacity out.old < vec_len out.old + length (alive_bytes (text_at view.now k).elements)) }
 {
     append_live(view.text_at(k), out)
 }
