@@ -3,7 +3,6 @@ ghost use Rattle.std.specs.Prelude.{[], ◌∷◌, ◌≡◌, ◌≤◌, ◌⊎�
 ghost use Rattle.zed_op.specs.Set.{Agrees, AllFit, set_of};
 ghost use Rattle.zed_types.specs.declared.stamp.Stamp.{Stamp as TheStamp};
 ghost use Rattle.zed_document.specs.Delivery.{IsFirstClash};
-ghost use Rattle.zed_editfile.specs.Spelling.{file_text};
 ghost use Rattle.zed_making.specs.Edited.{ComesToEdit, HasEdits, IsEdited, IsOpened, OpensAs};
 ghost use Rattle.zed_files.specs.Asked.{Asks, reading, refusal_in, writing};
 ghost use Rattle.zed_files.specs.Effects.{Ends};
@@ -95,16 +94,6 @@ fn edited<H: Host>(
     Ok(document)
 }
 
-/// The edit file of a document.
-pub(crate) fn file_of(alloc: Global, document: &Document) -> Result<Vec<u8>, Refusal>
-    ensures ok { IfOk result (λ file.
-        file.items ≡ file_text document.now.world document.now.edits) }
-    ensures err { IfErr result (λ e. e ≡ Refusal.Memory) }
-{
-    let file = write_file(alloc, document.world(), document.edits())?;
-    Ok(file)
-}
-
 /// Does an action as a replica, and rewrites the file.
 pub fn edit<H: Host>(
     alloc: Global,
@@ -123,7 +112,7 @@ pub fn edit<H: Host>(
     ensures file_only_when { TellsFile result (H.failed host.old) (H.failed host.new) }
 {
     let document = edited(alloc, host, file, replica, words)?;
-    let text = file_of(alloc, &document)?;
+    let text = write_file(alloc, document.world(), document.edits())?;
     let line = edits_told(alloc, document.edits().len())?;
     write_out(host, file, text.as_slice(), line.as_str())
 }

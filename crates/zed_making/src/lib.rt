@@ -1,10 +1,8 @@
-//! The commands that make edit files: `new`, `edit` and `merge`.
+//! The commands that make edit files, `new` and `edit`, and what `merge` comes to.
 #![tactic(auto)]
 
 mod editing;
-mod merging;
 mod new;
 
 pub use editing::edit;
-pub use merging::merge;
 pub use new::make_new;

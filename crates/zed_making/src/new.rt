@@ -1,5 +1,6 @@
 //! The edit file of a new world.
 ghost use Rattle.std.specs.Prelude.{◌≡◌, ◌≤◌, ◌∷◌, [], ◌⊎◌, Err, IfErr, IfOk, MatchResult, Ok, Option, List, ℕ, Some, false, option_map, replicate, take};
+ghost use Rattle.zed_types.specs.declared.limits.TheConstants.{READ_BODY_LIMIT as most};
 ghost use Rattle.zed_edit.specs.Board.{new_table as table};
 ghost use Rattle.zed_editfile.specs.Spelling.{file_text};
 ghost use Rattle.zed_world.specs.Canonical.{IsCanonical};
@@ -122,8 +123,8 @@ fn world_named(alloc: Global, name: &str) -> Result<World, AllocError>
 /// The file of a world.
 fn text_of(alloc: Global, world: &World) -> Result<Vec<u8>, Refusal>
     ensures result { MatchResult result
-        (λ bytes. refused_as (written 32767 world.now) ≡ Ok bytes.items)
-        (λ e. (e ≡ Refusal.Memory) ⊎ (refused_as (written 32767 world.now) ≡ Err e)) }
+        (λ bytes. refused_as (written most world.now) ≡ Ok bytes.items)
+        (λ e. (e ≡ Refusal.Memory) ⊎ (refused_as (written most world.now) ≡ Err e)) }
     ensures canonical { IfOk result (λ bytes. IsCanonical bytes.items) }
 {
     let bytes = write_world(alloc, world, READ_BODY_LIMIT)?;

@@ -1,10 +1,11 @@
 -- How a run ends.
 use Rattle.zed_host.specs.declared.host.WriteError.{WriteError}
 use Rattle.zed_files.specs.declared.refusal.Refusal.{Refusal}
-use Rattle.zed_files.specs.declared.refusal.Refusal.TheVariants.{File, Memory}
-use Rattle.std.proofs.Common.{◌≡◌, ◌≤◌, ◌∙◌, ℕ, List, arith, Option, Some, None, Result, Ok, Err, OnErr, OnOk, ap, is_err, refl, subst, inl, inr}
-use Rattle.std.specs.Prelude.{⊤, IfSome}
-use Rattle.zed_program.specs.Devices.{Devices, devices}
+use Rattle.zed_files.specs.declared.refusal.Refusal.TheVariants.{File, Memory, ScreenFault, TooManyTurns}
+use Rattle.std.proofs.Common.{◌≡◌, ◌≤◌, ◌∙◌, ℕ, List, length, arith, Option, Some, None, Result, Ok, Err, OnErr, OnOk, ap, is_err, refl, subst, inl, inr}
+use Rattle.std.specs.Prelude.{⊤, Bool, true, false, IfErr, IfSome, MatchResult, ◌⊎◌}
+use Rattle.zed_session.specs.Devices.{Foretold}
+use Rattle.zed_program.specs.Devices.{Devices}
 use Rattle.zed_program.specs.Limit.{limit_of}
 use Rattle.zed_words.specs.Commands.{Command, Save, Check, New, Edit as EditFile, Merge, Show, Play}
 use Rattle.zed_host.specs.Counting.{Counts, NothingFailed, Rose}
@@ -12,24 +13,26 @@ use Rattle.zed_host.specs.HostContents.{HalfComplained, HostContents, StillTells
 use Rattle.zed_files.specs.Lines.{line_of}
 use Rattle.zed_host.proofs.Counts.{no_rise}
 use Rattle.zed_files.proofs.Failures.{memory_is_other}
-use Rattle.zed_program.specs.Outcome.{ComesTo, EndsCalmly, EndsRun, HasStatus, IsComplained, IsTold, RefusedRun}
+use Rattle.zed_program.specs.Outcome.{ComesTo, EndsCalmly, EndsRun, HasStatus, HasTurned, IsComplained, IsTold, RefusedRun}
 use Rattle.zed_files.specs.Effects.{Effect, Ends, IsRefused, after}
 use Rattle.zed_session.specs.Links.{LinkSeen}
-use Rattle.zed_making.specs.Merged.{ComesToMerge}
+use Rattle.zed_op.specs.declared.op.Edit.{Edit}
+use Rattle.zed_making.specs.Merged.{ComesToMerge, IsMerged, MadeMostReads}
 use Rattle.zed_worlds.specs.Shown.{ComesToPlay, ComesToShow}
 use Rattle.zed_worlds.specs.Stage.{Stage}
 use Rattle.zed_making.proofs.Endings.{create_so, edit_so}
+use Rattle.zed_making.proofs.Others.{merged_turns}
 use Rattle.zed_worlds.proofs.Endings.{save_so, check_so, show_so, play_so}
 
 -- what holds of a command where the host failed holds where it may have failed
-pub comes_so : (devices : Devices) (p q : Type 0) (command : Command) (t : HostContents) (r : Result Effect Refusal) → (p → q) → ComesTo p devices command t r → ComesTo q devices command t r
-comes_so devices p q (Save profile out files) t r so is = save_so t (limit_of profile) out files p q r so is
-comes_so devices p q (Check profile files) t r so is = check_so t (limit_of profile) files p q r so is
-comes_so devices p q (New out world from name) t r so is = create_so t out world from name p q r so is
-comes_so devices p q (EditFile file replica words) t r so is = edit_so t file replica words p q r so is
-comes_so devices p q (Merge out world files) t r so is = is
-comes_so devices p q (Show profile board files) t r so is = show_so devices.stage t (limit_of profile) board files p q r so is
-comes_so devices p q (Play profile board chance files) t r so is = play_so devices.stage t (limit_of profile) board chance files p q r so is
+pub comes_so : (old new : Devices) (p q : Type 0) (command : Command) (t : HostContents) (r : Result Effect Refusal) → (p → q) → ComesTo p old new command t r → ComesTo q old new command t r
+comes_so old new p q (Save profile out files) t r so is = save_so t (limit_of profile) out files p q r so is
+comes_so old new p q (Check profile files) t r so is = check_so t (limit_of profile) files p q r so is
+comes_so old new p q (New out world from name) t r so is = create_so t out world from name p q r so is
+comes_so old new p q (EditFile file replica words) t r so is = edit_so t file replica words p q r so is
+comes_so old new p q (Merge out world files) t r so is = is
+comes_so old new p q (Show profile board files) t r so is = show_so old.stage new.stage t (limit_of profile) board files p q r so is
+comes_so old new p q (Play profile board chance files) t r so is = play_so old.stage new.stage t (limit_of profile) board chance files p q r so is
 
 -- a text was written to the standard error, or the host failed at it
 pub complained : (result : Result ⊤ WriteError) (old new : ℕ) (text : List ℕ) (t : HostContents) (before after : Option HostContents) → before ≡ Some t
@@ -38,17 +41,53 @@ pub complained : (result : Result ⊤ WriteError) (old new : ℕ) (text : List �
 complained (Ok u) old new text t before after at told half count = inl told
 complained (Err e) old new text t before after at told half count = inr (count, rw at at half)
 
+-- a merge that was refused for too many turns
+merge_turned : (links after : List LinkSeen) (out : List ℕ) (world count : ℕ) (e : Refusal) → ComesToMerge links after out world count (Err e) → e ≡ TooManyTurns
+    → MadeMostReads links after
+merge_turned links after out world count e (Ok es, merged, is) turns = absurd (cc)
+merge_turned links after out world count e (Err f, merged, is) turns = let same : f ≡ e = cc in merged_turns world count links after f merged (same ∙ turns)
+
+-- where too many turns are told, they were made
+has_turned : (old new : Devices) (command : Command) (failed : Type 0) (t u : HostContents) (e : Refusal)
+    → IsRefused failed (ComesTo failed old new command t) t e u → e ≡ TooManyTurns → HasTurned old new command
+has_turned old new (Merge out world files) failed t u e refused is =
+    elim refused [
+      | inl before ↦ elim before.1 [
+        | inl memory ↦ absurd (cc)
+        | inr comes ↦ merge_turned old.links new.links out world (length files) e comes is
+      ]
+      | inr failed ↦ absurd (let file = failed.1 in cc)
+    ]
+has_turned old new (Save profile out files) failed t u e refused is = tt
+has_turned old new (Check profile files) failed t u e refused is = tt
+has_turned old new (New out world from name) failed t u e refused is = tt
+has_turned old new (EditFile file replica words) failed t u e refused is = tt
+has_turned old new (Show profile board files) failed t u e refused is = tt
+has_turned old new (Play profile board chance files) failed t u e refused is = tt
+
 -- a refusal, and then its line
-pub refused_run : (devices : Devices) (command : Command) (t u : HostContents) (e : Refusal) (old middle now : ℕ) (counted : Type 0) (new : Option HostContents) → old ≤ middle → middle ≤ now
-    → IsRefused (Rose old middle) (ComesTo (Rose old middle) devices command t) t e u → IsTold (Rose middle now) e u new → (e ≡ File → counted) → EndsRun devices (Some command) t old now counted 1 new
-refused_run devices command t u e old middle now counted new up more refused told file =
-    inr (refl, record { refusal = e; left = u; middle = middle; refused = refused; told = told; rises = (up, more); file_only_when = file })
+pub refused_run : (before after : Devices) (command : Command) (t u : HostContents) (e : Refusal) (old middle now : ℕ) (counted : Type 0) (new : Option HostContents) → old ≤ middle → middle ≤ now
+    → IsRefused (Rose old middle) (ComesTo (Rose old middle) before after command t) t e u → IsTold (Rose middle now) e u new → (e ≡ File → counted) → EndsRun before after (Some command) t old now counted 1 new
+refused_run before after command t u e old middle now counted new up more refused told file =
+    inr (
+      refl,
+      record {
+        refusal = e;
+        left = u;
+        middle = middle;
+        refused = refused;
+        told = told;
+        rises = (up, more);
+        file_only_when = file;
+        turns_only_when = λ is. has_turned before after command (Rose old middle) t u e refused is;
+      },
+    )
 
 -- want of memory, whatever was asked for
-pub memory_run : (devices : Devices) (command : Option Command) (t : HostContents) (old now : ℕ) (counted : Type 0) (new : Option HostContents) → old ≤ now
-    → IsComplained (Rose old now) (line_of Memory) t new → EndsRun devices command t old now counted 1 new
-memory_run devices None t old now counted new up told = inr (refl, told)
-memory_run devices (Some command) t old now counted new up told =
+pub memory_run : (before after : Devices) (command : Option Command) (t : HostContents) (old now : ℕ) (counted : Type 0) (new : Option HostContents) → old ≤ now
+    → IsComplained (Rose old now) (line_of Memory) t new → EndsRun before after command t old now counted 1 new
+memory_run before after None t old now counted new up told = inr (refl, told)
+memory_run before after (Some command) t old now counted new up told =
     inr (
       refl,
       record {
@@ -59,14 +98,15 @@ memory_run devices (Some command) t old now counted new up told =
         told = (line_of Memory, inl refl, told);
         rises = (omega arith, up);
         file_only_when = λ is. absurd (memory_is_other Memory refl is);
+        turns_only_when = λ is. absurd (cc);
       },
     )
 
 told_calmly : (old now : ℕ) (text : List ℕ) (t : HostContents) (new : Option HostContents) → NothingFailed old now → IsComplained (Rose old now) text t new → new ≡ Some (with_complaint text t)
 told_calmly old now text t new calm told = elim told [ inl is ↦ is | inr failed ↦ absurd (no_rise old now now (omega arith) calm failed.0) ]
 
-refused_calmly : (devices : Devices) (command : Command) (t : HostContents) (old now : ℕ) (counted : Type 0) (new : Option HostContents) → NothingFailed old now → RefusedRun devices command t old now counted new → EndsCalmly devices command t 1 new
-refused_calmly devices command t old now counted new calm run =
+refused_calmly : (before after : Devices) (command : Command) (t : HostContents) (old now : ℕ) (counted : Type 0) (new : Option HostContents) → NothingFailed old now → RefusedRun before after command t old now counted new → EndsCalmly before after command t 1 new
+refused_calmly before after command t old now counted new calm run =
     let first = run.rises.0 in
     let second = run.rises.1 in
     let same = calm.0 in
@@ -76,23 +116,23 @@ refused_calmly devices command t old now counted new calm run =
     let told = told_calmly run.middle now run.told.0 run.left new later run.told.2 in
     elim run.refused [
       | inr failed ↦ absurd (never failed.0)
-      | inl before ↦ (
-          let at : new ≡ Some (with_complaint run.told.0 t) = told ∙ ap (λ u. Some (with_complaint run.told.0 u)) before.0 in
+      | inl left ↦ (
+          let at : new ≡ Some (with_complaint run.told.0 t) = told ∙ ap (λ u. Some (with_complaint run.told.0 u)) left.0 in
           elim run.told.1 [
             | inr memory ↦ inr (refl, at ∙ ap (λ line. Some (with_complaint line t)) memory.1)
-            | inl line ↦ elim before.1 [
+            | inl line ↦ elim left.1 [
               | inl memory ↦ inr (refl, at ∙ ap (λ line. Some (with_complaint line t)) (line ∙ ap line_of memory))
-              | inr comes ↦ inl (Err run.refusal, comes_so devices (Rose old run.middle) ⊥ command t (Err run.refusal) never comes, (refl, at ∙ ap (λ line. Some (with_complaint line t)) line))
+              | inr comes ↦ inl (Err run.refusal, comes_so before after (Rose old run.middle) ⊥ command t (Err run.refusal) never comes, (refl, at ∙ ap (λ line. Some (with_complaint line t)) line))
             ]
           ])
     ]
 
-pub run_calmly : (devices : Devices) (command : Command) (t : HostContents) (old now : ℕ) (counted : Type 0) (status : ℕ) (new : Option HostContents) → NothingFailed old now
-    → EndsRun devices (Some command) t old now counted status new → EndsCalmly devices command t status new
-run_calmly devices command t old now counted status new calm run =
+pub run_calmly : (before after : Devices) (command : Command) (t : HostContents) (old now : ℕ) (counted : Type 0) (status : ℕ) (new : Option HostContents) → NothingFailed old now
+    → EndsRun before after (Some command) t old now counted status new → EndsCalmly before after command t status new
+run_calmly before after command t old now counted status new calm run =
     elim run [
-      | inl done ↦ inl (Ok done.0, comes_so devices (Rose old now) ⊥ command t (Ok done.0) (no_rise old now now (omega arith) calm) done.1, (done.2, done.3))
-      | inr refused ↦ elim (refused_calmly devices command t old now counted new calm refused.1) [
+      | inl done ↦ inl (Ok done.0, comes_so before after (Rose old now) ⊥ command t (Ok done.0) (no_rise old now now (omega arith) calm) done.1, (done.2, done.3))
+      | inr refused ↦ elim (refused_calmly before after command t old now counted new calm refused.1) [
         | inl done ↦ inl (done.0, done.1, with_status done.0 refused.0 done.2)
         | inr memory ↦ inr (refused.0, memory.1)
       ]
@@ -105,19 +145,30 @@ run_calmly devices command t old now counted status new calm run =
 -- ---- what is passed on to a command
 
 -- so many links
-pub merge_as : (failed : Type 0) (links : List LinkSeen) (out : List ℕ) (world count many : ℕ) (t : HostContents) (result : Result ⊤ Refusal) (new : Option HostContents) → count ≡ many
-    → Ends failed (ComesToMerge links out world count) t result new → Ends failed (ComesToMerge links out world many) t result new
-merge_as failed links out world count many t result new same ends = subst (λ n. Ends failed (ComesToMerge links out world n) t result new) same ends
+pub merge_as : (failed : Type 0) (links after : List LinkSeen) (out : List ℕ) (world count many : ℕ) (t : HostContents) (result : Result ⊤ Refusal) (new : Option HostContents) → count ≡ many
+    → Ends failed (ComesToMerge links after out world count) t result new → Ends failed (ComesToMerge links after out world many) t result new
+merge_as failed links after out world count many t result new same ends = subst (λ n. Ends failed (ComesToMerge links after out world n) t result new) same ends
+
+pub pulls_as : (world count many : ℕ) (links after : List LinkSeen) → count ≡ many
+    → (r : Result (List Edit) Refusal) × IsMerged world count links after r → (r : Result (List Edit) Refusal) × IsMerged world many links after r
+pulls_as world count many links after same pulls = subst (λ n. (r : Result (List Edit) Refusal) × IsMerged world n links after r) same pulls
 
 -- this limit, and these files
-pub show_as : (failed : Type 0) (stage : Stage) (given limit board : ℕ) (names files : List (List ℕ)) (t : HostContents) (result : Result ⊤ Refusal) (new : Option HostContents) → given ≡ limit → names ≡ files
-    → Ends failed (ComesToShow failed stage t given board names) t result new → Ends failed (ComesToShow failed stage t limit board files) t result new
-show_as failed stage given limit board names files t result new is same ends =
-    subst (λ n. Ends failed (ComesToShow failed stage t n board files) t result new) is
-    (subst (λ ns. Ends failed (ComesToShow failed stage t given board ns) t result new) same ends)
+pub show_as : (failed : Type 0) (old after : Stage) (given limit board : ℕ) (names files : List (List ℕ)) (t : HostContents) (result : Result ⊤ Refusal) (new : Option HostContents) → given ≡ limit → names ≡ files
+    → Ends failed (ComesToShow failed old after t given board names) t result new → Ends failed (ComesToShow failed old after t limit board files) t result new
+show_as failed old after given limit board names files t result new is same ends =
+    subst (λ n. Ends failed (ComesToShow failed old after t n board files) t result new) is
+    (subst (λ ns. Ends failed (ComesToShow failed old after t given board ns) t result new) same ends)
 
-pub play_as : (failed : Type 0) (stage : Stage) (given limit board : ℕ) (chance : List ℕ) (names files : List (List ℕ)) (t : HostContents) (result : Result ⊤ Refusal) (new : Option HostContents) → given ≡ limit → names ≡ files
-    → Ends failed (ComesToPlay failed stage t given board chance names) t result new → Ends failed (ComesToPlay failed stage t limit board chance files) t result new
-play_as failed stage given limit board chance names files t result new is same ends =
-    subst (λ n. Ends failed (ComesToPlay failed stage t n board chance files) t result new) is
-    (subst (λ ns. Ends failed (ComesToPlay failed stage t given board chance ns) t result new) same ends)
+pub play_as : (failed : Type 0) (old after : Stage) (given limit board : ℕ) (chance : List ℕ) (names files : List (List ℕ)) (t : HostContents) (result : Result ⊤ Refusal) (new : Option HostContents) → given ≡ limit → names ≡ files
+    → Ends failed (ComesToPlay failed old after t given board chance names) t result new → Ends failed (ComesToPlay failed old after t limit board chance files) t result new
+play_as failed old after given limit board chance names files t result new is same ends =
+    subst (λ n. Ends failed (ComesToPlay failed old after t n board chance files) t result new) is
+    (subst (λ ns. Ends failed (ComesToPlay failed old after t given board chance ns) t result new) same ends)
+
+-- a board was shown once, or that failed, or the screen was not called
+pub drawn_once : (result : Result ⊤ Refusal) (old new : Option (List Bool)) (kept : Type 0) → OnOk result (Foretold false old new)
+    → IfErr result (λ e. ((e ≡ ScreenFault) × Foretold true old new) ⊎ kept)
+    → MatchResult result (λ _. Foretold false old new) (λ e. Foretold true old new ⊎ kept)
+drawn_once (Ok u) old new kept once why = once
+drawn_once (Err e) old new kept once why = elim why [ inl fault ↦ inl fault.1 | inr stays ↦ inr stays ]

@@ -22,7 +22,7 @@ use Rattle.zed_program.specs.Outcome.{ComesTo, EndsCalmly, HasStatus}
 use Rattle.zed_files.specs.Effects.{Effect, written_to}
 use Rattle.zed_worlds.specs.Made.{file_of, made_of, unless_over, writes_world}
 use Rattle.zed_host.specs.HostContents.{HostContents, file_in}
-use Rattle.zed_program.specs.Devices.{Devices, devices}
+use Rattle.zed_program.specs.Devices.{Devices}
 use Rattle.zed_words.specs.Commands.{Save}
 use Rattle.zed_words.specs.Laws.{with_option}
 use Rattle.zed_program.specs.Limit.{limit_of}
@@ -136,17 +136,17 @@ none_made : (limit : ℕ) → file_of limit (set_of []) ≡ Err NoWorld
 none_made limit = refl
 
 -- so the world file of their set is what `save` writes, or its first limit is told
-saved_set : (devices : Devices) → WrittenIsRead → (t : HostContents) (profile : Profile) (out : List ℕ) (names : List (List ℕ)) (n : ℕ) (lists : List (List Edit)) (r : Result Effect Refusal)
+saved_set : (old new : Devices) → WrittenIsRead → (t : HostContents) (profile : Profile) (out : List ℕ) (names : List (List ℕ)) (n : ℕ) (lists : List (List Edit)) (r : Result Effect Refusal)
     → AreTextsOf n lists (map (file_in t) names) → n < 2 ^ 64 → AreRecords (joined lists) → Agrees (joined lists)
-    → ComesTo ⊥ devices (Save profile out names) t r → r ≡ writes_world out (file_of (limit_of profile) (set_of (joined lists)))
-saved_set devices law t profile out names n [] r texts small good agrees comes =
+    → ComesTo ⊥ old new (Save profile out names) t r → r ≡ writes_world out (file_of (limit_of profile) (set_of (joined lists)))
+saved_set old new law t profile out names n [] r texts small good agrees comes =
     let made = comes.1 in
     let collects = made.1 in
     let stream = collects.1 in
     let reads = reads_are t names stream.0 stream.1 ∙ no_files n (map (file_in t) names) texts in
     let set = none_saved collects.0 made.0 (subst (λ files. IsStream None files collects.0) reads stream.2) collects.2 in
     comes.2 ∙ ap (writes_world out) (made.2 ∙ ap (made_of (file_of (limit_of profile))) set ∙ sym (none_made (limit_of profile)))
-saved_set devices law t profile out names n (es ∷ lists) r texts small good agrees comes =
+saved_set old new law t profile out names n (es ∷ lists) r texts small good agrees comes =
     let made = comes.1 in
     let collects = made.1 in
     let stream = collects.1 in
@@ -156,12 +156,12 @@ saved_set devices law t profile out names n (es ∷ lists) r texts small good ag
     comes.2 ∙ ap (writes_world out) (made.2 ∙ ap (made_of (file_of (limit_of profile))) set)
 
 -- and `run` ends so
-pub run_of_texts : (devices : Devices) → WrittenIsRead → (words : List (List ℕ)) (t : HostContents) (profile : Profile) (out : List ℕ) (n : ℕ) (lists : List (List Edit)) (status : ℕ) (new : Option HostContents)
-    → (asks : AsksToSave words t profile out n lists) → EndsCalmly devices (Save profile out asks.files) t status new → SavesSet profile out t (joined lists) status new
-run_of_texts devices law words t profile out n lists status new asks ended =
+pub run_of_texts : (before after : Devices) → WrittenIsRead → (words : List (List ℕ)) (t : HostContents) (profile : Profile) (out : List ℕ) (n : ℕ) (lists : List (List Edit)) (status : ℕ) (new : Option HostContents)
+    → (asks : AsksToSave words t profile out n lists) → EndsCalmly before after (Save profile out asks.files) t status new → SavesSet profile out t (joined lists) status new
+run_of_texts before after law words t profile out n lists status new asks ended =
     elim ended [
       | inl done ↦ (
-          let is = saved_set devices law t profile out asks.files n lists done.0 asks.spelled asks.is_number asks.records asks.agree done.1 in
+          let is = saved_set before after law t profile out asks.files n lists done.0 asks.spelled asks.is_number asks.records asks.agree done.1 in
           inl (subst (λ r. HasStatus r t status new) is done.2))
       | inr memory ↦ inr memory
     ]

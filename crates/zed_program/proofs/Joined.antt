@@ -7,7 +7,7 @@ use Rattle.zed_document.specs.declared.error.DocumentError.{DocumentError}
 use Rattle.zed_link.specs.declared.error.LinkError.{LinkError}
 use Rattle.zed_files.specs.declared.refusal.Refusal.{Refusal}
 use Rattle.zed_files.specs.declared.refusal.Refusal.TheVariants.{Memory, NoLink}
-use Rattle.std.proofs.Common.{◌≡◌, ◌∙◌, ◌≤◌, ◌<◌, ◌^◌, ◌++◌, arith, ℕ, false, List, [], ◌∷◌, length, take, suc, Option, Some, None, Result, Ok, Err, refl, ap, sym, subst, map, append_assoc, append-nil, inl, inr}
+use Rattle.std.proofs.Common.{◌≡◌, ◌∙◌, ◌≤◌, ◌<◌, ◌^◌, ◌++◌, arith, ℕ, false, List, [], ◌∷◌, length, take, zero, suc, Option, Some, None, Result, Ok, Err, refl, ap, sym, subst, map, append_assoc, append-nil, inl, inr}
 use Rattle.std.specs.Prelude.{◌⊎◌, Contains, MatchBool, option_map}
 use Rattle.std.proofs.lemmas.List.{length-map, length-take-le}
 use Rattle.zed_op.specs.Set.{Agrees, AllFit, set_of}
@@ -20,7 +20,7 @@ use Rattle.zed_link.specs.Laws.{DeliveriesGoOn, FilesArePulled, HoldsFile, IsLon
 use Rattle.zed_link.specs.Pull.{AllDelivered}
 use Rattle.zed_link.proofs.Readings.{records_fit}
 use Rattle.zed_session.specs.Links.{LinkSeen}
-use Rattle.zed_program.specs.Devices.{Devices, devices}
+use Rattle.zed_program.specs.Devices.{Devices}
 use Rattle.zed_words.specs.Commands.{Merge}
 use Rattle.zed_files.specs.Files.{AreTextsOf, IsTextIn, joined}
 use Rattle.zed_host.specs.HostContents.{HostContents}
@@ -97,15 +97,16 @@ one_before l links before es lists r (inl all) = inl (all ∙ ap (λ (fs : List 
 one_before l links before es lists r (inr why) = inr (why.0, of_more l links why.0 why.1, why.2)
 
 -- after these edits were delivered, the links hold the files of those lists
-pulls_are : FilesArePulled → DeliveriesGoOn → DeliveriesComeToSets → (d : Replica) (links : List LinkSeen) (lists : List (List Edit)) (before left : List Edit) (r : Result (List Edit) Refusal)
-    → d.world < 2 ^ 64 → d.is_stale ≡ false → d.edits ≡ [] → AllDelivered d before left → AreTextsOf d.world lists (map left_on links)
-    → AreRecords (before ++ joined lists) → Agrees (before ++ joined lists) → PullsEach (with_edits left d) links r → JoinedOr links before lists r
-pulls_are files more sets d [] [] before left r small sound empty all held good agrees pulls =
+pulls_are : FilesArePulled → DeliveriesGoOn → DeliveriesComeToSets → (d : Replica) (n : ℕ) (links news : List LinkSeen) (lists : List (List Edit)) (before left : List Edit) (r : Result (List Edit) Refusal)
+    → d.world < 2 ^ 64 → d.is_stale ≡ false → d.edits ≡ [] → AllDelivered d before left → AreTextsOf d.world lists (map left_on (take n links))
+    → AreRecords (before ++ joined lists) → Agrees (before ++ joined lists) → PullsEach (with_edits left d) n links news r → JoinedOr (take n links) before lists r
+pulls_are files more sets d zero links news [] before left r small sound empty all held good agrees pulls =
     let fit = records_fit before (records_left before [] good) in
-    inl (pulls ∙ ap (λ x. Ok x) (set_left sets d before left sound empty fit all ∙ ap set_of (sym (append-nil before))))
-pulls_are files more sets d [] (es ∷ lists) before left r small sound empty all held good agrees pulls = absurd held
-pulls_are files more sets d (l ∷ links) [] before left r small sound empty all held good agrees pulls = absurd held
-pulls_are files more sets d (l ∷ links) (es ∷ lists) before left r small sound empty all held good agrees pulls =
+    inl (pulls.0 ∙ ap (λ x. Ok x) (set_left sets d before left sound empty fit all ∙ ap set_of (sym (append-nil before))))
+pulls_are files more sets d zero links news (es ∷ lists) before left r small sound empty all held good agrees pulls = absurd held
+pulls_are files more sets d (suc n) [] news lists before left r small sound empty all held good agrees pulls = absurd pulls
+pulls_are files more sets d (suc n) (l ∷ links) news [] before left r small sound empty all held good agrees pulls = absurd held
+pulls_are files more sets d (suc n) (l ∷ links) news (es ∷ lists) before left r small sound empty all held good agrees pulls =
     let records = records_left es (joined lists) (records_right before (es ++ joined lists) good) in
     let holding = holds (with_edits left d) es l.ends small records held.0 in
     let whole : (before ++ es) ++ joined lists ≡ before ++ (es ++ joined lists) = append_assoc before es (joined lists) in
@@ -113,26 +114,27 @@ pulls_are files more sets d (l ∷ links) (es ∷ lists) before left r small sou
     let agrees_all = subst Agrees (sym whole) agrees in
     elim pulls [
       | inl ok ↦ (
-          let pulled = (files (with_edits left d) es l.ends ok.1.ends l.reads ok.1.reads (Ok ok.0) ok.2 holding ok.3).0 in
+          let pulled = (files (with_edits left d) es l.ends ok.1.ends l.reads ok.1.reads (Ok ok.0) ok.2 holding ok.5).0 in
           let next = more d before es left ok.2 (Ok tt) all pulled.0 in
-          one_before l links before es lists r (pulls_are files more sets d links lists (before ++ es) ok.2 r small sound empty next held.1 good_all agrees_all ok.4))
+          one_before l (take n links) before es lists r
+          (pulls_are files more sets d n links ok.3 lists (before ++ es) ok.2 r small sound empty next held.1 good_all agrees_all ok.6))
       | inr err ↦ (
-          let pulled = (files (with_edits left d) es l.ends err.1.ends l.reads err.1.reads (Err err.0) err.2 holding err.3).0 in
+          let pulled = (files (with_edits left d) es l.ends err.1.ends l.reads err.1.reads (Err err.0) err.2 holding err.4).0 in
           let fit = records_fit (before ++ es) (records_left (before ++ es) (joined lists) good_all) in
           let agree = agree_left (before ++ es) (joined lists) agrees_all in
           let never : (s : Stamp) → DeliversEach (with_edits left d) es (Err (document.Clash s)) err.2 → ⊥ = λ s clash. never_clash sets d (before ++ es) err.2 s sound empty fit agree
           (more d before es left err.2 (Err (document.Clash s)) all clash) in
-          inr (link_refusal err.0, refused_so (with_edits left d) l links es err.2 holding err.0 never pulled, err.4))
+          inr (link_refusal err.0, refused_so (with_edits left d) l (take n links) es err.2 holding err.0 never pulled, err.5))
     ]
 
 -- the edits of links that hold files of a world
-merged_are : FilesArePulled → DeliveriesGoOn → DeliveriesComeToSets → (world count : ℕ) (links : List LinkSeen) (lists : List (List Edit)) (r : Result (List Edit) Refusal)
+merged_are : FilesArePulled → DeliveriesGoOn → DeliveriesComeToSets → (world count : ℕ) (links news : List LinkSeen) (lists : List (List Edit)) (r : Result (List Edit) Refusal)
     → world < 2 ^ 64 → count ≤ length links → AreTextsOf world lists (map left_on (take count links)) → AreRecords (joined lists) → Agrees (joined lists)
-    → IsMerged world count links r → JoinedOr (take count links) [] lists r
-merged_are files more sets world count links lists r small enough held good agrees merged =
-    let there : MatchBool false (r ≡ Err NoLink) (PullsEach (empty_document world) (take count links) r) =
-    subst (λ b. MatchBool b (r ≡ Err NoLink) (PullsEach (empty_document world) (take count links) r)) (not_fewer count (length links) enough) merged in
-    pulls_are files more sets (empty_document world) (take count links) lists [] [] r small refl refl (refl, refl) held good agrees there
+    → IsMerged world count links news r → JoinedOr (take count links) [] lists r
+merged_are files more sets world count links news lists r small enough held good agrees merged =
+    let there : MatchBool false ((r ≡ Err NoLink) × (news ≡ links)) (PullsEach (empty_document world) count links news r) =
+    subst (λ b. MatchBool b ((r ≡ Err NoLink) × (news ≡ links)) (PullsEach (empty_document world) count links news r)) (not_fewer count (length links) enough) merged in
+    pulls_are files more sets (empty_document world) count links news lists [] [] r small refl refl (refl, refl) held good agrees there
 
 -- there is a list for each link that is pulled over
 as_many_texts : (world : ℕ) (lists : List (List Edit)) (files : List (Option (List ℕ))) → AreTextsOf world lists files → length lists ≡ length files
@@ -155,13 +157,13 @@ has_status out world count links lists m r t status new many is made has =
     ]
 
 -- `run` ends so
-pub run_of_links : FilesArePulled → DeliveriesGoOn → DeliveriesComeToSets → (words : List (List ℕ)) (devices : Devices) (t : HostContents) (out : List ℕ) (world : ℕ) (lists : List (List Edit)) (status : ℕ) (new : Option HostContents)
-    → (asks : AsksToMerge words devices.links out world lists) → EndsCalmly devices (Merge out world asks.files) t status new → MergesSet out t world devices.links lists status new
-run_of_links files more sets words devices t out world lists status new asks ended =
+pub run_of_links : FilesArePulled → DeliveriesGoOn → DeliveriesComeToSets → (words : List (List ℕ)) (before after : Devices) (t : HostContents) (out : List ℕ) (world : ℕ) (lists : List (List Edit)) (status : ℕ) (new : Option HostContents)
+    → (asks : AsksToMerge words before.links out world lists) → EndsCalmly before after (Merge out world asks.files) t status new → MergesSet out t world before.links lists status new
+run_of_links files more sets words before after t out world lists status new asks ended =
     elim ended [
       | inl done ↦ (
           let comes = done.1 in
-          has_status out world (length asks.files) devices.links lists comes.0 done.0 t status new (as_many_lists (length asks.files) world devices.links lists asks.enough asks.held)
-          (merged_are files more sets world (length asks.files) devices.links lists comes.0 asks.is_number asks.enough asks.held asks.records asks.agree comes.1) comes.2 done.2)
+          has_status out world (length asks.files) before.links lists comes.0 done.0 t status new (as_many_lists (length asks.files) world before.links lists asks.enough asks.held)
+          (merged_are files more sets world (length asks.files) before.links after.links lists comes.0 asks.is_number asks.enough asks.held asks.records asks.agree comes.1) comes.2 done.2)
       | inr memory ↦ inr (Memory, inl refl, memory)
     ]

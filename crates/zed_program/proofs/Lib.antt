@@ -1,4 +1,5 @@
 pub mod Asked
+pub mod Called
 pub mod Endings
 pub mod FileTexts
 pub mod Joined

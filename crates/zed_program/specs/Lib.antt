@@ -1,4 +1,5 @@
 pub mod Asked
+pub mod Called
 pub mod Devices
 pub mod Joining
 pub mod Limit

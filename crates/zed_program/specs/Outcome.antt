@@ -1,29 +1,29 @@
 -- What a command leaves in its host, and what `run` does. `failed` says that the device failed meanwhile.
 use Rattle.zed_files.specs.declared.refusal.Refusal.{Refusal}
-use Rattle.zed_files.specs.declared.refusal.Refusal.TheVariants.{File, Memory}
+use Rattle.zed_files.specs.declared.refusal.Refusal.TheVariants.{File, Memory, TooManyTurns}
 use Rattle.std.specs.Prelude.{◌≡◌, ◌≤◌, ◌⊎◌, ℕ, true, List, Option, Some, None, Result, Ok, Err, length}
-use Rattle.zed_program.specs.Devices.{Devices, devices}
+use Rattle.zed_program.specs.Devices.{Devices}
 use Rattle.zed_program.specs.Limit.{limit_of}
 use Rattle.zed_files.specs.Lines.{has_numbers, line_of}
 use Rattle.zed_host.specs.Counting.{Rose}
 use Rattle.zed_host.specs.HostContents.{HalfComplained, HostContents, StillTells, with_complaint}
 use Rattle.zed_words.specs.Commands.{Command, Save, Check, New, Edit as EditFile, Merge, Show, Play}
-use Rattle.zed_files.specs.Effects.{Effect, after, IsRefused}
+use Rattle.zed_files.specs.Effects.{Effect, after as left_by, IsRefused}
 use Rattle.zed_making.specs.Edited.{ComesToEdit}
 use Rattle.zed_making.specs.Fresh.{ComesToNew}
-use Rattle.zed_making.specs.Merged.{ComesToMerge}
+use Rattle.zed_making.specs.Merged.{ComesToMerge, MadeMostReads}
 use Rattle.zed_worlds.specs.Made.{ComesToSave, ComesToCheck}
 use Rattle.zed_worlds.specs.Shown.{ComesToShow, ComesToPlay}
 
--- what a command comes to, by what its devices tell: its effect, or the first refusal
-abbrev pub ComesTo : Type 0 → Devices → Command → HostContents → Result Effect Refusal → Type 0
-ComesTo failed devices (Save profile out files) t r = ComesToSave failed t (limit_of profile) out files r
-ComesTo failed devices (Check profile files) t r = ComesToCheck failed t (limit_of profile) files r
-ComesTo failed devices (New out world from name) t r = ComesToNew failed t out world from name r
-ComesTo failed devices (EditFile file replica words) t r = ComesToEdit failed t file replica words r
-ComesTo failed devices (Merge out world files) t r = ComesToMerge devices.links out world (length files) r
-ComesTo failed devices (Show profile board files) t r = ComesToShow failed devices.stage t (limit_of profile) board files r
-ComesTo failed devices (Play profile board chance files) t r = ComesToPlay failed devices.stage t (limit_of profile) board chance files r
+-- what a command comes to, by what its devices tell before it and then: its effect, or the first refusal
+abbrev pub ComesTo : Type 0 → Devices → Devices → Command → HostContents → Result Effect Refusal → Type 0
+ComesTo failed old new (Save profile out files) t r = ComesToSave failed t (limit_of profile) out files r
+ComesTo failed old new (Check profile files) t r = ComesToCheck failed t (limit_of profile) files r
+ComesTo failed old new (New out world from name) t r = ComesToNew failed t out world from name r
+ComesTo failed old new (EditFile file replica words) t r = ComesToEdit failed t file replica words r
+ComesTo failed old new (Merge out world files) t r = ComesToMerge old.links new.links out world (length files) r
+ComesTo failed old new (Show profile board files) t r = ComesToShow failed old.stage new.stage t (limit_of profile) board files r
+ComesTo failed old new (Play profile board chance files) t r = ComesToPlay failed old.stage new.stage t (limit_of profile) board chance files r
 
 -- a text is on the standard error, or the host failed at it
 abbrev pub IsComplained : Type 0 → List ℕ → HostContents → Option HostContents → Type 0
@@ -38,34 +38,41 @@ IsLineOf e line = (line ≡ line_of e) ⊎ ((has_numbers e ≡ true) × (line �
 abbrev pub IsTold : Type 0 → Refusal → HostContents → Option HostContents → Type 0
 IsTold failed e t new = (line : List ℕ) × IsLineOf e line × IsComplained failed line t new
 
+-- what is so where a command is refused for too many turns: a link of a merge made as many reads as a pull may make
+abbrev pub HasTurned : Devices → Devices → Command → Type 0
+HasTurned old new (Merge out world files) = MadeMostReads old.links new.links
+HasTurned old new command = Unit {0}
+
 -- a command is refused and the user is told; the faults are counted from `old`, to `middle` before the
--- user is told, and to `now`; and `counted` says that the host counts a call more that failed, which `File` shows
-pub record RefusedRun (devices : Devices) (command : Command) (t : HostContents) (old now : ℕ) (counted : Type 0) (new : Option HostContents) : Type 0 where
+-- user is told, and to `now`; and `counted` says that the host counts a call more that failed, which `File` shows; too many turns of a
+-- merge are shown by its links
+pub record RefusedRun (before after : Devices) (command : Command) (t : HostContents) (old now : ℕ) (counted : Type 0) (new : Option HostContents) : Type 0 where
   pub refusal : Refusal
   pub left : HostContents
   pub middle : ℕ
-  pub refused : IsRefused (Rose old middle) (ComesTo (Rose old middle) devices command t) t refusal left
+  pub refused : IsRefused (Rose old middle) (ComesTo (Rose old middle) before after command t) t refusal left
   pub told : IsTold (Rose middle now) refusal left new
   pub rises : (old ≤ middle) × (middle ≤ now)
   pub file_only_when : refusal ≡ File → counted
+  pub turns_only_when : refusal ≡ TooManyTurns → HasTurned before after command
 
 -- a command is carried out with status 0, or refused with status 1. Words that are refused change no
 -- file; the status is 2, or 1 where memory ran out
-abbrev pub EndsRun : Devices → Option Command → HostContents → ℕ → ℕ → Type 0 → ℕ → Option HostContents → Type 0
-EndsRun devices (Some command) t old now counted status new =
-    ((x : Effect) × ComesTo (Rose old now) devices command t (Ok x) × (status ≡ 0) × (new ≡ Some (after x t)))
-    ⊎ ((status ≡ 1) × RefusedRun devices command t old now counted new)
-EndsRun devices None t old now counted status new =
+abbrev pub EndsRun : Devices → Devices → Option Command → HostContents → ℕ → ℕ → Type 0 → ℕ → Option HostContents → Type 0
+EndsRun before after (Some command) t old now counted status new =
+    ((x : Effect) × ComesTo (Rose old now) before after command t (Ok x) × (status ≡ 0) × (new ≡ Some (left_by x t)))
+    ⊎ ((status ≡ 1) × RefusedRun before after command t old now counted new)
+EndsRun before after None t old now counted status new =
     ((status ≡ 2) × ((text : List ℕ) × IsComplained (Rose old now) text t new))
     ⊎ ((status ≡ 1) × IsComplained (Rose old now) (line_of Memory) t new)
 
 -- the status, and what a host that didn't fail holds then
 abbrev pub HasStatus : Result Effect Refusal → HostContents → ℕ → Option HostContents → Type 0
-HasStatus (Ok x) t status new = (status ≡ 0) × (new ≡ Some (after x t))
+HasStatus (Ok x) t status new = (status ≡ 0) × (new ≡ Some (left_by x t))
 HasStatus (Err e) t status new = (status ≡ 1) × (new ≡ Some (with_complaint (line_of e) t))
 
 -- a command ends so where the host didn't fail
-abbrev pub EndsCalmly : Devices → Command → HostContents → ℕ → Option HostContents → Type 0
-EndsCalmly devices command t status new =
-    ((r : Result Effect Refusal) × ComesTo ⊥ devices command t r × HasStatus r t status new)
+abbrev pub EndsCalmly : Devices → Devices → Command → HostContents → ℕ → Option HostContents → Type 0
+EndsCalmly before after command t status new =
+    ((r : Result Effect Refusal) × ComesTo ⊥ before after command t r × HasStatus r t status new)
     ⊎ HasStatus (Err Memory) t status new

@@ -2,6 +2,7 @@
 #![tactic(auto)]
 
 mod limit;
+mod merging;
 mod program;
 
 pub use program::run;

@@ -7,6 +7,7 @@ ghost use Rattle.zed_files.specs.Files.{joined};
 ghost use Rattle.zed_program.specs.Joining.{AsksToMerge, MergesSet};
 ghost use Rattle.zed_files.specs.Asked.{Asks, refusal_in};
 ghost use Rattle.zed_program.specs.Asked.{Complains, RunAsks, last_of, reads_of};
+ghost use Rattle.zed_program.specs.Called.{DrawsOnce, PullsLinks, ShowsOnce, calls_keys, calls_links, calls_screen};
 ghost use Rattle.zed_program.specs.Devices.{devices};
 ghost use Rattle.zed_files.specs.Effects.{Ends};
 ghost use Rattle.zed_program.specs.Outcome.{ComesTo, EndsCalmly, EndsRun, IsTold};
@@ -19,6 +20,7 @@ ghost use Rattle.zed_words.specs.Laws.{with_option};
 ghost use Rattle.zed_words.specs.Commands.{Command as Asked, Save, command_of, is_plain, meaning_of};
 
 use crate::limit::limit_of;
+use crate::merging::merge;
 use std::alloc::Global;
 use zed_document::deliveries_come_to_sets;
 use zed_editfile::one_reading;
@@ -26,7 +28,7 @@ use zed_export::saved_is_read;
 use zed_files::{Refusal, line_of, plain_line};
 use zed_host::Host;
 use zed_link::{Link, deliveries_go_on, files_are_pulled};
-use zed_making::{edit, make_new, merge};
+use zed_making::{edit, make_new};
 use zed_session::{Keys, Screen};
 use zed_words::{Command, ParseError, parse, plain_words_save};
 use zed_worlds::{check, play, save, show};
@@ -55,17 +57,28 @@ fn act<H: Host>(
     alloc: Global,
     host: &mut H,
     command: &Command<'_>,
-    links: Vec<Box<dyn Link>>,
-    screen: Box<dyn Screen>,
-    keys: Box<dyn Keys>,
+    links: &mut Vec<Box<dyn Link>>,
+    screen: &mut dyn Screen,
+    keys: &mut dyn Keys,
 ) -> Result<(), Refusal>
     ensures ends { (t : HostContents) → H.contents host.old ≡ Some t
         → let failed = Rose (H.faults host.old) (H.faults host.new) in
-        let told = devices (map (λ link. seen (ends link) (reads link)) links.items)
-        (screen_foretells screen) (left keys) (keys_foretell keys) in
-        Ends failed (ComesTo failed told (meaning_of command.now) t) t result (H.contents host.new) }
+        let before = devices (map (λ link. seen (ends link) (reads link)) links.old.items)
+        (shown screen.old) (screen_foretells screen.old) (left keys.old) (keys_foretell keys.old) in
+        let after = devices (map (λ link. seen (ends link) (reads link)) links.new.items)
+        (shown screen.new) (screen_foretells screen.new) (left keys.new) (keys_foretell keys.new) in
+        Ends failed (ComesTo failed before after (meaning_of command.now) t) t result (H.contents host.new) }
     ensures asked { Asks H.called (reads_of (meaning_of command.now))
         (last_of (meaning_of command.now)) (refusal_in result) host.old host.new }
+    ensures pulls { PullsLinks (Some (meaning_of command.now))
+        (map (λ link. seen (ends link) (reads link)) links.old.items)
+        (map (λ link. seen (ends link) (reads link)) links.new.items) }
+    ensures links { calls_links (Some (meaning_of command.now)) ≡ false → links.new ≡ links.old }
+    ensures screen { calls_screen (Some (meaning_of command.now)) ≡ false
+        → screen.new ≡ screen.old }
+    ensures keys { calls_keys (Some (meaning_of command.now)) ≡ false → keys.new ≡ keys.old }
+    ensures shows { DrawsOnce (Some (meaning_of command.now)) result
+        (screen_foretells screen.old) (screen_foretells screen.new) (screen.new ≡ screen.old) }
     ensures rises { H.faults host.old ≤ H.faults host.new }
     ensures file_only_when { TellsFile result (H.failed host.old) (H.failed host.new) }
 {
@@ -111,7 +124,6 @@ fn act<H: Host>(
             *board,
             files.as_slice(),
             screen,
-            keys,
         ),
         Command::Play {
             profile,
@@ -136,18 +148,32 @@ fn run_words<H: Host>(
     alloc: Global,
     words: &[String],
     host: &mut H,
-    links: Vec<Box<dyn Link>>,
-    screen: Box<dyn Screen>,
-    keys: Box<dyn Keys>,
+    links: &mut Vec<Box<dyn Link>>,
+    screen: &mut dyn Screen,
+    keys: &mut dyn Keys,
 ) -> u8
     ensures ends { (t : HostContents) → H.contents host.old ≡ Some t
-        → EndsRun (devices (map (λ link. seen (ends link) (reads link)) links.items)
-        (screen_foretells screen) (left keys) (keys_foretell keys))
+        → EndsRun (devices (map (λ link. seen (ends link) (reads link)) links.old.items)
+        (shown screen.old) (screen_foretells screen.old) (left keys.old) (keys_foretell keys.old))
+        (devices (map (λ link. seen (ends link) (reads link)) links.new.items)
+        (shown screen.new) (screen_foretells screen.new) (left keys.new) (keys_foretell keys.new))
         (command_of (map string_bytes words.now)) t
         (H.faults host.old) (H.faults host.new) (Rose (H.failed host.old) (H.failed host.new))
         result (H.contents host.new) }
     ensures asked { RunAsks H.called (command_of (map string_bytes words.now))
         result host.old host.new }
+    ensures pulls { PullsLinks (command_of (map string_bytes words.now))
+        (map (λ link. seen (ends link) (reads link)) links.old.items)
+        (map (λ link. seen (ends link) (reads link)) links.new.items)
+        ⊎ (links.new ≡ links.old) }
+    ensures links { calls_links (command_of (map string_bytes words.now)) ≡ false
+        → links.new ≡ links.old }
+    ensures screen { calls_screen (command_of (map string_bytes words.now)) ≡ false
+        → screen.new ≡ screen.old }
+    ensures keys { calls_keys (command_of (map string_bytes words.now)) ≡ false
+        → keys.new ≡ keys.old }
+    ensures shows { ShowsOnce (command_of (map string_bytes words.now)) result
+        (screen_foretells screen.old) (screen_foretells screen.new) (screen.new ≡ screen.old) }
     ensures accepted { IsSome (command_of (map string_bytes words.now))
         → (result ≡ 0) ⊎ (result ≡ 1) }
     ensures refused { command_of (map string_bytes words.now) ≡ None
@@ -184,19 +210,21 @@ fn count_of(words: &[String]) -> usize
 /// A refusal comes before the first write, but for `File` where the host fails at a write: then the
 /// written file is as that left it, or whole where only the printed line failed.
 ///
-/// `merge` pulls over the links, one for each of its files; `show` and `play` use the screen, and `play` takes the keys.
+/// `merge` pulls over the links, one for each of its files, and lets none go; `show` and `play` use the screen, and `play` takes the keys.
 pub fn run<H: Host>(
     alloc: Global,
     words: &[String],
     host: &mut H,
-    links: Vec<Box<dyn Link>>,
-    screen: Box<dyn Screen>,
-    keys: Box<dyn Keys>,
+    links: &mut Vec<Box<dyn Link>>,
+    screen: &mut dyn Screen,
+    keys: &mut dyn Keys,
 ) -> u8
     // What is left in a host that tells what it holds, whatever of it fails.
     ensures ends { (t : HostContents) → H.contents host.old ≡ Some t
-        → EndsRun (devices (map (λ link. seen (ends link) (reads link)) links.items)
-        (screen_foretells screen) (left keys) (keys_foretell keys))
+        → EndsRun (devices (map (λ link. seen (ends link) (reads link)) links.old.items)
+        (shown screen.old) (screen_foretells screen.old) (left keys.old) (keys_foretell keys.old))
+        (devices (map (λ link. seen (ends link) (reads link)) links.new.items)
+        (shown screen.new) (screen_foretells screen.new) (left keys.new) (keys_foretell keys.new))
         (command_of (map string_bytes words.now)) t
         (H.faults host.old) (H.faults host.new) (Rose (H.failed host.old) (H.failed host.new))
         result (H.contents host.new) }
@@ -204,6 +232,21 @@ pub fn run<H: Host>(
     // What was asked of the host, call by call.
     ensures asked { RunAsks H.called (command_of (map string_bytes words.now))
         result host.old host.new }
+
+    // What was asked of the devices: `merge` pulls over the links, unless memory was lacking for its words, and no other command calls one;
+    // `show` calls the screen once, and only `play` calls it too; and no other command asks for a key.
+    ensures pulls { PullsLinks (command_of (map string_bytes words.now))
+        (map (λ link. seen (ends link) (reads link)) links.old.items)
+        (map (λ link. seen (ends link) (reads link)) links.new.items)
+        ⊎ (links.new ≡ links.old) }
+    ensures links { calls_links (command_of (map string_bytes words.now)) ≡ false
+        → links.new ≡ links.old }
+    ensures screen { calls_screen (command_of (map string_bytes words.now)) ≡ false
+        → screen.new ≡ screen.old }
+    ensures keys { calls_keys (command_of (map string_bytes words.now)) ≡ false
+        → keys.new ≡ keys.old }
+    ensures shows { ShowsOnce (command_of (map string_bytes words.now)) result
+        (screen_foretells screen.old) (screen_foretells screen.new) (screen.new ≡ screen.old) }
 
     // Where its `failures()` stay as they were, nothing failed.
     ensures calm { H.faults host.old ≤ H.failed host.old
@@ -214,8 +257,10 @@ pub fn run<H: Host>(
     ensures ends_calmly { (t : HostContents) (command : Asked)
         → command_of (map string_bytes words.now) ≡ Some command
         → H.contents host.old ≡ Some t → NothingFailed (H.faults host.old) (H.faults host.new)
-        → EndsCalmly (devices (map (λ link. seen (ends link) (reads link)) links.items)
-        (screen_foretells screen) (left keys) (keys_foretell keys))
+        → EndsCalmly (devices (map (λ link. seen (ends link) (reads link)) links.old.items)
+        (shown screen.old) (screen_foretells screen.old) (left keys.old) (keys_foretell keys.old))
+        (devices (map (λ link. seen (ends link) (reads link)) links.new.items)
+        (shown screen.new) (screen_foretells screen.new) (left keys.new) (keys_foretell keys.new))
         command t result (H.contents host.new) }
 
     // The same for `save OUT FILES...`, where no word begins with a hyphen, and for `save --big OUT FILES...`.
@@ -224,8 +269,10 @@ pub fn run<H: Host>(
         → map string_bytes words.now ≡ codes "save" ∷ with_option profile (out ∷ file ∷ files)
         → list_all is_plain (out ∷ file ∷ files) ≡ true
         → H.contents host.old ≡ Some t → NothingFailed (H.faults host.old) (H.faults host.new)
-        → EndsCalmly (devices (map (λ link. seen (ends link) (reads link)) links.items)
-        (screen_foretells screen) (left keys) (keys_foretell keys))
+        → EndsCalmly (devices (map (λ link. seen (ends link) (reads link)) links.old.items)
+        (shown screen.old) (screen_foretells screen.old) (left keys.old) (keys_foretell keys.old))
+        (devices (map (λ link. seen (ends link) (reads link)) links.new.items)
+        (shown screen.new) (screen_foretells screen.new) (left keys.new) (keys_foretell keys.new))
         (Save profile out (file ∷ files)) t result (H.contents host.new) }
 
     // However the words ask to save: where the files spell lists of edits of one world that agree, the
@@ -246,7 +293,7 @@ pub fn run<H: Host>(
     // However the words ask to merge: where the links hold the files of lists of edits of one world that
     // agree, the edit file of the set of all of them is written, and neither their order nor repeats count.
     ensures merges_sets { (t : HostContents) (out : List ℕ) (world : ℕ) (lists : List (List TheEdit))
-        → let all = map (λ link. seen (ends link) (reads link)) links.items in
+        → let all = map (λ link. seen (ends link) (reads link)) links.old.items in
         AsksToMerge (map string_bytes words.now) all out world lists
         → H.contents host.old ≡ Some t → NothingFailed (H.faults host.old) (H.faults host.new)
         → MergesSet out t world all lists result (H.contents host.new) }

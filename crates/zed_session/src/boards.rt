@@ -1,11 +1,14 @@
 //! The board of a document that is shown or played.
-ghost use Rattle.std.specs.Prelude.{◌≡◌, ◌≤◌, false, slice_get};
+ghost use Rattle.std.specs.Prelude.{◌≡◌, ◌≤◌, ◌⊎◌, IfErr, false, slice_get};
+ghost use Rattle.zed_host.specs.Counting.{Counts};
 ghost use Rattle.zed_types.specs.declared.limits.TheConstants.{READ_BODY_LIMIT};
 ghost use Rattle.zed_edit.specs.Replay.{replay};
 ghost use Rattle.zed_export.specs.World.{exported_boards};
-ghost use Rattle.zed_session.specs.Boards.{Answers, Draws, GivesWorld, Opens, lack_of, world_shown};
+ghost use Rattle.zed_session.specs.Boards.{Answers, Draws, GivesWorld, Opens, ShowsBoard, lack_of, world_shown};
+ghost use Rattle.zed_session.specs.Refusals.{ShownAfter, ShowsOnce, is_screen_fault};
 
 use crate::error::SessionError;
+use crate::screen::{Screen, show_on};
 use std::alloc::Global;
 use zed_document::Document;
 use zed_export::{ExportError, export};
@@ -46,7 +49,7 @@ fn world_for(
 }
 
 /// The picture of the board of this number.
-pub(crate) fn picture_of(
+fn picture_of(
     alloc: Global,
     document: &Document,
     board: usize,
@@ -71,4 +74,28 @@ pub(crate) fn playtest_of(
 {
     let world = world_for(alloc, document, board, limit)?;
     Ok(Play::new(alloc, world, board, 1)?)
+}
+
+/// Shows the board of this number of the world that a document exports at a limit, the most bytes of a board's body, which is at most
+/// 32,767, on a screen. The refusals, the first that applies: those of the export; NoBoard where the world has no such board; ScreenFault
+/// where the screen failed. Where it is refused for anything else, the screen isn't called, and else once.
+pub fn show_board(
+    alloc: Global,
+    screen: &mut dyn Screen,
+    document: &Document,
+    board: usize,
+    limit: usize,
+) -> Result<(), SessionError>
+    requires { limit ≤ READ_BODY_LIMIT }
+    ensures result { Answers (world_shown limit document.now) board
+        (ShowsBoard (shown screen.old) (shown screen.new)) result }
+    ensures err { IfErr result (λ e. ShownAfter e (shown screen.old) (shown screen.new)) }
+    ensures screen_faults { Counts (is_screen_fault result)
+        (screen_failures screen.old) (screen_failures screen.new) }
+    ensures foretold { ShowsOnce result
+        (screen_foretells screen.old) (screen_foretells screen.new) }
+    ensures kept { IfErr result (λ e. (e ≡ SessionError.ScreenFault) ⊎ (screen.new ≡ screen.old)) }
+{
+    let frame = picture_of(alloc, document, board, limit)?;
+    show_on(screen, &frame)
 }

@@ -34,8 +34,8 @@ pub trait Keys: Drop {
         ensures { result ≡ key_failures self.now };
 }
 
-/// The next key of a boxed source.
-pub(crate) fn next_of(keys: &mut Box<dyn Keys>) -> Result<Option<Key>, SessionError>
+/// The next key of a source.
+pub(crate) fn next_of(keys: &mut dyn Keys) -> Result<Option<Key>, SessionError>
     ensures key { IfOk result (λ key. IfSome (left keys.old) (λ told. key ≡ first_of told)) }
     ensures ok { OnOk result (left keys.new ≡ without_first (left keys.old)) }
     ensures kept { OnErr result (left keys.new ≡ left keys.old) }

@@ -14,6 +14,7 @@ mod screen;
 mod session;
 mod stage;
 
+pub use boards::show_board;
 pub use error::SessionError;
 pub use holding::HoldsDocument;
 pub use keys::Keys;

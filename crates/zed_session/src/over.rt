@@ -1,5 +1,6 @@
 //! What goes over one boxed link.
 ghost use Rattle.std.specs.Prelude.{◌≡◌, ◌≢◌, ◌↔◌, true, false, Err, IfErr, OnErr, OnOk};
+ghost use Rattle.zed_document.specs.Counts.{NoCountFalls};
 ghost use Rattle.zed_link.specs.Counting.{Faulted};
 ghost use Rattle.zed_link.specs.Ends.{Changed, Took, TookFront};
 ghost use Rattle.zed_session.specs.Links.{PullsOver, seen};
@@ -37,6 +38,8 @@ pub(crate) fn receive_over(
     ensures world { document.new.world ≡ document.old.world }
     ensures stale { (result ≢ Err LinkError.Memory)
         → document.new.is_stale ≡ document.old.is_stale }
+    ensures visits { (result ≢ Err LinkError.Memory)
+        → NoCountFalls document.old.counts document.new.counts }
     ensures calm { OnOk result
         ((failed link.new ≡ failed link.old) × (stalls link.new ≡ stalls link.old)) }
     ensures accepts { accepts link.new ≡ accepts link.old }

@@ -37,8 +37,8 @@ pub trait Screen: Drop {
         ensures { result ≡ screen_failures self.now };
 }
 
-/// Shows a frame on a boxed screen.
-pub(crate) fn show_on(screen: &mut Box<dyn Screen>, frame: &Frame) -> Result<(), SessionError>
+/// Shows a frame on a screen.
+pub(crate) fn show_on(screen: &mut dyn Screen, frame: &Frame) -> Result<(), SessionError>
     ensures ok { OnOk result (shown screen.new ≡ showing frame.now (shown screen.old)) }
     ensures told { OnErr result (is_some (shown screen.new) ≡ is_some (shown screen.old)) }
     ensures err { IfErr result (λ e. e ≡ SessionError.ScreenFault) }

@@ -1,6 +1,7 @@
 //! The session: a document, its links and its stage.
 ghost use Rattle.std.specs.Prelude.{◌≡◌, ◌≢◌, ◌≤◌, ◌<◌, ◌⊎◌, ◌↔◌, ℕ, [], ◌∷◌, ◌++◌, None, Some, Ok, Err, true, false, IfErr, IfOk, OnErr, OnOk, length, map, option_map, remove, slice_get, vec_capacity, vec_len};
 ghost use Rattle.zed_types.specs.declared.limits.TheConstants.{READ_BODY_LIMIT};
+ghost use Rattle.zed_document.specs.Counts.{NoCountFalls};
 ghost use Rattle.zed_editfile.specs.Spelling.{file_text};
 ghost use Rattle.zed_link.specs.Ends.{Changed, Took};
 ghost use Rattle.zed_session.specs.Boards.{Answers, ShowsBoard, Starts, world_shown};
@@ -219,7 +220,8 @@ impl Session {
     /// Reads an edit file of the document's world from the link of this place, to the end of input, and delivers each of its edits as
     /// soon as it is whole. NoLink where no link has this place; then Stale, with nothing read. After any other refusal the link is let
     /// go, and what was delivered before stays: what comes first of LinkFault where a read fails, the refusals of an edit file, Clash,
-    /// Memory, after which the document may be stale, and TooManyTurns after 1,048,576 reads that weren't the end.
+    /// Memory, after which the document may be stale, and TooManyTurns after 1,048,576 reads that weren't the end. But for Memory no count
+    /// of looks is lower than before.
     #[tactic(auto, using(crate::proofs::Places::others_at, crate::proofs::Places::shown_same))]
     pub fn pull(&mut self, i: usize) -> Result<Pulled, SessionError>
         ensures no_link { (result ≡ Err SessionError.NoLink) ↔ (length self.old.links.items ≤ i) }
@@ -249,6 +251,8 @@ impl Session {
         ensures world { self.new.document.world ≡ self.old.document.world }
         ensures sound { (result ≢ Err SessionError.Memory)
             → self.new.document.is_stale ≡ self.old.document.is_stale }
+        ensures visits { (result ≢ Err SessionError.Memory)
+            → NoCountFalls self.old.document.counts self.new.document.counts }
         ensures stage { self.new.stage ≡ self.old.stage }
     {
         if i >= self.links() {

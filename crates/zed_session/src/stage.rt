@@ -1,21 +1,20 @@
 //! The stage: a screen, a source of keys, and a playtest.
-ghost use Rattle.std.specs.Prelude.{◌≡◌, ◌≤◌, ◌⊎◌, None, IfErr, IfOk, IfSome, MatchResult, OnErr, OnOk, Err, false, is_err, is_some, option_map, true};
+ghost use Rattle.std.specs.Prelude.{◌≡◌, ◌≤◌, None, IfErr, OnErr, false, option_map, true};
 ghost use Rattle.zed_host.specs.Counting.{Counts};
 ghost use Rattle.zed_types.specs.declared.limits.TheConstants.{READ_BODY_LIMIT};
-ghost use Rattle.zed_session.specs.Devices.{AsksOnce, Foretold};
+ghost use Rattle.zed_session.specs.Devices.{AsksOnce};
 ghost use Rattle.zed_session.specs.Refusals.{ShownAfter, ShowsOnce, is_key_fault, is_screen_fault};
 ghost use Rattle.zed_session.specs.Boards.{Answers, ShowsBoard, Starts, world_shown};
-ghost use Rattle.zed_session.specs.Play.{PlaysKey, ShowsKey, ShowsPlay, ShowsStep, Takes, goes_on};
+ghost use Rattle.zed_session.specs.Play.{PlaysKey, ShowsKey, ShowsStep, goes_on};
 
-use crate::boards::{picture_of, playtest_of};
+use crate::boards::show_board;
 use crate::error::SessionError;
-use crate::keys::{Keys, next_of};
+use crate::keys::Keys;
 use crate::playing::Playing;
-use crate::screen::{Screen, show_on};
+use crate::screen::Screen;
 use std::alloc::Global;
 use zed_document::Document;
-use zed_play::{Key, Play};
-use zed_screen::draw_play;
+use zed_play::Play;
 
 /// A screen and a source of keys, with what is being played there.
 #[derive(Drop)]
@@ -45,7 +44,7 @@ impl Stage {
     pub fn playtest(&self) -> Option<&Play>
         ensures result { option_map (λ play. play.now) result ≡ self.now.playing.playtest }
     {
-        self.playing.playtest.as_ref()
+        self.playing.playtest()
     }
 
     /// Shows the board of this number of the world that the document exports at a limit, the most bytes of a board's body, which is at
@@ -69,8 +68,7 @@ impl Stage {
         ensures keys { self.new.keys ≡ self.old.keys }
         ensures playing { self.new.playing ≡ self.old.playing }
     {
-        let frame = picture_of(self.alloc, document, board, limit)?;
-        show_on(&mut self.screen, &frame)
+        show_board(self.alloc, self.screen.as_mut(), document, board, limit)
     }
 
     /// Starts a playtest, at tick 1, of the board of this number of the world that the document exports at a limit, the most bytes of a
@@ -88,53 +86,7 @@ impl Stage {
         ensures screen { self.new.screen ≡ self.old.screen }
         ensures keys { self.new.keys ≡ self.old.keys }
     {
-        let play = playtest_of(self.alloc, document, board, limit)?;
-        self.playing = Playing {
-            playtest: Some(play),
-            kept: None,
-        };
-        Ok(())
-    }
-
-    /// The key that was kept, or else the next one of the source.
-    fn take_key(&mut self) -> Result<Option<Key>, SessionError>
-        ensures ok { IfOk result (λ key. Takes
-            self.old.playing.kept (left self.old.keys) key (left self.new.keys)) }
-        ensures playing { self.new.playing ≡ record self.old.playing { kept = None } }
-        ensures none_kept { OnErr result (self.old.playing.kept ≡ None) }
-        ensures err { IfErr result (λ e. e ≡ SessionError.KeyFault) }
-        ensures left { OnErr result (left self.new.keys ≡ left self.old.keys) }
-        ensures failures { Counts (is_key_fault result)
-            (key_failures self.old.keys) (key_failures self.new.keys) }
-        ensures foretold { AsksOnce self.old.playing.kept (is_key_fault result)
-            (keys_foretell self.old.keys) (keys_foretell self.new.keys) }
-        ensures screen { self.new.screen ≡ self.old.screen }
-    {
-        match self.playing.kept.take() {
-            Some(key) => Ok(Some(key)),
-            None => next_of(&mut self.keys),
-        }
-    }
-
-    /// Shows the playtest that was started, as it stands.
-    fn show_playtest(&mut self) -> Result<(), SessionError>
-        requires { is_some self.old.playing.playtest ≡ true }
-        ensures ok { OnOk result (ShowsPlay
-            self.old.playing.playtest (shown self.old.screen) (shown self.new.screen)) }
-        ensures told { OnErr result
-            (is_some (shown self.new.screen) ≡ is_some (shown self.old.screen)) }
-        ensures err { IfErr result (λ e. e ≡ SessionError.ScreenFault) }
-        ensures failures { Counts (is_screen_fault result)
-            (screen_failures self.old.screen) (screen_failures self.new.screen) }
-        ensures foretold { Foretold (is_err result)
-            (screen_foretells self.old.screen) (screen_foretells self.new.screen) }
-        ensures keys { self.new.keys ≡ self.old.keys }
-        ensures playing { self.new.playing ≡ self.old.playing }
-    {
-        match &self.playing.playtest {
-            Some(play) => show_on(&mut self.screen, &draw_play(play)),
-            None => Ok(()),
-        }
+        self.playing.start(self.alloc, document, board, limit)
     }
 
     /// Takes a key, makes a step of the playtest by it and shows that, and tells how many words of chance it used; None where no key is
@@ -157,14 +109,11 @@ impl Stage {
         ensures screen_foretold { ShowsStep result
             (screen_foretells self.old.screen) (screen_foretells self.new.screen) }
     {
+        // Asked here too, so that the boxes are seen to be as they were.
         if !self.playing.goes_on() {
             return Err(SessionError::Over);
         }
-        let Some(key) = self.take_key()? else {
-            return Ok(None);
-        };
-        let used = self.playing.step(key, words)?;
-        self.show_playtest()?;
-        Ok(Some(used))
+        self.playing
+            .play_key(self.screen.as_mut(), self.keys.as_mut(), words)
     }
 }

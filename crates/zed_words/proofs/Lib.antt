@@ -1,4 +1,12 @@
 pub mod Readings
 pub mod Parsing
 pub mod PlainWords
+pub mod NumberWords
+pub mod CommandWords
 pub mod SaveWords
+pub mod CheckWords
+pub mod NewWords
+pub mod EditWords
+pub mod MergeWords
+pub mod ShowWords
+pub mod PlayWords

@@ -23,21 +23,21 @@ save_so t limit out files p q r so is = (is.0, made_so p q t files (file_of limi
 pub check_so : (t : HostContents) (limit : ℕ) (files : List (List ℕ)) (p q : Type 0) (r : Result Effect Refusal) → (p → q) → ComesToCheck p t limit files r → ComesToCheck q t limit files r
 check_so t limit files p q r so is = (is.0, made_so p q t files (report_on limit) is.0 so is.1, is.2)
 
-pub show_so : (stage : Stage) (t : HostContents) (limit board : ℕ) (files : List (List ℕ)) (p q : Type 0) (r : Result Effect Refusal) → (p → q) → ComesToShow p stage t limit board files r → ComesToShow q stage t limit board files r
-show_so stage t limit board files p q r so is = (is.0, is.1, collected_so p q t files is.0 so is.2, is.3, is.4)
+pub show_so : (old new : Stage) (t : HostContents) (limit board : ℕ) (files : List (List ℕ)) (p q : Type 0) (r : Result Effect Refusal) → (p → q) → ComesToShow p old new t limit board files r → ComesToShow q old new t limit board files r
+show_so old new t limit board files p q r so is = (is.0, is.1, collected_so p q t files is.0 so is.2, is.3, is.4)
 
-file_so : (stage : Stage) (p q : Type 0) (t : HostContents) (names : List (List ℕ)) (read : Option (List ℕ)) (limit board : ℕ) (r : Result (List ℕ) Refusal) → (p → q)
-    → PlaysFile stage read limit board (Collects p t names) r → PlaysFile stage read limit board (Collects q t names) r
-file_so stage p q t names None limit board r so is = is
-file_so stage p q t names (Some bytes) limit board r so is = (is.0, collected_so p q t names is.0 so is.1, is.2)
+file_so : (old new : Stage) (p q : Type 0) (t : HostContents) (names : List (List ℕ)) (read : Option (List ℕ)) (limit board : ℕ) (r : Result (List ℕ) Refusal) → (p → q)
+    → PlaysFile old new read limit board (Collects p t names) r → PlaysFile old new read limit board (Collects q t names) r
+file_so old new p q t names None limit board r so is = is
+file_so old new p q t names (Some bytes) limit board r so is = (is.0, collected_so p q t names is.0 so is.1, is.2)
 
-played_so : (stage : Stage) (p q : Type 0) (t : HostContents) (limit board : ℕ) (chance : List ℕ) (files : List (List ℕ)) (r : Result (List ℕ) Refusal) → (p → q)
-    → IsPlayedOf p stage t limit board chance files r → IsPlayedOf q stage t limit board chance files r
-played_so stage p q t limit board chance files r so is = (is.0, read_so p q t chance is.0 so is.1, file_so stage p q t files is.0 limit board r so is.2)
+played_so : (old new : Stage) (p q : Type 0) (t : HostContents) (limit board : ℕ) (chance : List ℕ) (files : List (List ℕ)) (r : Result (List ℕ) Refusal) → (p → q)
+    → IsPlayedOf p old new t limit board chance files r → IsPlayedOf q old new t limit board chance files r
+played_so old new p q t limit board chance files r so is = (is.0, read_so p q t chance is.0 so is.1, file_so old new p q t files is.0 limit board r so is.2)
 
-pub play_so : (stage : Stage) (t : HostContents) (limit board : ℕ) (chance : List ℕ) (files : List (List ℕ)) (p q : Type 0) (r : Result Effect Refusal) → (p → q)
-    → ComesToPlay p stage t limit board chance files r → ComesToPlay q stage t limit board chance files r
-play_so stage t limit board chance files p q r so is = (is.0, played_so stage p q t limit board chance files is.0 so is.1, is.2)
+pub play_so : (old new : Stage) (t : HostContents) (limit board : ℕ) (chance : List ℕ) (files : List (List ℕ)) (p q : Type 0) (r : Result Effect Refusal) → (p → q)
+    → ComesToPlay p old new t limit board chance files r → ComesToPlay q old new t limit board chance files r
+play_so old new t limit board chance files p q r so is = (is.0, played_so old new p q t limit board chance files is.0 so is.1, is.2)
 
 -- where there is no set of edits, nothing is made of it
 pub not_made : (failed : Type 0) (t : HostContents) (names : List (List ℕ)) (make : List Edit → Result (List ℕ) Refusal) (e : Refusal)
@@ -62,51 +62,51 @@ pub not_reported : (failed : Type 0) (limit : ℕ) (names : List (List ℕ)) (t 
 not_reported failed limit names t e why = elim why [ inl memory ↦ inl memory | inr made ↦ inr (Err e, made, refl) ]
 
 -- and nothing told of a playtest
-pub not_played : (failed : Type 0) (stage : Stage) (limit board : ℕ) (chance : List ℕ) (names : List (List ℕ)) (t : HostContents) (e : Refusal)
-    → (e ≡ Memory) ⊎ IsPlayedOf failed stage t limit board chance names (Err e) → (e ≡ Memory) ⊎ ComesToPlay failed stage t limit board chance names (Err e)
-not_played failed stage limit board chance names t e why = elim why [ inl memory ↦ inl memory | inr is ↦ inr (Err e, is, refl) ]
+pub not_played : (failed : Type 0) (old new : Stage) (limit board : ℕ) (chance : List ℕ) (names : List (List ℕ)) (t : HostContents) (e : Refusal)
+    → (e ≡ Memory) ⊎ IsPlayedOf failed old new t limit board chance names (Err e) → (e ≡ Memory) ⊎ ComesToPlay failed old new t limit board chance names (Err e)
+not_played failed old new limit board chance names t e why = elim why [ inl memory ↦ inl memory | inr is ↦ inr (Err e, is, refl) ]
 
 -- and nothing shown
-pub not_shown : (failed : Type 0) (stage : Stage) (limit board : ℕ) (names : List (List ℕ)) (t : HostContents) (e : Refusal)
-    → (e ≡ Memory) ⊎ Collects failed t names (Err e) → (e ≡ Memory) ⊎ ComesToShow failed stage t limit board names (Err e)
-not_shown failed stage limit board names t e why = elim why [ inl memory ↦ inl memory | inr first ↦ inr (Err e, Err e, first, refl, refl) ]
+pub not_shown : (failed : Type 0) (old new : Stage) (limit board : ℕ) (names : List (List ℕ)) (t : HostContents) (e : Refusal)
+    → (e ≡ Memory) ⊎ Collects failed t names (Err e) → (e ≡ Memory) ⊎ ComesToShow failed old new t limit board names (Err e)
+not_shown failed old new limit board names t e why = elim why [ inl memory ↦ inl memory | inr first ↦ inr (Err e, Err e, first, refl, refl) ]
 
 -- a board is shown, or not
-pub show_ends : (failed : Type 0) (stage : Stage) (limit : ℕ) (result : Result (Unit {0}) Refusal) (asked board : ℕ) (names : List (List ℕ)) (t : HostContents) (es : List Edit) (new : Option HostContents) → new ≡ Some t
+pub show_ends : (failed : Type 0) (old after : Stage) (limit : ℕ) (result : Result (Unit {0}) Refusal) (asked board : ℕ) (names : List (List ℕ)) (t : HostContents) (es : List Edit) (new : Option HostContents) → new ≡ Some t
     → asked ≡ board → Collects failed t names (Ok es)
-    → MatchResult result (λ _. OfSet limit (Ok es) asked (IsShown stage.screen) (Ok tt)) (λ e. (e ≡ Memory) ⊎ OfSet limit (Ok es) asked (IsShown stage.screen) (Err e))
-    → Ends failed (ComesToShow failed stage t limit board names) t result new
-show_ends failed stage limit (Ok u) asked board names t es new at same all is =
-    (Leaves, (Ok es, Ok tt, all, subst (λ n. OfSet limit (Ok es) n (IsShown stage.screen) (Ok tt)) same is, refl), at)
-show_ends failed stage limit (Err e) asked board names t es new at same all why =
-    refused_ends failed (ComesToShow failed stage t limit board names) t e new at (elim why [
+    → MatchResult result (λ _. OfSet limit (Ok es) asked (IsShown old after) (Ok tt)) (λ e. (e ≡ Memory) ⊎ OfSet limit (Ok es) asked (IsShown old after) (Err e))
+    → Ends failed (ComesToShow failed old after t limit board names) t result new
+show_ends failed old after limit (Ok u) asked board names t es new at same all is =
+    (Leaves, (Ok es, Ok tt, all, subst (λ n. OfSet limit (Ok es) n (IsShown old after) (Ok tt)) same is, refl), at)
+show_ends failed old after limit (Err e) asked board names t es new at same all why =
+    refused_ends failed (ComesToShow failed old after t limit board names) t e new at (elim why [
       | inl memory ↦ inl memory
-      | inr is ↦ inr (Ok es, Err e, all, subst (λ n. OfSet limit (Ok es) n (IsShown stage.screen) (Err e)) same is, refl)
+      | inr is ↦ inr (Ok es, Err e, all, subst (λ n. OfSet limit (Ok es) n (IsShown old after) (Err e)) same is, refl)
     ])
 
 -- what is told of a playtest by the words of a file that was read
-pub played_result : (failed : Type 0) (stage : Stage) (limit : ℕ) (result : Result (Vec ℕ) Refusal) (t : HostContents) (asked board : ℕ) (chance bytes words : List ℕ) (names : List (List ℕ)) (es : List Edit)
+pub played_result : (failed : Type 0) (old new : Stage) (limit : ℕ) (result : Result (Vec ℕ) Refusal) (t : HostContents) (asked board : ℕ) (chance bytes words : List ℕ) (names : List (List ℕ)) (es : List Edit)
     → asked ≡ board → words ≡ words_in bytes → file_in t chance ≡ Some bytes → Collects failed t names (Ok es)
-    → MatchResult result (λ text. OfSet limit (Ok es) asked (IsPlayed stage words) (Ok text.items)) (λ e. (e ≡ Memory) ⊎ OfSet limit (Ok es) asked (IsPlayed stage words) (Err e))
-    → MatchResult result (λ text. IsPlayedOf failed stage t limit board chance names (Ok text.items)) (λ e. (e ≡ Memory) ⊎ IsPlayedOf failed stage t limit board chance names (Err e))
-played_result failed stage limit (Ok text) t asked board chance bytes words names es same are held all is =
-    (Some bytes, inl (sym held), (Ok es, all, subst (λ n. OfSet limit (Ok es) n (IsPlayed stage (words_in bytes)) (Ok text.items)) same (subst (λ ws. OfSet limit (Ok es) asked (IsPlayed stage ws) (Ok text.items)) are is)))
-played_result failed stage limit (Err e) t asked board chance bytes words names es same are held all why =
+    → MatchResult result (λ text. OfSet limit (Ok es) asked (IsPlayed old new words) (Ok text.items)) (λ e. (e ≡ Memory) ⊎ OfSet limit (Ok es) asked (IsPlayed old new words) (Err e))
+    → MatchResult result (λ text. IsPlayedOf failed old new t limit board chance names (Ok text.items)) (λ e. (e ≡ Memory) ⊎ IsPlayedOf failed old new t limit board chance names (Err e))
+played_result failed old new limit (Ok text) t asked board chance bytes words names es same are held all is =
+    (Some bytes, inl (sym held), (Ok es, all, subst (λ n. OfSet limit (Ok es) n (IsPlayed old new (words_in bytes)) (Ok text.items)) same (subst (λ ws. OfSet limit (Ok es) asked (IsPlayed old new ws) (Ok text.items)) are is)))
+played_result failed old new limit (Err e) t asked board chance bytes words names es same are held all why =
     elim why [
       | inl memory ↦ inl memory
-      | inr is ↦ inr (Some bytes, inl (sym held), (Ok es, all, subst (λ n. OfSet limit (Ok es) n (IsPlayed stage (words_in bytes)) (Err e)) same (subst (λ ws. OfSet limit (Ok es) asked (IsPlayed stage ws) (Err e)) are is)))
+      | inr is ↦ inr (Some bytes, inl (sym held), (Ok es, all, subst (λ n. OfSet limit (Ok es) n (IsPlayed old new (words_in bytes)) (Err e)) same (subst (λ ws. OfSet limit (Ok es) asked (IsPlayed old new ws) (Err e)) are is)))
     ]
 
 -- where the words couldn't be had
-pub not_read : (failed : Type 0) (stage : Stage) (t : HostContents) (limit board : ℕ) (chance : List ℕ) (names : List (List ℕ)) (e : Refusal)
-    → (e ≡ Memory) ⊎ (e ≡ File) → (e ≡ File → IsRead failed t chance None) → (e ≡ Memory) ⊎ IsPlayedOf failed stage t limit board chance names (Err e)
-not_read failed stage t limit board chance names e why none = elim why [
+pub not_read : (failed : Type 0) (old new : Stage) (t : HostContents) (limit board : ℕ) (chance : List ℕ) (names : List (List ℕ)) (e : Refusal)
+    → (e ≡ Memory) ⊎ (e ≡ File) → (e ≡ File → IsRead failed t chance None) → (e ≡ Memory) ⊎ IsPlayedOf failed old new t limit board chance names (Err e)
+not_read failed old new t limit board chance names e why none = elim why [
   | inl memory ↦ inl memory
   | inr file ↦ inr (None, none file, ap (λ x. Err x) file)
 ]
 
 -- where the edits couldn't be had
-pub not_collected : (failed : Type 0) (stage : Stage) (t : HostContents) (limit board : ℕ) (chance bytes : List ℕ) (names : List (List ℕ)) (e : Refusal)
-    → file_in t chance ≡ Some bytes → (e ≡ Memory) ⊎ Collects failed t names (Err e) → (e ≡ Memory) ⊎ IsPlayedOf failed stage t limit board chance names (Err e)
-not_collected failed stage t limit board chance bytes names e held why =
+pub not_collected : (failed : Type 0) (old new : Stage) (t : HostContents) (limit board : ℕ) (chance bytes : List ℕ) (names : List (List ℕ)) (e : Refusal)
+    → file_in t chance ≡ Some bytes → (e ≡ Memory) ⊎ Collects failed t names (Err e) → (e ≡ Memory) ⊎ IsPlayedOf failed old new t limit board chance names (Err e)
+not_collected failed old new t limit board chance bytes names e held why =
     elim why [ inl memory ↦ inl memory | inr first ↦ inr (Some bytes, inl (sym held), (Err e, first, refl)) ]

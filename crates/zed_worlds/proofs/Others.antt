@@ -9,7 +9,7 @@ use Rattle.zed_worlds.specs.declared.saving.Product.TheVariants.{WorldFile, Repo
 use Rattle.zed_files.specs.declared.refusal.Refusal.{Refusal}
 use Rattle.zed_files.specs.declared.refusal.Refusal.TheVariants.{File}
 use Rattle.zed_session.specs.Refusals as told
-use Rattle.std.proofs.Common.{◌≡◌, ◌∙◌, ℕ, Bool, List, Option, Some, None, Result, Ok, Err, inl, inr}
+use Rattle.std.proofs.Common.{◌≡◌, ◌∙◌, ℕ, List, Option, Some, None, Result, Ok, Err, inl, inr}
 use Rattle.std.specs.Prelude.{slice_get}
 use Rattle.zed_export.specs.Limits.{exported, refusal_of}
 use Rattle.zed_edit.specs.Replay.{replay}
@@ -39,14 +39,14 @@ board_is_other (Ok w) n Does e other of is = go (slice_get w.boards n) of
     go None bad = cc
     go (Some board) does = other w.header board does is
 
-pub shown_is_other : (limit : ℕ) (es : List Edit) (n : ℕ) (screen : Option (List Bool)) (e : Refusal) → OfSet limit (Ok es) n (IsShown screen) (Err e) → e ≡ File → ⊥
-shown_is_other limit es n screen e of is =
-    board_is_other (exported limit (replay es)) n (IsShown screen) e (λ header board shown file. elim shown [ inl ok ↦ (let no = ok.0 in cc) | inr fault ↦ (let no = fault.0 in cc) ]) of is
+pub shown_is_other : (limit : ℕ) (es : List Edit) (n : ℕ) (old new : Stage) (e : Refusal) → OfSet limit (Ok es) n (IsShown old new) (Err e) → e ≡ File → ⊥
+shown_is_other limit es n old new e of is =
+    board_is_other (exported limit (replay es)) n (IsShown old new) e (λ header board shown file. elim shown [ inl ok ↦ (let no = ok.0 in cc) | inr fault ↦ (let no = fault.0 in cc) ]) of is
 
-pub played_is_other : (limit : ℕ) (es : List Edit) (n : ℕ) (d : Stage) (words : List ℕ) (e : Refusal) → OfSet limit (Ok es) n (IsPlayed d words) (Err e) → e ≡ File → ⊥
-played_is_other limit es n d words e of is = board_is_other (exported limit (replay es)) n (IsPlayed d words) e (λ header board plays file. ends plays.0 plays.1 plays.4) of is
+pub played_is_other : (limit : ℕ) (es : List Edit) (n : ℕ) (old new : Stage) (words : List ℕ) (e : Refusal) → OfSet limit (Ok es) n (IsPlayed old new words) (Err e) → e ≡ File → ⊥
+played_is_other limit es n old new words e of is = board_is_other (exported limit (replay es)) n (IsPlayed old new words) e (λ header board plays file. ends plays.0 plays.1 plays.4) of is
   where
-    ends : (n : ℕ) (c : Course) → EndsPlay n c (Err e) → ⊥
+    ends : (n : ℕ) (c : Course) → EndsPlay n c new (Err e) → ⊥
     ends n c how = elim how [
       | inl ok ↦ (let no = ok.0 in cc)
       | inr how ↦ elim how [

@@ -14,15 +14,18 @@ use Rattle.zed_export.specs.Limits.{exported}
 use Rattle.zed_play.specs.Opening.{play_of}
 use Rattle.zed_play.specs.Playtest.{Playtest}
 use Rattle.zed_play.specs.Step.{Steps}
-use Rattle.zed_session.specs.Devices.{ComesAs, Foretold}
-use Rattle.zed_session.specs.Play.{Takes}
+use Rattle.zed_screen.specs.declared.frame.Frame.{Frame}
+use Rattle.zed_screen.specs.Frames.{Shows}
+use Rattle.zed_screen.specs.Picture.{data_cell}
+use Rattle.zed_session.specs.Devices.{Foretold, showing}
+use Rattle.zed_session.specs.Play.{ShowsPlay, Takes}
 use Rattle.zed_worlds.specs.Told.{told_of}
 use Rattle.zed_files.specs.Refusals.{export_refusal}
 use Rattle.zed_host.specs.HostContents.{HostContents, IsRead}
 use Rattle.zed_files.specs.Collected.{Collects}
 use Rattle.zed_files.specs.Effects.{Effect, Leaves}
 use Rattle.zed_worlds.specs.Made.{prints_report}
-use Rattle.zed_worlds.specs.Stage.{Stage, stage}
+use Rattle.zed_worlds.specs.Stage.{Stage}
 
 -- what a command does with a board of a world, and what it comes to then
 abbrev pub OnBoard : Type 0 → Type 1
@@ -43,9 +46,13 @@ abbrev pub OfSet : {X : Type 0} → ℕ → Result (List Edit) Refusal → ℕ �
 OfSet limit (Err e) n Does r = r ≡ Err e
 OfSet limit (Ok es) n Does r = OfWorld (exported limit (replay es)) n Does r
 
--- what is told of a board that is shown: the screen took it, or failed, as it foretold of its first call
-abbrev pub IsShown : Option (List Bool) → OnBoard (Unit {0})
-IsShown screen header board r = ((r ≡ Ok tt) × ComesAs false screen) ⊎ ((r ≡ Err ScreenFault) × ComesAs true screen)
+-- what is told of a board that is shown, on a stage as it was before and is then: the screen was called once, and shows its picture, if it tells what
+-- it shows; or that call failed
+abbrev pub IsShown : Stage → Stage → OnBoard (Unit {0})
+IsShown old new header board r =
+    ((r ≡ Ok tt) × Foretold false old.screen new.screen
+    × ((frame : Frame) × Shows frame (data_cell board) × (new.shown ≡ showing frame old.shown)))
+    ⊎ ((r ≡ Err ScreenFault) × Foretold true old.screen new.screen)
 
 -- numbers of two bytes each, the low one first; an odd last byte is dropped
 abbrev pub words_in : List ℕ → List ℕ
@@ -57,24 +64,31 @@ words_in (low ∷ high ∷ bytes) = (low + 256 * high) ∷ words_in bytes
 abbrev pub most_keys : ℕ
 most_keys = 1048576
 
--- where a playtest has come to, with the words that are left, and what its stage tells of keys and calls to come
+-- where a playtest has come to, with the words that are left, and with its stage
 pub record Course : Type 0 where
   pub play : Playtest
   pub words : List ℕ
-  pub keys : Option (List Key)
-  pub source : Option (List Bool)
-  pub screen : Option (List Bool)
+  pub stage : Stage
 
 -- the next key is asked for, and this one or none is handed over
-abbrev pub TakesKey : Course → Option Key → Option (List Key) → Option (List Bool) → Type 0
-TakesKey c key keys source = Takes None c.keys key keys × Foretold false c.source source
+abbrev pub TakesKey : Option Key → Stage → Stage → Type 0
+TakesKey key old new = Takes None old.keys key new.keys × Foretold false old.source new.source
+
+-- the screen is not called
+abbrev pub ShowsNothing : Stage → Stage → Type 0
+ShowsNothing old new = (new.shown ≡ old.shown) × (new.screen ≡ old.screen)
+
+-- the screen is called once, and shows the picture of a playtest, if it tells what it shows; or it fails
+abbrev pub ShowsStep : Bool → Playtest → Stage → Stage → Type 0
+ShowsStep false play old new = Foretold false old.screen new.screen × ShowsPlay (Some play) old.shown new.shown
+ShowsStep true play old new = Foretold true old.screen new.screen
 
 -- a playtest makes a step, by the next key and the words that are left; and that is shown, or the screen fails
 abbrev pub Advances : Bool → Course → Course → Type 0
 Advances failing c d =
     (key : Key) × (used : ℕ)
-    × TakesKey c (Some key) d.keys d.source × Steps (Ok used) key c.play c.words d.play × (d.words ≡ drop used c.words)
-    × Foretold failing c.screen d.screen
+    × TakesKey (Some key) c.stage d.stage × Steps (Ok used) key c.play c.words d.play × (d.words ≡ drop used c.words)
+    × ShowsStep failing d.play c.stage d.stage
 
 -- it makes so many, and each is shown
 abbrev pub StepsTo : ℕ → Course → Course → Type 0
@@ -85,43 +99,48 @@ StepsTo (suc n) c d = (next : Course) × Advances false c next × StepsTo n next
 abbrev pub GoesOn : ℕ → Course → Type 0
 GoesOn n c = (n < most_keys) × (c.play.ending ≡ None)
 
--- after so many steps a playtest is at its end, or no key is left
-abbrev pub IsOver : ℕ → Course → Type 0
-IsOver n c = (is_some c.play.ending ≡ true) ⊎ (GoesOn n c × ((source : Option (List Bool)) × TakesKey c None c.keys source))
+-- after so many steps a playtest is at its end, or no key is left; the stage is so then
+abbrev pub IsOver : ℕ → Course → Stage → Type 0
+IsOver n c last =
+    ((is_some c.play.ending ≡ true) × (last ≡ c.stage))
+    ⊎ (GoesOn n c × TakesKey None c.stage last × ShowsNothing c.stage last)
 
 -- the step by the next key lacks words
-abbrev pub LacksWords : Course → Type 0
-LacksWords c =
-    (key : Key) × (keys : Option (List Key)) × (source : Option (List Bool))
-    × TakesKey c (Some key) keys source × Steps (Err step.NoWords) key c.play c.words c.play
+abbrev pub LacksWords : Course → Stage → Type 0
+LacksWords c last =
+    (key : Key) × TakesKey (Some key) c.stage last × ShowsNothing c.stage last × Steps (Err step.NoWords) key c.play c.words c.play
 
--- how play ends after so many steps: with what is told of the playtest, once that is over; for want of words; by a fault of the source of keys,
--- or of the screen at one step more, where these foretold it if they did; or since no more keys may be played
-abbrev pub EndsPlay : ℕ → Course → Result (List ℕ) Refusal → Type 0
-EndsPlay n c r =
-    ((r ≡ Ok (told_of c.play)) × IsOver n c)
-    ⊎ ((r ≡ Err NoWords) × GoesOn n c × LacksWords c)
-    ⊎ ((r ≡ Err KeyFault) × GoesOn n c × ComesAs true c.source)
-    ⊎ ((r ≡ Err ScreenFault) × GoesOn n c × ((next : Course) × Advances true c next))
-    ⊎ ((r ≡ Err TooManyTurns) × (n ≡ most_keys) × (c.play.ending ≡ None))
+-- the source of keys fails, as it foretold, if it did
+abbrev pub LacksKey : Course → Stage → Type 0
+LacksKey c last = Foretold true c.stage.source last.source × (last.keys ≡ c.stage.keys) × ShowsNothing c.stage last
 
--- a playtest is played on, by the words and keys that are left
-abbrev pub Plays : Course → Result (List ℕ) Refusal → Type 0
-Plays first r = (n : ℕ) × (c : Course) × (n ≤ most_keys) × StepsTo n first c × EndsPlay n c r
+-- how play ends after so many steps, and the stage with it: with what is told of the playtest, once that is over; for want of words; by a fault of the
+-- source of keys, or of the screen at one step more; or since no more keys may be played
+abbrev pub EndsPlay : ℕ → Course → Stage → Result (List ℕ) Refusal → Type 0
+EndsPlay n c last r =
+    ((r ≡ Ok (told_of c.play)) × IsOver n c last)
+    ⊎ ((r ≡ Err NoWords) × GoesOn n c × LacksWords c last)
+    ⊎ ((r ≡ Err KeyFault) × GoesOn n c × LacksKey c last)
+    ⊎ ((r ≡ Err ScreenFault) × GoesOn n c × ((next : Course) × Advances true c next × (last ≡ next.stage)))
+    ⊎ ((r ≡ Err TooManyTurns) × (n ≡ most_keys) × (c.play.ending ≡ None) × (last ≡ c.stage))
 
--- a playtest with these words, and with the keys and the screen of this stage
+-- a playtest is played on, by the words and keys that are left, to its end on a stage
+abbrev pub Plays : Course → Stage → Result (List ℕ) Refusal → Type 0
+Plays first last r = (n : ℕ) × (c : Course) × (n ≤ most_keys) × StepsTo n first c × EndsPlay n c last r
+
+-- a playtest with these words, on this stage
 abbrev pub course : Stage → Playtest → List ℕ → Course
-course d p words = record { play = p; words = words; keys = d.keys; source = d.source; screen = d.screen }
+course d p words = record { play = p; words = words; stage = d }
 
--- a board is played by these words, from tick 1 on
-abbrev pub IsPlayed : Stage → List ℕ → OnBoard (List ℕ)
-IsPlayed d words header board r = Plays (course d (play_of header board 1) words) r
+-- a board is played by these words, from tick 1 on, on a stage as it was before and is then
+abbrev pub IsPlayed : Stage → Stage → List ℕ → OnBoard (List ℕ)
+IsPlayed old new words header board r = Plays (course old (play_of header board 1) words) new r
 
 -- the same by the words of a file, which is read before all others
-abbrev pub PlaysFile : Stage → Option (List ℕ) → ℕ → ℕ → (Result (List Edit) Refusal → Type 0) → Result (List ℕ) Refusal → Type 0
-PlaysFile d None limit board Collected r = r ≡ Err File
-PlaysFile d (Some bytes) limit board Collected r =
-    (set : Result (List Edit) Refusal) × Collected set × OfSet limit set board (IsPlayed d (words_in bytes)) r
+abbrev pub PlaysFile : Stage → Stage → Option (List ℕ) → ℕ → ℕ → (Result (List Edit) Refusal → Type 0) → Result (List ℕ) Refusal → Type 0
+PlaysFile old new None limit board Collected r = r ≡ Err File
+PlaysFile old new (Some bytes) limit board Collected r =
+    (set : Result (List Edit) Refusal) × Collected set × OfSet limit set board (IsPlayed old new (words_in bytes)) r
 
 -- a board was shown, which leaves the host as it is
 abbrev pub leaves_all : Result (Unit {0}) Refusal → Result Effect Refusal
@@ -129,17 +148,17 @@ leaves_all (Ok u) = Ok Leaves
 leaves_all (Err e) = Err e
 
 -- what is told of a playtest of a board of the world of these files at a limit, by the words of the first file
-abbrev pub IsPlayedOf : Type 0 → Stage → HostContents → ℕ → ℕ → List ℕ → List (List ℕ) → Result (List ℕ) Refusal → Type 0
-IsPlayedOf failed stage t limit board chance files told =
-    (read : Option (List ℕ)) × IsRead failed t chance read × PlaysFile stage read limit board (Collects failed t files) told
+abbrev pub IsPlayedOf : Type 0 → Stage → Stage → HostContents → ℕ → ℕ → List ℕ → List (List ℕ) → Result (List ℕ) Refusal → Type 0
+IsPlayedOf failed old new t limit board chance files told =
+    (read : Option (List ℕ)) × IsRead failed t chance read × PlaysFile old new read limit board (Collects failed t files) told
 
 -- what `show` comes to: its effect, or the first refusal
-abbrev pub ComesToShow : Type 0 → Stage → HostContents → ℕ → ℕ → List (List ℕ) → Result Effect Refusal → Type 0
-ComesToShow failed stage t limit board files r =
+abbrev pub ComesToShow : Type 0 → Stage → Stage → HostContents → ℕ → ℕ → List (List ℕ) → Result Effect Refusal → Type 0
+ComesToShow failed old new t limit board files r =
     (set : Result (List Edit) Refusal) × (done : Result (Unit {0}) Refusal) × Collects failed t files set
-    × OfSet limit set board (IsShown stage.screen) done × (r ≡ leaves_all done)
+    × OfSet limit set board (IsShown old new) done × (r ≡ leaves_all done)
 
 -- what `play` comes to: its effect, or the first refusal
-abbrev pub ComesToPlay : Type 0 → Stage → HostContents → ℕ → ℕ → List ℕ → List (List ℕ) → Result Effect Refusal → Type 0
-ComesToPlay failed stage t limit board chance files r =
-    (told : Result (List ℕ) Refusal) × IsPlayedOf failed stage t limit board chance files told × (r ≡ prints_report told)
+abbrev pub ComesToPlay : Type 0 → Stage → Stage → HostContents → ℕ → ℕ → List ℕ → List (List ℕ) → Result Effect Refusal → Type 0
+ComesToPlay failed old new t limit board chance files r =
+    (told : Result (List ℕ) Refusal) × IsPlayedOf failed old new t limit board chance files told × (r ≡ prints_report told)

@@ -18,7 +18,7 @@ use zed_document::Document;
 use zed_files::{Refusal, load, print_out, read_one};
 use zed_host::Host;
 use zed_play::{Ending, Messages, Play};
-use zed_session::{Keys, Screen, Session};
+use zed_session::{Keys, Playing, Screen};
 
 /// The most keys of one playtest.
 const MOST_KEYS: u32 = 1_048_576;
@@ -93,27 +93,31 @@ fn told(alloc: Global, play: &Play) -> Result<Vec<u8>, AllocError>
 // Plays a board of a document's world, until the playtest ends or no key is left, and tells of it.
 fn play_board(
     alloc: Global,
-    document: Document,
+    document: &Document,
     board: usize,
     limit: usize,
     words: &[u16],
-    screen: Box<dyn Screen>,
-    keys: Box<dyn Keys>,
+    screen: &mut dyn Screen,
+    keys: &mut dyn Keys,
 ) -> Result<Vec<u8>, Refusal>
-    requires sound { document.is_stale ≡ false }
+    requires sound { document.now.is_stale ≡ false }
     requires limit { limit ≤ READ_BODY_LIMIT }
-    ensures { let told = stage (screen_foretells screen) (left keys) (keys_foretell keys) in
+    ensures { let before = stage (shown screen.old) (screen_foretells screen.old)
+        (left keys.old) (keys_foretell keys.old) in
+        let after = stage (shown screen.new) (screen_foretells screen.new)
+        (left keys.new) (keys_foretell keys.new) in
         MatchResult result
-        (λ text. OfSet limit (Ok document.edits) board (IsPlayed told words.now) (Ok text.items))
-        (λ e. (e ≡ Refusal.Memory)
-        ⊎ OfSet limit (Ok document.edits) board (IsPlayed told words.now) (Err e)) }
+        (λ text. OfSet limit (Ok document.now.edits) board
+        (IsPlayed before after words.now) (Ok text.items))
+        (λ e. (e ≡ Refusal.Memory) ⊎ OfSet limit (Ok document.now.edits) board
+        (IsPlayed before after words.now) (Err e)) }
 {
-    let mut session = Session::new(alloc, document, screen, keys);
-    session.play(board, limit)?;
+    let mut playing = Playing::nothing();
+    playing.start(alloc, document, board, limit)?;
     let mut left = words;
     for _ in 0..MOST_KEYS {
-        let used = session.play_key(left)?;
-        let Some(play) = session.playtest() else {
+        let used = playing.play_key(screen, keys, left)?;
+        let Some(play) = playing.playtest() else {
             return Err(Refusal::Over);
         };
         let Some(used) = used else {
@@ -135,18 +139,21 @@ fn played<H: Host>(
     board: u16,
     chance: &str,
     files: &[&str],
-    screen: Box<dyn Screen>,
-    keys: Box<dyn Keys>,
+    screen: &mut dyn Screen,
+    keys: &mut dyn Keys,
 ) -> Result<Vec<u8>, Refusal>
     requires { limit ≤ READ_BODY_LIMIT }
     ensures played { (t : HostContents) → H.contents host.old ≡ Some t
         → let failed = Rose (H.faults host.old) (H.faults host.new) in
-        let told = stage (screen_foretells screen) (left keys) (keys_foretell keys) in
+        let before = stage (shown screen.old) (screen_foretells screen.old)
+        (left keys.old) (keys_foretell keys.old) in
+        let after = stage (shown screen.new) (screen_foretells screen.new)
+        (left keys.new) (keys_foretell keys.new) in
         MatchResult result
-        (λ text. IsPlayedOf failed told t limit board chance.now
+        (λ text. IsPlayedOf failed before after t limit board chance.now
         (texts_of files.now) (Ok text.items))
         (λ e. (e ≡ Refusal.Memory)
-        ⊎ IsPlayedOf failed told t limit board chance.now
+        ⊎ IsPlayedOf failed before after t limit board chance.now
         (texts_of files.now) (Err e)) }
     ensures kept { H.contents host.new ≡ H.contents host.old }
     ensures asked { Asks H.called (reading (chance.now ∷ texts_of files.now)) []
@@ -159,7 +166,7 @@ fn played<H: Host>(
     let document = load(alloc, host, files)?;
     play_board(
         alloc,
-        document,
+        &document,
         usize::from(board),
         limit,
         words.as_slice(),
@@ -176,14 +183,18 @@ pub fn play<H: Host>(
     board: u16,
     chance: &str,
     files: &[&str],
-    screen: Box<dyn Screen>,
-    keys: Box<dyn Keys>,
+    screen: &mut dyn Screen,
+    keys: &mut dyn Keys,
 ) -> Result<(), Refusal>
     requires { limit ≤ READ_BODY_LIMIT }
     ensures ends { (t : HostContents) → H.contents host.old ≡ Some t
         → let failed = Rose (H.faults host.old) (H.faults host.new) in
-        let told = stage (screen_foretells screen) (left keys) (keys_foretell keys) in
-        Ends failed (ComesToPlay failed told t limit board chance.now (texts_of files.now)) t
+        let before = stage (shown screen.old) (screen_foretells screen.old)
+        (left keys.old) (keys_foretell keys.old) in
+        let after = stage (shown screen.new) (screen_foretells screen.new)
+        (left keys.new) (keys_foretell keys.new) in
+        Ends failed (ComesToPlay failed before after t limit board chance.now
+        (texts_of files.now)) t
         result (H.contents host.new) }
     ensures asked { Asks H.called (reading (chance.now ∷ texts_of files.now)) (Printing ∷ [])
         (refusal_in result) host.old host.new }

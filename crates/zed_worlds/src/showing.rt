@@ -1,5 +1,5 @@
 //! Boards shown.
-ghost use Rattle.std.specs.Prelude.{[], ◌≡◌, ◌≤◌, ◌⊎◌, Err, MatchResult, Ok, Some, false};
+ghost use Rattle.std.specs.Prelude.{[], ◌≡◌, ◌≤◌, ◌⊎◌, Bool, Err, IfErr, List, MatchResult, Ok, OnOk, Option, Some, false, true};
 ghost use Rattle.zed_types.specs.declared.limits.TheConstants.{READ_BODY_LIMIT};
 ghost use Rattle.zed_host.specs.Counting.{Rose};
 ghost use Rattle.zed_files.specs.Faults.{TellsFile};
@@ -7,6 +7,8 @@ ghost use Rattle.zed_host.specs.HostContents.{HostContents};
 ghost use Rattle.zed_files.specs.Asked.{Asks, reading, refusal_in};
 ghost use Rattle.zed_files.specs.Effects.{Ends};
 ghost use Rattle.zed_files.specs.Texts.{texts_of};
+ghost use Rattle.zed_play.specs.declared.key.Key.{Key};
+ghost use Rattle.zed_session.specs.Devices.{Foretold};
 ghost use Rattle.zed_worlds.specs.Shown.{ComesToShow, IsShown, OfSet};
 ghost use Rattle.zed_worlds.specs.Stage.{stage};
 
@@ -14,49 +16,62 @@ use std::alloc::Global;
 use zed_document::Document;
 use zed_files::{Refusal, load};
 use zed_host::Host;
-use zed_session::{Keys, Screen, Session};
+use zed_session::{Screen, show_board};
 
 // Shows a board of a document's world at a limit.
-fn show_board(
+fn show_on(
     alloc: Global,
-    document: Document,
+    document: &Document,
     board: usize,
     limit: usize,
-    screen: Box<dyn Screen>,
-    keys: Box<dyn Keys>,
+    screen: &mut dyn Screen,
 ) -> Result<(), Refusal>
-    requires sound { document.is_stale ≡ false }
+    requires sound { document.now.is_stale ≡ false }
     requires limit { limit ≤ READ_BODY_LIMIT }
-    ensures { MatchResult result
-        (λ _. OfSet limit (Ok document.edits) board (IsShown (screen_foretells screen)) (Ok tt))
+    ensures shows { (keys : Option (List Key)) (source : Option (List Bool))
+        → let before = stage (shown screen.old) (screen_foretells screen.old) keys source in
+        let after = stage (shown screen.new) (screen_foretells screen.new) keys source in
+        MatchResult result
+        (λ _. OfSet limit (Ok document.now.edits) board (IsShown before after) (Ok tt))
         (λ e. (e ≡ Refusal.Memory)
-        ⊎ OfSet limit (Ok document.edits) board (IsShown (screen_foretells screen)) (Err e)) }
+        ⊎ OfSet limit (Ok document.now.edits) board (IsShown before after) (Err e)) }
+    ensures once { OnOk result (Foretold false
+        (screen_foretells screen.old) (screen_foretells screen.new)) }
+    ensures kept { IfErr result (λ e. ((e ≡ Refusal.ScreenFault) × Foretold true
+        (screen_foretells screen.old) (screen_foretells screen.new))
+        ⊎ (screen.new ≡ screen.old)) }
 {
-    let mut session = Session::new(alloc, document, screen, keys);
-    session.show(board, limit)?;
+    show_board(alloc, screen, document, board, limit)?;
     Ok(())
 }
 
-/// Shows a board of the world of edit files, of at most so many bytes a body.
+/// Shows a board of the world of edit files, of at most so many bytes a body. The screen is called once, and not at all where the command
+/// is refused before.
 pub fn show<H: Host>(
     alloc: Global,
     host: &mut H,
     limit: usize,
     board: u16,
     files: &[&str],
-    screen: Box<dyn Screen>,
-    keys: Box<dyn Keys>,
+    screen: &mut dyn Screen,
 ) -> Result<(), Refusal>
     requires { limit ≤ READ_BODY_LIMIT }
-    ensures ends { (t : HostContents) → H.contents host.old ≡ Some t
+    ensures ends { (t : HostContents) (keys : Option (List Key)) (source : Option (List Bool))
+        → H.contents host.old ≡ Some t
         → let failed = Rose (H.faults host.old) (H.faults host.new) in
-        let told = stage (screen_foretells screen) (left keys) (keys_foretell keys) in
-        Ends failed (ComesToShow failed told t limit board (texts_of files.now)) t
+        let before = stage (shown screen.old) (screen_foretells screen.old) keys source in
+        let after = stage (shown screen.new) (screen_foretells screen.new) keys source in
+        Ends failed (ComesToShow failed before after t limit board (texts_of files.now)) t
         result (H.contents host.new) }
+    ensures once { OnOk result (Foretold false
+        (screen_foretells screen.old) (screen_foretells screen.new)) }
+    ensures kept { IfErr result (λ e. ((e ≡ Refusal.ScreenFault) × Foretold true
+        (screen_foretells screen.old) (screen_foretells screen.new))
+        ⊎ (screen.new ≡ screen.old)) }
     ensures asked { Asks H.called (reading (texts_of files.now)) [] (refusal_in result) host.old host.new }
     ensures rises { H.faults host.old ≤ H.faults host.new }
     ensures file_only_when { TellsFile result (H.failed host.old) (H.failed host.new) }
 {
     let document = load(alloc, host, files)?;
-    show_board(alloc, document, usize::from(board), limit, screen, keys)
+    show_on(alloc, &document, usize::from(board), limit, screen)
 }

@@ -12,6 +12,7 @@ use system::{Access, SystemHost};
 use zed_disk::Place;
 use zed_link::Link;
 use zed_program::run;
+use zed_session::{Keys, Screen};
 use zed_words::{Command, ParseError, parse};
 
 // The words after the program's name. They are pushed one by one: `collect` goes on after a growth that is refused, with a smaller one.
@@ -88,9 +89,16 @@ fn carry_out(rt: HostRuntime, words: &[String]) -> io::Result<u8> {
             return Err(io::Error::from(ErrorKind::OutOfMemory));
         }
     }
-    let screen = Box::new(alloc, Printer::new(rt))?;
-    let keys = Box::new(alloc, Typed::new(rt))?;
-    Ok(run(alloc, words, &mut host, links, screen, keys))
+    let mut screen: Box<dyn Screen> = Box::new(alloc, Printer::new(rt))?;
+    let mut keys: Box<dyn Keys> = Box::new(alloc, Typed::new(rt))?;
+    Ok(run(
+        alloc,
+        words,
+        &mut host,
+        &mut links,
+        screen.as_mut(),
+        keys.as_mut(),
+    ))
 }
 
 // The status of what the words ask for.

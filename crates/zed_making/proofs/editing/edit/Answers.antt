@@ -1,8 +1,9 @@
-use Rattle.std.proofs.Common.{◌≡◌, ◌∙◌, inl, Ok, ap, length, refl}
+use Rattle.std.proofs.Common.{◌≡◌, ◌∙◌, inl, Ok, ap, ap₂, length, refl}
 use Rattle.zed_editfile.specs.Spelling.{file_text}
 use Rattle.zed_files.specs.Lines.{edits_line}
 use Rattle.zed_making.specs.Edited.{ComesToEdit}
 use Rattle.zed_files.specs.Effects.{Writes}
+use Rattle.zed_files.specs.Refusals.{file_refusal}
 use Rattle.zed_files.specs.Texts.{texts_of}
 use Rattle.zed_host.proofs.Counts.{counted_up}
 use Rattle.zed_files.proofs.Endings.{effect_ends, refused_ends}
@@ -19,8 +20,8 @@ pub returns-clause-ends : goal.returns-clause-ends
 returns-clause-ends g c = λ t at.
     let d = c.in_ok-document.document in
     let here = c.in_ok-document.ensures.kept ∙ at in
-    let line : c.as_str.result.now ≡ edits_line (length d.edits) = c.as_str.ensures.value ∙ c.in_ok-line.ensures ∙ ap (λ es. edits_line (length es)) c.edits.ensures.all in
-    let text : c.as_slice.result.now ≡ file_text d.world d.edits = c.as_slice.ensures.value ∙ c.in_ok-text.ensures.ok in
+    let line : c.as_str.result.now ≡ edits_line (length d.edits) = c.as_str.ensures.value ∙ c.in_ok-line.ensures ∙ ap (λ es. edits_line (length es)) c.edits-2.ensures.all in
+    let text : c.as_slice.result.now ≡ file_text d.world d.edits = c.as_slice.ensures.value ∙ c.in_ok-text.ensures.ok ∙ ap₂ file_text c.world.ensures c.edits.ensures.all in
     let comes : ComesToEdit _ t c.args.file.now c.args.replica (texts_of c.args.words.now) (Ok (Writes c.args.file.now c.as_slice.result.now c.as_str.result.now)) =
     (Ok (d.world, d.edits), c.in_ok-document.ensures.edited t at, rw (line, text) refl) in
     effect_ends (λ f. ComesToEdit f t c.args.file.now c.args.replica (texts_of c.args.words.now)) c.write_out.result _ _ _ t (Writes c.args.file.now c.as_slice.result.now c.as_str.result.now) _
@@ -37,7 +38,7 @@ returns-in_err-document-clause-ends g c = λ t at.
 pub returns-in_err-text-clause-ends : goal.returns-in_err-text-clause-ends
 returns-in_err-text-clause-ends g c = λ t at.
     let p = err_from_is_err_and c.from_residual-in_err-text.result c.from_residual-in_err-text.ensures.1 in
-    rw p.1 (refused_ends _ (ComesToEdit _ t c.args.file.now c.args.replica (texts_of c.args.words.now)) t p.0 _ (c.in_ok-document.ensures.kept ∙ at) (inl (p.2 ∙ c.in_err-text.ensures.err)))
+    rw p.1 (refused_ends _ (ComesToEdit _ t c.args.file.now c.args.replica (texts_of c.args.words.now)) t p.0 _ (c.in_ok-document.ensures.kept ∙ at) (inl (p.2 ∙ ap file_refusal c.in_err-text.ensures.err)))
 
 pub returns-in_err-line-clause-ends : goal.returns-in_err-line-clause-ends
 returns-in_err-line-clause-ends g c = λ t at.
@@ -53,7 +54,7 @@ returns-in_err-document-clause-file_only_when g c =
 pub returns-in_err-text-clause-file_only_when : goal.returns-in_err-text-clause-file_only_when
 returns-in_err-text-clause-file_only_when g c =
     let p = err_from_is_err_and c.from_residual-in_err-text.result c.from_residual-in_err-text.ensures.1 in
-    rw p.1 (c.in_ok-document.ensures.file_only_when.0, λ is. absurd (memory_is_other p.0 (p.2 ∙ c.in_err-text.ensures.err) is))
+    rw p.1 (c.in_ok-document.ensures.file_only_when.0, λ is. absurd (memory_is_other p.0 (p.2 ∙ ap file_refusal c.in_err-text.ensures.err) is))
 
 pub returns-in_err-line-clause-file_only_when : goal.returns-in_err-line-clause-file_only_when
 returns-in_err-line-clause-file_only_when g c =
@@ -73,7 +74,7 @@ returns-in_err-document-clause-asked g c =
 pub returns-in_err-text-clause-asked : goal.returns-in_err-text-clause-asked
 returns-in_err-text-clause-asked g c =
     let p = err_from_is_err_and c.from_residual-in_err-text.result c.from_residual-in_err-text.ensures.1 in
-    rw p.1 (refused_after g.H.Host.called (reading (c.args.file.now ∷ [])) (writing c.args.file.now) p.0 _ _ (memory_is_other p.0 (p.2 ∙ c.in_err-text.ensures.err)) c.in_ok-document.ensures.asked)
+    rw p.1 (refused_after g.H.Host.called (reading (c.args.file.now ∷ [])) (writing c.args.file.now) p.0 _ _ (memory_is_other p.0 (p.2 ∙ ap file_refusal c.in_err-text.ensures.err)) c.in_ok-document.ensures.asked)
 
 pub returns-in_err-line-clause-asked : goal.returns-in_err-line-clause-asked
 returns-in_err-line-clause-asked g c =

@@ -1,8 +1,8 @@
-use Rattle.std.proofs.Common.{◌∙◌, ap, length}
+use Rattle.std.proofs.Common.{◌≡◌, ◌∙◌, ap, length, true, false}
 use Rattle.zed_files.specs.Texts.{texts_of}
 use Rattle.zed_making.proofs.Pulls.{as_many}
 use Rattle.zed_worlds.specs.Stage.{Stage, stage}
-use Rattle.zed_program.proofs.Endings.{merge_as, play_as, show_as}
+use Rattle.zed_program.proofs.Endings.{drawn_once, merge_as, play_as, pulls_as, show_as}
 use Rattle.zed_program.proofs.program.act.Goals as goal
 
 pub returns-in-Save-clause-ends : goal.returns-in-Save-clause-ends
@@ -19,19 +19,25 @@ returns-in-Edit-clause-ends g c = λ t at. rw (c.in-Edit.is, ← c.as_slice-in-E
 
 pub returns-in-Merge-clause-ends : goal.returns-in-Merge-clause-ends
 returns-in-Merge-clause-ends g c = λ t at.
-    rw c.in-Merge.is (merge_as _ _ _ _ _ _ t _ _ (ap length c.as_slice-in-Merge.ensures.value ∙ as_many _ _) (c.merge.ensures.ends t at))
+    rw c.in-Merge.is (merge_as _ _ _ _ _ _ _ t _ _ (ap length c.as_slice-in-Merge.ensures.value ∙ as_many _ _) (c.merge.ensures.ends t at))
 
 pub returns-in-Show-clause-ends : goal.returns-in-Show-clause-ends
 returns-in-Show-clause-ends g c = λ t at.
-    let told : Stage =
-    stage ((goal.Screen-dyn g (c.args.screen.vtable, c.args.screen.value)).screen_foretells c.args.screen.value)
-    ((goal.Keys-dyn g (c.args.keys.vtable, c.args.keys.value)).left c.args.keys.value)
-    ((goal.Keys-dyn g (c.args.keys.vtable, c.args.keys.value)).keys_foretell c.args.keys.value) in
-    rw c.in-Show.is (show_as _ told _ _ _ _ _ t _ _ c.limit_of-in-Show.ensures.result (ap texts_of c.as_slice-in-Show.ensures.value) (c.show.ensures.ends t at))
+    let old : Stage =
+    stage ((goal.Screen-dyn g c.args.screen.now).shown c.args.screen.now.1)
+    ((goal.Screen-dyn g c.args.screen.now).screen_foretells c.args.screen.now.1)
+    ((goal.Keys-dyn g c.args.keys.now).left c.args.keys.now.1)
+    ((goal.Keys-dyn g c.args.keys.now).keys_foretell c.args.keys.now.1) in
+    let new : Stage =
+    stage ((goal.Screen-dyn g c.args.screen.now).shown c.show.new.screen)
+    ((goal.Screen-dyn g c.args.screen.now).screen_foretells c.show.new.screen)
+    ((goal.Keys-dyn g c.args.keys.now).left c.args.keys.now.1)
+    ((goal.Keys-dyn g c.args.keys.now).keys_foretell c.args.keys.now.1) in
+    rw c.in-Show.is (show_as _ old new _ _ _ _ _ t _ _ c.limit_of-in-Show.ensures.result (ap texts_of c.as_slice-in-Show.ensures.value) (c.show.ensures.ends t ((goal.Keys-dyn g c.args.keys.now).left c.args.keys.now.1) ((goal.Keys-dyn g c.args.keys.now).keys_foretell c.args.keys.now.1) at))
 
 pub returns-in-Play-clause-ends : goal.returns-in-Play-clause-ends
 returns-in-Play-clause-ends g c = λ t at.
-    rw c.in-Play.is (play_as _ _ _ _ _ _ _ _ t _ _ c.limit_of-in-Play.ensures.result (ap texts_of c.as_slice-in-Play.ensures.value) (c.play.ensures.ends t at))
+    rw c.in-Play.is (play_as _ _ _ _ _ _ _ _ _ t _ _ c.limit_of-in-Play.ensures.result (ap texts_of c.as_slice-in-Play.ensures.value) (c.play.ensures.ends t at))
 
 pub returns-in-Save-clause-asked : goal.returns-in-Save-clause-asked
 returns-in-Save-clause-asked g c = rw (c.in-Save.is, ← c.as_slice.ensures.value) c.save.ensures.asked
@@ -53,3 +59,24 @@ returns-in-Show-clause-asked g c = rw (c.in-Show.is, ← c.as_slice-in-Show.ensu
 
 pub returns-in-Play-clause-asked : goal.returns-in-Play-clause-asked
 returns-in-Play-clause-asked g c = rw (c.in-Play.is, ← c.as_slice-in-Play.ensures.value) c.play.ensures.asked
+
+pub returns-in-Merge-clause-pulls : goal.returns-in-Merge-clause-pulls
+returns-in-Merge-clause-pulls g c =
+    rw c.in-Merge.is (pulls_as _ _ _ _ _ (ap length c.as_slice-in-Merge.ensures.value ∙ as_many _ _) c.merge.ensures.links)
+
+-- which devices a command doesn't call
+pub returns-in-Merge-clause-links : goal.returns-in-Merge-clause-links
+returns-in-Merge-clause-links g c = λ off. absurd (let bad : true ≡ false = rw c.in-Merge.is at off in cc)
+
+pub returns-in-Show-clause-screen : goal.returns-in-Show-clause-screen
+returns-in-Show-clause-screen g c = λ off. absurd (let bad : true ≡ false = rw c.in-Show.is at off in cc)
+
+pub returns-in-Play-clause-screen : goal.returns-in-Play-clause-screen
+returns-in-Play-clause-screen g c = λ off. absurd (let bad : true ≡ false = rw c.in-Play.is at off in cc)
+
+pub returns-in-Play-clause-keys : goal.returns-in-Play-clause-keys
+returns-in-Play-clause-keys g c = λ off. absurd (let bad : true ≡ false = rw c.in-Play.is at off in cc)
+
+-- a board is shown once
+pub returns-in-Show-clause-shows : goal.returns-in-Show-clause-shows
+returns-in-Show-clause-shows g c = rw c.in-Show.is (drawn_once c.show.result _ _ _ c.show.ensures.once c.show.ensures.kept)

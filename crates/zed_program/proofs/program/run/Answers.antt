@@ -12,7 +12,7 @@ use Rattle.zed_program.proofs.program.run.Goals as goal
 
 pub returns-clause-ends_calmly : goal.returns-clause-ends_calmly
 returns-clause-ends_calmly g c = λ t command asked at calm.
-    run_calmly _ command t _ _ _ c.run_words.result _ calm (rw asked at (c.run_words.ensures.ends t at))
+    run_calmly _ _ command t _ _ _ c.run_words.result _ calm (rw asked at (c.run_words.ensures.ends t at))
 
 pub returns-clause-saves : goal.returns-clause-saves
 returns-clause-saves g c = λ t profile out file files spelled plain at calm.
@@ -28,12 +28,19 @@ returns-clause-saves g c = λ t profile out file files spelled plain at calm.
 
 pub returns-clause-saves_sets : goal.returns-clause-saves_sets
 returns-clause-saves_sets g c = λ t profile out world lists asks at calm.
-    let all : Devices =
-    devices (each_of c.args.links.items (λ link. seen ((goal.Link-dyn g (link.vtable, link.value)).ends link.value) ((goal.Link-dyn g (link.vtable, link.value)).reads link.value)))
-    ((goal.Screen-dyn g (c.args.screen.vtable, c.args.screen.value)).screen_foretells c.args.screen.value)
-    ((goal.Keys-dyn g (c.args.keys.vtable, c.args.keys.value)).left c.args.keys.value)
-    ((goal.Keys-dyn g (c.args.keys.vtable, c.args.keys.value)).keys_foretell c.args.keys.value) in
-    run_of_texts all (written_is_read c.one_reading.ensures.one c.one_reading.ensures.file) (map string_bytes c.args.words.now) t profile out world lists c.run_words.result _ asks
+    let before : Devices =
+    devices (each_of c.args.links.now.items (λ link. seen ((goal.Link-dyn g (link.vtable, link.value)).ends link.value) ((goal.Link-dyn g (link.vtable, link.value)).reads link.value)))
+    ((goal.Screen-dyn g c.args.screen.now).shown c.args.screen.now.1)
+    ((goal.Screen-dyn g c.args.screen.now).screen_foretells c.args.screen.now.1)
+    ((goal.Keys-dyn g c.args.keys.now).left c.args.keys.now.1)
+    ((goal.Keys-dyn g c.args.keys.now).keys_foretell c.args.keys.now.1) in
+    let after : Devices =
+    devices (each_of c.run_words.new.links.items (λ link. seen ((goal.Link-dyn g (link.vtable, link.value)).ends link.value) ((goal.Link-dyn g (link.vtable, link.value)).reads link.value)))
+    ((goal.Screen-dyn g c.args.screen.now).shown c.run_words.new.screen)
+    ((goal.Screen-dyn g c.args.screen.now).screen_foretells c.run_words.new.screen)
+    ((goal.Keys-dyn g c.args.keys.now).left c.run_words.new.keys)
+    ((goal.Keys-dyn g c.args.keys.now).keys_foretell c.run_words.new.keys) in
+    run_of_texts before after (written_is_read c.one_reading.ensures.one c.one_reading.ensures.file) (map string_bytes c.args.words.now) t profile out world lists c.run_words.result _ asks
     (returns-clause-ends_calmly g c t (Save profile out asks.files) asks.asks at calm)
 
 pub returns-clause-reads_back : goal.returns-clause-reads_back
@@ -43,12 +50,19 @@ returns-clause-reads_back g c = λ t profile out world lists asks at calm.
 
 pub returns-clause-merges_sets : goal.returns-clause-merges_sets
 returns-clause-merges_sets g c = λ t out world lists asks at calm.
-    let all : Devices =
-    devices (each_of c.args.links.items (λ link. seen ((goal.Link-dyn g (link.vtable, link.value)).ends link.value) ((goal.Link-dyn g (link.vtable, link.value)).reads link.value)))
-    ((goal.Screen-dyn g (c.args.screen.vtable, c.args.screen.value)).screen_foretells c.args.screen.value)
-    ((goal.Keys-dyn g (c.args.keys.vtable, c.args.keys.value)).left c.args.keys.value)
-    ((goal.Keys-dyn g (c.args.keys.vtable, c.args.keys.value)).keys_foretell c.args.keys.value) in
-    run_of_links c.files_are_pulled.ensures c.deliveries_go_on.ensures c.deliveries_come_to_sets.ensures (map string_bytes c.args.words.now) all t out world lists c.run_words.result _ asks
+    let before : Devices =
+    devices (each_of c.args.links.now.items (λ link. seen ((goal.Link-dyn g (link.vtable, link.value)).ends link.value) ((goal.Link-dyn g (link.vtable, link.value)).reads link.value)))
+    ((goal.Screen-dyn g c.args.screen.now).shown c.args.screen.now.1)
+    ((goal.Screen-dyn g c.args.screen.now).screen_foretells c.args.screen.now.1)
+    ((goal.Keys-dyn g c.args.keys.now).left c.args.keys.now.1)
+    ((goal.Keys-dyn g c.args.keys.now).keys_foretell c.args.keys.now.1) in
+    let after : Devices =
+    devices (each_of c.run_words.new.links.items (λ link. seen ((goal.Link-dyn g (link.vtable, link.value)).ends link.value) ((goal.Link-dyn g (link.vtable, link.value)).reads link.value)))
+    ((goal.Screen-dyn g c.args.screen.now).shown c.run_words.new.screen)
+    ((goal.Screen-dyn g c.args.screen.now).screen_foretells c.run_words.new.screen)
+    ((goal.Keys-dyn g c.args.keys.now).left c.run_words.new.keys)
+    ((goal.Keys-dyn g c.args.keys.now).keys_foretell c.run_words.new.keys) in
+    run_of_links c.files_are_pulled.ensures c.deliveries_go_on.ensures c.deliveries_come_to_sets.ensures (map string_bytes c.args.words.now) before after t out world lists c.run_words.result _ asks
     (returns-clause-ends_calmly g c t (Merge out world asks.files) asks.asks at calm)
 
 pub returns-clause-calm : goal.returns-clause-calm

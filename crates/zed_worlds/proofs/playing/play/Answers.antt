@@ -16,27 +16,39 @@ use Rattle.zed_worlds.proofs.playing.play.Goals as goal
 
 pub returns-clause-ends : goal.returns-clause-ends
 returns-clause-ends g c = λ t at.
-    let told : Stage =
-    stage ((goal.Screen-dyn g (c.args.screen.vtable, c.args.screen.value)).screen_foretells c.args.screen.value)
-    ((goal.Keys-dyn g (c.args.keys.vtable, c.args.keys.value)).left c.args.keys.value)
-    ((goal.Keys-dyn g (c.args.keys.vtable, c.args.keys.value)).keys_foretell c.args.keys.value) in
+    let old : Stage =
+    stage ((goal.Screen-dyn g c.args.screen.now).shown c.args.screen.now.1)
+    ((goal.Screen-dyn g c.args.screen.now).screen_foretells c.args.screen.now.1)
+    ((goal.Keys-dyn g c.args.keys.now).left c.args.keys.now.1)
+    ((goal.Keys-dyn g c.args.keys.now).keys_foretell c.args.keys.now.1) in
+    let new : Stage =
+    stage ((goal.Screen-dyn g c.args.screen.now).shown c.played.new.screen)
+    ((goal.Screen-dyn g c.args.screen.now).screen_foretells c.played.new.screen)
+    ((goal.Keys-dyn g c.args.keys.now).left c.played.new.keys)
+    ((goal.Keys-dyn g c.args.keys.now).keys_foretell c.played.new.keys) in
     let here = c.in_ok-text.ensures.kept ∙ at in
-    let comes : ComesToPlay _ told t c.args.limit c.args.board c.args.chance.now (texts_of c.args.files.now) (Ok (Prints c.as_slice.result.now)) =
+    let comes : ComesToPlay _ old new t c.args.limit c.args.board c.args.chance.now (texts_of c.args.files.now) (Ok (Prints c.as_slice.result.now)) =
     (Ok c.in_ok-text.text.items, c.in_ok-text.ensures.played t at, rw c.as_slice.ensures.value refl) in
-    effect_ends (λ f. ComesToPlay f told t c.args.limit c.args.board c.args.chance.now (texts_of c.args.files.now)) c.print_out.result _ _ _ t (Prints c.as_slice.result.now) _
-    (play_so told t c.args.limit c.args.board c.args.chance.now (texts_of c.args.files.now))
+    effect_ends (λ f. ComesToPlay f old new t c.args.limit c.args.board c.args.chance.now (texts_of c.args.files.now)) c.print_out.result _ _ _ t (Prints c.as_slice.result.now) _
+    (play_so old new t c.args.limit c.args.board c.args.chance.now (texts_of c.args.files.now))
     c.in_ok-text.ensures.rises (counted_up _ _ _ c.print_out.ensures.faults) comes (c.print_out.ensures.ok t here) (c.print_out.ensures.half t here) c.print_out.ensures.err c.print_out.ensures.faults
 
 pub returns-in_err-text-clause-ends : goal.returns-in_err-text-clause-ends
 returns-in_err-text-clause-ends g c = λ t at.
-    let told : Stage =
-    stage ((goal.Screen-dyn g (c.args.screen.vtable, c.args.screen.value)).screen_foretells c.args.screen.value)
-    ((goal.Keys-dyn g (c.args.keys.vtable, c.args.keys.value)).left c.args.keys.value)
-    ((goal.Keys-dyn g (c.args.keys.vtable, c.args.keys.value)).keys_foretell c.args.keys.value) in
+    let old : Stage =
+    stage ((goal.Screen-dyn g c.args.screen.now).shown c.args.screen.now.1)
+    ((goal.Screen-dyn g c.args.screen.now).screen_foretells c.args.screen.now.1)
+    ((goal.Keys-dyn g c.args.keys.now).left c.args.keys.now.1)
+    ((goal.Keys-dyn g c.args.keys.now).keys_foretell c.args.keys.now.1) in
+    let new : Stage =
+    stage ((goal.Screen-dyn g c.args.screen.now).shown c.played.new.screen)
+    ((goal.Screen-dyn g c.args.screen.now).screen_foretells c.played.new.screen)
+    ((goal.Keys-dyn g c.args.keys.now).left c.played.new.keys)
+    ((goal.Keys-dyn g c.args.keys.now).keys_foretell c.played.new.keys) in
     let p = err_from_is_err_and c.from_residual.result c.from_residual.ensures.1 in
     let same : p.0 ≡ c.in_err-text.field-0.0 = p.2 in
-    rw (p.1, same) (refused_ends _ (ComesToPlay _ told t c.args.limit c.args.board c.args.chance.now (texts_of c.args.files.now)) t c.in_err-text.field-0.0 _ (c.in_err-text.ensures.kept ∙ at)
-    (not_played _ told c.args.limit c.args.board c.args.chance.now (texts_of c.args.files.now) t c.in_err-text.field-0.0 (c.in_err-text.ensures.played t at)))
+    rw (p.1, same) (refused_ends _ (ComesToPlay _ old new t c.args.limit c.args.board c.args.chance.now (texts_of c.args.files.now)) t c.in_err-text.field-0.0 _ (c.in_err-text.ensures.kept ∙ at)
+    (not_played _ old new c.args.limit c.args.board c.args.chance.now (texts_of c.args.files.now) t c.in_err-text.field-0.0 (c.in_err-text.ensures.played t at)))
 
 pub returns-in_err-text-clause-file_only_when : goal.returns-in_err-text-clause-file_only_when
 returns-in_err-text-clause-file_only_when g c =

@@ -9,43 +9,41 @@ use Rattle.zed_worlds.specs.Told.{told_of}
 use Rattle.zed_worlds.specs.Shown.{Course, course, most_keys}
 use Rattle.zed_files.specs.Refusals.{session_refusal}
 use Rattle.zed_session.specs.declared.playing.Playing.{Playing}
-use Rattle.zed_worlds.proofs.Played.{key_refused, key_steps, lent_is, no_key, play_begins, same_told, shown_of, still_lent}
+use Rattle.zed_worlds.proofs.Played.{key_refused, key_steps, lent_is, no_key, play_begins, shown_of, still_lent}
 use Rattle.zed_worlds.proofs.Stepping.{at_start, none_more, one_more}
 use Rattle.zed_worlds.proofs.playing.play_board.Goals as goal
 
 -- it doesn't begin
-pub returns-in_err-play : goal.returns-in_err-play
-returns-in_err-play g c =
-    let told : Stage =
-    stage ((goal.Screen-dyn g (c.args.screen.vtable, c.args.screen.value)).screen_foretells c.args.screen.value)
-    ((goal.Keys-dyn g (c.args.keys.vtable, c.args.keys.value)).left c.args.keys.value)
-    ((goal.Keys-dyn g (c.args.keys.vtable, c.args.keys.value)).keys_foretell c.args.keys.value) in
+pub returns-in_err-start : goal.returns-in_err-start
+returns-in_err-start g c =
+    let before : Stage =
+    stage ((goal.Screen-dyn g c.args.screen.now).shown c.args.screen.now.1)
+    ((goal.Screen-dyn g c.args.screen.now).screen_foretells c.args.screen.now.1)
+    ((goal.Keys-dyn g c.args.keys.now).left c.args.keys.now.1)
+    ((goal.Keys-dyn g c.args.keys.now).keys_foretell c.args.keys.now.1) in
     let p = err_from_is_err_and c.from_residual.result c.from_residual.ensures.1 in
-    let same : p.0 ≡ session_refusal c.in_err-play.field-0.0 = p.2 in
-    let d = c.args.document in
-    rw (p.1, same) (play_begins told c.args.limit d.edits c.args.board c.args.words.now c.play.new.self.stage.playing (Err c.in_err-play.field-0.0)
-    (rw (shown_of c.args.limit c.new-session.result.document d c.new-session.ensures.document c.requires.sound) at c.in_err-play.ensures.result))
+    let same : p.0 ≡ session_refusal c.in_err-start.field-0.0 = p.2 in
+    let d = c.args.document.now in
+    let begins = play_begins before c.args.limit d.edits c.args.board c.args.words.now c.start.new.self (Err c.in_err-start.field-0.0)
+    (rw (shown_of c.args.limit d c.requires.sound) at c.in_err-start.ensures.result) in
+    rw (p.1, same) (elim begins [ inl memory ↦ inl memory | inr comes ↦ inr (comes before) ])
 
 -- it begins
 pub loop-init : goal.loop-init
 loop-init g c =
-    let told : Stage =
-    stage ((goal.Screen-dyn g (c.args.screen.vtable, c.args.screen.value)).screen_foretells c.args.screen.value)
-    ((goal.Keys-dyn g (c.args.keys.vtable, c.args.keys.value)).left c.args.keys.value)
-    ((goal.Keys-dyn g (c.args.keys.vtable, c.args.keys.value)).keys_foretell c.args.keys.value) in
-    let d = c.args.document in
-    let begins = play_begins told c.args.limit d.edits c.args.board c.args.words.now c.play.new.self.stage.playing (Ok c.in_ok-play.field-0)
-    (rw (shown_of c.args.limit c.new-session.result.document d c.new-session.ensures.document c.requires.sound) at c.in_ok-play.ensures.result) in
-    let first : Course = course told begins.0 c.args.words.now in
-    let screen = c.in_ok-play.ensures.screen ∙ c.new-session.ensures.screen in
-    let keys = c.in_ok-play.ensures.keys ∙ c.new-session.ensures.keys in
-    let left = same_told c.play.new.self.stage.keys c.args.keys (λ keys. (goal.Keys-dyn g (keys.vtable, keys.value)).left keys.value) keys in
-    let source = same_told c.play.new.self.stage.keys c.args.keys (λ keys. (goal.Keys-dyn g (keys.vtable, keys.value)).keys_foretell keys.value) keys in
-    let shows = same_told c.play.new.self.stage.screen c.args.screen (λ screen. (goal.Screen-dyn g (screen.vtable, screen.value)).screen_foretells screen.value) screen in
+    let before : Stage =
+    stage ((goal.Screen-dyn g c.args.screen.now).shown c.args.screen.now.1)
+    ((goal.Screen-dyn g c.args.screen.now).screen_foretells c.args.screen.now.1)
+    ((goal.Keys-dyn g c.args.keys.now).left c.args.keys.now.1)
+    ((goal.Keys-dyn g c.args.keys.now).keys_foretell c.args.keys.now.1) in
+    let d = c.args.document.now in
+    let begins = play_begins before c.args.limit d.edits c.args.board c.args.words.now c.start.new.self (Ok c.in_ok-start.field-0)
+    (rw (shown_of c.args.limit d c.requires.sound) at c.in_ok-start.ensures.result) in
+    let first : Course = course before begins.0 c.args.words.now in
     record {
       first = first;
       now = first;
-      at = (begins.1, left, source, shows);
+      at = (begins.1, refl);
       words = refl;
       going = begins.2;
       few = omega arith;
@@ -56,33 +54,49 @@ loop-init g c =
 -- a key is refused
 pub returns-in_err-used : goal.returns-in_err-used
 returns-in_err-used g c =
+    let after : Stage =
+    stage ((goal.Screen-dyn g c.loop.screen.now).shown c.play_key.new.screen)
+    ((goal.Screen-dyn g c.loop.screen.now).screen_foretells c.play_key.new.screen)
+    ((goal.Keys-dyn g c.loop.keys.now).left c.play_key.new.keys)
+    ((goal.Keys-dyn g c.loop.keys.now).keys_foretell c.play_key.new.keys) in
     let p = err_from_is_err_and c.from_residual-in_err-used.result c.from_residual-in_err-used.ensures.1 in
     let same : p.0 ≡ session_refusal c.in_err-used.field-0.0 = p.2 in
     let old = c.loop.invariant in
     let e = c.in_err-used.field-0.0 in
-    let ends = key_refused e c.loop.counter c.loop.left.now _ _ _ _ _ _ _ _ old.now old.at old.words old.going
-    c.in_err-used.ensures.result c.in_err-used.ensures.key_foretold c.in_err-used.ensures.screen_foretold c.loop-test.true in
+    let ends = key_refused e c.loop.counter c.loop.left.now _ _ _ after old.now old.at old.words old.going
+    c.in_err-used.ensures.result c.in_err-used.ensures.key_foretold c.in_err-used.ensures.screen_foretold c.in_err-used.ensures.shown c.loop-test.true in
     rw (p.1, same) (elim ends [
       | inl memory ↦ inl memory
-      | inr how ↦ inr (old.comes (Err (session_refusal e)) (c.loop.counter, old.now, old.few, none_more c.loop.counter old.first old.now old.leads, how))
+      | inr how ↦ inr (old.comes after (Err (session_refusal e)) (c.loop.counter, old.now, old.few, none_more c.loop.counter old.first old.now old.leads, how))
     ])
 
 -- no key is left
 pub returns-in_default-used : goal.returns-in_default-used
 returns-in_default-used g c =
+    let after : Stage =
+    stage ((goal.Screen-dyn g c.loop.screen.now).shown c.play_key.new.screen)
+    ((goal.Screen-dyn g c.loop.screen.now).screen_foretells c.play_key.new.screen)
+    ((goal.Keys-dyn g c.loop.keys.now).left c.play_key.new.keys)
+    ((goal.Keys-dyn g c.loop.keys.now).keys_foretell c.play_key.new.keys) in
     let old = c.loop.invariant in
-    let stays = no_key c.loop.counter c.loop.left.now _ _ _ _ _ _ _ old.now old.at old.going (rw c.in_default-used.is at c.in_ok-used.ensures.result) c.in_ok-used.ensures.key_foretold c.loop-test.true in
+    let stays = no_key c.loop.counter c.loop.left.now _ _ _ after old.now old.at old.going (rw c.in_default-used.is at c.in_ok-used.ensures.result) c.in_ok-used.ensures.key_foretold
+    (rw c.in_default-used.is at c.in_ok-used.ensures.screen_foretold) (rw c.in_default-used.is at c.in_ok-used.ensures.shown) c.loop-test.true in
     let play : c.in-Some.play.now ≡ old.now.play = lent_is (λ p. p.now) c.in-Some.play c.playtest.result _ old.now.play c.playtest.ensures.result c.in-Some.is stays.0 in
     let text : c.in_ok-told.field-0.items ≡ told_of old.now.play = c.in_ok-told.ensures ∙ ap told_of play in
-    old.comes (Ok c.in_ok-told.field-0.items)
+    old.comes after (Ok c.in_ok-told.field-0.items)
     (c.loop.counter, old.now, old.few, none_more c.loop.counter old.first old.now old.leads, inl (ap (λ t. Ok t) text, stays.1))
 
 -- the playtest has ended
 pub returns-then-is_some : goal.returns-then-is_some
 returns-then-is_some g c =
+    let after : Stage =
+    stage ((goal.Screen-dyn g c.loop.screen.now).shown c.play_key.new.screen)
+    ((goal.Screen-dyn g c.loop.screen.now).screen_foretells c.play_key.new.screen)
+    ((goal.Keys-dyn g c.loop.keys.now).left c.play_key.new.keys)
+    ((goal.Keys-dyn g c.loop.keys.now).keys_foretell c.play_key.new.keys) in
     let old = c.loop.invariant in
-    let step = key_steps c.in-Some-used.used c.loop.left.now _ _ _ _ _ _ _ _ old.now old.at old.words old.going (rw c.in-Some-used.is at c.in_ok-used.ensures.result)
-    c.in_ok-used.ensures.key_foretold (rw c.in-Some-used.is at c.in_ok-used.ensures.screen_foretold) in
+    let step = key_steps c.in-Some-used.used c.loop.left.now _ _ _ after old.now old.at old.words old.going (rw c.in-Some-used.is at c.in_ok-used.ensures.result)
+    c.in_ok-used.ensures.key_foretold (rw c.in-Some-used.is at c.in_ok-used.ensures.screen_foretold) (rw c.in-Some-used.is at c.in_ok-used.ensures.shown) in
     let now = step.0 in
     let play : c.in-Some.play.now ≡ now.play = lent_is (λ p. p.now) c.in-Some.play c.playtest.result _ now.play c.playtest.ensures.result c.in-Some.is (ap (λ (p : Playing). p.playtest) step.2.0) in
     let text : c.in_ok-told-2.field-0.items ≡ told_of now.play = c.in_ok-told-2.ensures ∙ ap told_of play in
@@ -90,20 +104,25 @@ returns-then-is_some g c =
     let leads = one_more c.loop.counter old.first old.now now old.leads step.1 in
     let below = c.loop-test.true in
     let few : c.loop.counter + 1 ≤ most_keys = omega (arith, below) in
-    old.comes (Ok c.in_ok-told-2.field-0.items) (
+    old.comes after (Ok c.in_ok-told-2.field-0.items) (
       c.loop.counter + 1,
       now,
       few,
       none_more (c.loop.counter + 1) old.first now leads,
-      inl (ap (λ t. Ok t) text, inl (ap is_some (sym ending) ∙ sym c.is_some.ensures ∙ c.if-is_some.true)),
+      inl (ap (λ t. Ok t) text, inl (ap is_some (sym ending) ∙ sym c.is_some.ensures ∙ c.if-is_some.true, step.2.1)),
     )
 
 -- a step was made, and it goes on
 pub loop-preserved : goal.loop-preserved
 loop-preserved g c =
+    let after : Stage =
+    stage ((goal.Screen-dyn g c.loop.screen.now).shown c.play_key.new.screen)
+    ((goal.Screen-dyn g c.loop.screen.now).screen_foretells c.play_key.new.screen)
+    ((goal.Keys-dyn g c.loop.keys.now).left c.play_key.new.keys)
+    ((goal.Keys-dyn g c.loop.keys.now).keys_foretell c.play_key.new.keys) in
     let old = c.loop.invariant in
-    let step = key_steps c.in-Some-used.used c.loop.left.now _ _ _ _ _ _ _ _ old.now old.at old.words old.going (rw c.in-Some-used.is at c.in_ok-used.ensures.result)
-    c.in_ok-used.ensures.key_foretold (rw c.in-Some-used.is at c.in_ok-used.ensures.screen_foretold) in
+    let step = key_steps c.in-Some-used.used c.loop.left.now _ _ _ after old.now old.at old.words old.going (rw c.in-Some-used.is at c.in_ok-used.ensures.result)
+    c.in_ok-used.ensures.key_foretold (rw c.in-Some-used.is at c.in_ok-used.ensures.screen_foretold) (rw c.in-Some-used.is at c.in_ok-used.ensures.shown) in
     let now = step.0 in
     let play : c.in-Some.play.now ≡ now.play = lent_is (λ p. p.now) c.in-Some.play c.playtest.result _ now.play c.playtest.ensures.result c.in-Some.is (ap (λ (p : Playing). p.playtest) step.2.0) in
     let ending : c.ending.result ≡ now.play.ending = c.ending.ensures.result ∙ ap (λ (p : Playtest). p.ending) play in
@@ -126,7 +145,7 @@ returns g c =
     let few = old.few in
     let past = c.loop-test.false in
     let all : c.loop.counter ≡ most_keys = omega (arith, few, past) in
-    inr (old.comes (Err TooManyTurns) (c.loop.counter, old.now, old.few, none_more c.loop.counter old.first old.now old.leads, inr (inr (inr (inr (refl, all, old.going))))))
+    inr (old.comes _ (Err TooManyTurns) (c.loop.counter, old.now, old.few, none_more c.loop.counter old.first old.now old.leads, inr (inr (inr (inr (refl, all, old.going, old.at.1))))))
 
 -- a playtest that was started goes on
 pub returns-in_default : goal.returns-in_default

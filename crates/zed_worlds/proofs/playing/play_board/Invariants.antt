@@ -1,6 +1,6 @@
 use Rattle.std.proofs.Common.{◌≡◌, ◌≤◌, List, None, Ok, Result, ℕ, []}
 use Rattle.zed_files.specs.declared.refusal.Refusal.{Refusal}
-use Rattle.zed_worlds.specs.Stage.{stage}
+use Rattle.zed_worlds.specs.Stage.{Stage, stage}
 use Rattle.zed_worlds.specs.Shown.{Course, IsPlayed, OfSet, Plays, most_keys}
 use Rattle.zed_worlds.proofs.Played.{IsAt}
 use Rattle.zed_worlds.proofs.Stepping.{Leads}
@@ -11,15 +11,17 @@ abbrev pub invariant-loop : goal.invariant-loop
 invariant-loop g l = record {
   first : Course;
   now : Course;
-  at : IsAt now l.session.stage.playing ((goal.Keys-dyn g (l.session.stage.keys.vtable, l.session.stage.keys.value)).left l.session.stage.keys.value)
-      ((goal.Keys-dyn g (l.session.stage.keys.vtable, l.session.stage.keys.value)).keys_foretell l.session.stage.keys.value)
-      ((goal.Screen-dyn g (l.session.stage.screen.vtable, l.session.stage.screen.value)).screen_foretells l.session.stage.screen.value);
+  at : IsAt now l.playing (stage ((goal.Screen-dyn g l.screen.now).shown l.screen.now.1)
+      ((goal.Screen-dyn g l.screen.now).screen_foretells l.screen.now.1)
+      ((goal.Keys-dyn g l.keys.now).left l.keys.now.1)
+      ((goal.Keys-dyn g l.keys.now).keys_foretell l.keys.now.1));
   words : l.left ≡ now.words;
   going : now.play.ending ≡ None;
   few : l.counter ≤ most_keys;
   leads : Leads l.counter first now;
-  comes : (r : Result (List ℕ) Refusal) → Plays first r → OfSet l.fn.limit (Ok l.fn.document.edits) l.fn.board
-      (IsPlayed (stage ((goal.Screen-dyn g (l.fn.screen.vtable, l.fn.screen.value)).screen_foretells l.fn.screen.value)
-      ((goal.Keys-dyn g (l.fn.keys.vtable, l.fn.keys.value)).left l.fn.keys.value)
-      ((goal.Keys-dyn g (l.fn.keys.vtable, l.fn.keys.value)).keys_foretell l.fn.keys.value)) l.words) r;
+  comes : (last : Stage) (r : Result (List ℕ) Refusal) → Plays first last r → OfSet l.fn.limit (Ok l.document.edits) l.fn.board
+      (IsPlayed (stage ((goal.Screen-dyn g l.fn.screen.now).shown l.fn.screen.now.1)
+      ((goal.Screen-dyn g l.fn.screen.now).screen_foretells l.fn.screen.now.1)
+      ((goal.Keys-dyn g l.fn.keys.now).left l.fn.keys.now.1)
+      ((goal.Keys-dyn g l.fn.keys.now).keys_foretell l.fn.keys.now.1)) last l.words) r;
 }

@@ -15,36 +15,54 @@ use Rattle.zed_worlds.proofs.playing.played.Goals as goal
 
 pub returns-in_err-bytes-clause-played : goal.returns-in_err-bytes-clause-played
 returns-in_err-bytes-clause-played g c = λ t at.
-    let told : Stage =
-    stage ((goal.Screen-dyn g (c.args.screen.vtable, c.args.screen.value)).screen_foretells c.args.screen.value)
-    ((goal.Keys-dyn g (c.args.keys.vtable, c.args.keys.value)).left c.args.keys.value)
-    ((goal.Keys-dyn g (c.args.keys.vtable, c.args.keys.value)).keys_foretell c.args.keys.value) in
+    let old : Stage =
+    stage ((goal.Screen-dyn g c.args.screen.now).shown c.args.screen.now.1)
+    ((goal.Screen-dyn g c.args.screen.now).screen_foretells c.args.screen.now.1)
+    ((goal.Keys-dyn g c.args.keys.now).left c.args.keys.now.1)
+    ((goal.Keys-dyn g c.args.keys.now).keys_foretell c.args.keys.now.1) in
+    let new : Stage =
+    stage ((goal.Screen-dyn g c.args.screen.now).shown c.args.screen.now.1)
+    ((goal.Screen-dyn g c.args.screen.now).screen_foretells c.args.screen.now.1)
+    ((goal.Keys-dyn g c.args.keys.now).left c.args.keys.now.1)
+    ((goal.Keys-dyn g c.args.keys.now).keys_foretell c.args.keys.now.1) in
     let p = err_from_is_err_and c.from_residual.result c.from_residual.ensures.1 in
     let same : p.0 ≡ c.in_err-bytes.field-0.0 = p.2 in
-    rw (p.1, same) (not_read _ told t c.args.limit c.args.board c.args.chance.now (texts_of c.args.files.now) c.in_err-bytes.field-0.0
+    rw (p.1, same) (not_read _ old new t c.args.limit c.args.board c.args.chance.now (texts_of c.args.files.now) c.in_err-bytes.field-0.0
     c.in_err-bytes.ensures.err (c.in_err-bytes.ensures.none t at))
 
 pub returns-in_err-document-clause-played : goal.returns-in_err-document-clause-played
 returns-in_err-document-clause-played g c = λ t at.
-    let told : Stage =
-    stage ((goal.Screen-dyn g (c.args.screen.vtable, c.args.screen.value)).screen_foretells c.args.screen.value)
-    ((goal.Keys-dyn g (c.args.keys.vtable, c.args.keys.value)).left c.args.keys.value)
-    ((goal.Keys-dyn g (c.args.keys.vtable, c.args.keys.value)).keys_foretell c.args.keys.value) in
+    let old : Stage =
+    stage ((goal.Screen-dyn g c.args.screen.now).shown c.args.screen.now.1)
+    ((goal.Screen-dyn g c.args.screen.now).screen_foretells c.args.screen.now.1)
+    ((goal.Keys-dyn g c.args.keys.now).left c.args.keys.now.1)
+    ((goal.Keys-dyn g c.args.keys.now).keys_foretell c.args.keys.now.1) in
+    let new : Stage =
+    stage ((goal.Screen-dyn g c.args.screen.now).shown c.args.screen.now.1)
+    ((goal.Screen-dyn g c.args.screen.now).screen_foretells c.args.screen.now.1)
+    ((goal.Keys-dyn g c.args.keys.now).left c.args.keys.now.1)
+    ((goal.Keys-dyn g c.args.keys.now).keys_foretell c.args.keys.now.1) in
     let p = err_from_is_err_and c.from_residual-in_err-document.result c.from_residual-in_err-document.ensures.1 in
     let same : p.0 ≡ c.in_err-document.field-0.0 = p.2 in
     let here = c.in_ok-bytes.ensures.kept ∙ at in
-    rw (p.1, same) (not_collected _ told t c.args.limit c.args.board c.args.chance.now c.in_ok-bytes.bytes.items (texts_of c.args.files.now) c.in_err-document.field-0.0
+    rw (p.1, same) (not_collected _ old new t c.args.limit c.args.board c.args.chance.now c.in_ok-bytes.bytes.items (texts_of c.args.files.now) c.in_err-document.field-0.0
     (c.in_ok-bytes.ensures.bytes t at) (rw c.in_ok-bytes.ensures.calm at (c.in_err-document.ensures.collected t here)))
 
 pub returns-clause-played : goal.returns-clause-played
 returns-clause-played g c = λ t at.
-    let told : Stage =
-    stage ((goal.Screen-dyn g (c.args.screen.vtable, c.args.screen.value)).screen_foretells c.args.screen.value)
-    ((goal.Keys-dyn g (c.args.keys.vtable, c.args.keys.value)).left c.args.keys.value)
-    ((goal.Keys-dyn g (c.args.keys.vtable, c.args.keys.value)).keys_foretell c.args.keys.value) in
+    let old : Stage =
+    stage ((goal.Screen-dyn g c.args.screen.now).shown c.args.screen.now.1)
+    ((goal.Screen-dyn g c.args.screen.now).screen_foretells c.args.screen.now.1)
+    ((goal.Keys-dyn g c.args.keys.now).left c.args.keys.now.1)
+    ((goal.Keys-dyn g c.args.keys.now).keys_foretell c.args.keys.now.1) in
+    let new : Stage =
+    stage ((goal.Screen-dyn g c.args.screen.now).shown c.play_board.new.screen)
+    ((goal.Screen-dyn g c.args.screen.now).screen_foretells c.play_board.new.screen)
+    ((goal.Keys-dyn g c.args.keys.now).left c.play_board.new.keys)
+    ((goal.Keys-dyn g c.args.keys.now).keys_foretell c.play_board.new.keys) in
     let here = c.in_ok-bytes.ensures.kept ∙ at in
     let words : c.as_slice-2.result.now ≡ words_in c.in_ok-bytes.bytes.items = c.as_slice-2.ensures.value ∙ rw c.as_slice.ensures.value at c.in_ok-words.ensures in
-    played_result _ told c.args.limit c.play_board.result t c.from.result c.args.board c.args.chance.now c.in_ok-bytes.bytes.items c.as_slice-2.result.now (texts_of c.args.files.now)
+    played_result _ old new c.args.limit c.play_board.result t c.from.result c.args.board c.args.chance.now c.in_ok-bytes.bytes.items c.as_slice-2.result.now (texts_of c.args.files.now)
     c.in_ok-document.document.edits c.from.ensures words (c.in_ok-bytes.ensures.bytes t at) (rw c.in_ok-bytes.ensures.calm at (c.in_ok-document.ensures.collected t here)) c.play_board.ensures
 
 pub returns-in_err-bytes-clause-file_only_when : goal.returns-in_err-bytes-clause-file_only_when
@@ -69,13 +87,19 @@ returns-in_err-document-clause-file_only_when g c =
 
 pub returns-clause-file_only_when : goal.returns-clause-file_only_when
 returns-clause-file_only_when g c =
-    let told : Stage =
-    stage ((goal.Screen-dyn g (c.args.screen.vtable, c.args.screen.value)).screen_foretells c.args.screen.value)
-    ((goal.Keys-dyn g (c.args.keys.vtable, c.args.keys.value)).left c.args.keys.value)
-    ((goal.Keys-dyn g (c.args.keys.vtable, c.args.keys.value)).keys_foretell c.args.keys.value) in
+    let old : Stage =
+    stage ((goal.Screen-dyn g c.args.screen.now).shown c.args.screen.now.1)
+    ((goal.Screen-dyn g c.args.screen.now).screen_foretells c.args.screen.now.1)
+    ((goal.Keys-dyn g c.args.keys.now).left c.args.keys.now.1)
+    ((goal.Keys-dyn g c.args.keys.now).keys_foretell c.args.keys.now.1) in
+    let new : Stage =
+    stage ((goal.Screen-dyn g c.args.screen.now).shown c.play_board.new.screen)
+    ((goal.Screen-dyn g c.args.screen.now).screen_foretells c.play_board.new.screen)
+    ((goal.Keys-dyn g c.args.keys.now).left c.play_board.new.keys)
+    ((goal.Keys-dyn g c.args.keys.now).keys_foretell c.play_board.new.keys) in
     let first = c.in_ok-bytes.ensures.file_only_when.0 in
     let then = c.in_ok-document.ensures.file_only_when.0 in
-    other_tells _ _ c.play_board.result _ _ (omega arith) c.play_board.ensures (played_is_other c.args.limit c.in_ok-document.document.edits c.from.result told c.as_slice-2.result.now)
+    other_tells _ _ c.play_board.result _ _ (omega arith) c.play_board.ensures (played_is_other c.args.limit c.in_ok-document.document.edits c.from.result old new c.as_slice-2.result.now)
 
 pub returns-in_err-bytes-clause-asked : goal.returns-in_err-bytes-clause-asked
 returns-in_err-bytes-clause-asked g c =
@@ -96,10 +120,16 @@ returns-in_err-document-clause-asked g c =
 
 pub returns-clause-asked : goal.returns-clause-asked
 returns-clause-asked g c =
-    let told : Stage =
-    stage ((goal.Screen-dyn g (c.args.screen.vtable, c.args.screen.value)).screen_foretells c.args.screen.value)
-    ((goal.Keys-dyn g (c.args.keys.vtable, c.args.keys.value)).left c.args.keys.value)
-    ((goal.Keys-dyn g (c.args.keys.vtable, c.args.keys.value)).keys_foretell c.args.keys.value) in
+    let old : Stage =
+    stage ((goal.Screen-dyn g c.args.screen.now).shown c.args.screen.now.1)
+    ((goal.Screen-dyn g c.args.screen.now).screen_foretells c.args.screen.now.1)
+    ((goal.Keys-dyn g c.args.keys.now).left c.args.keys.now.1)
+    ((goal.Keys-dyn g c.args.keys.now).keys_foretell c.args.keys.now.1) in
+    let new : Stage =
+    stage ((goal.Screen-dyn g c.args.screen.now).shown c.play_board.new.screen)
+    ((goal.Screen-dyn g c.args.screen.now).screen_foretells c.play_board.new.screen)
+    ((goal.Keys-dyn g c.args.keys.now).left c.play_board.new.keys)
+    ((goal.Keys-dyn g c.args.keys.now).keys_foretell c.play_board.new.keys) in
     answer_after _ _ g.H.Host.called (reading (c.args.chance.now ∷ texts_of c.args.files.now)) c.play_board.result _ _
     (read_before g.H.Host.called (Reading c.args.chance.now) (reading (texts_of c.args.files.now)) None _ _ _ c.in_ok-bytes.ensures.asked c.in_ok-document.ensures.asked)
-    c.play_board.ensures (played_is_other c.args.limit c.in_ok-document.document.edits c.from.result told c.as_slice-2.result.now)
+    c.play_board.ensures (played_is_other c.args.limit c.in_ok-document.document.edits c.from.result old new c.as_slice-2.result.now)

@@ -1,4 +1,4 @@
-use Rattle.std.proofs.Common.{◌∙◌, ◌≡◌}
+use Rattle.std.proofs.Common.{◌∙◌, ◌≡◌, None, inr, refl}
 use Rattle.std.proofs.lemmas.Result.{err_from_is_err_and}
 use Rattle.zed_worlds.specs.Stage.{Stage, stage}
 use Rattle.zed_files.specs.Texts.{texts_of}
@@ -12,24 +12,24 @@ use Rattle.zed_files.proofs.Asked.{answer_after}
 use Rattle.zed_worlds.proofs.showing.show.Goals as goal
 
 pub returns-in_err-document-clause-ends : goal.returns-in_err-document-clause-ends
-returns-in_err-document-clause-ends g c = λ t at.
-    let told : Stage =
-    stage ((goal.Screen-dyn g (c.args.screen.vtable, c.args.screen.value)).screen_foretells c.args.screen.value)
-    ((goal.Keys-dyn g (c.args.keys.vtable, c.args.keys.value)).left c.args.keys.value)
-    ((goal.Keys-dyn g (c.args.keys.vtable, c.args.keys.value)).keys_foretell c.args.keys.value) in
+returns-in_err-document-clause-ends g c = λ t keys source at.
+    let old : Stage =
+    stage ((goal.Screen-dyn g c.args.screen.now).shown c.args.screen.now.1) ((goal.Screen-dyn g c.args.screen.now).screen_foretells c.args.screen.now.1) keys source in
+    let new : Stage =
+    stage ((goal.Screen-dyn g c.args.screen.now).shown c.args.screen.now.1) ((goal.Screen-dyn g c.args.screen.now).screen_foretells c.args.screen.now.1) keys source in
     let p = err_from_is_err_and c.from_residual.result c.from_residual.ensures.1 in
     let same : p.0 ≡ c.in_err-document.field-0.0 = p.2 in
-    rw (p.1, same) (refused_ends _ (ComesToShow _ told t c.args.limit c.args.board (texts_of c.args.files.now)) t c.in_err-document.field-0.0 _ (c.in_err-document.ensures.kept ∙ at)
-    (not_shown _ told c.args.limit c.args.board (texts_of c.args.files.now) t c.in_err-document.field-0.0 (c.in_err-document.ensures.collected t at)))
+    rw (p.1, same) (refused_ends _ (ComesToShow _ old new t c.args.limit c.args.board (texts_of c.args.files.now)) t c.in_err-document.field-0.0 _ (c.in_err-document.ensures.kept ∙ at)
+    (not_shown _ old new c.args.limit c.args.board (texts_of c.args.files.now) t c.in_err-document.field-0.0 (c.in_err-document.ensures.collected t at)))
 
 pub returns-clause-ends : goal.returns-clause-ends
-returns-clause-ends g c = λ t at.
-    let told : Stage =
-    stage ((goal.Screen-dyn g (c.args.screen.vtable, c.args.screen.value)).screen_foretells c.args.screen.value)
-    ((goal.Keys-dyn g (c.args.keys.vtable, c.args.keys.value)).left c.args.keys.value)
-    ((goal.Keys-dyn g (c.args.keys.vtable, c.args.keys.value)).keys_foretell c.args.keys.value) in
-    show_ends _ told c.args.limit c.show_board.result c.from.result c.args.board (texts_of c.args.files.now) t c.in_ok-document.document.edits _ (c.in_ok-document.ensures.kept ∙ at)
-    c.from.ensures (c.in_ok-document.ensures.collected t at) c.show_board.ensures
+returns-clause-ends g c = λ t keys source at.
+    let old : Stage =
+    stage ((goal.Screen-dyn g c.args.screen.now).shown c.args.screen.now.1) ((goal.Screen-dyn g c.args.screen.now).screen_foretells c.args.screen.now.1) keys source in
+    let new : Stage =
+    stage ((goal.Screen-dyn g c.args.screen.now).shown c.show_on.new.screen) ((goal.Screen-dyn g c.args.screen.now).screen_foretells c.show_on.new.screen) keys source in
+    show_ends _ old new c.args.limit c.show_on.result c.from.result c.args.board (texts_of c.args.files.now) t c.in_ok-document.document.edits _ (c.in_ok-document.ensures.kept ∙ at)
+    c.from.ensures (c.in_ok-document.ensures.collected t at) (c.show_on.ensures.shows keys source)
 
 pub returns-in_err-document-clause-file_only_when : goal.returns-in_err-document-clause-file_only_when
 returns-in_err-document-clause-file_only_when g c =
@@ -39,7 +39,11 @@ returns-in_err-document-clause-file_only_when g c =
 
 pub returns-clause-file_only_when : goal.returns-clause-file_only_when
 returns-clause-file_only_when g c =
-    other_tells _ _ c.show_board.result _ _ c.in_ok-document.ensures.file_only_when.0 c.show_board.ensures (shown_is_other c.args.limit c.in_ok-document.document.edits c.from.result _)
+    let old : Stage =
+    stage ((goal.Screen-dyn g c.args.screen.now).shown c.args.screen.now.1) ((goal.Screen-dyn g c.args.screen.now).screen_foretells c.args.screen.now.1) None None in
+    let new : Stage =
+    stage ((goal.Screen-dyn g c.args.screen.now).shown c.show_on.new.screen) ((goal.Screen-dyn g c.args.screen.now).screen_foretells c.show_on.new.screen) None None in
+    other_tells _ _ c.show_on.result _ _ c.in_ok-document.ensures.file_only_when.0 (c.show_on.ensures.shows None None) (shown_is_other c.args.limit c.in_ok-document.document.edits c.from.result old new)
 
 pub returns-in_err-document-clause-asked : goal.returns-in_err-document-clause-asked
 returns-in_err-document-clause-asked g c =
@@ -49,4 +53,13 @@ returns-in_err-document-clause-asked g c =
 
 pub returns-clause-asked : goal.returns-clause-asked
 returns-clause-asked g c =
-    answer_after _ _ g.H.Host.called (reading (texts_of c.args.files.now)) c.show_board.result _ _ c.in_ok-document.ensures.asked c.show_board.ensures (shown_is_other c.args.limit c.in_ok-document.document.edits c.from.result _)
+    let old : Stage =
+    stage ((goal.Screen-dyn g c.args.screen.now).shown c.args.screen.now.1) ((goal.Screen-dyn g c.args.screen.now).screen_foretells c.args.screen.now.1) None None in
+    let new : Stage =
+    stage ((goal.Screen-dyn g c.args.screen.now).shown c.show_on.new.screen) ((goal.Screen-dyn g c.args.screen.now).screen_foretells c.show_on.new.screen) None None in
+    answer_after _ _ g.H.Host.called (reading (texts_of c.args.files.now)) c.show_on.result _ _ c.in_ok-document.ensures.asked (c.show_on.ensures.shows None None) (shown_is_other c.args.limit c.in_ok-document.document.edits c.from.result old new)
+
+pub returns-in_err-document-clause-kept : goal.returns-in_err-document-clause-kept
+returns-in_err-document-clause-kept g c =
+    let p = err_from_is_err_and c.from_residual.result c.from_residual.ensures.1 in
+    rw p.1 (inr refl)

@@ -42,5 +42,6 @@ returns-in-Err g c =
       dropped = λ not_link not_stale. c.remove-faulty.ensures.items ∙ removed_at c.args.self.now.links.items c.args.i c.receive_over.new.link;
       world = c.in-Err.ensures.world;
       sound = λ ample. c.in-Err.ensures.stale (λ lack. let is : c.in-Err.error ≡ link.Memory = cc in ample (ap Err (told ∙ ap link_refusal is)));
+      visits = λ ample. c.in-Err.ensures.visits (λ lack. let is : c.in-Err.error ≡ link.Memory = cc in ample (ap Err (told ∙ ap link_refusal is)));
       stage = refl;
     }

@@ -3,6 +3,7 @@ use Rattle.std.proofs.lemmas.Result.{err_from_is_err_and}
 use Rattle.zed_editfile.specs.Spelling.{file_text}
 use Rattle.zed_files.specs.Lines.{held_line, joined_line}
 use Rattle.zed_files.specs.Effects.{Writes}
+use Rattle.zed_files.specs.Refusals.{file_refusal}
 use Rattle.zed_making.specs.Merged.{ComesToMerge}
 use Rattle.zed_session.specs.Links.{seen}
 use Rattle.zed_host.proofs.Counts.{counted_up}
@@ -13,54 +14,58 @@ use Rattle.zed_making.proofs.Others.{merged_is_other}
 use Rattle.std.proofs.Common.{[]}
 use Rattle.zed_files.specs.Asked.{writing}
 use Rattle.zed_files.proofs.Asked.{asks_nothing}
-use Rattle.zed_making.proofs.merging.merge.Goals as goal
+use Rattle.zed_program.proofs.merging.merge.Goals as goal
 
 pub returns-clause-ends : goal.returns-clause-ends
 returns-clause-ends g c = λ t at.
-    let links = each_of c.args.links.items (λ link. seen ((goal.Link-dyn g (link.vtable, link.value)).ends link.value) ((goal.Link-dyn g (link.vtable, link.value)).reads link.value)) in
+    let links = each_of c.args.links.now.items (λ link. seen ((goal.Link-dyn g (link.vtable, link.value)).ends link.value) ((goal.Link-dyn g (link.vtable, link.value)).reads link.value)) in
+    let news = each_of c.pulled_from.new.links.items (λ link. seen ((goal.Link-dyn g (link.vtable, link.value)).ends link.value) ((goal.Link-dyn g (link.vtable, link.value)).reads link.value)) in
     let d = c.in_ok-document.document in
     let line : c.as_str.result.now ≡ joined_line d.edits =
-    c.as_str.ensures.value ∙ c.in_ok-line.ensures ∙ ap₂ held_line (ap length c.edits.ensures.all) c.held.ensures in
+    c.as_str.ensures.value ∙ c.in_ok-line.ensures ∙ ap₂ held_line (ap length c.edits-2.ensures.all) c.held.ensures in
     let text : c.as_slice.result.now ≡ file_text c.args.world d.edits =
-    c.as_slice.ensures.value ∙ c.in_ok-text.ensures.ok ∙ ap (λ w. file_text w d.edits) c.in_ok-document.ensures.world in
+    c.as_slice.ensures.value ∙ c.in_ok-text.ensures.ok ∙ ap₂ file_text (c.world.ensures ∙ c.in_ok-document.ensures.world) c.edits.ensures.all in
     let same : g.H.Host.faults c.args.host.now ≤ g.H.Host.faults c.args.host.now = omega arith in
-    effect_ends (λ f. ComesToMerge links c.args.out.now c.args.world (length c.args.files.now)) c.write_out.result _ _ _ t (Writes c.args.out.now c.as_slice.result.now c.as_str.result.now) _
-    (merge_so links c.args.out.now c.args.world (length c.args.files.now)) same (counted_up _ _ _ c.write_out.ensures.faults)
-    (merge_comes links c.args.out.now c.args.world (length c.args.files.now) d.edits c.as_slice.result.now c.as_str.result.now c.in_ok-document.ensures.pulled text line)
+    effect_ends (λ f. ComesToMerge links news c.args.out.now c.args.world (length c.args.files.now)) c.write_out.result _ _ _ t (Writes c.args.out.now c.as_slice.result.now c.as_str.result.now) _
+    (merge_so links news c.args.out.now c.args.world (length c.args.files.now)) same (counted_up _ _ _ c.write_out.ensures.faults)
+    (merge_comes links news c.args.out.now c.args.world (length c.args.files.now) d.edits c.as_slice.result.now c.as_str.result.now c.in_ok-document.ensures.pulled text line)
     (c.write_out.ensures.ok t at) (c.write_out.ensures.half t at) c.write_out.ensures.err c.write_out.ensures.faults
 
 pub returns-in_err-document-clause-ends : goal.returns-in_err-document-clause-ends
 returns-in_err-document-clause-ends g c = λ t at.
-    let links = each_of c.args.links.items (λ link. seen ((goal.Link-dyn g (link.vtable, link.value)).ends link.value) ((goal.Link-dyn g (link.vtable, link.value)).reads link.value)) in
+    let links = each_of c.args.links.now.items (λ link. seen ((goal.Link-dyn g (link.vtable, link.value)).ends link.value) ((goal.Link-dyn g (link.vtable, link.value)).reads link.value)) in
+    let news = each_of c.pulled_from.new.links.items (λ link. seen ((goal.Link-dyn g (link.vtable, link.value)).ends link.value) ((goal.Link-dyn g (link.vtable, link.value)).reads link.value)) in
     let p = err_from_is_err_and c.from_residual.result c.from_residual.ensures.1 in
     let same : p.0 ≡ c.in_err-document.field-0.0 = p.2 in
-    rw (p.1, same) (refused_ends _ (ComesToMerge links c.args.out.now c.args.world (length c.args.files.now)) t c.in_err-document.field-0.0 _ at
-    (not_merged links c.args.out.now c.args.world (length c.args.files.now) c.in_err-document.field-0.0 c.in_err-document.ensures.pulled))
+    rw (p.1, same) (refused_ends _ (ComesToMerge links news c.args.out.now c.args.world (length c.args.files.now)) t c.in_err-document.field-0.0 _ at
+    (not_merged links news c.args.out.now c.args.world (length c.args.files.now) c.in_err-document.field-0.0 c.in_err-document.ensures.pulled))
 
 pub returns-in_err-text-clause-ends : goal.returns-in_err-text-clause-ends
 returns-in_err-text-clause-ends g c = λ t at.
-    let links = each_of c.args.links.items (λ link. seen ((goal.Link-dyn g (link.vtable, link.value)).ends link.value) ((goal.Link-dyn g (link.vtable, link.value)).reads link.value)) in
+    let links = each_of c.args.links.now.items (λ link. seen ((goal.Link-dyn g (link.vtable, link.value)).ends link.value) ((goal.Link-dyn g (link.vtable, link.value)).reads link.value)) in
+    let news = each_of c.pulled_from.new.links.items (λ link. seen ((goal.Link-dyn g (link.vtable, link.value)).ends link.value) ((goal.Link-dyn g (link.vtable, link.value)).reads link.value)) in
     let p = err_from_is_err_and c.from_residual-in_err-text.result c.from_residual-in_err-text.ensures.1 in
-    rw p.1 (refused_ends _ (ComesToMerge links c.args.out.now c.args.world (length c.args.files.now)) t p.0 _ at (inl (p.2 ∙ c.in_err-text.ensures.err)))
+    rw p.1 (refused_ends _ (ComesToMerge links news c.args.out.now c.args.world (length c.args.files.now)) t p.0 _ at (inl (p.2 ∙ ap file_refusal c.in_err-text.ensures.err)))
 
 pub returns-in_err-line-clause-ends : goal.returns-in_err-line-clause-ends
 returns-in_err-line-clause-ends g c = λ t at.
-    let links = each_of c.args.links.items (λ link. seen ((goal.Link-dyn g (link.vtable, link.value)).ends link.value) ((goal.Link-dyn g (link.vtable, link.value)).reads link.value)) in
+    let links = each_of c.args.links.now.items (λ link. seen ((goal.Link-dyn g (link.vtable, link.value)).ends link.value) ((goal.Link-dyn g (link.vtable, link.value)).reads link.value)) in
+    let news = each_of c.pulled_from.new.links.items (λ link. seen ((goal.Link-dyn g (link.vtable, link.value)).ends link.value) ((goal.Link-dyn g (link.vtable, link.value)).reads link.value)) in
     let p = err_from_is_err_and c.from_residual-in_err-line.result c.from_residual-in_err-line.ensures.1 in
-    rw p.1 (refused_ends _ (ComesToMerge links c.args.out.now c.args.world (length c.args.files.now)) t p.0 _ at (inl p.2))
+    rw p.1 (refused_ends _ (ComesToMerge links news c.args.out.now c.args.world (length c.args.files.now)) t p.0 _ at (inl p.2))
 
 pub returns-in_err-document-clause-file_only_when : goal.returns-in_err-document-clause-file_only_when
 returns-in_err-document-clause-file_only_when g c =
     let p = err_from_is_err_and c.from_residual.result c.from_residual.ensures.1 in
     let same : p.0 ≡ c.in_err-document.field-0.0 = p.2 in
     let still : g.H.Host.failed c.args.host.now ≤ g.H.Host.failed c.args.host.now = omega arith in
-    rw (p.1, same) (still, λ is. absurd (merged_is_other c.args.world _ _ c.in_err-document.field-0.0 c.in_err-document.ensures.pulled is))
+    rw (p.1, same) (still, λ is. absurd (merged_is_other c.args.world _ _ _ c.in_err-document.field-0.0 c.in_err-document.ensures.pulled is))
 
 pub returns-in_err-text-clause-file_only_when : goal.returns-in_err-text-clause-file_only_when
 returns-in_err-text-clause-file_only_when g c =
     let p = err_from_is_err_and c.from_residual-in_err-text.result c.from_residual-in_err-text.ensures.1 in
     let still : g.H.Host.failed c.args.host.now ≤ g.H.Host.failed c.args.host.now = omega arith in
-    rw p.1 (still, λ is. absurd (memory_is_other p.0 (p.2 ∙ c.in_err-text.ensures.err) is))
+    rw p.1 (still, λ is. absurd (memory_is_other p.0 (p.2 ∙ ap file_refusal c.in_err-text.ensures.err) is))
 
 pub returns-in_err-line-clause-file_only_when : goal.returns-in_err-line-clause-file_only_when
 returns-in_err-line-clause-file_only_when g c =
@@ -76,12 +81,12 @@ pub returns-in_err-document-clause-asked : goal.returns-in_err-document-clause-a
 returns-in_err-document-clause-asked g c =
     let p = err_from_is_err_and c.from_residual.result c.from_residual.ensures.1 in
     let same : p.0 ≡ c.in_err-document.field-0.0 = p.2 in
-    rw (p.1, same) (asks_nothing g.H.Host.called [] (writing c.args.out.now) c.in_err-document.field-0.0 _ (merged_is_other c.args.world _ _ c.in_err-document.field-0.0 c.in_err-document.ensures.pulled))
+    rw (p.1, same) (asks_nothing g.H.Host.called [] (writing c.args.out.now) c.in_err-document.field-0.0 _ (merged_is_other c.args.world _ _ _ c.in_err-document.field-0.0 c.in_err-document.ensures.pulled))
 
 pub returns-in_err-text-clause-asked : goal.returns-in_err-text-clause-asked
 returns-in_err-text-clause-asked g c =
     let p = err_from_is_err_and c.from_residual-in_err-text.result c.from_residual-in_err-text.ensures.1 in
-    rw p.1 (asks_nothing g.H.Host.called [] (writing c.args.out.now) p.0 _ (memory_is_other p.0 (p.2 ∙ c.in_err-text.ensures.err)))
+    rw p.1 (asks_nothing g.H.Host.called [] (writing c.args.out.now) p.0 _ (memory_is_other p.0 (p.2 ∙ ap file_refusal c.in_err-text.ensures.err)))
 
 pub returns-in_err-line-clause-asked : goal.returns-in_err-line-clause-asked
 returns-in_err-line-clause-asked g c =

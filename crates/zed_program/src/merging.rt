@@ -1,5 +1,7 @@
 //! Edit files joined to one.
-ghost use Rattle.std.specs.Prelude.{[], ◌≡◌, ◌≤◌, ◌<◌, Err, IfOk, MatchResult, Ok, OnOk, Some, false, length, map};
+ghost use Rattle.std.specs.Prelude.{[], ◌≡◌, ◌≤◌, ◌<◌, Err, IfOk, List, MatchResult, Ok, OnOk, Result, Some, false, length, map};
+ghost use Rattle.zed_op.specs.declared.op.Edit.{Edit as TheEdit};
+ghost use Rattle.zed_document.specs.Counts.{NoCountFalls};
 ghost use Rattle.zed_session.specs.Links.{PullsOver, seen};
 ghost use Rattle.zed_host.specs.Counting.{Rose};
 ghost use Rattle.zed_files.specs.Faults.{TellsFile};
@@ -9,9 +11,9 @@ ghost use Rattle.zed_files.specs.Asked.{Asks, refusal_in, writing};
 ghost use Rattle.zed_files.specs.Effects.{Ends};
 ghost use Rattle.zed_files.specs.Refusals.{link_refusal};
 
-use crate::editing::file_of;
 use std::alloc::Global;
 use zed_document::Document;
+use zed_editfile::write_file;
 use zed_files::{Refusal, joined_told, write_out};
 use zed_host::Host;
 use zed_link::{Link, LinkError, Pulled, receive};
@@ -27,6 +29,7 @@ fn pull_over(
         (seen (ends link.new) (reads link.new)) result document.new.edits }
     ensures world { document.new.world ≡ document.old.world }
     ensures sound { OnOk result (document.new.is_stale ≡ false) }
+    ensures visits { OnOk result (NoCountFalls document.old.counts document.new.counts) }
 {
     receive(alloc, link.as_mut(), document)
 }
@@ -36,50 +39,54 @@ fn pulled_from(
     alloc: Global,
     world: u64,
     count: usize,
-    links: Vec<Box<dyn Link>>,
+    links: &mut Vec<Box<dyn Link>>,
 ) -> Result<Document, Refusal>
-    ensures pulled { MatchResult result
-        (λ d. IsMerged world count (map (λ link. seen (ends link) (reads link)) links.items)
-        (Ok d.edits))
-        (λ e. IsMerged world count (map (λ link. seen (ends link) (reads link)) links.items)
-        (Err e)) }
-    ensures no_link { length links.items < count → result ≡ Err Refusal.NoLink }
+    ensures pulled { let before = map (λ link. seen (ends link) (reads link)) links.old.items in
+        let after = map (λ link. seen (ends link) (reads link)) links.new.items in
+        MatchResult result
+        (λ d. IsMerged world count before after (Ok d.edits))
+        (λ e. IsMerged world count before after (Err e)) }
+    ensures no_link { length links.old.items < count
+        → (result ≡ Err Refusal.NoLink) × (links.new ≡ links.old) }
     ensures world { IfOk result (λ d. d.world ≡ world) }
 {
     if links.len() < count {
         return Err(Refusal::NoLink);
     }
     let mut document = Document::new(alloc, world);
-    let mut links = links;
-    links.truncate(count);
-    for link in links {
-        let mut link = link;
-        pull_over(alloc, &mut link, &mut document)?;
+    for i in 0..count {
+        pull_over(alloc, &mut links[i], &mut document)?;
     }
     Ok(document)
 }
 
 /// Joins the edits of links, one for each name of a file, to one edit file of a world. Where there are fewer links, that is told whether
-/// memory is lacking or not.
-pub fn merge<H: Host>(
+/// memory is lacking or not, and none of them is called. Nothing is written to a link, and those behind the one that is refused, and behind
+/// the last one asked for, are as they were.
+pub(crate) fn merge<H: Host>(
     alloc: Global,
     host: &mut H,
     out: &str,
     world: u64,
     files: &[&str],
-    links: Vec<Box<dyn Link>>,
+    links: &mut Vec<Box<dyn Link>>,
 ) -> Result<(), Refusal>
     ensures ends { (t : HostContents) → H.contents host.old ≡ Some t
         → let failed = Rose (H.faults host.old) (H.faults host.new) in
-        Ends failed (ComesToMerge (map (λ link. seen (ends link) (reads link)) links.items)
+        Ends failed (ComesToMerge (map (λ link. seen (ends link) (reads link)) links.old.items)
+        (map (λ link. seen (ends link) (reads link)) links.new.items)
         out.now world (length files.now)) t result (H.contents host.new) }
-    ensures no_link { length links.items < length files.now → result ≡ Err Refusal.NoLink }
+    ensures links { (r : Result (List TheEdit) Refusal) × IsMerged world (length files.now)
+        (map (λ link. seen (ends link) (reads link)) links.old.items)
+        (map (λ link. seen (ends link) (reads link)) links.new.items) r }
+    ensures no_link { length links.old.items < length files.now
+        → (result ≡ Err Refusal.NoLink) × (links.new ≡ links.old) }
     ensures asked { Asks H.called [] (writing out.now) (refusal_in result) host.old host.new }
     ensures rises { H.faults host.old ≤ H.faults host.new }
     ensures file_only_when { TellsFile result (H.failed host.old) (H.failed host.new) }
 {
     let document = pulled_from(alloc, world, files.len(), links)?;
-    let text = file_of(alloc, &document)?;
+    let text = write_file(alloc, document.world(), document.edits())?;
     let line = joined_told(alloc, document.edits().len(), document.held())?;
     write_out(host, out, text.as_slice(), line.as_str())
 }

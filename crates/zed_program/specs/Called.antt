@@ -1,0 +1,41 @@
+-- Which devices a command calls.
+use Rattle.zed_op.specs.declared.op.Edit.{Edit}
+use Rattle.zed_files.specs.declared.refusal.Refusal.{Refusal}
+use Rattle.std.specs.Prelude.{◌≡◌, ◌⊎◌, ℕ, Bool, true, false, List, Option, Some, None, Result, MatchResult, length}
+use Rattle.zed_session.specs.Devices.{Foretold}
+use Rattle.zed_session.specs.Links.{LinkSeen}
+use Rattle.zed_making.specs.Merged.{IsMerged}
+use Rattle.zed_words.specs.Commands.{Command, Save, Check, New, Edit as EditFile, Merge, Show, Play}
+
+-- whether words ask for a command that calls links: to merge
+abbrev pub calls_links : Option Command → Bool
+calls_links (Some (Merge out world files)) = true
+calls_links command = false
+
+-- the first links of a merge are pulled over, one after the other, up to the first refusal, and the others are as they were
+abbrev pub PullsLinks : Option Command → List LinkSeen → List LinkSeen → Type 0
+PullsLinks (Some (Merge out world files)) links after = (r : Result (List Edit) Refusal) × IsMerged world (length files) links after r
+PullsLinks command links after = Unit {0}
+
+-- whether they ask for one that calls the screen: to show or to play
+abbrev pub calls_screen : Option Command → Bool
+calls_screen (Some (Show profile board files)) = true
+calls_screen (Some (Play profile board chance files)) = true
+calls_screen command = false
+
+-- whether they ask for one that calls the source of keys: to play
+abbrev pub calls_keys : Option Command → Bool
+calls_keys (Some (Play profile board chance files)) = true
+calls_keys command = false
+
+-- what became of the screen where words ask to show: with status 0 it was called once; else it failed at that, or is as it was
+abbrev pub ShowsOnce : Option Command → ℕ → Option (List Bool) → Option (List Bool) → Type 0 → Type 0
+ShowsOnce (Some (Show profile board files)) status old new kept =
+    ((status ≡ 0) × Foretold false old new) ⊎ ((status ≡ 1) × (Foretold true old new ⊎ kept))
+ShowsOnce command status old new kept = Unit {0}
+
+-- the same by what the command answers
+abbrev pub DrawsOnce : Option Command → Result (Unit {0}) Refusal → Option (List Bool) → Option (List Bool) → Type 0 → Type 0
+DrawsOnce (Some (Show profile board files)) result old new kept =
+    MatchResult result (λ _. Foretold false old new) (λ e. Foretold true old new ⊎ kept)
+DrawsOnce command result old new kept = Unit {0}

@@ -1,0 +1,38 @@
+use Rattle.std.proofs.Common.{◌≡◌, ◌∙◌, ap, inl, inr}
+use Rattle.std.proofs.lemmas.Result.{err_from_is_err_and}
+use Rattle.zed_files.specs.Refusals.{session_refusal}
+use Rattle.zed_worlds.specs.Stage.{Stage, stage}
+use Rattle.zed_worlds.proofs.Played.{not_on_screen, on_screen, shown_of}
+use Rattle.zed_worlds.proofs.showing.show_on.Goals as goal
+
+pub returns-in_err-show_board-clause-shows : goal.returns-in_err-show_board-clause-shows
+returns-in_err-show_board-clause-shows g c = λ keys source.
+    let old : Stage =
+    stage ((goal.Screen-dyn g c.args.screen.now).shown c.args.screen.now.1) ((goal.Screen-dyn g c.args.screen.now).screen_foretells c.args.screen.now.1) keys source in
+    let new : Stage =
+    stage ((goal.Screen-dyn g c.args.screen.now).shown c.show_board.new.screen) ((goal.Screen-dyn g c.args.screen.now).screen_foretells c.show_board.new.screen) keys source in
+    let p = err_from_is_err_and c.from_residual.result c.from_residual.ensures.1 in
+    let same : p.0 ≡ session_refusal c.in_err-show_board.field-0.0 = p.2 in
+    let d = c.args.document.now in
+    rw (p.1, same) (not_on_screen old new c.args.limit d.edits c.args.board c.in_err-show_board.field-0.0
+    (rw (shown_of c.args.limit d c.requires.sound) at c.in_err-show_board.ensures.result) c.in_err-show_board.ensures.foretold)
+
+pub returns-clause-shows : goal.returns-clause-shows
+returns-clause-shows g c = λ keys source.
+    let old : Stage =
+    stage ((goal.Screen-dyn g c.args.screen.now).shown c.args.screen.now.1) ((goal.Screen-dyn g c.args.screen.now).screen_foretells c.args.screen.now.1) keys source in
+    let new : Stage =
+    stage ((goal.Screen-dyn g c.args.screen.now).shown c.show_board.new.screen) ((goal.Screen-dyn g c.args.screen.now).screen_foretells c.show_board.new.screen) keys source in
+    let d = c.args.document.now in
+    on_screen old new c.args.limit d.edits c.args.board c.in_ok-show_board.field-0
+    (rw (shown_of c.args.limit d c.requires.sound) at c.in_ok-show_board.ensures.result) c.in_ok-show_board.ensures.foretold
+
+-- the screen was called once, and failed, or not at all
+pub returns-in_err-show_board-clause-kept : goal.returns-in_err-show_board-clause-kept
+returns-in_err-show_board-clause-kept g c =
+    let p = err_from_is_err_and c.from_residual.result c.from_residual.ensures.1 in
+    let same : p.0 ≡ session_refusal c.in_err-show_board.field-0.0 = p.2 in
+    rw p.1 (elim c.in_err-show_board.ensures.kept [
+      | inl fault ↦ inl (same ∙ ap session_refusal fault, rw fault at c.in_err-show_board.ensures.foretold)
+      | inr stays ↦ inr stays
+    ])
