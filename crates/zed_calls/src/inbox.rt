@@ -1,10 +1,10 @@
 //! Edits that wait, what each thing releases, and growths refused.
 use crate::growths::{TURNS, refuse, was_refused};
-use std::alloc::{AllocError, Global};
+use std::alloc::Global;
 use std::test::Fail;
 use zed_inbox::{Inbox, InboxError};
 use zed_op::{Edit, Op, Thing};
-use zed_types::{BoardId, ByteRange, Bytes, ElemId, Stamp, TextId};
+use zed_types::{BoardId, ByteRange, ElemId, Stamp, TextId};
 
 fn stamp(time: u64, replica: u16) -> Stamp {
     Stamp { time, replica }
@@ -20,15 +20,6 @@ fn byte_of(stamp: Stamp) -> Thing {
     Thing::Element(text(), ElemId::new(stamp, 0))
 }
 
-/// An insertion of `z` behind the first byte of another.
-fn insertion(alloc: Global, own: Stamp, after: Stamp) -> Result<Edit, AllocError> {
-    let bytes = Bytes::new(b"z".to_vec(alloc)?);
-    Ok(Edit {
-        stamp: own,
-        op: Op::TextInsert(text(), Some(ElemId::new(after, 0)), bytes),
-    })
-}
-
 /// A deletion of the first byte of an insertion.
 fn deletion(own: Stamp, stamp: Stamp) -> Edit {
     let range = ByteRange {
@@ -40,32 +31,6 @@ fn deletion(own: Stamp, stamp: Stamp) -> Edit {
         stamp: own,
         op: Op::TextDelete(text(), range),
     }
-}
-
-#[test]
-fn each_thing_releases_those_that_name_it(rt: HostRuntime) -> Result<(), Fail> {
-    let (x, z, late) = (stamp(2, 1), stamp(3, 3), stamp(4, 3));
-    let board = BoardId::new(stamp(2, 2), 0);
-    let mut inbox = Inbox::new(rt.alloc());
-    inbox.hold(deletion(late, z))?;
-    inbox.hold(insertion(rt.alloc(), z, x)?)?;
-    inbox.hold(Edit {
-        stamp: stamp(5, 1),
-        op: Op::BoardRemove(board),
-    })?;
-    assert_eq!(rt; inbox.held(), 3);
-    for (thing, want, left) in [
-        (byte_of(late), None, 3),
-        (byte_of(x), Some(z), 2),
-        (byte_of(x), None, 2),
-        (byte_of(z), Some(late), 1),
-        (Thing::Board(board), Some(stamp(5, 1)), 0),
-    ] {
-        let released = inbox.release(thing)?;
-        assert_eq!(rt; released.first().map(|edit| edit.stamp), want);
-        assert_eq!(rt; inbox.held(), left);
-    }
-    Ok(())
 }
 
 /// The removal of a board that an edit of replica 2 made.

@@ -7,19 +7,23 @@ mod cells;
 #[cfg(test)]
 mod chains;
 #[cfg(test)]
+mod code;
+#[cfg(test)]
 mod edits;
 #[cfg(test)]
 mod growths;
 #[cfg(test)]
 mod inbox;
 #[cfg(test)]
-mod links;
-#[cfg(test)]
 mod programs;
 #[cfg(test)]
 mod runs;
 #[cfg(test)]
+mod stamps;
+#[cfg(test)]
 mod stats;
+#[cfg(test)]
+mod texts;
 #[cfg(test)]
 mod typed;
 #[cfg(test)]

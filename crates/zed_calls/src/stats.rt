@@ -2,7 +2,7 @@
 use crate::growths::{Turn, refuse, refuse_each, turn_of, was_refused};
 use std::test::Fail;
 use zed_stats::{StatField, StatValues, Stats, StatsError};
-use zed_types::{Stamp, StatByte, StatFields, StatId, StatNumber, StatSetting, ThirdParameter};
+use zed_types::{Stamp, StatByte, StatFields, StatId, StatSetting, ThirdParameter};
 
 fn at(time: u64) -> Stamp {
     Stamp { time, replica: 1 }
@@ -36,34 +36,9 @@ fn board(rt: HostRuntime) -> Result<Stats, Fail> {
     Ok(stats)
 }
 
-#[test]
-fn stats_are_numbered_by_their_names(rt: HostRuntime) -> Result<(), Fail> {
-    let mut stats = board(rt)?;
-    assert_eq!(rt; stats.number_of(stat(2)), Some(0));
-    assert_eq!(rt; stats.number_of(stat(5)), Some(3));
-    assert_eq!(rt; stats.number_of(stat(3)), Some(1));
-    assert_eq!(rt; stats.number_of(stat(4)), Some(2));
-
-    stats.remove(stat(3));
-    stats.set_field(stat(3), at(9), StatSetting::Byte(StatByte::X, 60));
-    assert_eq!(rt; stats.number_of(stat(5)), Some(2));
-    assert_eq!(rt; stats.number_of(stat(3)), None);
-    assert_eq!(rt; stats.number_of(stat(4)), Some(1));
-    assert_eq!(rt; stats.number_of(stat(7)), None);
-    assert!(rt; stats.has(stat(3)));
-    assert!(rt; !stats.has(stat(7)));
-    Ok(())
-}
-
 /// Whether a byte of the second stat is so.
 fn is_byte(stats: &Stats, byte: StatByte, wanted: u8) -> bool {
     1 < stats.count() && stats.field(1, StatField::Byte(byte)) == StatSetting::Byte(byte, wanted)
-}
-
-/// Whether a number of the third stat is so.
-fn is_number(stats: &Stats, number: StatNumber, wanted: i16) -> bool {
-    2 < stats.count()
-        && stats.field(2, StatField::Number(number)) == StatSetting::Number(number, wanted)
 }
 
 #[test]
@@ -77,29 +52,6 @@ fn a_removed_stat_keeps_its_fields_and_stays_removed(rt: HostRuntime) -> Result<
     assert_eq!(rt; id, stat(3));
     assert!(rt; removed.removed);
     assert!(rt; is_byte(&stats, StatByte::X, 60) && is_byte(&stats, StatByte::Y, 3));
-    Ok(())
-}
-
-#[test]
-fn a_field_keeps_the_later_write(rt: HostRuntime) -> Result<(), Fail> {
-    let mut stats = board(rt)?;
-    stats.set_field(stat(4), at(9), StatSetting::Number(StatNumber::Cycle, 3));
-    stats.set_field(stat(4), at(8), StatSetting::Number(StatNumber::Cycle, 2));
-    stats.set_field(stat(4), at(7), StatSetting::Number(StatNumber::Position, 5));
-    stats.set_field(stat(4), at(6), StatSetting::Leader(Some(stat(3))));
-    stats.remove(stat(2));
-    assert_eq!(rt; stats.count(), 4);
-    assert!(rt; is_number(&stats, StatNumber::Cycle, 3));
-    assert!(rt; is_number(&stats, StatNumber::Position, 5));
-    assert_eq!(rt;
-        stats.field(2, StatField::Leader),
-        StatSetting::Leader(Some(stat(3)))
-    );
-    assert_eq!(rt;
-        stats.field(2, StatField::Follower),
-        StatSetting::Follower(None)
-    );
-    assert_eq!(rt; stats.number_of(stat(2)), Some(0));
     Ok(())
 }
 

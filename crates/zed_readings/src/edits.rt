@@ -36,10 +36,24 @@ fn put_edit(alloc: Global, edit: &Edit, out: &mut Vec<u8>) -> Result<(), Trouble
     }
 }
 
+fn are_same(edits: &[Edit], others: &[Edit]) -> bool {
+    if edits.len() != others.len() {
+        return false;
+    }
+    for (edit, other) in edits.iter().zip(others) {
+        if !edit.is_same(other) {
+            return false;
+        }
+    }
+    true
+}
+
 impl Found {
-    /// Whether two files are read alike.
+    /// Whether two files are read alike: as the same edits of the same world, with the same end.
     fn is_like(&self, other: &Found) -> bool {
-        self.end == other.end && self.edits.len() == other.edits.len()
+        self.end == other.end
+            && self.world == other.world
+            && are_same(self.edits.as_slice(), other.edits.as_slice())
     }
 
     /// What is written of what was read.

@@ -1,0 +1,21 @@
+//! Asking for a growth of memory to be refused. Under the allocator that scripts/growths loads such requests are heard; under any other
+//! they do nothing.
+use std::alloc::Global;
+
+/// The size that the allocator listens to.
+const MARK: usize = 3_141_592;
+
+/// Most growths that are refused in turn.
+pub const MOST: usize = 4096;
+
+/// Asks that the growth `nth` from here on is refused, or none where it is 0.
+pub fn refuse(alloc: Global, nth: usize) {
+    if nth > 0 {
+        let _ = Vec::<u8>::with_capacity(alloc, MARK.saturating_add(nth));
+    }
+}
+
+/// Ends what `refuse` asked for, and says whether a growth was refused.
+pub fn was_refused(alloc: Global, nth: usize) -> bool {
+    nth > 0 && Vec::<u8>::with_capacity(alloc, MARK).is_err()
+}

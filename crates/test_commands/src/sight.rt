@@ -1,0 +1,67 @@
+//! What is seen of the rows of a section, held against what is to be seen.
+use crate::row::{Outcome, Row};
+use std::alloc::{AllocError, Global};
+use std::fmt::Write;
+
+/// What was seen so far in one turn.
+#[derive(Drop)]
+pub struct Sight {
+    pub outcome: Outcome,
+    /// Rows of which what is to be seen is seen.
+    pub held: usize,
+    /// Rows of which something else is.
+    pub broken: usize,
+    /// Those, line by line.
+    pub told: String,
+    /// All that is seen, in one line.
+    pub line: String,
+}
+
+/// Appends each line of a text behind a mark.
+fn put_marked(mark: &str, text: &str, out: &mut String) -> Result<(), AllocError> {
+    for line in text.lines() {
+        writeln!(out, "  {mark} {line}")?;
+    }
+    Ok(())
+}
+
+/// Appends lines to one line.
+fn put_joined(seen: &str, out: &mut String) -> Result<(), AllocError> {
+    for line in seen.lines() {
+        if !out.is_empty() {
+            out.push_str("; ")?;
+        }
+        out.push_str(line)?;
+    }
+    Ok(())
+}
+
+impl Sight {
+    pub fn new(alloc: Global) -> Sight {
+        Sight {
+            outcome: Outcome::Whole,
+            held: 0,
+            broken: 0,
+            told: String::new(alloc),
+            line: String::new(alloc),
+        }
+    }
+
+    fn break_row(&mut self, row: &Row, seen: &str) -> Result<(), AllocError> {
+        self.broken = self.broken.saturating_add(1);
+        writeln!(self.told, "{}: {}", row.number, row.line)?;
+        put_marked("wanted:", row.wanted(self.outcome), &mut self.told)?;
+        put_marked("seen:  ", seen, &mut self.told)
+    }
+
+    /// Takes what is seen of a row, once it is known how that came out.
+    pub fn take(&mut self, row: &Row, seen: &str) -> Result<(), AllocError> {
+        put_joined(seen, &mut self.line)?;
+        if seen != row.wanted(self.outcome) {
+            self.break_row(row, seen)?;
+        } else if !seen.is_empty() {
+            self.held = self.held.saturating_add(1);
+        }
+        Ok(())
+    }
+}

@@ -1,0 +1,152 @@
+//! What is seen of boards, their cells and stats.
+use crate::desk::{Desk, board_name, stat_name};
+use crate::line::Line;
+use crate::told::{put_error, put_name, put_option};
+use crate::trouble::Trouble;
+use std::alloc::AllocError;
+use std::fmt::Write;
+use zed_document::{Follower, Leader, P3, Rank, View};
+use zed_types::{Side, StatByte, StatNumber, TextId, ThirdParameter};
+
+fn side_of(word: &str) -> Result<Side, Trouble> {
+    match word {
+        "north" => Ok(Side::North),
+        "south" => Ok(Side::South),
+        "west" => Ok(Side::West),
+        "east" => Ok(Side::East),
+        _ => Err(Trouble::Line),
+    }
+}
+
+/// Appends an exit of a board, by its place among those that were made.
+fn put_exit(view: &View, n: usize, side: Side, seen: &mut String) -> Result<(), Trouble> {
+    if view.boards() <= n {
+        return Err(Trouble::Line);
+    }
+    let exit = view.property(n, side);
+    Ok(put_option(board_name(exit), seen)?)
+}
+
+fn put_rank(view: &View, n: usize, seen: &mut String) -> Result<(), Trouble> {
+    if view.boards() <= n {
+        return Err(Trouble::Line);
+    }
+    let rank = view.property(n, Rank);
+    Ok(write!(seen, "{rank}")?)
+}
+
+/// Appends the tile at a place of a board's table.
+fn put_cell(view: &View, n: usize, place: usize, seen: &mut String) -> Result<(), Trouble> {
+    if view.boards() <= n {
+        return Err(Trouble::Line);
+    }
+    match view.table(n).get(place) {
+        Some(tile) => {
+            let (element, colour) = (tile.element, tile.colour);
+            Ok(write!(seen, "{element} 0x{colour:02x}")?)
+        }
+        None => Err(Trouble::Line),
+    }
+}
+
+fn put_parameter(parameter: ThirdParameter, seen: &mut String) -> Result<(), AllocError> {
+    match parameter {
+        ThirdParameter::Byte(byte) => write!(seen, "{byte}"),
+        ThirdParameter::Board(id) => {
+            seen.push_str("board ")?;
+            put_name(id.name, seen)
+        }
+    }
+}
+
+/// Appends where a stat stands, and its numbers of its own.
+fn put_place(view: &View, n: usize, j: usize, seen: &mut String) -> Result<(), Trouble> {
+    if view.boards() <= n || view.stats(n) <= j {
+        return Err(Trouble::Line);
+    }
+    put_name(view.stat(n, j).id.name, seen)?;
+    let (x, y) = (view.field(n, j, StatByte::X), view.field(n, j, StatByte::Y));
+    write!(seen, " ({x},{y})")?;
+    let cycle = view.field(n, j, StatNumber::Cycle);
+    let position = view.field(n, j, StatNumber::Position);
+    Ok(write!(seen, " cycle {cycle} position {position}")?)
+}
+
+/// Appends what a stat names, and whether it is removed.
+fn put_links(view: &View, n: usize, j: usize, seen: &mut String) -> Result<(), Trouble> {
+    if view.boards() <= n || view.stats(n) <= j {
+        return Err(Trouble::Line);
+    }
+    seen.push_str(" p3 ")?;
+    put_parameter(view.field(n, j, P3), seen)?;
+    seen.push_str(" follower ")?;
+    put_option(stat_name(view.field(n, j, Follower)), seen)?;
+    seen.push_str(" leader ")?;
+    put_option(stat_name(view.field(n, j, Leader)), seen)?;
+    if view.stat(n, j).removed {
+        seen.push_str(" removed")?;
+    }
+    Ok(())
+}
+
+/// Appends the stat that stands at a place among those of a board that were made.
+fn put_registers(view: &View, n: usize, j: usize, seen: &mut String) -> Result<(), Trouble> {
+    put_place(view, n, j, seen)?;
+    put_links(view, n, j, seen)
+}
+
+/// Appends the names of a text's live bytes.
+fn put_names(view: &View, id: TextId, length: usize, seen: &mut String) -> Result<(), Trouble> {
+    for k in 0..length {
+        if 0 < k {
+            seen.push(' ')?;
+        }
+        match view.name_at(id, k) {
+            Some(byte) => put_name(byte.name, seen)?,
+            None => seen.push_str("none")?,
+        }
+    }
+    Ok(())
+}
+
+fn put_view(view: &View, verb: &str, line: &mut Line, seen: &mut String) -> Result<bool, Trouble> {
+    match verb {
+        "exit" => put_exit(view, line.number()?, side_of(line.word()?)?, seen)?,
+        "rank" => put_rank(view, line.number()?, seen)?,
+        "cell" => put_cell(view, line.number()?, line.number()?, seen)?,
+        "registers" => put_registers(view, line.number()?, line.number()?, seen)?,
+        "names" => put_names(view, TextId { name: line.name()? }, line.number()?, seen)?,
+        _ => return Ok(false),
+    }
+    Ok(true)
+}
+
+/// Whether a row asks for what a view shows.
+fn is_viewed(verb: &str) -> bool {
+    match verb {
+        "exit" | "rank" | "cell" | "registers" | "names" => true,
+        _ => false,
+    }
+}
+
+impl Desk {
+    /// Appends what a row asks of the document's view, if it is such a row.
+    pub fn put_viewed(
+        &self,
+        verb: &str,
+        line: &mut Line,
+        seen: &mut String,
+    ) -> Result<bool, Trouble> {
+        if !is_viewed(verb) {
+            return Ok(false);
+        }
+        match self.document.view() {
+            Ok(view) => put_view(&view, verb, line, seen),
+            Err(error) => {
+                line.text();
+                put_error(error, seen)?;
+                Ok(true)
+            }
+        }
+    }
+}

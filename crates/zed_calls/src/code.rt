@@ -1,0 +1,81 @@
+//! Texts whose growths are refused, which a document that is stale then doesn't show.
+ghost use Rattle.std.specs.Prelude.{◌≡◌, ◌∷◌, [], IfOk};
+ghost use Rattle.zed_types.specs.Text.{run_from};
+ghost use Rattle.zed_code.specs.Text.{elements, genesis};
+
+use crate::growths::{TURNS, refuse, was_refused};
+use crate::stamps::{first_of, stamp};
+use std::alloc::Global;
+use std::test::Fail;
+use zed_code::{CodeError, Text};
+use zed_types::Stamp;
+
+/// The stamps of edits that put bytes.
+const X: Stamp = stamp!(2, 1);
+
+const Y: Stamp = stamp!(2, 2);
+
+/// The text `AB` of the edit that makes the world.
+fn letters(alloc: Global) -> Result<Text, CodeError>
+    ensures { IfOk result (λ t. elements t ≡ run_from genesis 0 (65 ∷ 66 ∷ [])) }
+{
+    Text::genesis(alloc, b"AB")
+}
+
+#[test]
+fn an_insertion_of_nothing_changes_nothing(rt: HostRuntime) -> Result<(), Fail> {
+    let mut text = Text::new(rt.alloc());
+    text.insert(None, X, b"")?;
+    assert_eq!(rt; text.visits(), 0);
+    text.insert(None, X, b"x")?;
+    let before = text.visits();
+    text.insert(None, Y, b"")?;
+    assert_eq!(rt; text.visits(), before + 1);
+    assert_eq!(rt; text.text()?.as_slice(), b"x".as_slice());
+    Ok(())
+}
+
+/// Whether each growth of `insert`, refused in turn, leaves the text as it was, up to the call that met none.
+fn sweep_insert(alloc: Global) -> Result<bool, Fail> {
+    for nth in 1..=TURNS {
+        let mut text = Text::genesis(alloc, b"ABC")?;
+        text.delete(Stamp::GENESIS, 1, 1)?;
+        refuse(alloc, nth);
+        let answer = text.insert(first_of(Stamp::GENESIS), X, b"x");
+        if !was_refused(alloc) {
+            return Ok(answer.is_ok() && text.text()?.as_slice() == b"AxC".as_slice());
+        }
+        if answer.is_ok() || text.text()?.as_slice() != b"AC".as_slice() {
+            return Ok(false);
+        }
+        text.insert(first_of(Stamp::GENESIS), X, b"x")?;
+        if text.text()?.as_slice() != b"AxC".as_slice() {
+            return Ok(false);
+        }
+    }
+    Ok(false)
+}
+
+/// Whether each growth of `delete`, refused in turn, leaves the text as it was, up to the call that met none.
+fn sweep_delete(alloc: Global) -> Result<bool, Fail> {
+    for nth in 1..=TURNS {
+        let mut text = letters(alloc)?;
+        text.insert(first_of(Stamp::GENESIS), X, b"x")?;
+        refuse(alloc, nth);
+        let answer = text.delete(Stamp::GENESIS, 0, 0);
+        if !was_refused(alloc) {
+            return Ok(answer.is_ok() && text.text()?.as_slice() == b"xB".as_slice());
+        }
+        if answer.is_ok() || text.text()?.as_slice() != b"AxB".as_slice() {
+            return Ok(false);
+        }
+    }
+    Ok(false)
+}
+
+#[test]
+fn a_refused_growth_leaves_the_text(rt: HostRuntime) -> Result<(), Fail> {
+    assert!(rt; sweep_insert(rt.alloc())?);
+    assert!(rt; sweep_delete(rt.alloc())?);
+    Ok(())
+}
