@@ -16,11 +16,11 @@ use Rattle.zed_op.specs.SetLaws.{EditKeepsFit, EditKeepsRising, UnionKeepsFit, U
 use Rattle.zed_op.specs.Sizes.{HasSizes, HaveSizes}
 use Rattle.zed_op.proofs.SetLaws.{each-with_edit}
 use Rattle.zed_laws.specs.Laws.{HeldAreRemembered}
-use Rattle.zed_body.specs.declared.body.Body.{Body}
-use Rattle.zed_body.specs.declared.take.Taken.{Taken}
-use Rattle.zed_body.specs.Shows.{BodyShows}
-use Rattle.zed_body.specs.Taking.{CalmEditsHoldTheSame, ComesTo, IsApart, IsNewTo, ShowsOneMore, Tells, is_held, woken}
-use Rattle.zed_body.specs.TakingAll.{AllComeTo, AreNewTo, RisingAreApart, ShowsAll}
+use Rattle.zed_delivery.specs.declared.body.Body.{Body}
+use Rattle.zed_delivery.specs.declared.take.Taken.{Taken}
+use Rattle.zed_delivery.specs.Shows.{BodyShows}
+use Rattle.zed_delivery.specs.Taking.{CalmEditsHoldTheSame, ComesTo, IsApart, IsNewTo, ShowsOneMore, Tells, is_held, woken}
+use Rattle.zed_delivery.specs.TakingAll.{AllComeTo, AreNewTo, RisingAreApart, ShowsAll}
 use Rattle.zed_document.specs.declared.delivered.Delivered.{Delivered}
 use Rattle.zed_document.specs.Batch.{AreNew}
 use Rattle.zed_document.specs.Delivery.{TellsNew, edit_with, state_of}

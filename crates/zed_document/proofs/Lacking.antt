@@ -11,7 +11,7 @@ use Rattle.zed_types.proofs.StampOrder.{same_stamp-true}
 use Rattle.zed_op.specs.declared.op.Edit.{Edit}
 use Rattle.zed_op.specs.Set.{IsRising, union}
 use Rattle.zed_op.specs.SetLaws.{EditKeepsRising, RisingIsItsEdits, UnionKeepsRising}
-use Rattle.zed_body.proofs.Members.{filter-rising}
+use Rattle.zed_delivery.proofs.Members.{filter-rising}
 use Rattle.zed_document.specs.Batch.{AreNew, first_of}
 use Rattle.zed_document.specs.Delivery.{edit_with}
 use Rattle.zed_document.specs.Merge.{new_to}

@@ -16,7 +16,7 @@ use Rattle.zed_code.specs.Text.{elements}
 use Rattle.zed_texts.specs.ByName.{text_in}
 use Rattle.zed_texts.specs.Looks.{greatest_sum, looks_of}
 use Rattle.zed_texts.specs.Texts.{Texts, elements_of, Grows, AllGrow}
-use Rattle.zed_body.specs.Counts.{HasFew, HaveFew, IsNoLess, NoneFalls, edits_of}
+use Rattle.zed_delivery.specs.Counts.{HasFew, HaveFew, IsNoLess, NoneFalls, edits_of}
 use Rattle.zed_document.specs.Counts.{Counts, added, capped, count_of, counts_of, or_zero, total, NoCountFalls}
 
 -- ---- sums

@@ -21,13 +21,13 @@ use Rattle.zed_op.proofs.Sets.{Member-all, with_edit-rising}
 use Rattle.zed_edit.specs.Document.{empty_document}
 use Rattle.zed_edit.specs.Replay.{can, held, replay}
 use Rattle.zed_laws.proofs.ReplaySteps.{held_are_remembered}
-use Rattle.zed_settle.proofs.EarlierThings.{earlier_decide}
-use Rattle.zed_settle.proofs.HeldAlone.{held_is_one_more}
+use Rattle.zed_laws.proofs.EarlierThings.{earlier_decide}
+use Rattle.zed_laws.proofs.HeldAlone.{held_is_one_more}
 use Rattle.zed_inbox.proofs.Stamped.{alike}
-use Rattle.zed_body.specs.declared.take.Taken.{Taken}
-use Rattle.zed_body.specs.Taking.{IsApart, is_held}
-use Rattle.zed_body.proofs.Members.{IsCut, all-behind, all-members, cut, held-in}
-use Rattle.zed_body.proofs.Woken.{still-held, told-done, woken-held}
+use Rattle.zed_delivery.specs.declared.take.Taken.{Taken}
+use Rattle.zed_delivery.specs.Taking.{IsApart, is_held}
+use Rattle.zed_delivery.proofs.Members.{IsCut, all-behind, all-members, cut, held-in}
+use Rattle.zed_delivery.proofs.Woken.{still-held, told-done, woken-held}
 use Rattle.zed_document.specs.Held.{held_stamps, is_among, waits_in, woken}
 
 -- ---- stamps in a set

@@ -27,12 +27,12 @@ use Rattle.zed_texts.specs.ByName.{text_in}
 use Rattle.zed_texts.specs.Texts.{Texts, elements_of, changes_text, Grows, AllGrow}
 use Rattle.zed_texts.specs.Shows.{TextsShow}
 use Rattle.zed_texts.proofs.TextElements.{in-elements}
-use Rattle.zed_body.specs.declared.body.Body.{Body}
-use Rattle.zed_body.specs.declared.take.Taken.{Taken}
-use Rattle.zed_body.specs.Counts.{HaveFew, NoneFalls, Works, edits_of}
-use Rattle.zed_body.specs.Shows.{BodyShows}
-use Rattle.zed_body.specs.Taking.{ComesTo, Tells, held_stamps, is_held}
-use Rattle.zed_body.proofs.Stirring.{none_falls-itself}
+use Rattle.zed_delivery.specs.declared.body.Body.{Body}
+use Rattle.zed_delivery.specs.declared.take.Taken.{Taken}
+use Rattle.zed_delivery.specs.Counts.{HaveFew, NoneFalls, Works, edits_of}
+use Rattle.zed_delivery.specs.Shows.{BodyShows}
+use Rattle.zed_delivery.specs.Taking.{ComesTo, Tells, held_stamps, is_held}
+use Rattle.zed_delivery.proofs.Stirring.{none_falls-itself}
 use Rattle.zed_document.specs.declared.delivered.Delivered.{Delivered}
 use Rattle.zed_document.specs.declared.delivered.State.TheVariants.{Taken as as_taken, Held, Known}
 use Rattle.zed_document.specs.Counts.{added, capped, count_of, counts_of, total}

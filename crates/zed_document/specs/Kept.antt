@@ -6,8 +6,8 @@ use Rattle.zed_types.specs.Stamp.{before}
 use Rattle.zed_op.specs.declared.op.Edit.{Edit}
 use Rattle.zed_op.specs.Set.{AllFit, IsRising}
 use Rattle.zed_op.specs.Sizes.{HaveSizes}
-use Rattle.zed_body.specs.declared.body.Body.{Body}
-use Rattle.zed_body.specs.Shows.{BodyShows}
+use Rattle.zed_delivery.specs.declared.body.Body.{Body}
+use Rattle.zed_delivery.specs.Shows.{BodyShows}
 use Rattle.zed_document.specs.Held.{held_stamps}
 
 -- the log is a set of edits that fit and have the sizes of their fields, in rising stamp order; the stamps kept are those held, in a stale document too; and the body shows the edits, but for a stale one

@@ -7,7 +7,7 @@ use Rattle.zed_op.specs.declared.op.Edit.{Edit}
 use Rattle.zed_edit.specs.Document.{elements}
 use Rattle.zed_edit.specs.Replay.{replay, taken}
 use Rattle.zed_code.specs.Visits.{greatest}
-use Rattle.zed_body.specs.Counts.{edits_of}
+use Rattle.zed_delivery.specs.Counts.{edits_of}
 use Rattle.zed_document.specs.declared.delivered.Delivered.{Delivered}
 use Rattle.zed_document.specs.declared.delivered.State.TheVariants.{Taken}
 use Rattle.zed_document.specs.Counts.{Counts, added, count_of, NoCountFalls}

@@ -15,7 +15,7 @@ use crate::clock::stamp_for;
 use crate::document::Document;
 use crate::error::{DocumentError, of_edit};
 use crate::place::spot_of;
-use zed_body::bodies_have_what_is_made;
+use zed_delivery::bodies_have_what_is_made;
 use zed_edit::{Edit, Op, check};
 use zed_laws::replay_goes_edit_by_edit;
 use zed_op::{fit_is_of_parts, sets_stay_fit};

@@ -12,7 +12,7 @@ use crate::held::HeldStamps;
 use crate::open_log::OpenLog;
 use crate::visits::{visits_before, visits_since};
 use std::marker::Model;
-use zed_body::{Body, calm_edits_hold_the_same};
+use zed_delivery::{Body, calm_edits_hold_the_same};
 use zed_edit::Edit;
 use zed_laws::held_edits_are_remembered;
 use zed_op::{edit_has_sizes, edit_joins_a_set, sets_rise, sets_stay_fit};

@@ -4,7 +4,7 @@ ghost use Rattle.zed_code.specs.Visits.{greatest};
 ghost use Rattle.zed_document.specs.Counts.{capped, count_of, counts_of};
 ghost use Rattle.zed_document.specs.Visits.{text_changed};
 
-use zed_body::Body;
+use zed_delivery::Body;
 use zed_edit::{Edit, Op};
 use zed_texts::LiveTexts;
 use zed_types::TextId;

@@ -1,6 +1,15 @@
+pub mod Fields
+pub mod HeldAlone
+pub mod Homes
 pub mod Integers
 pub mod Laws
+pub mod Making
+pub mod NameOrder
+pub mod Ordered
+pub mod OwnNames
 pub mod Registers
 pub mod Regular
+pub mod Settled
 pub mod TextNames
-pub mod NameOrder
+pub mod Whole
+pub mod Winners

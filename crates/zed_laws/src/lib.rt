@@ -1,9 +1,12 @@
-//! What holds of the replay, whatever the edits: laws on its definitions, each the contract of a function with nothing to do.
+//! What holds of the replay, whatever the edits and however they came: laws on its definitions, each the contract of a function with
+//! nothing to do. A document that changes edit by edit stands on them.
 #![tactic(auto)]
 
 mod laws;
 mod order;
+mod registers;
 mod regular;
+mod settled;
 mod texts;
 
 pub use laws::{
@@ -12,5 +15,13 @@ pub use laws::{
     taken_edits_make_all,
 };
 pub use order::{ordered_boards_are_apart, replay_is_ordered};
+pub use registers::{
+    greatest_stamp_wins_boards, greatest_stamp_wins_stats, greatest_stamp_wins_the_header,
+    replay_is_whole,
+};
 pub use regular::replay_is_regular;
+pub use settled::{
+    earlier_edits_decide, edits_make_all_things, held_edits_stand_alone,
+    ordered_lists_are_their_members, settled_edits_are_taken, things_have_own_names,
+};
 pub use texts::texts_keep_names;

@@ -17,9 +17,9 @@ use Rattle.zed_edit.specs.declared.plain.Stat.{Stat}
 use Rattle.zed_edit.specs.Board.{empty_tile}
 use Rattle.zed_edit.specs.Replay.{replay}
 use Rattle.zed_laws.proofs.RegularSteps.{ReadIsNormal}
-use Rattle.zed_settle.specs.Fields.{board_removed, cell}
-use Rattle.zed_settle.specs.Registers.{find_board}
-use Rattle.zed_settle.proofs.BoardFields.{is_cell, is_removed, board-wins}
+use Rattle.zed_laws.specs.Fields.{board_removed, cell}
+use Rattle.zed_laws.specs.Winners.{find_board}
+use Rattle.zed_laws.proofs.BoardFields.{is_cell, is_removed, board-wins}
 use Rattle.zed_cells.specs.Cells.{tiles_of}
 use Rattle.zed_live.specs.Shown.{shown_properties}
 use Rattle.zed_live.specs.Board.{ReplayedBoardIsShown}

@@ -25,13 +25,13 @@ use Rattle.zed_laws.specs.Registers.{writes_of}
 use Rattle.zed_laws.proofs.LatestWrites.{taken-rising}
 use Rattle.zed_laws.proofs.NamesInOrder.{replay_ordered}
 use Rattle.zed_laws.proofs.RegularSteps.{ReadIsNormal}
-use Rattle.zed_settle.specs.Homes.{made_home, home}
-use Rattle.zed_settle.specs.Making.{makes}
-use Rattle.zed_settle.specs.Registers.{find_board, find_stat, latest_or}
-use Rattle.zed_settle.proofs.Found.{found-holds}
-use Rattle.zed_settle.proofs.Homes.{home-wins}
-use Rattle.zed_settle.proofs.OrderedLists.{ordered_are_their_members}
-use Rattle.zed_settle.proofs.OwnNames.{boards_have_own_names, stats_have_own_names}
+use Rattle.zed_laws.specs.Homes.{made_home, home}
+use Rattle.zed_laws.specs.Making.{makes}
+use Rattle.zed_laws.specs.Winners.{find_board, find_stat, latest_or}
+use Rattle.zed_laws.proofs.Found.{found-holds}
+use Rattle.zed_laws.proofs.Homes.{home-wins}
+use Rattle.zed_laws.proofs.OrderedLists.{ordered_are_their_members}
+use Rattle.zed_laws.proofs.OwnNames.{boards_have_own_names, stats_have_own_names}
 use Rattle.zed_cells.specs.Writes.{written_at}
 use Rattle.zed_stats.specs.declared.stat.LiveStat.{LiveStat}
 use Rattle.zed_live.specs.Shows.{latest_in}

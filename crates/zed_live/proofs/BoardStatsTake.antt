@@ -20,10 +20,10 @@ use Rattle.zed_edit.specs.declared.plain.Board.{Board}
 use Rattle.zed_edit.specs.declared.plain.Stat.{Stat}
 use Rattle.zed_edit.specs.Stat.{new_stat as plain_stat}
 use Rattle.zed_laws.proofs.MadeThings.{find-any}
-use Rattle.zed_settle.specs.Making.{makes}
-use Rattle.zed_settle.specs.Registers.{made_boards, made_stats, changes_stat, find_board, find_stat}
-use Rattle.zed_settle.specs.Whole.{IsWholeBoard, IsWholeStat}
-use Rattle.zed_settle.proofs.Found.{found-holds}
+use Rattle.zed_laws.specs.Making.{makes}
+use Rattle.zed_laws.specs.Winners.{made_boards, made_stats, changes_stat, find_board, find_stat}
+use Rattle.zed_laws.specs.Whole.{IsWholeBoard, IsWholeStat}
+use Rattle.zed_laws.proofs.Found.{found-holds}
 use Rattle.zed_stats.specs.declared.stat.LiveStat.{LiveStat}
 use Rattle.zed_stats.specs.Fields.{new_stat}
 use Rattle.zed_stats.specs.Stats.{stat_name, change}

@@ -23,8 +23,8 @@ use Rattle.zed_op.specs.Sizes.{IsOp}
 use Rattle.zed_edit.specs.declared.plain.Board.{Board}
 use Rattle.zed_edit.specs.Board.{empty_tile}
 use Rattle.zed_laws.specs.Registers.{kept_after}
-use Rattle.zed_settle.specs.Fields.{Field, board_byte, board_flag, time_limit, rank, exit, board_text, board_removed, cell}
-use Rattle.zed_settle.specs.Registers.{of_board, find_board, made_boards, changes_board}
+use Rattle.zed_laws.specs.Fields.{Field, board_byte, board_flag, time_limit, rank, exit, board_text, board_removed, cell}
+use Rattle.zed_laws.specs.Winners.{of_board, find_board, made_boards, changes_board}
 use Rattle.zed_cells.specs.Writes.{written_at}
 use Rattle.zed_cells.specs.Cells.{set_cells, writes_into, CellsHoldTheLatest}
 use Rattle.zed_stats.specs.Arrivals.{FieldsHoldTheLatest}

@@ -8,7 +8,7 @@ use Rattle.zed_op.specs.declared.op.Op.TheVariants.{Genesis, BoardAdd}
 use Rattle.zed_op.specs.declared.op.Edit.{Edit}
 use Rattle.zed_edit.specs.Document.{empty_document}
 use Rattle.zed_edit.specs.Replay.{open_world}
-use Rattle.zed_settle.specs.Registers.{opened_from}
+use Rattle.zed_laws.specs.Winners.{opened_from}
 use Rattle.zed_live.specs.Header.{made_by}
 use Rattle.zed_live.specs.Boards.{Boards, add_all, all_as_made, boards_after}
 

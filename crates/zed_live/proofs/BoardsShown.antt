@@ -15,10 +15,10 @@ use Rattle.zed_edit.specs.Replay.{replay, taken}
 use Rattle.zed_laws.proofs.MadeThings.{find-any}
 use Rattle.zed_laws.proofs.NamesInOrder.{replay_ordered}
 use Rattle.zed_laws.proofs.RegularSteps.{ReadIsNormal}
-use Rattle.zed_settle.specs.Making.{makes}
-use Rattle.zed_settle.specs.Registers.{find_board}
-use Rattle.zed_settle.proofs.Making.{taken_make}
-use Rattle.zed_settle.proofs.OrderedLists.{ordered_are_their_members}
+use Rattle.zed_laws.specs.Making.{makes}
+use Rattle.zed_laws.specs.Winners.{find_board}
+use Rattle.zed_laws.proofs.Making.{taken_make}
+use Rattle.zed_laws.proofs.OrderedLists.{ordered_are_their_members}
 use Rattle.zed_live.specs.declared.board.LiveBoard.{LiveBoard}
 use Rattle.zed_live.specs.Board.{shown_board}
 use Rattle.zed_live.specs.Boards.{Boards, board_name, board_in, shown_boards, IsLeft, BoardsShow, ReplayedBoardsAreShown}

@@ -23,11 +23,11 @@ use Rattle.zed_edit.specs.Replay.{open_world}
 use Rattle.zed_laws.proofs.MadeThings.{find-any}
 use Rattle.zed_laws.proofs.NamesInOrder.{All-both}
 use Rattle.zed_laws.proofs.RegularSteps.{ReadIsNormal}
-use Rattle.zed_settle.specs.Making.{makes}
-use Rattle.zed_settle.specs.Registers.{opened_from, made_boards, made_stats, changes_stat, find_board}
-use Rattle.zed_settle.specs.Whole.{IsWholeBoard}
-use Rattle.zed_settle.proofs.Found.{found-holds}
-use Rattle.zed_settle.proofs.WholeSteps.{step_whole, empty_whole}
+use Rattle.zed_laws.specs.Making.{makes}
+use Rattle.zed_laws.specs.Winners.{opened_from, made_boards, made_stats, changes_stat, find_board}
+use Rattle.zed_laws.specs.Whole.{IsWholeBoard}
+use Rattle.zed_laws.proofs.Found.{found-holds}
+use Rattle.zed_laws.proofs.WholeSteps.{step_whole, empty_whole}
 use Rattle.zed_cells.specs.Cells.{CellsHoldTheLatest}
 use Rattle.zed_stats.specs.Arrivals.{FieldsHoldTheLatest}
 use Rattle.zed_live.specs.declared.board.LiveBoard.{LiveBoard}

@@ -16,9 +16,9 @@ use Rattle.zed_edit.specs.declared.plain.Plain.{Plain}
 use Rattle.zed_edit.specs.Document.{empty_document, has}
 use Rattle.zed_edit.specs.Replay.{can, has_all, replay, held}
 use Rattle.zed_laws.proofs.RegularSteps.{ReadIsNormal}
-use Rattle.zed_settle.specs.Making.{makes}
-use Rattle.zed_settle.specs.Registers.{changes_stat}
-use Rattle.zed_settle.proofs.Making.{taken_make, all-taken, rising-without}
+use Rattle.zed_laws.specs.Making.{makes}
+use Rattle.zed_laws.specs.Winners.{changes_stat}
+use Rattle.zed_laws.proofs.Making.{taken_make, all-taken, rising-without}
 use Rattle.zed_cells.specs.Cells.{CellsHoldTheLatest}
 use Rattle.zed_stats.specs.Arrivals.{FieldsHoldTheLatest}
 use Rattle.zed_live.specs.Board.{is_of}

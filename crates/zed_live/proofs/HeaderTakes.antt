@@ -24,9 +24,9 @@ use Rattle.zed_edit.specs.Genesis.{header_of}
 use Rattle.zed_laws.specs.Registers.{kept_after}
 use Rattle.zed_laws.proofs.LatestWrites.{late_write_is_compared}
 use Rattle.zed_laws.proofs.RegularSteps.{ReadIsNormal}
-use Rattle.zed_settle.specs.Fields.{Field, header_number, key, saved, current_board, world_name, flag}
-use Rattle.zed_settle.specs.Registers.{Register, of_header, opened_header}
-use Rattle.zed_settle.proofs.HeaderFields.{number-within, key-within, flag-within}
+use Rattle.zed_laws.specs.Fields.{Field, header_number, key, saved, current_board, world_name, flag}
+use Rattle.zed_laws.specs.Winners.{Register, of_header, opened_header}
+use Rattle.zed_laws.proofs.HeaderFields.{number-within, key-within, flag-within}
 use Rattle.zed_cells.specs.Writes.{written_at, register}
 use Rattle.zed_live.specs.declared.header.LiveHeader.{LiveHeader}
 use Rattle.zed_live.specs.Header.{write_header, write_each, write_all, open_header, header_after}

@@ -21,13 +21,13 @@ use Rattle.zed_edit.specs.declared.plain.Stat.{Stat}
 use Rattle.zed_edit.specs.Document.{empty_document}
 use Rattle.zed_edit.specs.Replay.{open_world, replay}
 use Rattle.zed_laws.proofs.MadeThings.{find-any}
-use Rattle.zed_settle.specs.Homes.{is_on}
-use Rattle.zed_settle.specs.Making.{makes, op_makes}
-use Rattle.zed_settle.specs.Registers.{opened_from, made_boards, made_stats, stats_of, find_board, find_stat}
-use Rattle.zed_settle.specs.OwnNames.{NamesDiffer}
-use Rattle.zed_settle.proofs.Found.{found-holds}
-use Rattle.zed_settle.proofs.OwnNames.{boards_have_own_names, stats_have_own_names}
-use Rattle.zed_settle.proofs.StatReads.{any-stat}
+use Rattle.zed_laws.specs.Homes.{is_on}
+use Rattle.zed_laws.specs.Making.{makes, op_makes}
+use Rattle.zed_laws.specs.Winners.{opened_from, made_boards, made_stats, stats_of, find_board, find_stat}
+use Rattle.zed_laws.specs.OwnNames.{NamesDiffer}
+use Rattle.zed_laws.proofs.Found.{found-holds}
+use Rattle.zed_laws.proofs.OwnNames.{boards_have_own_names, stats_have_own_names}
+use Rattle.zed_laws.proofs.StatReads.{any-stat}
 use Rattle.zed_live.specs.Board.{is_of}
 use Rattle.zed_live.specs.BoardStats.{is_board, puts}
 use Rattle.zed_live.proofs.Lists.{found-passes}

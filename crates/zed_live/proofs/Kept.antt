@@ -32,7 +32,7 @@ use Rattle.zed_edit.specs.declared.plain.Board.{Board}
 use Rattle.zed_edit.specs.declared.plain.Stat.{Stat}
 use Rattle.zed_edit.specs.Stat.{new_stat as plain_stat}
 use Rattle.zed_laws.specs.NameOrder.{NamesRise}
-use Rattle.zed_settle.specs.Registers.{changes_stat, find_stat}
+use Rattle.zed_laws.specs.Winners.{changes_stat, find_stat}
 use Rattle.zed_stats.specs.declared.stat.LiveStat.{LiveStat}
 use Rattle.zed_stats.specs.Fields.{write, remove}
 use Rattle.zed_stats.specs.Stats.{has, stat_name, stat_cmp, change as change_stat}

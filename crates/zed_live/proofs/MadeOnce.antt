@@ -16,10 +16,10 @@ use Rattle.zed_op.specs.Set.{IsRising}
 use Rattle.zed_edit.specs.declared.plain.Stat.{Stat}
 use Rattle.zed_laws.proofs.MadeThings.{find-any}
 use Rattle.zed_laws.proofs.NamesInOrder.{StampsAre}
-use Rattle.zed_settle.specs.Making.{makes}
-use Rattle.zed_settle.specs.Registers.{made_boards, made_stats}
-use Rattle.zed_settle.proofs.Found.{unfound}
-use Rattle.zed_settle.proofs.Fresh.{boards-pass, stats-pass, unfound-board}
+use Rattle.zed_laws.specs.Making.{makes}
+use Rattle.zed_laws.specs.Winners.{made_boards, made_stats}
+use Rattle.zed_laws.proofs.Found.{unfound}
+use Rattle.zed_laws.proofs.Fresh.{boards-pass, stats-pass, unfound-board}
 use Rattle.zed_live.proofs.Lists.{here-all}
 
 -- ---- what bears the stamp of its edit is made once

@@ -12,8 +12,8 @@ use Rattle.zed_op.specs.declared.thing.Thing.TheVariants as thing
 use Rattle.zed_op.specs.Set.{IsRising}
 use Rattle.zed_laws.specs.NameOrder.{is_earlier}
 use Rattle.zed_laws.proofs.MadeThings.{find-any}
-use Rattle.zed_settle.specs.Homes.{home}
-use Rattle.zed_settle.specs.Making.{makes}
+use Rattle.zed_laws.specs.Homes.{home}
+use Rattle.zed_laws.specs.Making.{makes}
 use Rattle.zed_stats.specs.declared.stat.LiveStat.{LiveStat}
 use Rattle.zed_stats.specs.Stats.{has}
 use Rattle.zed_live.specs.declared.board.LiveBoard.{LiveBoard}

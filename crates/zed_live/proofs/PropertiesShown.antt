@@ -23,12 +23,12 @@ use Rattle.zed_edit.specs.declared.plain.Properties.{Properties}
 use Rattle.zed_edit.specs.declared.plain.Board.{Board}
 use Rattle.zed_edit.specs.Replay.{replay, taken}
 use Rattle.zed_laws.proofs.RegularSteps.{ReadIsNormal}
-use Rattle.zed_settle.specs.Fields.{Field, board_byte, board_flag, time_limit, rank, exit, board_text}
-use Rattle.zed_settle.specs.Registers.{GreatestStampWins, of_board, find_board, latest_or}
-use Rattle.zed_settle.specs.Whole.{IsWholeBoard}
-use Rattle.zed_settle.proofs.BoardFields.{is_byte, is_flag, is_time_limit, is_rank, is_exit, is_text, board-wins}
-use Rattle.zed_settle.proofs.Found.{found-holds}
-use Rattle.zed_settle.proofs.WholeSteps.{replay_whole}
+use Rattle.zed_laws.specs.Fields.{Field, board_byte, board_flag, time_limit, rank, exit, board_text}
+use Rattle.zed_laws.specs.Winners.{GreatestStampWins, of_board, find_board, latest_or}
+use Rattle.zed_laws.specs.Whole.{IsWholeBoard}
+use Rattle.zed_laws.proofs.BoardFields.{is_byte, is_flag, is_time_limit, is_rank, is_exit, is_text, board-wins}
+use Rattle.zed_laws.proofs.Found.{found-holds}
+use Rattle.zed_laws.proofs.WholeSteps.{replay_whole}
 use Rattle.zed_cells.specs.Writes.{register}
 use Rattle.zed_live.specs.declared.properties.LiveProperties.{LiveProperties}
 use Rattle.zed_live.specs.Shows.{latest_in}

@@ -22,10 +22,10 @@ use Rattle.zed_op.specs.declared.op.Edit.{Edit}
 use Rattle.zed_op.specs.Set.{IsRising}
 use Rattle.zed_edit.specs.declared.plain.Board.{Board}
 use Rattle.zed_laws.specs.Registers.{kept_after}
-use Rattle.zed_settle.specs.Fields.{Field, by_board, board_byte, board_byte_set, board_flag, board_flag_set, time_limit, time_limit_set, rank, rank_set, exit, exit_set, board_text, board_text_set}
-use Rattle.zed_settle.specs.Registers.{Register, of_board, find_board, made_boards, changes_board}
-use Rattle.zed_settle.specs.Whole.{IsWholeBoard}
-use Rattle.zed_settle.proofs.BoardFields.{byte-within, flag-within, side-within, text-within}
+use Rattle.zed_laws.specs.Fields.{Field, by_board, board_byte, board_byte_set, board_flag, board_flag_set, time_limit, time_limit_set, rank, rank_set, exit, exit_set, board_text, board_text_set}
+use Rattle.zed_laws.specs.Winners.{Register, of_board, find_board, made_boards, changes_board}
+use Rattle.zed_laws.specs.Whole.{IsWholeBoard}
+use Rattle.zed_laws.proofs.BoardFields.{byte-within, flag-within, side-within, text-within}
 use Rattle.zed_cells.specs.Writes.{written_at, register}
 use Rattle.zed_live.specs.declared.properties.LiveProperties.{LiveProperties}
 use Rattle.zed_live.specs.Header.{write_each}

@@ -19,10 +19,10 @@ use Rattle.zed_edit.specs.declared.plain.Header.{Header}
 use Rattle.zed_edit.specs.Header.{empty_header}
 use Rattle.zed_edit.specs.Replay.{replay, taken}
 use Rattle.zed_laws.proofs.RegularSteps.{ReadIsNormal}
-use Rattle.zed_settle.specs.Fields.{Field, header_number, key, saved, current_board, world_name, flag}
-use Rattle.zed_settle.specs.Registers.{GreatestStampWins, of_header, latest_or}
-use Rattle.zed_settle.proofs.HeaderFields.{is_number, is_key, is_saved, is_current_board, is_world_name, is_flag, header-wins}
-use Rattle.zed_settle.proofs.WholeSteps.{replay_whole}
+use Rattle.zed_laws.specs.Fields.{Field, header_number, key, saved, current_board, world_name, flag}
+use Rattle.zed_laws.specs.Winners.{GreatestStampWins, of_header, latest_or}
+use Rattle.zed_laws.proofs.HeaderFields.{is_number, is_key, is_saved, is_current_board, is_world_name, is_flag, header-wins}
+use Rattle.zed_laws.proofs.WholeSteps.{replay_whole}
 use Rattle.zed_cells.specs.Writes.{register}
 use Rattle.zed_live.specs.declared.header.LiveHeader.{LiveHeader}
 use Rattle.zed_live.specs.Shows.{latest_in, HeaderShows}

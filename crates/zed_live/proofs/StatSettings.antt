@@ -11,7 +11,7 @@ use Rattle.zed_types.specs.declared.stat_field.StatNumber.TheVariants.{StepX, St
 use Rattle.zed_types.specs.declared.stat_field.StatSetting.{StatSetting}
 use Rattle.zed_types.specs.declared.stat_field.StatSetting.TheVariants as setting
 use Rattle.zed_types.specs.Stat.{stat_byte_index, stat_byte_field, stat_number_field}
-use Rattle.zed_settle.specs.Fields.{stat_byte_set, stat_number_set, third_parameter_set, follower_set, leader_set, stat_text_set}
+use Rattle.zed_laws.specs.Fields.{stat_byte_set, stat_number_set, third_parameter_set, follower_set, leader_set, stat_text_set}
 use Rattle.zed_stats.specs.declared.field.StatField.{StatField}
 use Rattle.zed_stats.specs.declared.field.StatField.TheVariants as field
 use Rattle.zed_stats.specs.Fields.{field_of, field_number}

@@ -42,16 +42,16 @@ use Rattle.zed_laws.specs.Registers.{writes_of}
 use Rattle.zed_laws.proofs.LatestWrites.{latest_of-rising, writes-rising, taken-rising}
 use Rattle.zed_laws.proofs.NamesInOrder.{StampsAre}
 use Rattle.zed_laws.proofs.RegularSteps.{ReadIsNormal}
-use Rattle.zed_settle.specs.Fields.{Field, stat_byte, stat_number, third_parameter, follower, leader, stat_text, is_player, removed_or_player}
-use Rattle.zed_settle.specs.Registers.{GreatestStampWins, of_stat, find_stat, made_boards, made_stats, changes_stat, stats_of, opened_from, latest_or}
-use Rattle.zed_settle.specs.Whole.{IsWholeStat}
-use Rattle.zed_settle.proofs.Found.{found-holds, unfound}
-use Rattle.zed_settle.proofs.Fresh.{boards-pass, stats-pass}
-use Rattle.zed_settle.proofs.StatFields.{is_byte, is_number, is_third_parameter, is_follower, is_leader, is_text, is_for_player, is_removed, stat-wins}
-use Rattle.zed_settle.proofs.WholeSteps.{replay_whole}
+use Rattle.zed_laws.specs.Fields.{Field, stat_byte, stat_number, third_parameter, follower, leader, stat_text, is_player, removed_or_player}
+use Rattle.zed_laws.specs.Winners.{GreatestStampWins, of_stat, find_stat, made_boards, made_stats, changes_stat, stats_of, opened_from, latest_or}
+use Rattle.zed_laws.specs.Whole.{IsWholeStat}
+use Rattle.zed_laws.proofs.Found.{found-holds, unfound}
+use Rattle.zed_laws.proofs.Fresh.{boards-pass, stats-pass}
+use Rattle.zed_laws.proofs.StatFields.{is_byte, is_number, is_third_parameter, is_follower, is_leader, is_text, is_for_player, is_removed, stat-wins}
+use Rattle.zed_laws.proofs.WholeSteps.{replay_whole}
 use Rattle.zed_cells.specs.Writes.{written_at}
 use Rattle.zed_stats.specs.declared.stat.LiveStat.{LiveStat}
-use Rattle.zed_settle.proofs.StatReads.{whole-stats}
+use Rattle.zed_laws.proofs.StatReads.{whole-stats}
 use Rattle.zed_live.specs.Shows.{latest_in}
 use Rattle.zed_live.specs.Stat.{removes, StatShows, shown_stat, ReplayedStatIsShown}
 use Rattle.zed_live.proofs.Lists.{found-passes}

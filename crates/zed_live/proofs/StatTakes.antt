@@ -24,8 +24,8 @@ use Rattle.zed_op.specs.declared.op.Edit.{Edit}
 use Rattle.zed_op.specs.Set.{IsRising}
 use Rattle.zed_edit.specs.declared.plain.Stat.{Stat}
 use Rattle.zed_laws.specs.Registers.{kept_after}
-use Rattle.zed_settle.specs.Fields.{Field, by_stat, stat_byte, stat_byte_set, stat_number, stat_number_set, third_parameter, third_parameter_set, follower, follower_set, leader, leader_set, stat_text, stat_text_set, is_player}
-use Rattle.zed_settle.specs.Registers.{Register, of_stat, find_stat, made_stats, changes_stat}
+use Rattle.zed_laws.specs.Fields.{Field, by_stat, stat_byte, stat_byte_set, stat_number, stat_number_set, third_parameter, third_parameter_set, follower, follower_set, leader, leader_set, stat_text, stat_text_set, is_player}
+use Rattle.zed_laws.specs.Winners.{Register, of_stat, find_stat, made_stats, changes_stat}
 use Rattle.zed_cells.specs.Writes.{written_at}
 use Rattle.zed_stats.specs.declared.field.StatField.{StatField}
 use Rattle.zed_stats.specs.declared.field.StatField.TheVariants as field

@@ -7,7 +7,7 @@ use Rattle.zed_types.specs.Names.{same_stat}
 use Rattle.zed_types.proofs.StampOrder.{same_name-true, same_name-apart, same_name-itself}
 use Rattle.zed_edit.specs.declared.plain.Stat.{Stat}
 use Rattle.zed_laws.specs.NameOrder.{NamesRise}
-use Rattle.zed_settle.specs.Registers.{find_stat}
+use Rattle.zed_laws.specs.Winners.{find_stat}
 use Rattle.zed_stats.specs.declared.stat.LiveStat.{LiveStat}
 use Rattle.zed_stats.specs.Fields.{new_stat}
 use Rattle.zed_names.specs.ByName.{IsOnlyName}

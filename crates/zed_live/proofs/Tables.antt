@@ -5,8 +5,8 @@ use Rattle.zed_types.specs.declared.stamp.Stamp.{Stamp}
 use Rattle.zed_types.specs.declared.written.Written.{Written}
 use Rattle.zed_types.specs.Register.{keep_later}
 use Rattle.zed_laws.specs.Registers.{overwritten, kept_after}
-use Rattle.zed_settle.specs.Fields.{if_at}
-use Rattle.zed_settle.proofs.Found.{written-at}
+use Rattle.zed_laws.specs.Fields.{if_at}
+use Rattle.zed_laws.proofs.Found.{written-at}
 use Rattle.zed_cells.specs.Writes.{written_at, register, set_register}
 use Rattle.zed_live.specs.Header.{write_each}
 

@@ -15,10 +15,10 @@ use Rattle.zed_op.specs.Set.{IsRising, AllFit}
 use Rattle.zed_op.specs.Sizes.{HasSizes, HaveSizes}
 use Rattle.zed_edit.specs.declared.plain.Board.{Board}
 use Rattle.zed_edit.specs.Replay.{replay, taken}
-use Rattle.zed_settle.specs.Fields.{board_removed, cell}
-use Rattle.zed_settle.specs.Making.{makes}
-use Rattle.zed_settle.specs.Registers.{of_board, find_board, made_boards, changes_board}
-use Rattle.zed_settle.specs.Whole.{IsWholeBoard}
+use Rattle.zed_laws.specs.Fields.{board_removed, cell}
+use Rattle.zed_laws.specs.Making.{makes}
+use Rattle.zed_laws.specs.Winners.{of_board, find_board, made_boards, changes_board}
+use Rattle.zed_laws.specs.Whole.{IsWholeBoard}
 use Rattle.zed_cells.specs.Writes.{written_at}
 use Rattle.zed_cells.specs.Cells.{set_cells, tiles_of}
 use Rattle.zed_live.specs.declared.board.LiveBoard.{LiveBoard}

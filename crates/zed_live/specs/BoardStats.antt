@@ -12,7 +12,7 @@ use Rattle.zed_op.specs.declared.op.Edit.{Edit}
 use Rattle.zed_edit.specs.declared.plain.Stat.{Stat}
 use Rattle.zed_edit.specs.Stat.{new_stat as plain_stat}
 use Rattle.zed_laws.specs.NameOrder.{NamesRise}
-use Rattle.zed_settle.specs.Homes.{made_home}
+use Rattle.zed_laws.specs.Homes.{made_home}
 use Rattle.zed_stats.specs.declared.stat.LiveStat.{LiveStat}
 use Rattle.zed_stats.specs.Fields.{new_stat, write, remove}
 use Rattle.zed_stats.specs.Stats.{stat_name, add, change}

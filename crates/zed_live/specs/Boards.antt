@@ -16,9 +16,9 @@ use Rattle.zed_op.specs.Sizes.{HasSizes, HaveSizes}
 use Rattle.zed_edit.specs.declared.plain.Board.{Board}
 use Rattle.zed_edit.specs.Replay.{replay, taken}
 use Rattle.zed_laws.specs.NameOrder.{NamesRise}
-use Rattle.zed_settle.specs.Homes.{home}
-use Rattle.zed_settle.specs.Making.{makes}
-use Rattle.zed_settle.specs.Registers.{latest_or, made_boards, changes_stat}
+use Rattle.zed_laws.specs.Homes.{home}
+use Rattle.zed_laws.specs.Making.{makes}
+use Rattle.zed_laws.specs.Winners.{latest_or, made_boards, changes_stat}
 use Rattle.zed_stats.specs.Stats.{has}
 use Rattle.zed_live.specs.declared.board.LiveBoard.{LiveBoard}
 use Rattle.zed_live.specs.Shows.{latest_in}

@@ -17,9 +17,9 @@ use Rattle.zed_op.specs.declared.op.Edit.{Edit}
 use Rattle.zed_op.specs.Set.{IsRising}
 use Rattle.zed_edit.specs.declared.plain.Properties.{Properties}
 use Rattle.zed_edit.specs.declared.plain.Board.{Board}
-use Rattle.zed_settle.specs.Fields.{board_byte, board_flag, time_limit, rank, exit, board_text}
-use Rattle.zed_settle.specs.Registers.{of_board, find_board, made_boards}
-use Rattle.zed_settle.specs.Whole.{IsWholeBoard}
+use Rattle.zed_laws.specs.Fields.{board_byte, board_flag, time_limit, rank, exit, board_text}
+use Rattle.zed_laws.specs.Winners.{of_board, find_board, made_boards}
+use Rattle.zed_laws.specs.Whole.{IsWholeBoard}
 use Rattle.zed_cells.specs.Writes.{written_at, register, set_register}
 use Rattle.zed_live.specs.declared.properties.LiveProperties.{LiveProperties}
 use Rattle.zed_live.specs.Header.{write_each}

@@ -11,7 +11,7 @@ use Rattle.zed_edit.specs.declared.plain.Header.{Header}
 use Rattle.zed_edit.specs.declared.plain.Properties.{Properties}
 use Rattle.zed_edit.specs.declared.plain.Board.{Board}
 use Rattle.zed_edit.specs.Replay.{replay, taken}
-use Rattle.zed_settle.specs.Registers.{find_board}
+use Rattle.zed_laws.specs.Winners.{find_board}
 use Rattle.zed_live.specs.declared.header.LiveHeader.{LiveHeader}
 use Rattle.zed_live.specs.declared.properties.LiveProperties.{LiveProperties}
 use Rattle.zed_live.specs.Shows.{HeaderShows}

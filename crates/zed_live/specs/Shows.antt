@@ -9,8 +9,8 @@ use Rattle.zed_types.specs.Register.{latest_of}
 use Rattle.zed_op.specs.declared.op.Edit.{Edit}
 use Rattle.zed_op.specs.Set.{IsRising}
 use Rattle.zed_laws.specs.Registers.{writes_of}
-use Rattle.zed_settle.specs.Fields.{header_number, key, saved, current_board, world_name, flag}
-use Rattle.zed_settle.specs.Registers.{Register, of_header}
+use Rattle.zed_laws.specs.Fields.{header_number, key, saved, current_board, world_name, flag}
+use Rattle.zed_laws.specs.Winners.{Register, of_header}
 use Rattle.zed_cells.specs.Writes.{register}
 use Rattle.zed_live.specs.declared.header.LiveHeader.{LiveHeader}
 use Rattle.zed_live.specs.Header.{unwritten, header_after}

@@ -16,9 +16,9 @@ use Rattle.zed_op.specs.Sizes.{HaveSizes}
 use Rattle.zed_edit.specs.declared.plain.Stat.{Stat}
 use Rattle.zed_edit.specs.Document.{all_stats}
 use Rattle.zed_edit.specs.Replay.{replay, taken}
-use Rattle.zed_settle.specs.Fields.{stat_byte, stat_number, third_parameter, follower, leader, stat_text, is_player}
-use Rattle.zed_settle.specs.Registers.{of_stat, find_stat, made_stats, changes_stat}
-use Rattle.zed_settle.specs.Whole.{IsWholeStat}
+use Rattle.zed_laws.specs.Fields.{stat_byte, stat_number, third_parameter, follower, leader, stat_text, is_player}
+use Rattle.zed_laws.specs.Winners.{of_stat, find_stat, made_stats, changes_stat}
+use Rattle.zed_laws.specs.Whole.{IsWholeStat}
 use Rattle.zed_cells.specs.Writes.{written_at}
 use Rattle.zed_stats.specs.declared.field.StatField.{StatField}
 use Rattle.zed_stats.specs.declared.field.StatField.TheVariants.{Byte, Number, P3, Follower, Leader, Text}

@@ -4,7 +4,7 @@ ghost use Rattle.std.specs.Prelude.{◌≡◌, ◌<◌, ◌≤◌, ◌+◌, [], 
 ghost use Rattle.indexmap.specs.IndexMap.{keys, spare};
 ghost use Rattle.zed_op.specs.Fit.{Fits};
 ghost use Rattle.zed_op.specs.Growth.{may_grow};
-ghost use Rattle.zed_settle.specs.Registers.{changes_stat};
+ghost use Rattle.zed_laws.specs.Winners.{changes_stat};
 ghost use Rattle.zed_live.specs.Header.{made_by};
 ghost use Rattle.zed_live.specs.Board.{board_after, stat_changed};
 ghost use Rattle.zed_live.specs.Boards.{board_cmp, board_in, home_in, add as added, add_all as all_added, all_as_made as all_made, change as changed, change_all, boards_after};

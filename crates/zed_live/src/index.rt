@@ -6,7 +6,7 @@ ghost use Rattle.std.specs.Prelude.{◌≡◌, true, false, IfErr, OnOk, OnErr, 
 ghost use Rattle.std.specs.Option.{option_map_or};
 ghost use Rattle.std.specs.Map.{keys_of};
 ghost use Rattle.zed_op.specs.Growth.{may_grow};
-ghost use Rattle.zed_settle.specs.Registers.{changes_stat};
+ghost use Rattle.zed_laws.specs.Winners.{changes_stat};
 ghost use Rattle.zed_stats.specs.Stats.{has};
 ghost use Rattle.zed_live.specs.Board.{stat_changed};
 ghost use Rattle.zed_live.specs.Boards.{board_cmp, board_in, home_in, change as changed, change_all};

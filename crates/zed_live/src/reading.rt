@@ -3,7 +3,7 @@
 ghost use Rattle.std.specs.Prelude.{◌≡◌, ◌<◌, pos, false, [], None as Nothing, slice_index_or};
 ghost use Rattle.zed_types.specs.Board.{board_byte_index, board_flag_index, side_index, board_text_index};
 ghost use Rattle.zed_types.specs.Register.{value_or};
-ghost use Rattle.zed_settle.specs.Fields.{header_number, key as key_of, flag as flag_of};
+ghost use Rattle.zed_laws.specs.Fields.{header_number, key as key_of, flag as flag_of};
 ghost use Rattle.zed_live.specs.Shown.{values_or, shown, shown_properties};
 
 use crate::header::LiveHeader;

@@ -13,7 +13,7 @@ use Rattle.zed_edit.specs.Replay.{replay}
 use Rattle.zed_laws.specs.NameOrder.{is_earlier, NamesRise}
 use Rattle.zed_laws.proofs.NamesInOrder.{replay_ordered}
 use Rattle.zed_laws.proofs.TakenAlone.{taken_make_all}
-use Rattle.zed_settle.proofs.OrderedLists.{ordered_are_their_members}
+use Rattle.zed_laws.proofs.OrderedLists.{ordered_are_their_members}
 use Rattle.zed_texts.specs.ByName.{text_name, text_in}
 use Rattle.zed_texts.specs.Texts.{Elements}
 use Rattle.zed_texts.specs.Shows.{shown_texts, ReplayedTextsAreShown}

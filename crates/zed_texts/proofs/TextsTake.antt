@@ -38,10 +38,10 @@ use Rattle.zed_laws.proofs.MadeThings.{find-any}
 use Rattle.zed_laws.proofs.MadeElements.{elements_are_of_edits}
 use Rattle.zed_laws.proofs.NamesInOrder.{StampsAre, pass-opened_texts}
 use Rattle.zed_laws.proofs.TakenAlone.{late_edit_holds_none}
-use Rattle.zed_settle.specs.Making.{texts_from, made_texts, makes}
-use Rattle.zed_settle.proofs.EarlierThings.{earlier_decide}
-use Rattle.zed_settle.proofs.Found.{unfound}
-use Rattle.zed_settle.proofs.Making.{late_edit_makes, things_are_of_edits}
+use Rattle.zed_laws.specs.Making.{texts_from, made_texts, makes}
+use Rattle.zed_laws.proofs.EarlierThings.{earlier_decide}
+use Rattle.zed_laws.proofs.Found.{unfound}
+use Rattle.zed_laws.proofs.Making.{late_edit_makes, things_are_of_edits}
 use Rattle.zed_code.specs.Text.{StandsAfter, IsNewStamp}
 use Rattle.zed_texts.specs.ByName.{text_name, text_in, change, add_all}
 use Rattle.zed_texts.specs.Texts.{Elements, named, texts_after, elements_or_none, IsReady}

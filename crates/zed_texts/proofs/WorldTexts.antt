@@ -24,7 +24,7 @@ use Rattle.zed_edit.specs.Document.{empty_document}
 use Rattle.zed_edit.specs.Genesis.{own_program, programs_of, texts_from as texts_numbered}
 use Rattle.zed_edit.specs.Replay.{can, do_edit, hold, open_world, step}
 use Rattle.zed_laws.proofs.TakenAlone.{good_own}
-use Rattle.zed_settle.specs.Making.{texts_from, made_texts}
+use Rattle.zed_laws.specs.Making.{texts_from, made_texts}
 use Rattle.zed_code.specs.Text.{genesis}
 use Rattle.zed_texts.specs.Texts.{bytes_of, IsOpened}
 

@@ -9,7 +9,7 @@ use Rattle.zed_types.specs.Text.{run_from, put_late, kill}
 use Rattle.zed_op.specs.declared.op.Op.{Op}
 use Rattle.zed_op.specs.declared.op.Op.TheVariants.{Genesis, TextAdd, TextInsert, TextDelete}
 use Rattle.zed_edit.specs.declared.plain.Text.{Text}
-use Rattle.zed_settle.specs.Making.{made_texts}
+use Rattle.zed_laws.specs.Making.{made_texts}
 use Rattle.zed_code.specs.Pieces.{Shown}
 use Rattle.zed_code.specs.Text.{elements, genesis, StandsAfter, IsNewStamp, HasMore}
 use Rattle.zed_code.specs.Visits.{LooksAtSome}

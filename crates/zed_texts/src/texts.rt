@@ -6,7 +6,7 @@ ghost use Rattle.zed_types.specs.declared.limits.TheConstants.{READ_BODY_LIMIT};
 ghost use Rattle.zed_types.specs.Names.{same_text, same_element};
 ghost use Rattle.zed_types.specs.Text.{run_from, put_late, kill};
 ghost use Rattle.zed_op.specs.Fit.{Fits};
-ghost use Rattle.zed_settle.specs.Making.{made_texts};
+ghost use Rattle.zed_laws.specs.Making.{made_texts};
 ghost use Rattle.zed_code.specs.Text.{StandsAfter, IsNewStamp};
 ghost use Rattle.zed_texts.specs.ByName.{text_in, number_of as number_in, add as added, add_all as all_added, change};
 ghost use Rattle.zed_texts.specs.Texts.{elements_of, named, elements_or_none, texts_after, IsReady, is_of_texts, changes_text, AllGrow, IsOpened};

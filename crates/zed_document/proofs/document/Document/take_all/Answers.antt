@@ -2,7 +2,7 @@ use Rattle.std.proofs.Common.{◌≡◌, ◌∙◌, List, false, ap, arith, subs
 use Rattle.zed_op.specs.declared.op.Edit.{Edit}
 use Rattle.zed_op.specs.Set.{union}
 use Rattle.zed_op.specs.Sizes.{HaveSizes}
-use Rattle.zed_body.specs.TakingAll.{AreNewTo, ShowsAll}
+use Rattle.zed_delivery.specs.TakingAll.{AreNewTo, ShowsAll}
 use Rattle.zed_document.specs.Batch.{AreNew}
 use Rattle.zed_document.specs.Counts.{Counts, NoCountFalls, counts_of}
 use Rattle.zed_document.specs.Kept.{IsKept}

@@ -1,5 +1,0 @@
-use Rattle.zed_body.proofs.ManyArrive.{rising_are_apart}
-use Rattle.zed_body.proofs.laws.rising_edits_are_apart.Goals as goal
-
-pub returns : goal.returns
-returns c = rising_are_apart

@@ -1,0 +1,67 @@
+//! A cascade: what an edit that is done wakes, what that wakes, and so on, until nothing is left to wake.
+ghost use Rattle.std.specs.Prelude.{◌≡◌, ◌≤◌, ◌+◌, ◌∷◌, ◌++◌, [], length, IfErr, OnOk};
+ghost use Rattle.zed_op.specs.Fit.{Fits};
+ghost use Rattle.zed_op.specs.Set.{AllFit};
+ghost use Rattle.zed_delivery.specs.Steps.{AreInHand};
+ghost use Rattle.zed_delivery.specs.Waking.{IsFollowed};
+ghost use Rattle.zed_delivery.specs.Settling.{AreSettled};
+ghost use Rattle.zed_delivery.specs.Stirring.{Stirs};
+
+use crate::body::Body;
+use crate::error::BodyError;
+use std::alloc::Global;
+use zed_op::Edit;
+use zed_types::Stamp;
+
+fn tell(woken: &mut Vec<Stamp>, stamp: Stamp) -> Result<(), BodyError>
+    ensures err { IfErr result (λ e. e ≡ BodyError.Memory) }
+{
+    match woken.push(stamp) {
+        Ok(()) => Ok(()),
+        Err(_) => Err(BodyError::Memory),
+    }
+}
+
+impl Body {
+    /// Tries what waits for the things of an edit that nobody needs any longer.
+    fn wake_last(
+        &mut self,
+        alloc: Global,
+        rest: &mut Vec<Edit>,
+        edit: Edit,
+    ) -> Result<(), BodyError>
+        requires fits { Fits edit }
+        requires last { AreInHand [] (rest.old.items ++ edit ∷ []) self.old }
+        ensures ok { OnOk result (IsFollowed edit self.old rest.old.items self.new rest.new.items) }
+        ensures err { IfErr result (λ e. e ≡ BodyError.Memory) }
+        ensures fits { OnOk result (AllFit rest.old.items → AllFit rest.new.items) }
+        ensures few { OnOk result (length self.new.inbox + length rest.new.items
+            ≤ length self.old.inbox + (length rest.old.items)) }
+        ensures visits { OnOk result (Stirs 0 self.old self.new) }
+    {
+        self.wake(alloc, rest, &edit)
+    }
+
+    /// Tries what waits for the things of edits done, and what waits for the things of those, until no edit is left
+    /// whose things are to come. Their stamps are told. Memory may leave a part of it done.
+    pub(crate) fn settle(
+        &mut self,
+        alloc: Global,
+        done: Vec<Edit>,
+        woken: &mut Vec<Stamp>,
+    ) -> Result<(), BodyError>
+        requires fit { AllFit done.items }
+        requires hand { AreInHand [] done.items self.old }
+        ensures ok { OnOk result (AreSettled done.items self.old [] self.new) }
+        ensures err { IfErr result (λ e. e ≡ BodyError.Memory) }
+        ensures few { OnOk result (length self.new.inbox ≤ length self.old.inbox + length done.items) }
+        ensures visits { OnOk result (Stirs 0 self.old self.new) }
+    {
+        let mut rest = done;
+        while let Some(edit) = rest.pop() {
+            tell(woken, edit.stamp)?;
+            self.wake_last(alloc, &mut rest, edit)?;
+        }
+        Ok(())
+    }
+}

@@ -1,5 +1,0 @@
-use Rattle.zed_settle.proofs.HeldAlone.{held_changes_nothing, held_takes_nothing, held_is_one_more}
-use Rattle.zed_settle.proofs.laws.held_edits_stand_alone.Goals as goal
-
-pub returns : goal.returns
-returns c = record { content = held_changes_nothing; taken = held_takes_nothing; held = held_is_one_more }

@@ -1,5 +1,0 @@
-use Rattle.zed_settle.proofs.WholeSteps.{replay_whole}
-use Rattle.zed_settle.proofs.registers.replay_is_whole.Goals as goal
-
-pub returns : goal.returns
-returns c = replay_whole c.read_is_normal.ensures

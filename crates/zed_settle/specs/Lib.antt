@@ -1,9 +1,0 @@
-pub mod Fields
-pub mod HeldAlone
-pub mod Homes
-pub mod Making
-pub mod Ordered
-pub mod OwnNames
-pub mod Registers
-pub mod Settled
-pub mod Whole
