@@ -8,7 +8,7 @@ use std::collections::VecDeque;
 use std::rc::Rc;
 use zed_play::Key;
 use zed_screen::Frame;
-use zed_session::{Failed, Keys, Screen};
+use zed_session::{DeviceFailed, Keys, Screen};
 
 /// When a device fails.
 #[derive(Clone, Copy)]
@@ -76,10 +76,10 @@ impl Screen for MemoryScreen {
 
     ghost screen_foretells = { λ _. None };
 
-    fn show(&mut self, frame: &Frame) -> Result<(), Failed> {
+    fn show(&mut self, frame: &Frame) -> Result<(), DeviceFailed> {
         if self.fails.now(count_show(&self.counts)) {
             self.failed = self.failed.saturating_add(1);
-            return Err(Failed);
+            return Err(DeviceFailed);
         }
         self.last = Some(*frame);
         self.frame.set(Some(*frame));
@@ -124,10 +124,10 @@ impl Keys for MemoryKeys {
 
     ghost keys_foretell = { λ _. None };
 
-    fn next(&mut self) -> Result<Option<Key>, Failed> {
+    fn next(&mut self) -> Result<Option<Key>, DeviceFailed> {
         if self.fails.now(count_key(&self.counts)) {
             self.failed = self.failed.saturating_add(1);
-            return Err(Failed);
+            return Err(DeviceFailed);
         }
         Ok(self.left.pop_front())
     }

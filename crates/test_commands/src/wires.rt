@@ -6,7 +6,7 @@ use crate::traces::{Counts, End, Ended, Traces};
 use std::alloc::{AllocError, Global};
 use std::cell::Cell;
 use std::rc::Rc;
-use zed_link::{Failed, Link, MemoryLink};
+use zed_link::{Link, LinkFailed, MemoryLink};
 
 /// A link over memory that leaves what it took when it is let go, and then tells whether it was read.
 pub struct Wire {
@@ -54,11 +54,11 @@ impl Link for Wire {
 
     ghost accepts = { λ wire. ⟦<MemoryLink as Link>⟧.accepts wire.link };
 
-    fn read(&mut self, into: &mut [u8]) -> Result<usize, Failed> {
+    fn read(&mut self, into: &mut [u8]) -> Result<usize, LinkFailed> {
         self.link.read(into)
     }
 
-    fn write(&mut self, bytes: &[u8]) -> Result<usize, Failed> {
+    fn write(&mut self, bytes: &[u8]) -> Result<usize, LinkFailed> {
         self.link.write(bytes)
     }
 
@@ -95,7 +95,7 @@ impl Link for Sink {
 
     ghost accepts = { λ _. true };
 
-    fn read(&mut self, into: &mut [u8]) -> Result<usize, Failed> {
+    fn read(&mut self, into: &mut [u8]) -> Result<usize, LinkFailed> {
         self.reads = self.reads.saturating_add(1);
         let Some(byte) = self.handed.get(self.at) else {
             return Ok(0);
@@ -108,7 +108,7 @@ impl Link for Sink {
         Ok(1)
     }
 
-    fn write(&mut self, bytes: &[u8]) -> Result<usize, Failed> {
+    fn write(&mut self, bytes: &[u8]) -> Result<usize, LinkFailed> {
         count_taken(&self.counts, bytes.len());
         Ok(bytes.len())
     }

@@ -267,7 +267,7 @@ impl Text {
     }
 
     /// Seeks a byte that the next edit names, so that it is found at once then. Nothing of the text changes.
-    pub fn expect(&mut self, id: ElemId)
+    pub fn hint(&mut self, id: ElemId)
         ensures { self.new ≡ self.old }
     {
         if found_of(self.found, id).is_some() {

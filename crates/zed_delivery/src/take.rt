@@ -60,10 +60,10 @@ impl Body {
     }
 
     /// Seeks the byte that an edit names, so that it is found at once from here on. Nothing changes.
-    fn expect(&mut self, edit: &Edit)
+    fn hint(&mut self, edit: &Edit)
         ensures { self.new ≡ self.old }
     {
-        self.texts.expect(edit);
+        self.texts.hint(edit);
     }
 
     /// Takes a new edit. Memory may leave a part of it done.
@@ -112,7 +112,7 @@ impl Body {
         ensures emptied { OnErr result (IsEmpty self.new) }
         ensures visits { IfOk result (λ t. Works edit.now t self.old.texts self.new.texts) }
     {
-        self.expect(edit);
+        self.hint(edit);
         match self.bring(alloc, edit, woken) {
             Ok(taken) => Ok(taken),
             Err(error) => {

@@ -2,7 +2,7 @@
 ghost use Rattle.std.specs.Prelude.{◌≡◌, ◌||◌, None, is_err};
 
 use crate::folder::{Folder, replace};
-use crate::place::{Spot, is_at};
+use crate::place::{FoundFile, is_at};
 use std::fs::{self, File, Metadata, OpenOptions, Permissions};
 use std::io::{self, ErrorKind, Write};
 use std::os::unix::fs::{MetadataExt, OpenOptionsExt, PermissionsExt, fchown};
@@ -26,7 +26,7 @@ const COMMON: u32 = 0o666;
 #[derive(Drop)]
 struct RealFolder<'a> {
     rt: &'a HostRuntime,
-    spot: &'a Spot,
+    spot: &'a FoundFile,
     old: Option<Metadata>,
     folder: File,
     fresh: Option<File>,
@@ -184,7 +184,7 @@ fn opened(rt: &HostRuntime, name: &str) -> io::Result<Option<File>> {
 }
 
 // Puts a file with these bytes into a place.
-fn put(rt: &HostRuntime, spot: &Spot, old: Option<Metadata>, bytes: &[u8]) -> io::Result<()> {
+fn put(rt: &HostRuntime, spot: &FoundFile, old: Option<Metadata>, bytes: &[u8]) -> io::Result<()> {
     let folder = fs::open(rt, spot.folder())?;
     let mut folder = RealFolder {
         rt,
@@ -205,7 +205,7 @@ fn put(rt: &HostRuntime, spot: &Spot, old: Option<Metadata>, bytes: &[u8]) -> io
 pub fn write(
     rt: &HostRuntime,
     name: &str,
-    spot: io::Result<&Spot>,
+    spot: io::Result<&FoundFile>,
     bytes: &[u8],
 ) -> io::Result<()> {
     let Some(mut file) = opened(rt, name)? else {

@@ -1,6 +1,6 @@
 //! Reading a file that is to be replaced, so that no other command replaces it in between.
 
-use crate::place::{Spot, is_at};
+use crate::place::{FoundFile, is_at};
 use std::fs::{self, File, OpenOptions};
 use std::io::{self, ErrorKind};
 use std::os::fd::AsRawFd;
@@ -24,7 +24,7 @@ fn open_file(rt: &HostRuntime, name: &str) -> io::Result<File> {
 }
 
 // Opens a file and waits for its lock. Nothing where it was replaced in the meantime: then the lock is of a file that is gone.
-fn open_held(rt: &HostRuntime, name: &str, spot: &Spot) -> io::Result<Option<File>> {
+fn open_held(rt: &HostRuntime, name: &str, spot: &FoundFile) -> io::Result<Option<File>> {
     if !fs::metadata(rt, name)?.is_file() {
         return Ok(Some(fs::open(rt, name)?));
     }
@@ -41,7 +41,7 @@ fn open_held(rt: &HostRuntime, name: &str, spot: &Spot) -> io::Result<Option<Fil
 ///
 /// # Errors
 /// A device failed, there is no such file, or it can't be read or locked.
-pub fn held(rt: &HostRuntime, name: &str, spot: &Spot) -> io::Result<File> {
+pub fn held(rt: &HostRuntime, name: &str, spot: &FoundFile) -> io::Result<File> {
     for _ in 0..LOOKS {
         if let Some(file) = open_held(rt, name, spot)? {
             return Ok(file);
@@ -54,7 +54,7 @@ pub fn held(rt: &HostRuntime, name: &str, spot: &Spot) -> io::Result<File> {
 ///
 /// # Errors
 /// Another file stands there, or a device failed.
-pub fn stands(rt: &HostRuntime, file: &File, spot: &Spot) -> io::Result<()> {
+pub fn stands(rt: &HostRuntime, file: &File, spot: &FoundFile) -> io::Result<()> {
     if !file.metadata()?.is_file() || is_at(rt, file, spot.path())? {
         return Ok(());
     }

@@ -10,4 +10,4 @@ mod place;
 pub use folder::{Folder, replace};
 pub use fresh::write;
 pub use hold::{held, stands};
-pub use place::{Place, Spot};
+pub use place::{FoundFile, NamedFile};

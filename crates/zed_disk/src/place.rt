@@ -14,20 +14,20 @@ const LINKS: u32 = 40;
 
 /// A file that a command writes, by the name that its words give.
 #[derive(Drop)]
-pub struct Place {
+pub struct NamedFile {
     name: String,
-    spot: Option<Spot>,
+    spot: Option<FoundFile>,
 }
 
 /// Where the file of a name stands, which is no symbolic link.
 #[derive(Drop)]
-pub struct Spot {
+pub struct FoundFile {
     path: String,
     folder: String,
     fresh: String,
 }
 
-impl Spot {
+impl FoundFile {
     /// The file itself.
     pub fn path(&self) -> &str {
         self.path.as_str()
@@ -102,7 +102,7 @@ fn fresh_in(rt: &HostRuntime, folder: &str) -> io::Result<String> {
 }
 
 // Finds where a name leads, and clears what ended processes left there.
-fn find(rt: &HostRuntime, name: &str) -> io::Result<Spot> {
+fn find(rt: &HostRuntime, name: &str) -> io::Result<FoundFile> {
     let path = followed(rt, name)?;
     let folder = folder_of(path.as_str());
     let file = path.as_str().strip_prefix(folder).unwrap_or("");
@@ -113,26 +113,26 @@ fn find(rt: &HostRuntime, name: &str) -> io::Result<Spot> {
     let folder = String::from_str(rt.alloc(), if folder.is_empty() { "./" } else { folder })?;
     clear(rt, folder.as_str())?;
     let fresh = fresh_in(rt, folder.as_str())?;
-    Ok(Spot {
+    Ok(FoundFile {
         path,
         folder,
         fresh,
     })
 }
 
-impl Place {
+impl NamedFile {
     /// Finds the place of a name, with all memory that writing there takes.
     ///
     /// # Errors
     /// `OutOfMemory` alone. Where a device fails the place is unknown, and nothing but a device can be written there.
-    pub fn of(rt: &HostRuntime, name: &str) -> io::Result<Place> {
+    pub fn of(rt: &HostRuntime, name: &str) -> io::Result<NamedFile> {
         let spot = match find(rt, name) {
             Ok(spot) => Some(spot),
             Err(error) if error.kind() == ErrorKind::OutOfMemory => return Err(error),
             Err(_) => None,
         };
         let name = String::from_str(rt.alloc(), name)?;
-        Ok(Place { name, spot })
+        Ok(NamedFile { name, spot })
     }
 
     /// Whether it is the place of this name.
@@ -165,16 +165,16 @@ impl Place {
     }
 
     /// A place of the same name that is unknown.
-    pub fn lost(self) -> Place {
-        let Place { name, spot: _ } = self;
-        Place { name, spot: None }
+    pub fn lost(self) -> NamedFile {
+        let NamedFile { name, spot: _ } = self;
+        NamedFile { name, spot: None }
     }
 
     /// Where the file stands.
     ///
     /// # Errors
     /// That this is unknown.
-    pub fn spot(&self) -> io::Result<&Spot> {
+    pub fn spot(&self) -> io::Result<&FoundFile> {
         match &self.spot {
             Some(spot) => Ok(spot),
             None => Err(io::Error::from(ErrorKind::NotFound)),

@@ -11,7 +11,7 @@ mod sending;
 
 pub use error::LinkError;
 pub use laws::{deliveries_go_on, files_are_pulled};
-pub use link::{Failed, Link};
+pub use link::{Link, LinkFailed};
 pub use memory::MemoryLink;
 pub use pulled::Pulled;
 pub use receiving::receive;

@@ -6,7 +6,7 @@ ghost use Rattle.zed_link.specs.Ends.{LinkEnds, Changed, FailedBehind, HandedOve
 
 /// A call of a link failed.
 #[derive(Clone, Copy, Debug, PartialEq, Eq)]
-pub struct Failed;
+pub struct LinkFailed;
 
 /// A two-way stream of bytes.
 pub trait Link: Drop {
@@ -27,7 +27,7 @@ pub trait Link: Drop {
 
     /// Puts the next bytes at the front of `into`, and answers how many, at the pace that it promises, if it does. Where there is room,
     /// none is the end. A read that fails hands over nothing and loses nothing: a link that can't promise that doesn't tell its ends.
-    fn read(&mut self, into: &mut [u8]) -> Result<usize, Failed>
+    fn read(&mut self, into: &mut [u8]) -> Result<usize, LinkFailed>
         ensures within { IfOk result (λ n. n ≤ length into.old) }
         ensures ok { IfOk result (λ n.
             Changed (HandedOver (take n into.new)) (ends self.old) (ends self.new)) }
@@ -40,7 +40,7 @@ pub trait Link: Drop {
         ensures accepts { accepts self.new ≡ accepts self.old };
 
     /// Takes bytes from the front of these, and answers how many. A write that fails may have taken a front of them.
-    fn write(&mut self, bytes: &[u8]) -> Result<usize, Failed>
+    fn write(&mut self, bytes: &[u8]) -> Result<usize, LinkFailed>
         ensures within { IfOk result (λ n. n ≤ length bytes.now) }
         ensures ok { IfOk result (λ n.
             Changed (Took (take n bytes.now)) (ends self.old) (ends self.new)) }

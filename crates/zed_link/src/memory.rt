@@ -3,7 +3,7 @@ ghost use Rattle.std.specs.Prelude.{◌≡◌, ◌⊎◌, false, is_none, ◌≢
 ghost use Rattle.zed_host.specs.Counting.{Rose, most_counted};
 ghost use Rattle.zed_link.specs.Counting.{Counted};
 
-use crate::link::{Failed, Link};
+use crate::link::{Link, LinkFailed};
 use std::alloc::Global;
 
 /// A link over memory. It hands over and takes at most so many bytes by a call, and the device may be told to fail at one of its calls.
@@ -131,11 +131,11 @@ impl Link for MemoryLink {
     // What it takes wants memory.
     ghost accepts = { λ _. false };
 
-    fn read(&mut self, into: &mut [u8]) -> Result<usize, Failed> {
+    fn read(&mut self, into: &mut [u8]) -> Result<usize, LinkFailed> {
         count(&mut self.reads);
         if !passes(&mut self.passing) {
             count(&mut self.failures);
-            return Err(Failed);
+            return Err(LinkFailed);
         }
         let left = left_from(self.handed.as_slice(), self.at);
         let count = hand_over(left, self.piece, into);
@@ -143,15 +143,15 @@ impl Link for MemoryLink {
         Ok(count)
     }
 
-    fn write(&mut self, bytes: &[u8]) -> Result<usize, Failed> {
+    fn write(&mut self, bytes: &[u8]) -> Result<usize, LinkFailed> {
         if !passes(&mut self.passing) {
             count(&mut self.failures);
-            return Err(Failed);
+            return Err(LinkFailed);
         }
         let (front, _) = bytes.split_at(self.piece.min(bytes.len()));
         if self.taken.extend_from_slice(front).is_err() {
             count(&mut self.failures);
-            return Err(Failed);
+            return Err(LinkFailed);
         }
         if front.is_empty() && !bytes.is_empty() {
             count(&mut self.stalls);

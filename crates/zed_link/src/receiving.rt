@@ -15,7 +15,7 @@ ghost use Rattle.zed_link.specs.Refusals.{is_fault};
 ghost use Rattle.zed_link.specs.Tally.{state_in};
 
 use crate::error::LinkError;
-use crate::link::{Failed, Link};
+use crate::link::{Link, LinkFailed};
 use crate::pulled::Pulled;
 use std::alloc::Global;
 use std::mem::replace;
@@ -119,7 +119,7 @@ fn read_some(link: &mut dyn Link, into: &mut [u8]) -> Result<usize, LinkError>
 {
     match link.read(into) {
         Ok(count) => Ok(count),
-        Err(Failed) => Err(LinkError::LinkFault),
+        Err(LinkFailed) => Err(LinkError::LinkFault),
     }
 }
 

@@ -4,7 +4,7 @@ ghost use Rattle.zed_link.specs.Counting.{Faulted};
 ghost use Rattle.zed_link.specs.Ends.{Changed, Took, TookFront};
 
 use crate::error::LinkError;
-use crate::link::{Failed, Link};
+use crate::link::{Link, LinkFailed};
 
 /// Writes from the front of these bytes, at least one of them.
 fn write_some(link: &mut dyn Link, bytes: &[u8]) -> Result<usize, LinkError>
@@ -23,7 +23,7 @@ fn write_some(link: &mut dyn Link, bytes: &[u8]) -> Result<usize, LinkError>
     ensures refused { OnErr result (accepts link.old ≡ false) }
 {
     match link.write(bytes) {
-        Ok(0) | Err(Failed) => Err(LinkError::LinkFault),
+        Ok(0) | Err(LinkFailed) => Err(LinkError::LinkFault),
         Ok(taken) => Ok(taken),
     }
 }

@@ -2,7 +2,7 @@
 use Rattle.std.proofs.Common.{◌≡◌, ◌∙◌, ◌⊎◌, inl, inr, ℕ, zero, suc, List, Option, Some, None, refl, sym, ap, subst}
 use Rattle.zed_scene.specs.declared.stat.Stat.{Stat}
 use Rattle.zed_scene.specs.Scene.{Scene, own, program_of}
-use Rattle.zed_script.specs.declared.commands.Command.{Command}
+use Rattle.zed_script.specs.declared.commands.OopCommand.{OopCommand}
 use Rattle.zed_script.specs.declared.lines.Instruction.{Instruction}
 use Rattle.zed_script.specs.Command.{CommandAt}
 use Rattle.zed_script.specs.Line.{InstructionAt}
@@ -15,7 +15,7 @@ use Rattle.zed_oop.specs.Turn.{Chain, Does, Outcome, Stands, State, Turn, comman
 -- what stands where a program is read, and what comes of it
 Found : Reading → State → Stat → ℕ → Outcome → Type 0
 Found Instructing t a at o = (i : Instruction) × ((next : ℕ) × (InstructionAt (program_of t.scene a.program) at i next × (o ≡ instructed i at next a t)))
-Found (Commanding start) t a at o = (c : Option Command) × ((next : ℕ) × (CommandAt (program_of t.scene a.program) at c next × (o ≡ commanded c start next a t)))
+Found (Commanding start) t a at o = (c : Option OopCommand) × ((next : ℕ) × (CommandAt (program_of t.scene a.program) at c next × (o ≡ commanded c start next a t)))
 
 found_one : (r : Reading) (t : State) (a : Stat) (at : ℕ) (o q : Outcome) → Found r t a at o → Found r t a at q → o ≡ q
 unfolding Found

@@ -3,7 +3,7 @@ use Rattle.std.proofs.Common.{Result, Ok, Err, IfOk, Bool, true, false, ◌≡�
 use Rattle.zed_oop.specs.declared.acting.Next.{Next}
 use Rattle.zed_oop.specs.declared.acting.Next.TheVariants.{Skip, Stay, Command as CommandNext, SkipAndEnd, End as EndNext, Error}
 use Rattle.zed_scene.specs.declared.stat.Stat.{Stat}
-use Rattle.zed_script.specs.declared.commands.Command.{Command}
+use Rattle.zed_script.specs.declared.commands.OopCommand.{OopCommand}
 use Rattle.zed_script.specs.declared.lines.Instruction.{Instruction}
 use Rattle.zed_script.specs.declared.lines.Instruction.TheVariants.{End, Skipped, Blank, Step, Attempt, Command as CommandLine, Message}
 use Rattle.zed_scene.specs.Scene.{Scene, own, program_of}
@@ -93,7 +93,7 @@ no_command_goes None start t u q e = cc
 no_command_goes (Some d) start t u q e = settled_no d.0.0 start (record t { scene = d.0.1; left = d.1 }) u q e
 
 -- where no command put_if_walkable the turn goes on with less room
-pub commanded_nearer : (k : Option Command) (start at next : ℕ) (a : Stat) (t u : State) (q : Reading) → own t.scene ≡ Some a → a.position ≡ Some at → at ≤ next → commanded k start next a t ≡ goes q u → room q u.scene < room (Commanding start) t.scene
+pub commanded_nearer : (k : Option OopCommand) (start at next : ℕ) (a : Stat) (t u : State) (q : Reading) → own t.scene ≡ Some a → a.position ≡ Some at → at ≤ next → commanded k start next a t ≡ goes q u → room q u.scene < room (Commanding start) t.scene
 commanded_nearer None start at next a t u q here place h e =
     let old = room_here (Commanding start) t.scene a at here place in
     let new = moved_to_room Instructing q t u a next here e in
@@ -114,7 +114,7 @@ instruction_nearer r t u a at i next p result is_i here place text ahead comes =
     let R : Reading → Type 0 = λ x. IfOk result (λ y. IsNearer y x t.scene u.scene) in
     subst R (sym is_i) (nearer_of (instructed i at next a t) Instructing t u result (λ q e. instructed_nearer i at next a t u q here place (subst P text ahead) e) comes)
 
-pub command_nearer : (r : Reading) (t u : State) (a : Stat) (at start : ℕ) (k : Option Command) (next : ℕ) (result : Result After OopError) → r ≡ Commanding start → own t.scene ≡ Some a → a.position ≡ Some at → at ≤ next → Comes result (commanded k start next a t) u → IfOk result (λ x. IsNearer x r t.scene u.scene)
+pub command_nearer : (r : Reading) (t u : State) (a : Stat) (at start : ℕ) (k : Option OopCommand) (next : ℕ) (result : Result After OopError) → r ≡ Commanding start → own t.scene ≡ Some a → a.position ≡ Some at → at ≤ next → Comes result (commanded k start next a t) u → IfOk result (λ x. IsNearer x r t.scene u.scene)
 command_nearer r t u a at start k next result is_c here place after comes =
     let R : Reading → Type 0 = λ x. IfOk result (λ y. IsNearer y x t.scene u.scene) in
     subst R (sym is_c) (nearer_of (commanded k start next a t) (Commanding start) t u result (λ q e. commanded_nearer k start at next a t u q here place after e) comes)

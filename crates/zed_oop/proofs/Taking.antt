@@ -4,7 +4,7 @@ use Rattle.zed_scene.specs.declared.error.OopError.{OopError}
 use Rattle.zed_scene.specs.declared.error.OopError.TheVariants.{Memory}
 use Rattle.zed_scene.specs.declared.stat.Stat.{Stat}
 use Rattle.zed_scene.specs.Scene.{own, program_of}
-use Rattle.zed_script.specs.declared.commands.Command.{Command}
+use Rattle.zed_script.specs.declared.commands.OopCommand.{OopCommand}
 use Rattle.zed_script.specs.declared.lines.Instruction.{Instruction}
 use Rattle.zed_script.specs.Command.{CommandAt}
 use Rattle.zed_script.specs.Line.{Copies, InstructionAt, begun_at, line_kind}
@@ -43,7 +43,7 @@ pub word_takes : (r : Reading) (t : State) (a : Stat) (at start : ℕ) (p : List
 word_takes r t a at start p is own place text word = takes_at r (Commanding start) t a at p is own place text word
 
 -- a command that was read
-pub command_takes : (r : Reading) (t : State) (a : Stat) (at start : ℕ) (p : List ℕ) (c : Option Command) (next : ℕ) → r ≡ Commanding start → own t.scene ≡ Some a → a.position ≡ Some at → p ≡ program_of t.scene a.program → CommandAt p at c next → is_some c ≡ true → ReadingTakes r t
+pub command_takes : (r : Reading) (t : State) (a : Stat) (at start : ℕ) (p : List ℕ) (c : Option OopCommand) (next : ℕ) → r ≡ Commanding start → own t.scene ≡ Some a → a.position ≡ Some at → p ≡ program_of t.scene a.program → CommandAt p at c next → is_some c ≡ true → ReadingTakes r t
 command_takes r t a at start p None next is own place text stands some = absurd (cc)
 command_takes r t a at start p (Some c) next is own place text stands some =
     word_takes r t a at start p is own place text (command_named p at c next stands)

@@ -8,8 +8,8 @@ use Rattle.zed_scene.specs.Scene.{Scene}
 use Rattle.zed_scene.specs.Seeking.{east, north}
 use Rattle.zed_scene.specs.Trying.{try_move}
 use Rattle.zed_scene.specs.Words.{Drawn, draw, ◌>>=◌}
-use Rattle.zed_script.specs.declared.commands.Command.{Command}
-use Rattle.zed_script.specs.declared.commands.Command.TheVariants.{Go, Try, Walk, Shoot, If, Put}
+use Rattle.zed_script.specs.declared.commands.OopCommand.{OopCommand}
+use Rattle.zed_script.specs.declared.commands.OopCommand.TheVariants.{Go, Try, Walk, Shoot, If, Put}
 use Rattle.zed_script.specs.declared.conditions.Query.{Query}
 use Rattle.zed_script.specs.declared.conditions.Test.{Test}
 use Rattle.zed_script.specs.declared.conditions.Test.TheVariants.{Blocked}
@@ -81,7 +81,7 @@ front_holds q a s =
 front_with : {X : Type 0} (f : X → Scene → Followed) (s : Scene) (g : List ℕ → Drawn (Option X)) → Front (Is g) → Front (Is (λ ws. with_drawn f s (g ws)))
 front_with f s g front = front_bind g (λ d ws. Some (known_or_error f d s, ws)) front (λ d. front_none (known_or_error f d s))
 
-front_effect : (c : Command) (start : ℕ) (a : Stat) (s : Scene) → Front (Is (effect c start a s))
+front_effect : (c : OopCommand) (start : ℕ) (a : Stat) (s : Scene) → Front (Is (effect c start a s))
 unfolding effect
 front_effect (Go h) start a s = front_with (λ d t. after_go start (try_move a.place d t)) s (led h.turns h.course a s) (front_led h.turns h.course a s)
 front_effect (Try h) start a s = front_with (λ d t. after_try (try_move a.place d t)) s (led h.turns h.course a s) (front_led h.turns h.course a s)
@@ -157,7 +157,7 @@ unfolding shape
 settled_bound start None s ws ls = refl
 settled_bound start (Some d) s ws ls = refl
 
-front_commanded : (c : Option Command) (start next : ℕ) (a : Stat) (s : Scene) (ls : List (List ℕ)) → Front (Is (λ ws. shape (commanded c start next a (state s ws ls))))
+front_commanded : (c : Option OopCommand) (start next : ℕ) (a : Stat) (s : Scene) (ls : List (List ℕ)) → Front (Is (λ ws. shape (commanded c start next a (state s ws ls))))
 unfolding shape
 front_commanded None start next a s ls = front_none _
 front_commanded (Some c) start next a s ls =

@@ -2,7 +2,7 @@
 use Rattle.std.proofs.Common.{Result, Ok, Err, inl, inr, subst, ◌≡◌, ℕ, List, Option, Some, sym}
 use Rattle.zed_scene.specs.declared.stat.Stat.{Stat}
 use Rattle.zed_script.specs.Command.{CommandAt}
-use Rattle.zed_script.specs.declared.commands.Command.{Command}
+use Rattle.zed_script.specs.declared.commands.OopCommand.{OopCommand}
 use Rattle.zed_scene.specs.declared.error.OopError.{OopError}
 use Rattle.zed_script.specs.declared.lines.Instruction.{Instruction}
 use Rattle.zed_oop.specs.declared.turning.After.{After}
@@ -25,7 +25,7 @@ instruction_done r t u a at i next p result is_i here place text stands comes =
     let R : Reading → Type 0 = λ q. StepsTo result q t u in
     subst R (sym is_i) (comes_of Instructing t u (instructed i at next a t) result (instructs t a at i next (here, place) (subst P text stands)) comes)
 
-pub command_done : (r : Reading) (t u : State) (a : Stat) (at start : ℕ) (k : Option Command) (next : ℕ) (p : List ℕ) (result : Result After OopError) → r ≡ Commanding start → own t.scene ≡ Some a → a.position ≡ Some at → p ≡ program_of t.scene a.program → CommandAt p at k next → Comes result (commanded k start next a t) u → StepsTo result r t u
+pub command_done : (r : Reading) (t u : State) (a : Stat) (at start : ℕ) (k : Option OopCommand) (next : ℕ) (p : List ℕ) (result : Result After OopError) → r ≡ Commanding start → own t.scene ≡ Some a → a.position ≡ Some at → p ≡ program_of t.scene a.program → CommandAt p at k next → Comes result (commanded k start next a t) u → StepsTo result r t u
 command_done r t u a at start k next p result is_c here place text stands comes =
     let P : List ℕ → Type 0 = λ q. CommandAt q at k next in
     let R : Reading → Type 0 = λ q. StepsTo result q t u in

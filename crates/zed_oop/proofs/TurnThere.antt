@@ -2,7 +2,7 @@
 use Rattle.std.proofs.Common.{◌≡◌, ◌∙◌, ℕ, zero, suc, ◌<◌, List, Option, Some, None, refl, ap, arith}
 use Rattle.zed_scene.specs.declared.stat.Stat.{Stat}
 use Rattle.zed_scene.specs.Scene.{Scene, own, program_of}
-use Rattle.zed_script.specs.declared.commands.Command.{Command}
+use Rattle.zed_script.specs.declared.commands.OopCommand.{OopCommand}
 use Rattle.zed_script.specs.Command.{CommandAt}
 use Rattle.zed_script.proofs.Ahead.{instruction_ahead, no_command_after}
 use Rattle.zed_script.proofs.CommandThere.{command_there}
@@ -25,7 +25,7 @@ DoesSome r t = (o : Outcome) × (Does r t o × Nearer o r t)
 ended_nearer : (r : Reading) (t : State) → Nearer (ends t) r t
 ended_nearer r t q u e = absurd (cc)
 
-commanded_some : (c : Option Command) (start at next : ℕ) (a : Stat) (t : State) → own t.scene ≡ Some a → a.position ≡ Some at → CommandAt (program_of t.scene a.program) at c next → Nearer (commanded c start next a t) (Commanding start) t
+commanded_some : (c : Option OopCommand) (start at next : ℕ) (a : Stat) (t : State) → own t.scene ≡ Some a → a.position ≡ Some at → CommandAt (program_of t.scene a.program) at c next → Nearer (commanded c start next a t) (Commanding start) t
 commanded_some None start at next a t here place x q u e = commanded_nearer None start at next a t u q here place (no_command_after (program_of t.scene a.program) at next x) e
 commanded_some (Some c) start at next a t here place x q u e = absurd (no_command_goes (effect c start a (with_position (Some next) t.scene) t.left) start t u q e)
 

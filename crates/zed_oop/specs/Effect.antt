@@ -7,8 +7,8 @@ use Rattle.zed_oop.specs.declared.performing.Motion.TheVariants.{Go as GoAlong, 
 use Rattle.zed_oop.specs.declared.acting.Next.{Next}
 use Rattle.zed_oop.specs.declared.acting.Next.TheVariants.{Skip, Stay, Command as CommandNext, SkipAndEnd, End as EndNext, Error}
 use Rattle.zed_scene.specs.declared.stat.Stat.{Stat}
-use Rattle.zed_script.specs.declared.commands.Command.{Command}
-use Rattle.zed_script.specs.declared.commands.Command.TheVariants.{Go, Try, Walk, Shoot, Set, Clear, If, Give, Take, End, EndGame, Idle, Restart, Send, Zap, Restore, Lock, Unlock, Become, Die, Put, Change, Cycle, Char, Bind, Nothing, Other}
+use Rattle.zed_script.specs.declared.commands.OopCommand.{OopCommand}
+use Rattle.zed_script.specs.declared.commands.OopCommand.TheVariants.{Go, Try, Walk, Shoot, Set, Clear, If, Give, Take, End, EndGame, Idle, Restart, Send, Zap, Restore, Lock, Unlock, Become, Die, Put, Change, Cycle, Char, Bind, Nothing, Other}
 use Rattle.zed_scene.specs.declared.error.OopError.{OopError}
 use Rattle.zed_scene.specs.declared.error.OopError.TheVariants.{Memory, NoWords}
 use Rattle.zed_script.specs.declared.heading.Heading.{Heading}
@@ -99,7 +99,7 @@ put_kind here None d s = (Error, s)
 put_kind here (Some k) d s = (Skip, put_ahead here d k s)
 
 -- the command that began with the `#` at `start`, of the stat a
-unfoldable pub effect : Command → ℕ → Stat → Scene → List ℕ → Drawn Outcome
+unfoldable pub effect : OopCommand → ℕ → Stat → Scene → List ℕ → Drawn Outcome
 effect (Go h) start a s ws = along h (λ d t. after_go start (try_move a.place d t)) a s ws
 effect (Try h) start a s ws = along h (λ d t. after_try (try_move a.place d t)) a s ws
 effect (Walk h) start a s ws = along h (λ d t. (Skip, with_step d t)) a s ws

@@ -3,7 +3,7 @@ use Rattle.std.specs.Prelude.{Result, Ok, Err, MatchResult, ◌+◌, ◌*◌, �
 use Rattle.zed_oop.specs.declared.acting.Next.{Next}
 use Rattle.zed_oop.specs.declared.acting.Next.TheVariants.{Skip, Stay, Command as CommandNext, SkipAndEnd, End as EndNext, Error}
 use Rattle.zed_scene.specs.declared.stat.Stat.{Stat}
-use Rattle.zed_script.specs.declared.commands.Command.{Command}
+use Rattle.zed_script.specs.declared.commands.OopCommand.{OopCommand}
 use Rattle.zed_script.specs.declared.heading.Heading.{Heading}
 use Rattle.zed_oop.specs.declared.turning.Effects.{Effects}
 use Rattle.zed_script.specs.declared.lines.Instruction.{Instruction}
@@ -104,7 +104,7 @@ settled_by start None t = lacks
 settled_by start (Some d) t = settled start d.0.0 (record t { scene = d.0.1; left = d.1 })
 
 -- what comes of a command, or of none, before `next`
-abbrev pub commanded : Option Command → ℕ → ℕ → Stat → State → Outcome
+abbrev pub commanded : Option OopCommand → ℕ → ℕ → Stat → State → Outcome
 commanded None start next a t = goes Instructing (to_place (Some next) t)
 commanded (Some c) start next a t =
     settled_by start (effect c start a (with_position (Some next) t.scene) t.left) t
@@ -125,7 +125,7 @@ pub data Does : Reading → State → Outcome → Type 0 where
   -- the stat is gone, or its program has ended
   over : (r : Reading) (t : State) → position_of (own t.scene) ≡ None → Does r t (ends t)
   instructs : (t : State) (a : Stat) (at : ℕ) (i : Instruction) (next : ℕ) → Stands t.scene a at → InstructionAt (program_of t.scene a.program) at i next → Does Instructing t (instructed i at next a t)
-  commands : (start : ℕ) (t : State) (a : Stat) (at : ℕ) (c : Option Command) (next : ℕ) → Stands t.scene a at → CommandAt (program_of t.scene a.program) at c next → Does (Commanding start) t (commanded c start next a t)
+  commands : (start : ℕ) (t : State) (a : Stat) (at : ℕ) (c : Option OopCommand) (next : ℕ) → Stands t.scene a at → CommandAt (program_of t.scene a.program) at c next → Does (Commanding start) t (commanded c start next a t)
 
 -- where no command word may be read any more, the rest of the line is skipped in place of a command
 abbrev pub finished : Reading → State → State

@@ -8,7 +8,7 @@ ghost use Rattle.zed_oop.specs.Making.{became, bound};
 ghost use Rattle.zed_scene.specs.Removing.{with_health};
 ghost use Rattle.zed_oop.specs.Sending.{has_colon, sent};
 ghost use Rattle.zed_oop.specs.declared.acting.Next.TheVariants.{SkipAndEnd};
-ghost use Rattle.zed_script.specs.declared.commands.Command.TheVariants.{If};
+ghost use Rattle.zed_script.specs.declared.commands.OopCommand.TheVariants.{If};
 
 use crate::acting::{Next, go_to, set_cycle, set_p1, set_p2, set_step};
 use crate::holding::{give, take};
@@ -19,7 +19,7 @@ use crate::sending::send;
 use crate::testing::holds;
 use std::alloc::{AllocError, Global};
 use zed_scene::{Counters, OopError, Scene, Shooter, Stat, Step, Words};
-use zed_script::{Command, Counter, Heading, Query, TileKind};
+use zed_script::{Counter, Heading, OopCommand, Query, TileKind};
 use zed_types::Place;
 
 /// Nothing at all, of any colour.
@@ -260,7 +260,7 @@ fn do_bind(scene: &mut Scene, word: &[u8]) -> Next
 pub(crate) fn perform(
     scene: &mut Scene,
     alloc: Global,
-    command: &Command,
+    command: &OopCommand,
     start: usize,
     stat: Stat,
     words: &mut Words,
@@ -269,68 +269,68 @@ pub(crate) fn perform(
         (effect command.now start stat scene.old words.old) }
 {
     match command {
-        Command::Go(heading) => do_along(scene, heading, Motion::Go, start, stat, words),
-        Command::Try(heading) => do_along(scene, heading, Motion::Try, start, stat, words),
-        Command::Walk(heading) => do_along(scene, heading, Motion::Walk, start, stat, words),
-        Command::Shoot(heading) => do_along(scene, heading, Motion::Shoot, start, stat, words),
-        Command::Put(heading, kind) => {
+        OopCommand::Go(heading) => do_along(scene, heading, Motion::Go, start, stat, words),
+        OopCommand::Try(heading) => do_along(scene, heading, Motion::Try, start, stat, words),
+        OopCommand::Walk(heading) => do_along(scene, heading, Motion::Walk, start, stat, words),
+        OopCommand::Shoot(heading) => do_along(scene, heading, Motion::Shoot, start, stat, words),
+        OopCommand::Put(heading, kind) => {
             do_along(scene, heading, Motion::Put(*kind), start, stat, words)
         }
-        Command::If(query) => do_if(scene, query, start, stat, words),
-        Command::Set(word) => {
+        OopCommand::If(query) => do_if(scene, query, start, stat, words),
+        OopCommand::Set(word) => {
             scene.set_flag(alloc, word.as_slice())?;
             Ok(Next::Skip)
         }
-        Command::Clear(word) => {
+        OopCommand::Clear(word) => {
             scene.clear_flag(alloc, word.as_slice())?;
             Ok(Next::Skip)
         }
-        Command::Give(counter, value) => Ok(do_give(scene, *counter, *value)),
-        Command::Take(counter, value) => Ok(do_take(scene, *counter, *value)),
-        Command::Send(word) => Ok(do_send(scene, word.as_slice())),
-        Command::Zap(word) => {
+        OopCommand::Give(counter, value) => Ok(do_give(scene, *counter, *value)),
+        OopCommand::Take(counter, value) => Ok(do_take(scene, *counter, *value)),
+        OopCommand::Send(word) => Ok(do_send(scene, word.as_slice())),
+        OopCommand::Zap(word) => {
             relabel_all(scene, alloc, Relabelling::Hide, word.as_slice());
             Ok(Next::Skip)
         }
-        Command::Restore(word) => {
+        OopCommand::Restore(word) => {
             relabel_all(scene, alloc, Relabelling::Show, word.as_slice());
             Ok(Next::Skip)
         }
-        Command::Bind(word) => Ok(do_bind(scene, word.as_slice())),
-        Command::Other(word) => Ok(do_other(scene, word.as_slice())),
-        Command::End => {
+        OopCommand::Bind(word) => Ok(do_bind(scene, word.as_slice())),
+        OopCommand::Other(word) => Ok(do_other(scene, word.as_slice())),
+        OopCommand::End => {
             go_to(scene, None);
             Ok(Next::End)
         }
-        Command::EndGame => {
+        OopCommand::EndGame => {
             end_game(scene);
             Ok(Next::Skip)
         }
-        Command::Idle => Ok(Next::SkipAndEnd),
-        Command::Restart => {
+        OopCommand::Idle => Ok(Next::SkipAndEnd),
+        OopCommand::Restart => {
             go_to(scene, Some(0));
             Ok(Next::Stay)
         }
-        Command::Lock => {
+        OopCommand::Lock => {
             set_p2(scene, 1);
             Ok(Next::Skip)
         }
-        Command::Unlock => {
+        OopCommand::Unlock => {
             set_p2(scene, 0);
             Ok(Next::Skip)
         }
-        Command::Die => {
+        OopCommand::Die => {
             become_kind(scene, EMPTY, stat.place);
             Ok(Next::SkipAndEnd)
         }
-        Command::Nothing => Ok(Next::Skip),
-        Command::Become(kind) => Ok(do_become(scene, *kind, stat.place)),
-        Command::Change(first, second) => Ok(do_change(scene, *first, *second)),
-        Command::Cycle(value) => {
+        OopCommand::Nothing => Ok(Next::Skip),
+        OopCommand::Become(kind) => Ok(do_become(scene, *kind, stat.place)),
+        OopCommand::Change(first, second) => Ok(do_change(scene, *first, *second)),
+        OopCommand::Cycle(value) => {
             do_cycle(scene, *value);
             Ok(Next::Skip)
         }
-        Command::Char(value) => {
+        OopCommand::Char(value) => {
             do_char(scene, *value);
             Ok(Next::Skip)
         }

@@ -10,7 +10,7 @@ use crate::leading::led;
 use crate::performing::perform;
 use std::alloc::{AllocError, Global};
 use zed_scene::{OopError, Scene, Stat, Step, Words};
-use zed_script::{Command, Heading, Instruction, next_command, standing_at};
+use zed_script::{Heading, Instruction, OopCommand, next_command, standing_at};
 use zed_types::{Bytes, Place, Seq};
 
 /// What is read next.
@@ -175,7 +175,7 @@ fn command_with(
     scene: &mut Scene,
     stat: Stat,
     start: usize,
-    command: Option<Command>,
+    command: Option<OopCommand>,
     next: usize,
     words: &mut Words,
     lines: &mut Seq<Bytes>,

@@ -13,11 +13,11 @@ use Rattle.zed_oop.proofs.TurnFront.{turn_front}
 use Rattle.zed_play.specs.declared.game.Game.{Game}
 use Rattle.zed_play.specs.declared.key.Asked.{Asked}
 use Rattle.zed_play.specs.declared.key.Bounds.{Bounds}
-use Rattle.zed_play.specs.declared.key.Deed.{Deed}
-use Rattle.zed_play.specs.declared.key.Deed.TheVariants.{Nothing, Goes, Shoots}
+use Rattle.zed_play.specs.declared.key.Intent.{Intent}
+use Rattle.zed_play.specs.declared.key.Intent.TheVariants.{Nothing, Goes, Shoots}
 use Rattle.zed_play.specs.declared.key.Key.{Key}
-use Rattle.zed_play.specs.declared.thing.Thing.{Thing}
-use Rattle.zed_play.specs.declared.thing.Thing.TheVariants.{Player, Bullet, Bear, Object, Pusher, Lion, Tiger}
+use Rattle.zed_play.specs.declared.piece.Piece.{Piece}
+use Rattle.zed_play.specs.declared.piece.Piece.TheVariants.{Player, Bullet, Bear, Object, Pusher, Lion, Tiger}
 use Rattle.zed_play.specs.Creatures.{lion, lion_step, prowls, tiger, tiger_fires}
 use Rattle.zed_play.specs.Game.{Then, TurnOf, kept, with_scene}
 use Rattle.zed_play.specs.Objects.{ObjectDoes, drifted}
@@ -82,7 +82,7 @@ front_go : (o : Option Place) (side : Side) (b : Bounds) (from : Place) (g : Gam
 front_go None side b from g = front_none _
 front_go (Some n) side b from g = front_then (walks from n) (λ ws. Touches n (step_of side) g ws) (front_touch n (step_of side) g)
 
-front_player : (deed : Deed) (b : Bounds) (from : Place) (g : Game) → Front (λ ws. PlayerDoes deed b from g ws)
+front_player : (intent : Intent) (b : Bounds) (from : Place) (g : Game) → Front (λ ws. PlayerDoes intent b from g ws)
 front_player Nothing b from g = front_none g
 front_player (Shoots side) b from g = front_none _
 front_player (Goes side) b from g = front_go _ side b from g
@@ -91,8 +91,8 @@ front_object : (o : Option ℕ) (i : ℕ) (g : Game) → Front (λ ws. ObjectDoe
 front_object None i g = front_none _
 front_object (Some at) i g = front_then drifted (λ ws. TurnOf i g ws) (front_turn i g)
 
-front_tick : (t : Thing) (k : Asked) (i : ℕ) (a : Stat) (g : Game) → Front (λ ws. TickAs t k i a g ws)
-front_tick Player k i a g = front_player k.deed k.bounds a.place g
+front_tick : (t : Piece) (k : Asked) (i : ℕ) (a : Stat) (g : Game) → Front (λ ws. TickAs t k i a g ws)
+front_tick Player k i a g = front_player k.intent k.bounds a.place g
 front_tick Object k i a g = front_object a.position i g
 front_tick Lion k i a g = front_in_game g (lion a g.scene) (front_lion a g.scene)
 front_tick Tiger k i a g = front_in_game g (tiger a g.scene) (front_tiger a g.scene)

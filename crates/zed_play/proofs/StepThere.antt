@@ -11,11 +11,11 @@ use Rattle.zed_scene.specs.Words.{Drawn}
 use Rattle.zed_play.specs.declared.game.Game.{Game}
 use Rattle.zed_play.specs.declared.key.Asked.{Asked}
 use Rattle.zed_play.specs.declared.key.Bounds.{Bounds}
-use Rattle.zed_play.specs.declared.key.Deed.{Deed}
-use Rattle.zed_play.specs.declared.key.Deed.TheVariants.{Nothing, Goes, Shoots}
+use Rattle.zed_play.specs.declared.key.Intent.{Intent}
+use Rattle.zed_play.specs.declared.key.Intent.TheVariants.{Nothing, Goes, Shoots}
 use Rattle.zed_play.specs.declared.key.Key.{Key}
-use Rattle.zed_play.specs.declared.thing.Thing.{Thing}
-use Rattle.zed_play.specs.declared.thing.Thing.TheVariants.{Player, Ammo, Torch, Gem, Key as KeyThing, Door, Scroll, Passage, Energizer, Bullet, Forest, Boulder, Slider, Invisible, Bear, Object, Pusher, Lion, Tiger, Other}
+use Rattle.zed_play.specs.declared.piece.Piece.{Piece}
+use Rattle.zed_play.specs.declared.piece.Piece.TheVariants.{Player, Ammo, Torch, Gem, Key as KeyThing, Door, Scroll, Passage, Energizer, Bullet, Forest, Boulder, Slider, Invisible, Bear, Object, Pusher, Lion, Tiger, Other}
 use Rattle.zed_play.specs.Game.{Then, TurnOf, done, told}
 use Rattle.zed_play.specs.Objects.{ObjectDoes, drifted}
 use Rattle.zed_play.specs.Player.{GoesTo, PlayerDoes, step_of, walks}
@@ -49,7 +49,7 @@ go_some : TurnHasSome → (o : Option Place) (side : Side) (bounds : Bounds) (fr
 go_some some None side bounds from g ws = (_, refl)
 go_some some (Some n) side bounds from g ws = then_some (walks from n) (Touches n (step_of side) g ws) (touch_some some n (step_of side) g ws)
 
-player_some : TurnHasSome → (deed : Deed) (bounds : Bounds) (from : Place) (g : Game) (ws : List ℕ) → HasSome (PlayerDoes deed bounds from g ws)
+player_some : TurnHasSome → (intent : Intent) (bounds : Bounds) (from : Place) (g : Game) (ws : List ℕ) → HasSome (PlayerDoes intent bounds from g ws)
 player_some some Nothing bounds from g ws = (_, refl)
 player_some some (Shoots side) bounds from g ws = (_, refl)
 player_some some (Goes side) bounds from g ws = go_some some (ahead from (step_of side)) side bounds from g ws
@@ -58,8 +58,8 @@ object_some : TurnHasSome → (o : Option ℕ) (i : ℕ) (g : Game) (ws : List �
 object_some some None i g ws = (_, refl)
 object_some some (Some at) i g ws = then_some drifted (TurnOf i g ws) (turn_some some i g ws)
 
-tick_some : TurnHasSome → (t : Thing) (k : Asked) (i : ℕ) (s : Stat) (g : Game) (ws : List ℕ) → HasSome (TickAs t k i s g ws)
-tick_some some Player k i s g ws = player_some some k.deed k.bounds s.place g ws
+tick_some : TurnHasSome → (t : Piece) (k : Asked) (i : ℕ) (s : Stat) (g : Game) (ws : List ℕ) → HasSome (TickAs t k i s g ws)
+tick_some some Player k i s g ws = player_some some k.intent k.bounds s.place g ws
 tick_some some Object k i s g ws = object_some some s.position i g ws
 tick_some some Bullet k i s g ws = (_, refl)
 tick_some some Lion k i s g ws = (_, refl)

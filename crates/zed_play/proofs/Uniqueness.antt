@@ -10,11 +10,11 @@ use Rattle.zed_scene.specs.Words.{Drawn}
 use Rattle.zed_play.specs.declared.game.Game.{Game}
 use Rattle.zed_play.specs.declared.key.Asked.{Asked}
 use Rattle.zed_play.specs.declared.key.Bounds.{Bounds}
-use Rattle.zed_play.specs.declared.key.Deed.{Deed}
-use Rattle.zed_play.specs.declared.key.Deed.TheVariants.{Nothing, Goes, Shoots}
+use Rattle.zed_play.specs.declared.key.Intent.{Intent}
+use Rattle.zed_play.specs.declared.key.Intent.TheVariants.{Nothing, Goes, Shoots}
 use Rattle.zed_play.specs.declared.key.Key.{Key}
-use Rattle.zed_play.specs.declared.thing.Thing.{Thing}
-use Rattle.zed_play.specs.declared.thing.Thing.TheVariants.{Player, Bullet, Bear, Object, Pusher, Lion, Tiger}
+use Rattle.zed_play.specs.declared.piece.Piece.{Piece}
+use Rattle.zed_play.specs.declared.piece.Piece.TheVariants.{Player, Bullet, Bear, Object, Pusher, Lion, Tiger}
 use Rattle.zed_play.specs.Game.{Then, TurnOf, done, told}
 use Rattle.zed_play.specs.Objects.{ObjectDoes, drifted}
 use Rattle.zed_play.specs.Player.{GoesTo, PlayerDoes, step_of, walks}
@@ -49,7 +49,7 @@ go_one one None side bounds from g ws a b is also = is ∙ sym also
 go_one one (Some n) side bounds from g ws a b x y =
     then_one (walks from n) (Touches n (step_of side) g ws) (touch_one one n (step_of side) g ws) a b x y
 
-player_one : TurnIsOne → (deed : Deed) (bounds : Bounds) (from : Place) (g : Game) (ws : List ℕ) → IsOne (PlayerDoes deed bounds from g ws)
+player_one : TurnIsOne → (intent : Intent) (bounds : Bounds) (from : Place) (g : Game) (ws : List ℕ) → IsOne (PlayerDoes intent bounds from g ws)
 player_one one Nothing bounds from g ws a b is also = is ∙ sym also
 player_one one (Shoots side) bounds from g ws a b is also = is ∙ sym also
 player_one one (Goes side) bounds from g ws a b x y = go_one one _ side bounds from g ws a b x y
@@ -58,8 +58,8 @@ object_one : TurnIsOne → (o : Option ℕ) (i : ℕ) (g : Game) (ws : List ℕ)
 object_one one None i g ws a b is also = is ∙ sym also
 object_one one (Some at) i g ws a b x y = then_one drifted (TurnOf i g ws) (turn_one one i g ws) a b x y
 
-tick_one : TurnIsOne → (t : Thing) (k : Asked) (i : ℕ) (s : Stat) (g : Game) (ws : List ℕ) → IsOne (TickAs t k i s g ws)
-tick_one one Player k i s g ws a b x y = player_one one k.deed k.bounds s.place g ws a b x y
+tick_one : TurnIsOne → (t : Piece) (k : Asked) (i : ℕ) (s : Stat) (g : Game) (ws : List ℕ) → IsOne (TickAs t k i s g ws)
+tick_one one Player k i s g ws a b x y = player_one one k.intent k.bounds s.place g ws a b x y
 tick_one one Object k i s g ws a b x y = object_one one s.position i g ws a b x y
 tick_one one Bullet k i s g ws a b is also = is ∙ sym also
 tick_one one Lion k i s g ws a b is also = is ∙ sym also

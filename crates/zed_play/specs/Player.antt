@@ -15,8 +15,8 @@ use Rattle.zed_scene.specs.Seeking.{east, north, south, west}
 use Rattle.zed_scene.specs.Shooting.{shot}
 use Rattle.zed_scene.specs.Words.{Drawn}
 use Rattle.zed_play.specs.declared.game.Game.{Game}
-use Rattle.zed_play.specs.declared.key.Deed.{Deed}
-use Rattle.zed_play.specs.declared.key.Deed.TheVariants.{Nothing, Goes, Shoots}
+use Rattle.zed_play.specs.declared.key.Intent.{Intent}
+use Rattle.zed_play.specs.declared.key.Intent.TheVariants.{Nothing, Goes, Shoots}
 use Rattle.zed_play.specs.declared.key.Bounds.{Bounds}
 use Rattle.zed_play.specs.Acts.{moves}
 use Rattle.zed_play.specs.Game.{Then, leaves, with_scene}
@@ -78,7 +78,7 @@ GoesTo (Some n) side b from g ws e = Then (walks from n) (Touches n (step_of sid
 -- ---- the player
 
 -- what the player does in its tick: nothing, a shot to a side, or a move to a side
-abbrev pub PlayerDoes : Deed → Bounds → Place → Game → List ℕ → Drawn Game → Type 0
+abbrev pub PlayerDoes : Intent → Bounds → Place → Game → List ℕ → Drawn Game → Type 0
 PlayerDoes Nothing b from g ws e = e ≡ Some (g, ws)
 PlayerDoes (Shoots side) b from g ws e = e ≡ Some (with_scene (fires b.max_shots from (step_of side) g.scene) g, ws)
 PlayerDoes (Goes side) b from g ws e = GoesTo (ahead from (step_of side)) side b from g ws e

@@ -9,8 +9,8 @@ use Rattle.zed_play.specs.declared.error.PlayError.{PlayError}
 use Rattle.zed_play.specs.declared.error.PlayError.TheVariants.{Memory as PlayMemory, NoWords as PlayNoWords, NoBoard, Over}
 use Rattle.zed_play.specs.declared.game.Game.{Game}
 use Rattle.zed_play.specs.declared.key.Asked.{Asked}
-use Rattle.zed_play.specs.declared.key.Deed.{Deed}
-use Rattle.zed_play.specs.declared.key.Deed.TheVariants.{Nothing, Goes, Shoots}
+use Rattle.zed_play.specs.declared.key.Intent.{Intent}
+use Rattle.zed_play.specs.declared.key.Intent.TheVariants.{Nothing, Goes, Shoots}
 use Rattle.zed_play.specs.declared.key.Key.{Key}
 use Rattle.zed_play.specs.declared.key.Key.TheVariants.{Wait, North, South, West, East, ShootNorth, ShootSouth, ShootWest, ShootEast}
 use Rattle.zed_play.specs.declared.ending.Ending.{Ending}
@@ -21,16 +21,16 @@ use Rattle.zed_play.specs.Playtest.{Playtest}
 use Rattle.zed_play.specs.Tick.{LooksAt}
 
 -- what the player does by a key
-abbrev pub deed_of : Key → Deed
-deed_of Wait = Nothing
-deed_of North = Goes ToNorth
-deed_of South = Goes ToSouth
-deed_of West = Goes ToWest
-deed_of East = Goes ToEast
-deed_of ShootNorth = Shoots ToNorth
-deed_of ShootSouth = Shoots ToSouth
-deed_of ShootWest = Shoots ToWest
-deed_of ShootEast = Shoots ToEast
+abbrev pub intent_of : Key → Intent
+intent_of Wait = Nothing
+intent_of North = Goes ToNorth
+intent_of South = Goes ToSouth
+intent_of West = Goes ToWest
+intent_of East = Goes ToEast
+intent_of ShootNorth = Shoots ToNorth
+intent_of ShootSouth = Shoots ToSouth
+intent_of ShootWest = Shoots ToWest
+intent_of ShootEast = Shoots ToEast
 
 -- the stat to be looked at
 abbrev pub looked_at : Game → Option Stat
@@ -81,7 +81,7 @@ closed_by p (Some x) = Some (closed_with x.0 p, x.1)
 
 -- what a step is made with: the tick, what the key asks for, and what bounds the player
 abbrev pub asked : Key → Playtest → Asked
-asked key p = record { tick = p.tick; deed = deed_of key; bounds = p.bounds }
+asked key p = record { tick = p.tick; intent = intent_of key; bounds = p.bounds }
 
 -- the playtest after a step with the words that are left, or none where one is lacking
 abbrev pub Step : Key → Playtest → List ℕ → Option (Playtest × List ℕ) → Type 0

@@ -5,8 +5,8 @@ use Rattle.zed_scene.specs.Scene.{Scene, element_at}
 use Rattle.zed_scene.specs.Words.{Drawn}
 use Rattle.zed_play.specs.declared.game.Game.{Game}
 use Rattle.zed_play.specs.declared.key.Asked.{Asked}
-use Rattle.zed_play.specs.declared.thing.Thing.{Thing}
-use Rattle.zed_play.specs.declared.thing.Thing.TheVariants.{Player, Bullet, Bear, Object, Pusher, Lion, Tiger}
+use Rattle.zed_play.specs.declared.piece.Piece.{Piece}
+use Rattle.zed_play.specs.declared.piece.Piece.TheVariants.{Player, Bullet, Bear, Object, Pusher, Lion, Tiger}
 use Rattle.zed_play.specs.Bullets.{bullet}
 use Rattle.zed_play.specs.Creatures.{bear, lion, tiger}
 use Rattle.zed_play.specs.Game.{with_scene}
@@ -21,8 +21,8 @@ in_game g None = None
 in_game g (Some x) = Some (with_scene x.0 g, x.1)
 
 -- a line for each thing that acts
-abbrev pub TickAs : Thing → Asked → ℕ → Stat → Game → List ℕ → Drawn Game → Type 0
-TickAs Player k i a g ws e = PlayerDoes k.deed k.bounds a.place g ws e
+abbrev pub TickAs : Piece → Asked → ℕ → Stat → Game → List ℕ → Drawn Game → Type 0
+TickAs Player k i a g ws e = PlayerDoes k.intent k.bounds a.place g ws e
 TickAs Bullet k i a g ws e = e ≡ Some (with_scene (bullet a g.scene) g, ws)
 TickAs Lion k i a g ws e = e ≡ in_game g (lion a g.scene ws)
 TickAs Tiger k i a g ws e = e ≡ in_game g (tiger a g.scene ws)

@@ -12,8 +12,8 @@ use Rattle.zed_scene.specs.Moving.{pushed}
 use Rattle.zed_scene.specs.Removing.{attack}
 use Rattle.zed_scene.specs.Words.{Drawn}
 use Rattle.zed_play.specs.declared.game.Game.{Game}
-use Rattle.zed_play.specs.declared.thing.Thing.{Thing}
-use Rattle.zed_play.specs.declared.thing.Thing.TheVariants.{Ammo as AmmoThing, Torch, Gem, Key, Door, Passage, Energizer, Bullet, Forest, Boulder, Slider, Invisible, Bear, Object, Lion, Tiger}
+use Rattle.zed_play.specs.declared.piece.Piece.{Piece}
+use Rattle.zed_play.specs.declared.piece.Piece.TheVariants.{Ammo as AmmoThing, Torch, Gem, Key, Door, Passage, Energizer, Bullet, Forest, Boulder, Slider, Invisible, Bear, Object, Lion, Tiger}
 use Rattle.zed_play.specs.Bullets.{taken_away, tells}
 use Rattle.zed_play.specs.Game.{Then, TurnOf, leaves, with_scene}
 use Rattle.zed_play.specs.Things.{thing}
@@ -63,7 +63,7 @@ passed_by (Some i) g = passed_to (slice_get g.scene.stats i) g
 -- ---- a line for each thing that is touched at a place, along a step
 
 -- what comes of a touch along a step of a thing at a place, any but a scroll that has a stat
-unfoldable pub touched : Thing → Tile → Place → Step → Game → Game
+unfoldable pub touched : Piece → Tile → Place → Step → Game → Game
 touched AmmoThing t n d g = takes n (gives Ammo 5 g)
 touched Gem t n d g = takes n (gives Score 10 (gives Health 1 (gives Gems 1 g)))
 touched Torch t n d g = takes n (gives Torches 1 g)

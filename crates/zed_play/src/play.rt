@@ -57,7 +57,7 @@ impl Play {
     {
         Asked {
             tick: self.tick,
-            deed: key.deed(),
+            intent: key.intent(),
             bounds: self.bounds,
         }
     }

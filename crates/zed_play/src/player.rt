@@ -6,7 +6,7 @@ ghost use Rattle.zed_play.specs.Player.{GoesTo, PlayerDoes, fires, flying, goes_
 
 use crate::acts::moves;
 use crate::game::Game;
-use crate::key::{Bounds, Deed, step_to};
+use crate::key::{Bounds, Intent, step_to};
 use std::alloc::{AllocError, Global};
 use zed_oop::{Counter, OopError, Scene, Shooter, Step, Words, ahead, is_walkable, take};
 use zed_types::{Place, Side};
@@ -99,21 +99,21 @@ impl Game {
     pub(crate) fn act_as_player(
         &mut self,
         alloc: Global,
-        deed: Deed,
+        intent: Intent,
         bounds: Bounds,
         from: Place,
         words: &mut Words,
     ) -> Result<(), OopError>
         ensures { Answers result
-            (PlayerDoes deed bounds from self.old words.old) self.new words.new }
+            (PlayerDoes intent bounds from self.old words.old) self.new words.new }
     {
-        match deed {
-            Deed::Nothing => Ok(()),
-            Deed::Shoots(side) => {
+        match intent {
+            Intent::Nothing => Ok(()),
+            Intent::Shoots(side) => {
                 fire(&mut self.scene, bounds.max_shots, from, step_to(side))?;
                 Ok(())
             }
-            Deed::Goes(side) => {
+            Intent::Goes(side) => {
                 self.go_to(alloc, ahead(from, step_to(side)), side, bounds, from, words)
             }
         }

@@ -8,7 +8,7 @@ use crate::creatures::{act_as_bear, act_as_lion, act_as_tiger};
 use crate::game::Game;
 use crate::key::Asked;
 use crate::pushers::press;
-use crate::thing::{Thing, thing_of};
+use crate::piece::{Piece, piece_of};
 use std::alloc::Global;
 use zed_oop::{OopError, Stat, Words};
 
@@ -23,7 +23,7 @@ impl Game {
     fn tick_as(
         &mut self,
         alloc: Global,
-        thing: Thing,
+        thing: Piece,
         asked: Asked,
         i: usize,
         stat: Stat,
@@ -32,22 +32,22 @@ impl Game {
         ensures { Answers result (TickAs thing asked i stat self.old words.old) self.new words.new }
     {
         match thing {
-            Thing::Player => self.act_as_player(alloc, asked.deed, asked.bounds, stat.place, words),
-            Thing::Bullet => {
+            Piece::Player => self.act_as_player(alloc, asked.intent, asked.bounds, stat.place, words),
+            Piece::Bullet => {
                 fly(&mut self.scene, stat);
                 Ok(())
             }
-            Thing::Lion => act_as_lion(&mut self.scene, stat, words),
-            Thing::Tiger => act_as_tiger(&mut self.scene, stat, words),
-            Thing::Bear => {
+            Piece::Lion => act_as_lion(&mut self.scene, stat, words),
+            Piece::Tiger => act_as_tiger(&mut self.scene, stat, words),
+            Piece::Bear => {
                 act_as_bear(&mut self.scene, stat);
                 Ok(())
             }
-            Thing::Pusher => {
+            Piece::Pusher => {
                 press(&mut self.scene, stat);
                 Ok(())
             }
-            Thing::Object => self.act_as_object(alloc, stat.position, i, words),
+            Piece::Object => self.act_as_object(alloc, stat.position, i, words),
             _ => Ok(()),
         }
     }
@@ -72,7 +72,7 @@ impl Game {
         if !is_due(asked.tick, i, stat.cycle) {
             return Ok(());
         }
-        let thing = thing_of(self.scene.tile(stat.place).element);
+        let thing = piece_of(self.scene.tile(stat.place).element);
         self.take_turn(i);
         self.tick_as(alloc, thing, asked, i, stat, words)
     }

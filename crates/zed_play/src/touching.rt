@@ -6,7 +6,7 @@ ghost use Rattle.zed_play.specs.Touch.{Touches, closed, door_opened, key_found, 
 
 use crate::bullets::{take_away, tell};
 use crate::game::Game;
-use crate::thing::{Thing, thing_of};
+use crate::piece::{Piece, piece_of};
 use std::alloc::Global;
 use zed_oop::{Counter, OopError, Scene, Step, Words, give};
 use zed_types::{Place, Tile};
@@ -78,50 +78,50 @@ impl Game {
     }
 
     #[tactic(auto, unfolding(crate::specs::Touch::touched))]
-    fn touch_thing(&mut self, thing: Thing, tile: Tile, place: Place, step: Step)
+    fn touch_thing(&mut self, thing: Piece, tile: Tile, place: Place, step: Step)
         ensures { self.new ≡ touched thing tile place step self.old }
     {
         match thing {
-            Thing::Ammo => {
+            Piece::Ammo => {
                 give(&mut self.scene, Counter::Ammo, 5);
                 self.take_at(place);
             }
-            Thing::Gem => {
+            Piece::Gem => {
                 give(&mut self.scene, Counter::Gems, 1);
                 give(&mut self.scene, Counter::Health, 1);
                 give(&mut self.scene, Counter::Score, 10);
                 self.take_at(place);
             }
-            Thing::Torch => {
+            Piece::Torch => {
                 give(&mut self.scene, Counter::Torches, 1);
                 self.take_at(place);
             }
-            Thing::Energizer => self.take_at(place),
-            Thing::Forest => self.take_at(place),
-            Thing::Key => self.find_key(tile.colour % 8, place),
-            Thing::Door => self.open_door(tile.colour / 16 % 8, place),
-            Thing::Invisible => self.scene.put(
+            Piece::Energizer => self.take_at(place),
+            Piece::Forest => self.take_at(place),
+            Piece::Key => self.find_key(tile.colour % 8, place),
+            Piece::Door => self.open_door(tile.colour / 16 % 8, place),
+            Piece::Invisible => self.scene.put(
                 place,
                 Tile {
                     element: NORMAL,
                     colour: tile.colour,
                 },
             ),
-            Thing::Boulder => self.scene.push(place, step),
-            Thing::Slider => self.scene.push(place, step),
-            Thing::Object => tell(&mut self.scene, b"TOUCH", place),
-            Thing::Passage => {
+            Piece::Boulder => self.scene.push(place, step),
+            Piece::Slider => self.scene.push(place, step),
+            Piece::Object => tell(&mut self.scene, b"TOUCH", place),
+            Piece::Passage => {
                 let i = self.scene.stat_at(place);
                 self.pass_by(i);
             }
-            Thing::Bear => self.scene.attack(0, place),
-            Thing::Lion => self.scene.attack(0, place),
-            Thing::Tiger => self.scene.attack(0, place),
-            Thing::Bullet => self.scene.attack(0, place),
-            Thing::Player => {}
-            Thing::Scroll => {}
-            Thing::Pusher => {}
-            Thing::Other => {}
+            Piece::Bear => self.scene.attack(0, place),
+            Piece::Lion => self.scene.attack(0, place),
+            Piece::Tiger => self.scene.attack(0, place),
+            Piece::Bullet => self.scene.attack(0, place),
+            Piece::Player => {}
+            Piece::Scroll => {}
+            Piece::Pusher => {}
+            Piece::Other => {}
         }
     }
 
@@ -161,7 +161,7 @@ impl Game {
             }
             None => {
                 let tile = self.scene.tile(place);
-                self.touch_thing(thing_of(tile.element), tile, place, step);
+                self.touch_thing(piece_of(tile.element), tile, place, step);
                 Ok(())
             }
         }

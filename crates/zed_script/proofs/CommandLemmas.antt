@@ -2,7 +2,7 @@
 use borrow.Author.Tests.{ltb-true, ltb-false}
 use Rattle.std.proofs.Common.{◌≡◌, ◌≢◌, ℕ, ◌<◌, Bool, true, false, List, [], ◌∷◌, length, Some, refl, subst, arith, ap, nat_lt, codes}
 use Rattle.std.specs.Str.{bytes_eq}
-use Rattle.zed_script.specs.declared.commands.Command.{Command}
+use Rattle.zed_script.specs.declared.commands.OopCommand.{OopCommand}
 use Rattle.zed_script.specs.Text.{HasWord, word_at, word_end}
 use Rattle.zed_script.specs.Command.{BehindThen, CommandAt, ThenAt, is_then, passed, there}
 use Rattle.zed_script.proofs.TextLemmas.{empty_word, word_named}
@@ -37,5 +37,5 @@ has_bytes [] other = absurd (other refl)
 has_bytes (b ∷ w) other = omega arith
 
 -- where a command stands, a word does
-pub command_named : (p : List ℕ) (at : ℕ) (c : Command) (next : ℕ) → CommandAt p at (Some c) next → HasWord p at
+pub command_named : (p : List ℕ) (at : ℕ) (c : OopCommand) (next : ℕ) → CommandAt p at (Some c) next → HasWord p at
 command_named p at c next x = word_before p at x.0 x.1.0 (has_bytes (word_at p x.0) x.1.1)

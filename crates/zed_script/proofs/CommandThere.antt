@@ -1,7 +1,7 @@
 -- A command stands at each place, or no word.
 use Rattle.std.proofs.Common.{◌≡◌, ℕ, zero, suc, ◌+◌, ◌≤◌, Bool, true, false, ◌||◌, List, [], ◌∷◌, length, Option, Some, None, refl, sym, ◌∙◌, inl, inr, arith, codes}
-use Rattle.zed_script.specs.declared.commands.Command.{Command}
-use Rattle.zed_script.specs.declared.commands.Command.TheVariants.{Go, Try, Walk, Shoot, Set, Clear, If, Give, Take, End, EndGame, Idle, Restart, Send, Zap, Restore, Lock, Unlock, Become, Die, Put, Change, Cycle, Char, Bind, Nothing, Other}
+use Rattle.zed_script.specs.declared.commands.OopCommand.{OopCommand}
+use Rattle.zed_script.specs.declared.commands.OopCommand.TheVariants.{Go, Try, Walk, Shoot, Set, Clear, If, Give, Take, End, EndGame, Idle, Restart, Send, Zap, Restore, Lock, Unlock, Become, Die, Put, Change, Cycle, Char, Bind, Nothing, Other}
 use Rattle.zed_script.specs.Text.{value_at, value_end, word_at, word_end}
 use Rattle.zed_script.specs.Kind.{kind_at}
 use Rattle.zed_script.specs.Command.{BehindThen, CommandAt, CommandBehind, counter_of, is_bare, is_command, is_deed, is_naming, is_then, passed, there}
@@ -13,7 +13,7 @@ use Rattle.zed_script.proofs.TextLemmas.{word_end_within}
 
 -- a command stands behind its word
 abbrev pub Stands : List ℕ → List ℕ → ℕ → Type 0
-Stands p w at = (c : Command) × ((end : ℕ) × CommandBehind p w at c end)
+Stands p w at = (c : OopCommand) × ((end : ℕ) × CommandBehind p w at c end)
 
 deed_there : (p w : List ℕ) (at : ℕ) → is_deed w ≡ true → Stands p w at
 unfolding is_deed
@@ -106,12 +106,12 @@ then_there (suc k) p at h = by_then (is_then p at) refl (then_there k p (word_en
         (rest.0, passed at rest.0 e rest.1)
 
 -- a command stands at each place, or no word does
-pub command_there : (p : List ℕ) (at : ℕ) → (c : Option Command) × ((end : ℕ) × CommandAt p at c end)
+pub command_there : (p : List ℕ) (at : ℕ) → (c : Option OopCommand) × ((end : ℕ) × CommandAt p at c end)
 command_there p at =
     let behind = then_there (length p) p at (omega arith) in
     from_word behind.0 behind.1 (word_at p behind.0) refl
   where
-    from_word : (from : ℕ) → BehindThen p at from → (w : List ℕ) → word_at p from ≡ w → (c : Option Command) × ((end : ℕ) × CommandAt p at c end)
+    from_word : (from : ℕ) → BehindThen p at from → (w : List ℕ) → word_at p from ≡ w → (c : Option OopCommand) × ((end : ℕ) × CommandAt p at c end)
     from_word from behind [] e = (None, (word_end p from, (from, (behind, e, refl))))
     from_word from behind (b ∷ w) e =
         let found = command_behind_there p (word_at p from) (word_end p from) in

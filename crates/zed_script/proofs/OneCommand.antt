@@ -3,8 +3,8 @@ use Rattle.std.proofs.Common.{◌≡◌, ◌∙◌, ◌⊎◌, inl, inr, ℕ, Bo
 use Rattle.zed_script.specs.declared.heading.Heading.{Heading}
 use Rattle.zed_script.specs.declared.kinds.TileKind.{TileKind}
 use Rattle.zed_script.specs.declared.commands.Counter.{Counter}
-use Rattle.zed_script.specs.declared.commands.Command.{Command}
-use Rattle.zed_script.specs.declared.commands.Command.TheVariants.{Go, Try, Walk, Shoot, Set, Clear, If, Give, Take, End, EndGame, Idle, Restart, Send, Zap, Restore, Lock, Unlock, Become, Die, Put, Change, Cycle, Char, Bind, Nothing, Other}
+use Rattle.zed_script.specs.declared.commands.OopCommand.{OopCommand}
+use Rattle.zed_script.specs.declared.commands.OopCommand.TheVariants.{Go, Try, Walk, Shoot, Set, Clear, If, Give, Take, End, EndGame, Idle, Restart, Send, Zap, Restore, Lock, Unlock, Become, Die, Put, Change, Cycle, Char, Bind, Nothing, Other}
 use Rattle.zed_script.specs.Text.{meaning_in, value_at, value_end, word_at, word_end}
 use Rattle.zed_script.specs.Heading.{DirectionAt}
 use Rattle.zed_script.specs.Condition.{QueryAt}
@@ -214,7 +214,7 @@ is_throwstar = refl
 -- ---- the commands
 
 -- a command by the verb that its word is
-Seen : List ℕ → ℕ → List ℕ → Verb → Command → ℕ → Type 0
+Seen : List ℕ → ℕ → List ℕ → Verb → OopCommand → ℕ → Type 0
 Seen p at w VerbGo = Built Go (DirectionAt p at)
 Seen p at w VerbTry = Built Try (DirectionAt p at)
 Seen p at w VerbWalk = Built Walk (DirectionAt p at)
@@ -243,7 +243,7 @@ Seen p at w VerbDie = Alone Die at
 Seen p at w VerbNothing = Alone Nothing at
 Seen p at w VerbOther = Alone (Other w) at
 
-seen : (p : List ℕ) (w : List ℕ) (at : ℕ) (c : Command) (end : ℕ) → CommandBehind p w at c end → Seen p at w (verb w) c end
+seen : (p : List ℕ) (w : List ℕ) (at : ℕ) (c : OopCommand) (end : ℕ) → CommandBehind p w at c end → Seen p at w (verb w) c end
 unfolding Seen ValueAt
 seen p w at (Go h) end x = let P : Verb → Type 0 = λ u. Seen p at w u (Go h) end in subst P (sym (ap verb x.0 ∙ is_go)) (h, (refl, x.1))
 seen p w at (Try h) end x = let P : Verb → Type 0 = λ u. Seen p at w u (Try h) end in subst P (sym (ap verb x.0 ∙ is_try)) (h, (refl, x.1))
@@ -277,7 +277,7 @@ seen p w at Nothing end x = by_word x.0
     by_word (inr e) = let P : Verb → Type 0 = λ u. Seen p at w u Nothing end in subst P (sym (ap verb e ∙ is_throwstar)) (refl, x.1)
 seen p w at (Other n) end x = let P : Verb → Type 0 = λ u. Seen p at w u (Other n) end in subst P (sym (other_verb w x.0)) (ap Other x.1, x.2)
 
-seen_one : (p : List ℕ) (at : ℕ) (w : List ℕ) (v : Verb) (c d : Command) (m n : ℕ) → Seen p at w v c m → Seen p at w v d n → (c ≡ d) × (m ≡ n)
+seen_one : (p : List ℕ) (at : ℕ) (w : List ℕ) (v : Verb) (c d : OopCommand) (m n : ℕ) → Seen p at w v c m → Seen p at w v d n → (c ≡ d) × (m ≡ n)
 unfolding Seen
 seen_one p at w VerbGo = built_one Go (DirectionAt p at) (direction_one p at)
 seen_one p at w VerbTry = built_one Try (DirectionAt p at) (direction_one p at)
@@ -308,7 +308,7 @@ seen_one p at w VerbNothing = alone_one Nothing at
 seen_one p at w VerbOther = alone_one (Other w) at
 
 -- behind a word stands at most one command
-pub command_behind_one : (p w : List ℕ) (at : ℕ) (c d : Command) (m n : ℕ) → CommandBehind p w at c m → CommandBehind p w at d n → (c ≡ d) × (m ≡ n)
+pub command_behind_one : (p w : List ℕ) (at : ℕ) (c d : OopCommand) (m n : ℕ) → CommandBehind p w at c m → CommandBehind p w at d n → (c ≡ d) × (m ≡ n)
 command_behind_one p w at c d m n x y = seen_one p at w (verb w) c d m n (seen p w at c m x) (seen p w at d n y)
 
 true_is_false : (b : Bool) → b ≡ true → b ≡ false → ⊥
@@ -338,7 +338,7 @@ behind_then_one p at m (passed a f e rest) n y = from_then (opened p a n y) (beh
     from_then (inr z) further = further n z.1
 
 -- at most one command stands at a place
-pub command_one : (p : List ℕ) (at : ℕ) (c d : Option Command) (m n : ℕ) → CommandAt p at c m → CommandAt p at d n → (c ≡ d) × (m ≡ n)
+pub command_one : (p : List ℕ) (at : ℕ) (c d : Option OopCommand) (m n : ℕ) → CommandAt p at c m → CommandAt p at d n → (c ≡ d) × (m ≡ n)
 command_one p at None None m n x y =
     let from = behind_then_one p at x.0 x.1.0 y.0 y.1.0 in
     (refl, x.1.2 ∙ (ap (word_end p) from ∙ sym y.1.2))

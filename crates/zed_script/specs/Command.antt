@@ -5,8 +5,8 @@ use Rattle.zed_script.specs.declared.heading.Heading.{Heading}
 use Rattle.zed_script.specs.declared.kinds.TileKind.{TileKind}
 use Rattle.zed_script.specs.declared.commands.Counter.{Counter}
 use Rattle.zed_script.specs.declared.commands.Counter.TheVariants.{Health, Ammo, Gems, Torches, Score, Time}
-use Rattle.zed_script.specs.declared.commands.Command.{Command}
-use Rattle.zed_script.specs.declared.commands.Command.TheVariants.{Go, Try, Walk, Shoot, Set, Clear, If, Give, Take, End, EndGame, Idle, Restart, Send, Zap, Restore, Lock, Unlock, Become, Die, Put, Change, Cycle, Char, Bind, Nothing, Other}
+use Rattle.zed_script.specs.declared.commands.OopCommand.{OopCommand}
+use Rattle.zed_script.specs.declared.commands.OopCommand.TheVariants.{Go, Try, Walk, Shoot, Set, Clear, If, Give, Take, End, EndGame, Idle, Restart, Send, Zap, Restore, Lock, Unlock, Become, Die, Put, Change, Cycle, Char, Bind, Nothing, Other}
 use Rattle.zed_script.specs.Text.{meaning_in, value_at, value_end, word_at, word_end}
 use Rattle.zed_script.specs.Heading.{DirectionAt}
 use Rattle.zed_script.specs.Kind.{kind_at}
@@ -70,7 +70,7 @@ abbrev pub ExchangeAt : List ℕ → ℕ → Option TileKind × Option TileKind 
 ExchangeAt p at a end = (mid : ℕ) × (KindAt p at a.0 mid × KindAt p mid a.1 end)
 
 -- the command w, a word that ends at a place, stands before another place: a row each
-abbrev pub CommandBehind : List ℕ → List ℕ → ℕ → Command → ℕ → Type 0
+abbrev pub CommandBehind : List ℕ → List ℕ → ℕ → OopCommand → ℕ → Type 0
 CommandBehind p w at (Go h) end = (w ≡ codes "GO") × DirectionAt p at h end
 CommandBehind p w at (Try h) end = (w ≡ codes "TRY") × DirectionAt p at h end
 CommandBehind p w at (Walk h) end = (w ≡ codes "WALK") × DirectionAt p at h end
@@ -114,7 +114,7 @@ pub data BehindThen (p : List ℕ) : ℕ → ℕ → Type 0 where
   passed : (at from : ℕ) → is_then p at ≡ true → BehindThen p (word_end p at) from → BehindThen p at from
 
 -- a command, or no word at all, is the next at a place, and ends before another
-abbrev pub CommandAt : List ℕ → ℕ → Option Command → ℕ → Type 0
+abbrev pub CommandAt : List ℕ → ℕ → Option OopCommand → ℕ → Type 0
 CommandAt p at None end = (from : ℕ) × (BehindThen p at from × (word_at p from ≡ []) × (end ≡ word_end p from))
 CommandAt p at (Some c) end =
     (from : ℕ) × (BehindThen p at from × (word_at p from ≢ []) × CommandBehind p (word_at p from) (word_end p from) c end)

@@ -6,8 +6,8 @@ use Rattle.zed_script.specs.declared.conditions.Test.{Test}
 use Rattle.zed_script.specs.declared.conditions.Test.TheVariants.{Blocked as BlockedTest, Any as AnyTest}
 use Rattle.zed_script.specs.declared.commands.Bare.{Bare}
 use Rattle.zed_script.specs.declared.commands.Bare.TheVariants.{End, EndGame, Idle, Restart, Lock, Unlock, Die, Play, ThrowStar}
-use Rattle.zed_script.specs.declared.commands.Deed.{Deed}
-use Rattle.zed_script.specs.declared.commands.Deed.TheVariants.{Go, Try, Walk, Shoot, Put, If, Give, Take, Cycle, Char}
+use Rattle.zed_script.specs.declared.commands.Doing.{Doing}
+use Rattle.zed_script.specs.declared.commands.Doing.TheVariants.{Go, Try, Walk, Shoot, Put, If, Give, Take, Cycle, Char}
 use Rattle.zed_script.specs.declared.commands.Naming.{Naming}
 use Rattle.zed_script.specs.declared.commands.Naming.TheVariants.{Set, Clear, Send, Zap, Restore, Bind, Become, Change}
 use Rattle.zed_script.specs.Heading.{DirectionAt}
@@ -40,22 +40,22 @@ AnyAt p at (Some (AnyTest k)) end = kind_at p at true ≡ (k, end)
 AnyAt p at _ end = ⊥
 
 -- the word of a command that does, asks or counts
-abbrev pub deed_word : Deed → List ℕ
-deed_word Go = codes "GO"
-deed_word Try = codes "TRY"
-deed_word Walk = codes "WALK"
-deed_word Shoot = codes "SHOOT"
-deed_word Put = codes "PUT"
-deed_word If = codes "IF"
-deed_word Give = codes "GIVE"
-deed_word Take = codes "TAKE"
-deed_word Cycle = codes "CYCLE"
-deed_word Char = codes "CHAR"
+abbrev pub doing_word : Doing → List ℕ
+doing_word Go = codes "GO"
+doing_word Try = codes "TRY"
+doing_word Walk = codes "WALK"
+doing_word Shoot = codes "SHOOT"
+doing_word Put = codes "PUT"
+doing_word If = codes "IF"
+doing_word Give = codes "GIVE"
+doing_word Take = codes "TAKE"
+doing_word Cycle = codes "CYCLE"
+doing_word Char = codes "CHAR"
 
 -- which command that does, asks or counts a word is, if it is one
-abbrev pub IsDeed : List ℕ → Option Deed → Type 0
-IsDeed w None = is_deed w ≡ false
-IsDeed w (Some v) = w ≡ deed_word v
+abbrev pub IsDoing : List ℕ → Option Doing → Type 0
+IsDoing w None = is_deed w ≡ false
+IsDoing w (Some v) = w ≡ doing_word v
 
 -- the word of a command that names something
 abbrev pub naming_word : Naming → List ℕ

@@ -2,7 +2,7 @@
 ghost use Rattle.std.specs.Prelude.{◌≡◌, ◌≤◌, IfOk, IfSome, OnErr, Some, length, max};
 ghost use Rattle.zed_script.specs.Command.{AimAt, AmountAt, BehindThen, CommandAt, CommandBehind, ThenAt, ExchangeAt, NameAt, counter_of};
 ghost use Rattle.zed_script.specs.Text.{HasWord};
-ghost use Rattle.zed_script.specs.Verbs.{IsBare, IsDeed, IsNaming, bare_word, deed_word, naming_word};
+ghost use Rattle.zed_script.specs.Verbs.{IsBare, IsDoing, IsNaming, bare_word, doing_word, naming_word};
 
 use crate::conditions::{Query, condition};
 use crate::heading::{Heading, direction};
@@ -24,7 +24,7 @@ pub enum Counter {
 
 /// A command as a program writes it. None stands for a counter or a kind that there isn't.
 #[derive(Debug, Drop)]
-pub enum Command {
+pub enum OopCommand {
     Go(Heading),
     Try(Heading),
     Walk(Heading),
@@ -58,7 +58,7 @@ pub enum Command {
 
 /// A command that does, asks or counts something.
 #[derive(Clone, Copy)]
-enum Deed {
+enum Doing {
     Go,
     Try,
     Walk,
@@ -73,29 +73,29 @@ enum Deed {
 
 /// The command that does, asks or counts something which a word is, if it is one.
 #[tactic(auto, unfolding(crate::specs::Command::is_deed))]
-fn deed_of(word: &[u8]) -> Option<Deed>
-    ensures { IsDeed word.now result }
+fn doing_of(word: &[u8]) -> Option<Doing>
+    ensures { IsDoing word.now result }
 {
     if is_word(word, "GO") {
-        Some(Deed::Go)
+        Some(Doing::Go)
     } else if is_word(word, "TRY") {
-        Some(Deed::Try)
+        Some(Doing::Try)
     } else if is_word(word, "WALK") {
-        Some(Deed::Walk)
+        Some(Doing::Walk)
     } else if is_word(word, "SHOOT") {
-        Some(Deed::Shoot)
+        Some(Doing::Shoot)
     } else if is_word(word, "PUT") {
-        Some(Deed::Put)
+        Some(Doing::Put)
     } else if is_word(word, "IF") {
-        Some(Deed::If)
+        Some(Doing::If)
     } else if is_word(word, "GIVE") {
-        Some(Deed::Give)
+        Some(Doing::Give)
     } else if is_word(word, "TAKE") {
-        Some(Deed::Take)
+        Some(Doing::Take)
     } else if is_word(word, "CYCLE") {
-        Some(Deed::Cycle)
+        Some(Doing::Cycle)
     } else if is_word(word, "CHAR") {
-        Some(Deed::Char)
+        Some(Doing::Char)
     } else {
         None
     }
@@ -269,52 +269,52 @@ fn deed_behind(
     alloc: Global,
     program: &[u8],
     word: &Bytes,
-    verb: Deed,
+    verb: Doing,
     at: usize,
-) -> Result<(Command, usize), AllocError>
-    requires said { word.now ≡ deed_word verb }
+) -> Result<(OopCommand, usize), AllocError>
+    requires said { word.now ≡ doing_word verb }
     ensures result { IfOk result (λ r. CommandBehind program.now word.now at r.0 r.1) }
     ensures within { IfOk result (λ r. r.1 ≤ max at (length program.now)) }
     ensures ends { IfOk result (λ r. at ≤ r.1) }
 {
     match verb {
-        Deed::Go => {
+        Doing::Go => {
             let (heading, end) = direction(alloc, program, at)?;
-            Ok((Command::Go(heading), end))
+            Ok((OopCommand::Go(heading), end))
         }
-        Deed::Try => {
+        Doing::Try => {
             let (heading, end) = direction(alloc, program, at)?;
-            Ok((Command::Try(heading), end))
+            Ok((OopCommand::Try(heading), end))
         }
-        Deed::Walk => {
+        Doing::Walk => {
             let (heading, end) = direction(alloc, program, at)?;
-            Ok((Command::Walk(heading), end))
+            Ok((OopCommand::Walk(heading), end))
         }
-        Deed::Shoot => {
+        Doing::Shoot => {
             let (heading, end) = direction(alloc, program, at)?;
-            Ok((Command::Shoot(heading), end))
+            Ok((OopCommand::Shoot(heading), end))
         }
-        Deed::Put => {
+        Doing::Put => {
             let ((heading, kind), end) = aim_at(alloc, program, at)?;
-            Ok((Command::Put(heading, kind), end))
+            Ok((OopCommand::Put(heading, kind), end))
         }
-        Deed::If => {
+        Doing::If => {
             let (query, end) = condition(alloc, program, at)?;
-            Ok((Command::If(query), end))
+            Ok((OopCommand::If(query), end))
         }
-        Deed::Give => {
+        Doing::Give => {
             let ((counter, value), end) = amount_at(alloc, program, at)?;
-            Ok((Command::Give(counter, value), end))
+            Ok((OopCommand::Give(counter, value), end))
         }
-        Deed::Take => {
+        Doing::Take => {
             let ((counter, value), end) = amount_at(alloc, program, at)?;
-            Ok((Command::Take(counter, value), end))
+            Ok((OopCommand::Take(counter, value), end))
         }
-        Deed::Cycle => Ok((
-            Command::Cycle(value_at(program, at)),
+        Doing::Cycle => Ok((
+            OopCommand::Cycle(value_at(program, at)),
             value_end(program, at),
         )),
-        Deed::Char => Ok((Command::Char(value_at(program, at)), value_end(program, at))),
+        Doing::Char => Ok((OopCommand::Char(value_at(program, at)), value_end(program, at))),
     }
 }
 
@@ -325,7 +325,7 @@ fn naming_behind(
     word: &Bytes,
     verb: Naming,
     at: usize,
-) -> Result<(Command, usize), AllocError>
+) -> Result<(OopCommand, usize), AllocError>
     requires said { word.now ≡ naming_word verb }
     ensures result { IfOk result (λ r. CommandBehind program.now word.now at r.0 r.1) }
     ensures within { IfOk result (λ r. r.1 ≤ max at (length program.now)) }
@@ -334,54 +334,54 @@ fn naming_behind(
     match verb {
         Naming::Set => {
             let (name, end) = name_at(alloc, program, at)?;
-            Ok((Command::Set(name), end))
+            Ok((OopCommand::Set(name), end))
         }
         Naming::Clear => {
             let (name, end) = name_at(alloc, program, at)?;
-            Ok((Command::Clear(name), end))
+            Ok((OopCommand::Clear(name), end))
         }
         Naming::Send => {
             let (name, end) = name_at(alloc, program, at)?;
-            Ok((Command::Send(name), end))
+            Ok((OopCommand::Send(name), end))
         }
         Naming::Zap => {
             let (name, end) = name_at(alloc, program, at)?;
-            Ok((Command::Zap(name), end))
+            Ok((OopCommand::Zap(name), end))
         }
         Naming::Restore => {
             let (name, end) = name_at(alloc, program, at)?;
-            Ok((Command::Restore(name), end))
+            Ok((OopCommand::Restore(name), end))
         }
         Naming::Bind => {
             let (name, end) = name_at(alloc, program, at)?;
-            Ok((Command::Bind(name), end))
+            Ok((OopCommand::Bind(name), end))
         }
         Naming::Become => {
             let (kind, end) = kind(alloc, program, at, false)?;
-            Ok((Command::Become(kind), end))
+            Ok((OopCommand::Become(kind), end))
         }
         Naming::Change => {
             let ((first, second), end) = exchange_at(alloc, program, at)?;
-            Ok((Command::Change(first, second), end))
+            Ok((OopCommand::Change(first, second), end))
         }
     }
 }
 
 /// The command of such a word.
-fn bare_command(program: &[u8], word: &Bytes, verb: Bare, at: usize) -> Command
+fn bare_command(program: &[u8], word: &Bytes, verb: Bare, at: usize) -> OopCommand
     requires said { word.now ≡ bare_word verb }
     ensures { CommandBehind program.now word.now at result at }
 {
     match verb {
-        Bare::End => Command::End,
-        Bare::EndGame => Command::EndGame,
-        Bare::Idle => Command::Idle,
-        Bare::Restart => Command::Restart,
-        Bare::Lock => Command::Lock,
-        Bare::Unlock => Command::Unlock,
-        Bare::Die => Command::Die,
-        Bare::Play => Command::Nothing,
-        Bare::ThrowStar => Command::Nothing,
+        Bare::End => OopCommand::End,
+        Bare::EndGame => OopCommand::EndGame,
+        Bare::Idle => OopCommand::Idle,
+        Bare::Restart => OopCommand::Restart,
+        Bare::Lock => OopCommand::Lock,
+        Bare::Unlock => OopCommand::Unlock,
+        Bare::Die => OopCommand::Die,
+        Bare::Play => OopCommand::Nothing,
+        Bare::ThrowStar => OopCommand::Nothing,
     }
 }
 
@@ -391,12 +391,12 @@ fn command_behind(
     program: &[u8],
     word: Bytes,
     at: usize,
-) -> Result<(Command, usize), AllocError>
+) -> Result<(OopCommand, usize), AllocError>
     ensures result { IfOk result (λ r. CommandBehind program.now word at r.0 r.1) }
     ensures within { IfOk result (λ r. r.1 ≤ max at (length program.now)) }
     ensures ends { IfOk result (λ r. at ≤ r.1) }
 {
-    if let Some(verb) = deed_of(word.as_slice()) {
+    if let Some(verb) = doing_of(word.as_slice()) {
         return deed_behind(alloc, program, &word, verb, at);
     }
     if let Some(verb) = naming_of(word.as_slice()) {
@@ -404,7 +404,7 @@ fn command_behind(
     }
     match bare_of(word.as_slice()) {
         Some(verb) => Ok((bare_command(program, &word, verb, at), at)),
-        None => Ok((Command::Other(word), at)),
+        None => Ok((OopCommand::Other(word), at)),
     }
 }
 
@@ -445,7 +445,7 @@ pub fn next_command(
     alloc: Global,
     program: &[u8],
     at: usize,
-) -> Result<(Option<Command>, usize), AllocError>
+) -> Result<(Option<OopCommand>, usize), AllocError>
     ensures result { IfOk result (λ r. CommandAt program.now at r.0 r.1) }
     ensures within { IfOk result (λ r. r.1 ≤ max at (length program.now)) }
     ensures ends { IfOk result (λ r. at ≤ r.1) }

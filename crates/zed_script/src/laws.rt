@@ -1,6 +1,6 @@
 //! That one thing stands at each place of a program.
 ghost use Rattle.std.specs.Prelude.{◌≡◌, ℕ, List, Option};
-ghost use Rattle.zed_script.specs.declared.commands.Command.{Command};
+ghost use Rattle.zed_script.specs.declared.commands.OopCommand.{OopCommand};
 ghost use Rattle.zed_script.specs.declared.conditions.Query.{Query};
 ghost use Rattle.zed_script.specs.declared.heading.Heading.{Heading};
 ghost use Rattle.zed_script.specs.declared.lines.Instruction.{Instruction};
@@ -26,8 +26,8 @@ pub fn one_condition()
 /// A command stands at each place, or no word does, and no other does there, nor one that ends elsewhere.
 pub fn one_command()
     ensures stands { (p : List ℕ) (at : ℕ)
-        → (c : Option Command) × ((end : ℕ) × CommandAt p at c end) }
-    ensures alone { (p : List ℕ) (at : ℕ) (c d : Option Command) (m n : ℕ)
+        → (c : Option OopCommand) × ((end : ℕ) × CommandAt p at c end) }
+    ensures alone { (p : List ℕ) (at : ℕ) (c d : Option OopCommand) (m n : ℕ)
         → CommandAt p at c m → CommandAt p at d n → (c ≡ d) × (m ≡ n) }
 {}
 

@@ -11,7 +11,7 @@ mod laws;
 mod lines;
 mod text;
 
-pub use commands::{Command, Counter, next_command};
+pub use commands::{Counter, OopCommand, next_command};
 pub use conditions::{Query, Test, condition};
 pub use heading::{Course, Heading, Turning, direction};
 pub use kinds::{TileKind, kind};

@@ -4,7 +4,7 @@ ghost use Rattle.zed_host.specs.Counting.{Counts};
 ghost use Rattle.zed_session.specs.Devices.{Foretold, first_of, without_first};
 
 use crate::error::SessionError;
-use crate::screen::Failed;
+use crate::screen::DeviceFailed;
 use zed_play::Key;
 
 /// A source of keys, which come one after the other.
@@ -21,7 +21,7 @@ pub trait Keys: Drop {
     ghost keys_foretell: { Self → Option (List Bool) };
 
     /// The next key, or None where no more come. Where that fails, no key is taken.
-    fn next(&mut self) -> Result<Option<Key>, Failed>
+    fn next(&mut self) -> Result<Option<Key>, DeviceFailed>
         ensures key { IfOk result (λ key. IfSome (left self.old) (λ keys. key ≡ first_of keys)) }
         ensures ok { OnOk result (left self.new ≡ without_first (left self.old)) }
         ensures err { OnErr result (left self.new ≡ left self.old) }
@@ -45,6 +45,6 @@ pub(crate) fn next_of(keys: &mut dyn Keys) -> Result<Option<Key>, SessionError>
 {
     match keys.next() {
         Ok(key) => Ok(key),
-        Err(Failed) => Err(SessionError::KeyFault),
+        Err(DeviceFailed) => Err(SessionError::KeyFault),
     }
 }

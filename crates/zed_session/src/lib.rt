@@ -20,7 +20,7 @@ pub use holding::HoldsDocument;
 pub use keys::Keys;
 pub use laws::edits_are_handed_over;
 pub use playing::Playing;
-pub use screen::{Failed, Screen};
+pub use screen::{DeviceFailed, Screen};
 pub use session::Session;
 pub use stage::Stage;
 pub use zed_link::{Link, LinkError, Pulled, receive, send};

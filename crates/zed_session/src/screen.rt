@@ -8,7 +8,7 @@ use zed_screen::Frame;
 
 /// What a device answers that failed.
 #[derive(Clone, Copy, Debug, PartialEq, Eq)]
-pub struct Failed;
+pub struct DeviceFailed;
 
 /// A screen, on which frames are shown one after the other.
 pub trait Screen: Drop {
@@ -24,7 +24,7 @@ pub trait Screen: Drop {
     ghost screen_foretells: { Self → Option (List Bool) };
 
     /// Shows a frame in place of the one before. Where that fails, what it shows may be anything.
-    fn show(&mut self, frame: &Frame) -> Result<(), Failed>
+    fn show(&mut self, frame: &Frame) -> Result<(), DeviceFailed>
         ensures ok { OnOk result (shown self.new ≡ showing frame.now (shown self.old)) }
         ensures err { OnErr result (is_some (shown self.new) ≡ is_some (shown self.old)) }
         ensures failures { Counts (is_err result)
@@ -49,6 +49,6 @@ pub(crate) fn show_on(screen: &mut dyn Screen, frame: &Frame) -> Result<(), Sess
 {
     match screen.show(frame) {
         Ok(()) => Ok(()),
-        Err(Failed) => Err(SessionError::ScreenFault),
+        Err(DeviceFailed) => Err(SessionError::ScreenFault),
     }
 }

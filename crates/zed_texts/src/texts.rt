@@ -95,25 +95,25 @@ impl LiveTexts {
 
     /// Seeks the byte that an insertion or a deletion names, so that it is found at once when the edit is put in.
     /// Nothing of the texts changes.
-    pub fn expect(&mut self, edit: &Edit)
+    pub fn hint(&mut self, edit: &Edit)
         ensures { self.new ≡ self.old }
     {
         match &edit.op {
-            Op::TextInsert(id, Some(after), _) => self.expect_byte(*id, *after),
+            Op::TextInsert(id, Some(after), _) => self.hint_byte(*id, *after),
             Op::TextDelete(id, range) => {
-                self.expect_byte(*id, ElemId::new(range.stamp, range.first))
+                self.hint_byte(*id, ElemId::new(range.stamp, range.first))
             }
             _ => {}
         }
     }
 
-    fn expect_byte(&mut self, id: TextId, byte: ElemId)
+    fn hint_byte(&mut self, id: TextId, byte: ElemId)
         ensures { self.new ≡ self.old }
     {
         if let Some(i) = seek(&self.entries, self.last, id) {
             self.last = i;
             if let Some(text) = self.entries.get_index_mut(i) {
-                text.expect(byte);
+                text.hint(byte);
             }
         }
     }

@@ -5,10 +5,10 @@ ghost use Rattle.zzted.specs.Typing.{byte_of};
 
 use std::fs::{self, File};
 use std::io::{self, ErrorKind, Read, Write};
-use zed_link::{Failed as LinkFailed, Link};
+use zed_link::{Link, LinkFailed};
 use zed_play::Key;
 use zed_screen::{Frame, ascii};
-use zed_session::{Failed, Keys, Screen};
+use zed_session::{DeviceFailed, Keys, Screen};
 
 /// A read that was interrupted is made again, so many times.
 const TRIES: u32 = 1024;
@@ -142,12 +142,12 @@ impl Screen for Printer {
 
     ghost screen_foretells = { λ _. None };
 
-    fn show(&mut self, frame: &Frame) -> Result<(), Failed> {
+    fn show(&mut self, frame: &Frame) -> Result<(), DeviceFailed> {
         if self.print(frame).is_ok() {
             return Ok(());
         }
         self.failures = self.failures.saturating_add(1);
-        Err(Failed)
+        Err(DeviceFailed)
     }
 
     fn failures(&self) -> u64 {
@@ -220,12 +220,12 @@ impl Keys for Typed {
 
     ghost keys_foretell = { λ _. None };
 
-    fn next(&mut self) -> Result<Option<Key>, Failed> {
+    fn next(&mut self) -> Result<Option<Key>, DeviceFailed> {
         match self.next_key() {
             Ok(key) => Ok(key),
             Err(_) => {
                 self.failures = self.failures.saturating_add(1);
-                Err(Failed)
+                Err(DeviceFailed)
             }
         }
     }

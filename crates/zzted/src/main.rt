@@ -9,7 +9,7 @@ use std::env;
 use std::io::{self, ErrorKind, Write};
 use std::process::ExitCode;
 use system::{Access, SystemHost};
-use zed_disk::Place;
+use zed_disk::NamedFile;
 use zed_link::Link;
 use zed_program::run;
 use zed_session::{Keys, Screen};
@@ -25,16 +25,16 @@ fn words_of(rt: &HostRuntime) -> io::Result<Vec<String>> {
 }
 
 // The place of the file that a command writes; none for standard output.
-fn place_of(rt: &HostRuntime, name: &str) -> io::Result<Option<Place>> {
+fn place_of(rt: &HostRuntime, name: &str) -> io::Result<Option<NamedFile>> {
     if name == "stdout" {
         return Ok(None);
     }
-    Ok(Some(Place::of(rt, name)?))
+    Ok(Some(NamedFile::of(rt, name)?))
 }
 
 // How a merge gets to the file that it writes, which may be one of those that it reads, under whatever name. Where that can't be told
 // the place is lost, and nothing is written there.
-fn merging(rt: &HostRuntime, place: Place, files: &[&str]) -> io::Result<Access> {
+fn merging(rt: &HostRuntime, place: NamedFile, files: &[&str]) -> io::Result<Access> {
     match place.is_led_to(rt, files) {
         Ok(true) => Ok(Access::Edit(place)),
         Ok(false) => Ok(Access::Write(place)),

@@ -5,7 +5,7 @@ ghost use Rattle.zed_host.specs.Counting.{Counts};
 use std::alloc::{AllocError, Global};
 use std::fs::{self, File};
 use std::io::{self, ErrorKind, Read, Write};
-use zed_disk::{Place, held, stands, write};
+use zed_disk::{NamedFile, held, stands, write};
 use zed_program::{Host, ReadError, WriteError};
 
 /// A file that has not ended after so many reads is a failure.
@@ -20,14 +20,14 @@ pub enum Access {
     /// It writes none.
     Read,
     /// It writes the file.
-    Write(Place),
+    Write(NamedFile),
     /// It reads the file and writes it again; nobody else does so in between.
-    Edit(Place),
+    Edit(NamedFile),
 }
 
 impl Access {
     /// The access of a command that writes the file of a place, if there is one.
-    pub fn writing(place: Option<Place>) -> Access {
+    pub fn writing(place: Option<NamedFile>) -> Access {
         match place {
             Some(place) => Access::Write(place),
             None => Access::Read,
@@ -35,7 +35,7 @@ impl Access {
     }
 
     /// The access of a command that reads the file of a place, if there is one, and writes it again.
-    pub fn editing(place: Option<Place>) -> Access {
+    pub fn editing(place: Option<NamedFile>) -> Access {
         match place {
             Some(place) => Access::Edit(place),
             None => Access::Read,
@@ -43,7 +43,7 @@ impl Access {
     }
 
     // The place of a name that is written.
-    fn written(&self, name: &str) -> Option<&Place> {
+    fn written(&self, name: &str) -> Option<&NamedFile> {
         match self {
             Access::Write(place) | Access::Edit(place) if place.is_of(name) => Some(place),
             _ => None,
@@ -51,7 +51,7 @@ impl Access {
     }
 
     // The place of a name that is read and written again.
-    fn edited(&self, name: &str) -> Option<&Place> {
+    fn edited(&self, name: &str) -> Option<&NamedFile> {
         match self {
             Access::Edit(place) if place.is_of(name) => Some(place),
             _ => None,
