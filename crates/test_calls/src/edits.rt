@@ -136,7 +136,10 @@ fn times_that_are_too_late(rt: HostRuntime) -> Result<(), Fail> {
         op: Op::StatRemove(StatId { name }),
     };
     for edit in [&made_then, &names_it] {
-        assert_eq!(rt; check(rt.alloc(), edit), Err(EditError::BadEdit(Cause::Stamp)));
+        assert_eq!(rt;
+            check(rt.alloc(), edit),
+            Err(EditError::BadEdit(Cause::Stamp))
+        );
     }
     Ok(())
 }

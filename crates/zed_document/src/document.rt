@@ -11,7 +11,9 @@ use crate::place::spot_of;
 use crate::visits::{visits_at, visits_before, visits_since};
 use std::alloc::Global;
 use std::marker::Model;
-use zed_delivery::{Body, calm_edits_hold_the_same, empty_bodies_show_none, rising_edits_are_apart};
+use zed_delivery::{
+    Body, calm_edits_hold_the_same, empty_bodies_show_none, rising_edits_are_apart,
+};
 use zed_edit::{Edit, check};
 use zed_laws::held_edits_are_remembered;
 use zed_op::{edit_has_sizes, edits_have_sizes, rising_lists_are_sets, sets_rise, sets_stay_fit};

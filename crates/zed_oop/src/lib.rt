@@ -25,6 +25,6 @@ pub use zed_scene::{
     is_destructible, is_on_board, is_walkable, opposite, random_step, sign, tile_in,
 };
 pub use zed_script::{
-    Counter, Course, Heading, Instruction, Line, LineKind, OopCommand, Program, Query, Test, TileKind,
-    Turning, condition, direction, kind, next_command, standing_at,
+    Counter, Course, Heading, Instruction, Line, LineKind, OopCommand, Program, Query, Test,
+    TileKind, Turning, condition, direction, kind, next_command, standing_at,
 };

@@ -7,8 +7,8 @@ use crate::bullets::fly;
 use crate::creatures::{act_as_bear, act_as_lion, act_as_tiger};
 use crate::game::Game;
 use crate::key::Asked;
-use crate::pushers::press;
 use crate::piece::{Piece, piece_of};
+use crate::pushers::press;
 use std::alloc::Global;
 use zed_oop::{OopError, Stat, Words};
 
@@ -32,7 +32,13 @@ impl Game {
         ensures { Answers result (TickAs thing asked i stat self.old words.old) self.new words.new }
     {
         match thing {
-            Piece::Player => self.act_as_player(alloc, asked.intent, asked.bounds, stat.place, words),
+            Piece::Player => self.act_as_player(
+                alloc,
+                asked.intent,
+                asked.bounds,
+                stat.place,
+                words,
+            ),
             Piece::Bullet => {
                 fly(&mut self.scene, stat);
                 Ok(())

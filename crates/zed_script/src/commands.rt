@@ -314,7 +314,10 @@ fn deed_behind(
             OopCommand::Cycle(value_at(program, at)),
             value_end(program, at),
         )),
-        Doing::Char => Ok((OopCommand::Char(value_at(program, at)), value_end(program, at))),
+        Doing::Char => Ok((
+            OopCommand::Char(value_at(program, at)),
+            value_end(program, at),
+        )),
     }
 }
 
