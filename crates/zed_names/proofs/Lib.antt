@@ -1,4 +1,5 @@
 pub mod Changed
 pub mod Found
 pub mod Order
-pub mod Sorting
+mod Places
+mod Sorting

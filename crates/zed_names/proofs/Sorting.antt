@@ -7,6 +7,7 @@ use Rattle.std.specs.Map.{keys_of, lookup}
 use Rattle.indexmap.specs.IndexMap.{insert_entry, index_before, move_index}
 use Rattle.indexmap.proofs.MoveLemmas.{push_moved}
 use Rattle.std.specs.Ordering.{is_lt}
+use Rattle.std.specs.declared.cmp.Ordering.{Ordering}
 use Rattle.std.proofs.lemmas.List.MinMax.{ranks_by}
 use Rattle.std.proofs.lemmas.List.Sorted.{sorted_far}
 use Rattle.std.proofs.lemmas.List.{length-map}
@@ -71,7 +72,7 @@ module _ {K X : Type 0} (name : K → Name) where
   none-there (Some x) h = absurd (true≢false h)
 
   -- what a sorted insertion of a new name makes
-  pub sorted_insertion : (es : Under K X) (id : K) (s : X) (i to : ℕ)
+  sorted_insertion : (es : Under K X) (id : K) (s : X) (i to : ℕ)
       → is_some (lookup (same name id) es) ≡ false
       → i ≤ length (keys_of es)
       → to ≡ index_before (position_or_len (same name id) (keys_of es)) i
@@ -85,3 +86,19 @@ module _ {K X : Type 0} (name : K → Name) where
       let moved : move_index (insert_entry (same name) es id s) (position_or_len (same name id) (keys_of es)) to ≡ insert es i (id, s)
       = rw (m.0, m.1, place) (push_moved es (id, s) i k) in
       moved ∙ at-place es i id s k (none-there (lookup (same name id) es) none) (subst (λ xs. IsSorted (key_cmp name) (keys_of xs)) moved h) ∙ add-new name id s es none
+
+-- so where keys are told apart and ordered by their names
+abbrev Inserts : {K : Type 0} → Type 0 → (K → Name) → (K → K → Bool) → (K → K → Ordering) → Type 0
+Inserts {K} X name eq cmp =
+    (es : Under K X) (id : K) (s : X) (i to : ℕ)
+    → is_some (lookup (eq id) es) ≡ false
+    → i ≤ length (keys_of es)
+    → to ≡ index_before (position_or_len (eq id) (keys_of es)) i
+    → (IsSorted cmp (keys_of es) → IsSorted cmp (keys_of (move_index (insert_entry eq es id s) (position_or_len (eq id) (keys_of es)) to)))
+    → IsSorted (key_cmp name) (keys_of es)
+    → move_index (insert_entry eq es id s) (position_or_len (eq id) (keys_of es)) to ≡ add name id s es
+
+pub inserts : {K X : Type 0} (name : K → Name) (eq : K → K → Bool) (cmp : K → K → Ordering) → eq ≡ same name → cmp ≡ key_cmp name → Inserts X name eq cmp
+inserts {X = X} name eq cmp e o =
+    subst (λ q. Inserts X name q cmp) (sym e)
+    (subst (λ q. Inserts X name (same name) q) (sym o) (λ es id s i to none l t rises sorted. sorted_insertion name es id s i to none l t (rises sorted)))

@@ -1,5 +1,5 @@
 -- What is found under a key, and how the names stand, after a value is added or changed.
-use Rattle.std.specs.Prelude.{◌≡◌, if◌then◌else◌, Option, Some, None, option_map}
+use Rattle.std.specs.Prelude.{◌≡◌, if◌then◌else◌, Some, None, option_map}
 use Rattle.std.specs.Option.{option_or}
 use Rattle.zed_types.specs.declared.names.Name.{Name}
 use Rattle.zed_names.specs.ByName.{Under, IsOnlyName, NamesRise, same, under, add, change}
