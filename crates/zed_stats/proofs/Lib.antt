@@ -1,3 +1,2 @@
 pub mod FieldWrites
-mod Known
 mod Numbers

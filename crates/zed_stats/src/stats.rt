@@ -10,12 +10,15 @@ use crate::stat::{LiveStat, StatValues};
 use indexmap::IndexMap;
 use std::alloc::Global;
 use std::marker::Model;
+use zed_names::{add, seek};
 use zed_types::{Stamp, StatId, StatSetting};
 
 /// The stats of a board, removed ones too, in the order of their names: by stamp, and then by index.
 #[derive(Drop)]
 pub struct Stats {
     entries: IndexMap<StatId, LiveStat>,
+    // where the stat stands that was asked for last, since an edit names its stat several times
+    last: usize,
 }
 
 impl Model for Stats {
@@ -53,11 +56,11 @@ impl Stats {
     {
         Stats {
             entries: IndexMap::new(alloc),
+            last: 0,
         }
     }
 
     /// Adds a stat at its place. One that was added before stays as it is, removed or not.
-    #[tactic(auto, using(crate::proofs::Known::known_stays))]
     pub fn add(&mut self, id: StatId, is_player: bool, values: StatValues) -> Result<(), StatsError>
         ensures ok { OnOk result
             (self.new ≡ added id (new_stat is_player id.name.stamp values) self.old) }
@@ -65,14 +68,9 @@ impl Stats {
         ensures kept { OnErr result (self.new ≡ self.old) }
         ensures memory_only_when { OnErr result (is_there id self.old ≡ false) }
     {
-        if self.has(id) {
-            return Ok(());
-        }
-        match self
-            .entries
-            .insert_sorted(id, LiveStat::new(is_player, id.name.stamp, values))
-        {
-            Ok(_) => Ok(()),
+        let stat = LiveStat::new(is_player, id.name.stamp, values);
+        match add(&mut self.entries, id, stat) {
+            Ok(()) => Ok(()),
             Err(_) => Err(StatsError::Memory),
         }
     }
@@ -81,14 +79,24 @@ impl Stats {
     pub fn has(&self, id: StatId) -> bool
         ensures { result ≡ is_there id self.now }
     {
-        self.entries.contains_key(&id)
+        seek(&self.entries, self.last, id).is_some()
+    }
+
+    /// Seeks a stat, so that it is found at once when it is asked for or changed. Nothing changes.
+    pub fn hint(&mut self, id: StatId)
+        ensures { self.new ≡ self.old }
+    {
+        if let Some(i) = seek(&self.entries, self.last, id) {
+            self.last = i;
+        }
     }
 
     /// Marks a stat removed, but for a player. It keeps its name and its fields.
     pub fn remove(&mut self, id: StatId)
         ensures { self.new ≡ change id removed self.old }
     {
-        if let Some(i) = self.entries.get_index_of(&id) {
+        if let Some(i) = seek(&self.entries, self.last, id) {
+            self.last = i;
             if let Some(stat) = self.entries.get_index_mut(i) {
                 stat.remove();
             }
@@ -99,7 +107,8 @@ impl Stats {
     pub fn set_field(&mut self, id: StatId, stamp: Stamp, setting: StatSetting)
         ensures { self.new ≡ change id (write stamp setting) self.old }
     {
-        if let Some(i) = self.entries.get_index_of(&id) {
+        if let Some(i) = seek(&self.entries, self.last, id) {
+            self.last = i;
             if let Some(stat) = self.entries.get_index_mut(i) {
                 stat.write(stamp, setting);
             }

@@ -16,5 +16,5 @@ returns-in-Some-get_index_mut c =
 
 pub returns-in_default : goal.returns-in_default
 returns-in_default c =
-    let none = sym c.get_index_of.ensures.found ∙ ap is_some c.in_default.is in
+    let none = sym c.seek.ensures.found ∙ ap is_some c.in_default.is in
     subst (λ es. es ≡ change c.args.id fields.remove es) c.self.view_is (change-none stat_name c.args.id fields.remove c.self.inside.entries.entries none)
