@@ -40,11 +40,11 @@ use Rattle.zed_live.specs.declared.board.LiveBoard.{LiveBoard}
 use Rattle.zed_live.specs.Board.{board_after, stat_changed}
 use Rattle.zed_live.specs.BoardStats.{Entries, stat_in}
 use Rattle.zed_live.specs.Boards.{Boards, board_name, board_cmp, board_in, home_in, change, change_all, add_all, all_as_made}
-use Rattle.zed_live.specs.Listed.{Homes, home_cmp, is_listed, StayListed, AreOn, AreMadeOn, adds_stat, IsAddedOn, StatsAreListed, AreKept}
+use Rattle.zed_live.specs.Listed.{Homes, home_cmp, is_listed, boards_with, StayListed, AreOn, AreMadeOn, adds_stat, IsAddedOn, StatsAreListed, AreKept}
 use Rattle.zed_live.proofs.BoardsByName.{only_board, rise-change_all}
 use Rattle.zed_live.proofs.StatsByName.{only_stat, as_live, in-add_made, in-add_each, stat-true, stat-apart}
 use Rattle.zed_live.proofs.Listed.{is_among, change_each, all_changed, first_found}
-use Rattle.zed_live.proofs.Pairs.{listed, run, stays, is_put, any_listed, sorted_listed, run_listed}
+use Rattle.zed_live.proofs.Pairs.{run, stays, is_put, sorted_none, sorted_cons, any_listed, sorted_listed, run_listed}
 
 -- ---- what is listed
 
@@ -118,15 +118,20 @@ from_first b =
 abbrev pub boards_here : StatId → Homes → List BoardId
 boards_here x ws = run same_stat x ws
 
--- all of them
-abbrev pub boards_with : StatId → Homes → List BoardId
-boards_with x ws = listed same_stat x ws
-
 pub from_range : (x : StatId) (homes : Homes) → IsStrictlySortedBy home_cmp homes → boards_here x (filter (range_contains home_cmp (Included (x, first_board)) Unbounded) homes) ≡ boards_with x homes
 from_range x homes up = run_listed stat_cmp board_cmp same_stat stats_total told first_board from_first x homes up
 
-sorted_boards : (x : StatId) (homes : Homes) → IsStrictlySortedBy home_cmp homes → IsStrictlySortedBy board_cmp (boards_with x homes)
+pub sorted_boards : (x : StatId) (homes : Homes) → IsStrictlySortedBy home_cmp homes → IsStrictlySortedBy board_cmp (boards_with x homes)
 sorted_boards x homes up = sorted_listed stat_cmp board_cmp same_stat stats_total told x homes up
+
+-- one board is in order
+sorted_one : (x : StatId) (b : BoardId) (homes : Homes) → boards_with x homes ≡ b ∷ [] → IsStrictlySortedBy board_cmp (boards_with x homes)
+sorted_one x b homes one = subst (IsStrictlySortedBy board_cmp) (sym one) (sorted_cons board_cmp true b [] (λ h. tt) (sorted_none board_cmp))
+
+-- the one board that was found so far, if one was
+abbrev pub found_one : Option BoardId → List BoardId
+found_one None = []
+found_one (Some b) = b ∷ []
 
 among : (x : StatId) (b : BoardId) (homes : Homes) → is_among board_name b (boards_with x homes) ≡ is_listed x b homes
 among x b homes = any_listed stat_cmp board_cmp same_stat stats_total told x b homes
@@ -145,9 +150,13 @@ in-listed x b homes (y ∷ ys) a h = go (same_board b y.0) refl h (in-listed x b
     go true v h more = subst (λ c. is_listed x c homes ≡ true) (sym (same_board-true b y.0 v)) (a.0 x h)
     go false v h more = more h
 
-pub found_home : (x : StatId) (homes : Homes) (ys : Boards) → IsStrictlySortedBy home_cmp homes → AreKept ys homes → find (is_on x ys) (boards_with x homes) ≡ home_in x ys
+pub found_home : (x : StatId) (homes : Homes) (ys : Boards) → IsStrictlySortedBy board_cmp (boards_with x homes) → AreKept ys homes → find (is_on x ys) (boards_with x homes) ≡ home_in x ys
 found_home x homes ys up kept =
-    first_found board_name only_board (λ z. has x z.stats) (boards_with x homes) ys (sorted_boards x homes up) kept.rise (λ b h. among x b homes ∙ in-listed x b homes ys kept.listed h)
+    first_found board_name only_board (λ z. has x z.stats) (boards_with x homes) ys up kept.rise (λ b h. among x b homes ∙ in-listed x b homes ys kept.listed h)
+
+-- where a stat is listed with one board alone, it is on that or on none
+pub only_home : (x : StatId) (b : BoardId) (homes : Homes) (ys : Boards) → boards_with x homes ≡ b ∷ [] → AreKept ys homes → cond (is_on x ys b) (Some b) None ≡ home_in x ys
+only_home x b homes ys one kept = ap (find (is_on x ys)) (sym one) ∙ found_home x homes ys (sorted_one x b homes one) kept
 
 -- ---- an edit of a stat
 
@@ -174,10 +183,10 @@ same-without x s (SetStat y setting) z h k = ap (λ ts. record z { stats = ts })
 same-without x s _ z h k = absurd (true≢false (sym h))
 
 -- all boards are changed once those that the stat is listed with are
-pub all_passed : (x : StatId) (s : Stamp) (op : Op) (homes : Homes) (ys : Boards) → IsStrictlySortedBy home_cmp homes → AreKept ys homes → changes_stat x op ≡ true
+pub all_passed : (x : StatId) (s : Stamp) (op : Op) (homes : Homes) (ys : Boards) → IsStrictlySortedBy board_cmp (boards_with x homes) → AreKept ys homes → changes_stat x op ≡ true
     → change_each board_name (stat_changed s op) (boards_with x homes) ys ≡ change_all (stat_changed s op) ys
 all_passed x s op homes ys up kept h =
-    all_changed board_name only_board (stat_changed s op) (boards_with x homes) ys (sorted_boards x homes up) kept.rise
+    all_changed board_name only_board (stat_changed s op) (boards_with x homes) ys up kept.rise
     (all_weaker (StatsAreListed homes) (λ y. is_among board_name y.0 (boards_with x homes) ≡ false → stat_changed s op y.1 ≡ y.1) ys (λ y l n. others y l n) kept.listed)
   where
     others : (y : BoardId × LiveBoard) → StatsAreListed homes y → is_among board_name y.0 (boards_with x homes) ≡ false → stat_changed s op y.1 ≡ y.1
@@ -186,6 +195,12 @@ all_passed x s op homes ys up kept h =
         go : (v : Bool) → has x (y.1).stats ≡ v → stat_changed s op y.1 ≡ y.1
         go true v = absurd (true≢false (sym (among x y.0 homes ∙ l x v) ∙ n))
         go false v = same-without x s op y.1 h v
+
+-- where it is listed with one alone, once that one is
+pub one_passed : (x : StatId) (b : BoardId) (s : Stamp) (op : Op) (homes : Homes) (ys : Boards) → boards_with x homes ≡ b ∷ [] → AreKept ys homes → changes_stat x op ≡ true
+    → change b (stat_changed s op) ys ≡ change_all (stat_changed s op) ys
+one_passed x b s op homes ys one kept h =
+    ap (λ bs. change_each board_name (stat_changed s op) bs ys) (sym one) ∙ all_passed x s op homes ys (sorted_one x b homes one) kept h
 
 listed-all : (s : Stamp) (op : Op) (homes : Homes) (ys : Boards) → AllByRecursion (StatsAreListed homes) ys → AllByRecursion (StatsAreListed homes) (change_all (stat_changed s op) ys)
 listed-all s op homes [] a = tt

@@ -22,7 +22,6 @@ pub mod Places
 pub mod PropertiesShown
 pub mod PropertiesTake
 pub mod Shown
-pub mod Standing
 pub mod StatSettings
 pub mod StatShown
 pub mod StatTakes

@@ -12,6 +12,7 @@ use Rattle.std.specs.BTreeMap.Range.{range_contains}
 use Rattle.std.specs.List.{filter, list_any, AllByRecursion}
 use Rattle.std.specs.List.Sorted.{IsStrictlySortedBy}
 use Rattle.zed_types.proofs.Orderings.{equal_from, then_eq}
+use Rattle.zed_live.specs.Listed.{listed}
 
 -- ---- what a set has after one more is put in
 
@@ -28,17 +29,12 @@ module _ {K : Type 0} (R : K → K → Ordering) (k : K) (old new : List K) wher
 
 -- ---- the second parts that are listed with a first part
 
--- all of them
-abbrev pub listed : {A B : Type 0} → (A → A → Bool) → A → List (A × B) → List B
-listed same x [] = []
-listed same x (w ∷ ws) = cond (same w.0 x) (w.1 ∷ listed same x ws) (listed same x ws)
-
 -- those at the head of a list
 abbrev pub run : {A B : Type 0} → (A → A → Bool) → A → List (A × B) → List B
 run same x [] = []
 run same x (w ∷ ws) = cond (same w.0 x) (w.1 ∷ run same x ws) []
 
-sorted_none : {B : Type 0} (S : B → B → Ordering) → IsStrictlySortedBy S []
+pub sorted_none : {B : Type 0} (S : B → B → Ordering) → IsStrictlySortedBy S []
 unfolding IsStrictlySortedBy
 sorted_none S = tt
 

@@ -1,5 +1,5 @@
 -- How boards are kept, and with which of them an index lists each stat.
-use Rattle.std.specs.Prelude.{◌≡◌, Bool, true, false, List, IsSorted}
+use Rattle.std.specs.Prelude.{◌≡◌, Bool, true, false, List, [], ◌∷◌, Option, Some, None, if◌then◌else◌, IsSorted}
 use Rattle.std.specs.BTreeMap.{is_at}
 use Rattle.std.specs.List.{AllByRecursion, list_any}
 use Rattle.std.specs.Map.{keys_of}
@@ -29,6 +29,20 @@ home_cmp a b = ordering_then (stat_cmp a.0 b.0) (board_cmp a.1 b.1)
 -- whether a stat is listed with a board
 abbrev pub is_listed : StatId → BoardId → Homes → Bool
 is_listed x b homes = list_any (is_at (home_cmp (x, b))) homes
+
+-- the second parts of the pairs with this first part
+abbrev pub listed : {A B : Type 0} → (A → A → Bool) → A → List (A × B) → List B
+listed same x [] = []
+listed same x (w ∷ ws) = if same w.0 x then w.1 ∷ listed same x ws else listed same x ws
+
+-- the boards that a stat is listed with
+abbrev pub boards_with : StatId → Homes → List BoardId
+boards_with x homes = listed same_stat x homes
+
+-- a stat, if one is told, is listed with this board alone
+abbrev pub IsOnly : Option (StatId × BoardId) → Homes → Type 0
+IsOnly None homes = Unit {0}
+IsOnly (Some w) homes = boards_with w.0 homes ≡ w.1 ∷ []
 
 -- what was listed still is
 pub record StayListed (old new : Homes) : Type 0 where

@@ -14,7 +14,7 @@ use std::alloc::Global;
 use zed_cells::{Cells, keep_in};
 use zed_edit::{Board, Edit, Op, Properties};
 use zed_stats::Stats;
-use zed_types::{Stamp, Written};
+use zed_types::{Stamp, StatId, Written};
 
 /// A board: its properties, whether it is removed, its cells and its stats, each with its latest write.
 #[derive(Drop)]
@@ -109,6 +109,13 @@ impl LiveBoard {
             Op::SetStat(id, setting) => self.stats.set_field(*id, edit.stamp, *setting),
             _ => {}
         }
+    }
+
+    /// Seeks a stat, so that it is found at once when it is asked for or changed. Nothing changes.
+    pub(crate) fn hint_stat(&mut self, stat: StatId)
+        ensures { self.new ≡ self.old }
+    {
+        self.stats.hint(stat);
     }
 
     /// Whether the board is removed.

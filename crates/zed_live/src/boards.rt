@@ -11,14 +11,13 @@ ghost use Rattle.zed_live.specs.Boards.{board_cmp, board_in, home_in, add as add
 
 use crate::board::LiveBoard;
 use crate::error::LiveError;
-use crate::index::{home_of, list_added, list_made, pass_listed};
+use crate::index::{Homes, hint_on, home_of, list_added, list_made, pass_listed, seek_home};
 use crate::making::made_by;
-use crate::seek::seek;
 use indexmap::IndexMap;
 use std::alloc::Global;
-use std::collections::BTreeSet;
 use std::marker::Model;
 use zed_edit::{Board, Edit, Op};
+use zed_names::{add_each, find, seek};
 use zed_types::{BoardId, Stamp, StatId};
 
 /// Boards, removed ones too, in the order of their names.
@@ -26,8 +25,8 @@ use zed_types::{BoardId, Stamp, StatId};
 pub struct LiveBoards {
     entries: IndexMap<BoardId, LiveBoard>,
     // each stat with each board that it is on, and maybe with others
-    homes: BTreeSet<(StatId, BoardId)>,
-    // where the board stands that was changed last: many edits in a row are of one board
+    homes: Homes,
+    // where the board stands that was named last: an edit names it several times, and many in a row are of one
     last: usize,
 }
 
@@ -39,37 +38,7 @@ impl Model for LiveBoards {
 
     ghost view = { λ b. b.entries.entries };
 
-    ghost invariant = { λ b. AreKept b.entries.entries b.homes.keys };
-}
-
-/// Adds a board at its place. One of its name that is there stays as it is.
-fn add(entries: &mut IndexMap<BoardId, LiveBoard>, id: BoardId, board: LiveBoard)
-    requires room { 0 < spare entries.old }
-    requires sorted { IsSorted board_cmp (keys entries.old) }
-    ensures entries { entries.new.entries ≡ added id board entries.old.entries }
-    ensures room { spare entries.old ≤ spare entries.new + 1 }
-    ensures sorted { IsSorted board_cmp (keys entries.new) }
-{
-    if entries.contains_key(&id) {
-        return;
-    }
-    match entries.insert_sorted(id, board) {
-        Ok(_) => {}
-        Err(_) => {}
-    }
-}
-
-/// Adds boards, each at its place.
-fn add_each(entries: &mut IndexMap<BoardId, LiveBoard>, boards: Vec<(BoardId, LiveBoard)>)
-    requires room { length boards.items ≤ spare entries.old }
-    requires sorted { IsSorted board_cmp (keys entries.old) }
-    ensures entries { entries.new.entries ≡ all_added boards.items entries.old.entries }
-    ensures sorted { IsSorted board_cmp (keys entries.new) }
-{
-    for entry in boards {
-        let (id, board) = entry;
-        add(entries, id, board);
-    }
+    ghost invariant = { λ b. AreKept b.entries.entries b.homes };
 }
 
 /// Puts an edit of one board in, if that is there. It is looked for first where the last one stood. Memory leaves the boards as they
@@ -123,7 +92,7 @@ impl LiveBoards {
     {
         LiveBoards {
             entries: IndexMap::new(alloc),
-            homes: BTreeSet::new(alloc),
+            homes: Homes::new(alloc),
             last: 0,
         }
     }
@@ -132,20 +101,45 @@ impl LiveBoards {
     pub fn get(&self, id: BoardId) -> Option<&LiveBoard>
         ensures { option_copied result ≡ board_in id self.now }
     {
-        match seek(&self.entries, self.last, id) {
-            Some(i) => {
-                let (_, board) = self.entries.get_index(i)?;
-                Some(board)
-            }
-            None => None,
-        }
+        find(&self.entries, self.last, id)
     }
 
     /// The board that a stat is on, removed or not, if it was made.
     pub fn home(&self, stat: StatId) -> Option<BoardId>
         ensures { result ≡ home_in stat self.now }
     {
-        home_of(&self.homes, &self.entries, stat)
+        home_of(&self.homes, &self.entries, self.last, stat)
+    }
+
+    /// Seeks what an edit names, so that it is found at once where it is asked for and where the edit is put in. Nothing changes.
+    pub fn hint(&mut self, edit: &Edit)
+        ensures { self.new ≡ self.old }
+    {
+        match &edit.op {
+            Op::BoardRemove(id) => self.hint_board(*id),
+            Op::SetBoard(id, _) => self.hint_board(*id),
+            Op::SetCells(id, _, _) => self.hint_board(*id),
+            Op::StatAdd(id, _) => self.hint_board(*id),
+            Op::StatRemove(stat) => self.hint_stat(*stat),
+            Op::SetStat(stat, _) => self.hint_stat(*stat),
+            _ => {}
+        }
+    }
+
+    fn hint_board(&mut self, id: BoardId)
+        ensures { self.new ≡ self.old }
+    {
+        if let Some(i) = seek(&self.entries, self.last, id) {
+            self.last = i;
+        }
+    }
+
+    fn hint_stat(&mut self, stat: StatId)
+        ensures { self.new ≡ self.old }
+    {
+        if let Some(board) = seek_home(&mut self.homes, stat) {
+            hint_on(&mut self.entries, &mut self.last, board, stat);
+        }
     }
 
     /// How many boards were made, removed ones too.
@@ -206,7 +200,7 @@ impl LiveBoards {
             (self.new ≡ change_all (stat_changed edit.now.stamp edit.now.op) self.old) }
         ensures never { OnErr result (false ≡ true) }
     {
-        pass_listed(&self.homes, &mut self.entries, stat, edit);
+        pass_listed(&self.homes, &mut self.entries, &mut self.last, stat, edit);
         Ok(())
     }
 

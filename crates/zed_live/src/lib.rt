@@ -12,7 +12,6 @@ mod laws;
 mod making;
 mod properties;
 mod reading;
-mod seek;
 mod stats;
 
 pub use board::LiveBoard;

@@ -16,4 +16,4 @@ returns-in-Some-get_index_mut-clause-keys c = keys-with_value_at c.args.entries.
 pub returns-in_default-clause-entries : goal.returns-in_default-clause-entries
 returns-in_default-clause-entries c =
     let f = stat_changed c.args.edit.now.stamp c.args.edit.now.op in
-    change-none board_name c.args.board f c.args.entries.now.entries (sym c.get_index_of.ensures.found ∙ ap is_some c.in_default.is)
+    change-none board_name c.args.board f c.args.entries.now.entries (sym c.seek.ensures.found ∙ ap is_some c.in_default.is)

@@ -1,15 +1,15 @@
-use Rattle.std.proofs.Common.{rules, ◌≡◌, ◌∙◌, find, ap}
-use Rattle.zed_live.proofs.Kept.{boards_here, boards_with, is_on, from_range, found_home}
+use Rattle.std.proofs.Common.{◌≡◌, ◌∙◌, true, false, cond, Some, None, sym, ap}
+use Rattle.zed_live.proofs.Kept.{is_on, only_home}
 use Rattle.zed_live.proofs.index.home_of.Goals as goal
 
-pub loop-home-init : goal.loop-home-init
-loop-home-init c =
-    let x = c.args.stat in
-    let ys = c.args.entries.now.entries in
-    let homes = c.args.homes.now.keys in
-    let same : c.into_iter-home-iterator.result ≡ c.range-home-items.result = search rules in
-    let all : boards_here x c.range-home-items.result ≡ boards_with x homes =
-    ap (boards_here x) (c.range-home-items.ensures.between tt) ∙ from_range x homes c.range-home-items.ensures.ordered in
-    record {
-      left = ap (λ ws. find (is_on x ys) (boards_here x ws)) same ∙ ap (find (is_on x ys)) all ∙ found_home x homes ys c.range-home-items.ensures.ordered c.requires;
-    }
+pub returns-then-is_on : goal.returns-then-is_on
+returns-then-is_on c =
+    let b = c.in-Some.board in
+    let on : is_on c.args.stat c.args.entries.now.entries b ≡ true = sym c.is_on.ensures ∙ c.if-is_on.true in
+    sym (ap (λ v. cond v (Some b) None) on) ∙ only_home c.args.stat b c.args.homes.now c.args.entries.now.entries c.in-Some.ensures c.requires
+
+pub returns-else-is_on : goal.returns-else-is_on
+returns-else-is_on c =
+    let b = c.in-Some.board in
+    let on : is_on c.args.stat c.args.entries.now.entries b ≡ false = sym c.is_on.ensures ∙ c.if-is_on.false in
+    sym (ap (λ v. cond v (Some b) None) on) ∙ only_home c.args.stat b c.args.homes.now c.args.entries.now.entries c.in-Some.ensures c.requires

@@ -1,8 +1,6 @@
-use Rattle.zed_live.proofs.Kept.{now_listed, stay_with}
+use Rattle.std.proofs.Common.{subst}
+use Rattle.zed_live.specs.Listed.{StayListed}
 use Rattle.zed_live.proofs.index.list.Goals as goal
 
-pub returns-in-Ok-clause-ok : goal.returns-in-Ok-clause-ok
-returns-in-Ok-clause-ok c = now_listed c.args.stat c.args.board c.args.homes.now.keys c.insert.new.self.keys c.in-Ok.ensures.updates.0
-
-pub returns-in-Ok-clause-kept : goal.returns-in-Ok-clause-kept
-returns-in-Ok-clause-kept c = stay_with c.args.stat c.args.board c.args.homes.now.keys c.insert.new.self.keys c.in-Ok.ensures.updates.0
+pub returns-clause-kept : goal.returns-clause-kept
+returns-clause-kept c = subst (λ o. StayListed o c.put.new.pairs.keys) c.homes.view_is c.put.ensures.kept

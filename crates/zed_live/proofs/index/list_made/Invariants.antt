@@ -5,6 +5,6 @@ use Rattle.zed_live.proofs.index.list_made.Given as goal
 -- once the stats of the boards from here on are listed too, all are
 abbrev pub invariant-loop-board : goal.invariant-loop-board
 invariant-loop-board l = record {
-  kept : StayListed l.fn.homes.keys l.homes.keys;
-  left : (more : Homes) → StayListed l.homes.keys more → AreMadeOn (drop l.board-index l.boards) more → AreMadeOn l.boards more;
+  kept : StayListed l.fn.homes l.homes;
+  left : (more : Homes) → StayListed l.homes more → AreMadeOn (drop l.board-index l.boards) more → AreMadeOn l.boards more;
 }

@@ -5,6 +5,6 @@ use Rattle.zed_live.proofs.index.list_stats.Given as goal
 -- once the stats from here on are listed too, all are
 abbrev pub invariant-loop-stat : goal.invariant-loop-stat
 invariant-loop-stat l = record {
-  kept : StayListed l.fn.homes.keys l.homes.keys;
-  left : (more : Homes) → StayListed l.homes.keys more → AreOn l.board (drop l.stat-index l.stats) more → AreOn l.board l.stats more;
+  kept : StayListed l.fn.homes l.homes;
+  left : (more : Homes) → StayListed l.homes more → AreOn l.board (drop l.stat-index l.stats) more → AreOn l.board l.stats more;
 }

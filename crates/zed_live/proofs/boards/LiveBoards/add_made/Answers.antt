@@ -9,6 +9,6 @@ invariant_of-self-2 c =
     let bs = c.args.boards.now in
     let ys = c.self.inside.entries.entries in
     let zs = c.add_each.new.entries.entries in
-    let homes = c.list_made.new.homes.keys in
+    let homes = c.list_made.new.homes in
     let all : zs ≡ add_all (all_as_made s bs) ys = search rules in
-    kept_made s bs homes ys zs all c.add_each.ensures.sorted c.in_ok-list_made.ensures.ok (kept_more ys c.self.inside.homes.keys homes c.list_made.ensures.kept c.self.invariant)
+    kept_made s bs homes ys zs all c.add_each.ensures.sorted c.in_ok-list_made.ensures.ok (kept_more ys c.self.inside.homes homes c.list_made.ensures.kept c.self.invariant)

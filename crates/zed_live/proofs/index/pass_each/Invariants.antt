@@ -4,7 +4,7 @@ use Rattle.zed_live.specs.Board.{stat_changed}
 use Rattle.zed_live.specs.Boards.{board_name, board_cmp, change_all}
 use Rattle.zed_live.proofs.Kept.{boards_here}
 use Rattle.zed_live.proofs.Listed.{change_each}
-use Rattle.zed_live.proofs.index.pass_listed.Given as goal
+use Rattle.zed_live.proofs.index.pass_each.Given as goal
 
 -- once the boards from here on are changed, all are
 abbrev pub invariant-loop-home : goal.invariant-loop-home

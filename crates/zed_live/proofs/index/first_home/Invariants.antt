@@ -1,7 +1,7 @@
 use Rattle.std.proofs.Common.{◌≡◌, find}
 use Rattle.zed_live.specs.Boards.{home_in}
 use Rattle.zed_live.proofs.Kept.{boards_here, is_on}
-use Rattle.zed_live.proofs.index.home_of.Given as goal
+use Rattle.zed_live.proofs.index.first_home.Given as goal
 
 -- the first board from here on that has the stat is its home
 abbrev pub invariant-loop-home : goal.invariant-loop-home

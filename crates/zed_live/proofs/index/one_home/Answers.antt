@@ -1,0 +1,13 @@
+use Rattle.std.proofs.Common.{rules, ◌≡◌, ◌∙◌, ap}
+use Rattle.zed_live.specs.Listed.{boards_with}
+use Rattle.zed_live.proofs.Kept.{boards_here, from_range}
+use Rattle.zed_live.proofs.index.one_home.Goals as goal
+
+pub loop-home-init : goal.loop-home-init
+loop-home-init c =
+    let x = c.args.stat in
+    let homes = c.args.pairs.now.keys in
+    let same : c.into_iter-home-iterator.result ≡ c.range-home-items.result = search rules in
+    let all : boards_here x c.range-home-items.result ≡ boards_with x homes =
+    ap (boards_here x) (c.range-home-items.ensures.between tt) ∙ from_range x homes c.range-home-items.ensures.ordered in
+    record { left = ap (boards_here x) same ∙ all }
