@@ -1,6 +1,5 @@
 pub mod Answered
 pub mod Looks
-pub mod Places
 pub mod TextElements
 pub mod TextNames
 pub mod TextsShown

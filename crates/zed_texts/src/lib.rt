@@ -4,7 +4,6 @@
 mod error;
 mod laws;
 mod made;
-mod seek;
 mod texts;
 mod worked;
 

@@ -1,14 +1,11 @@
-//! Texts of the edit that makes the world, made as runs, and how texts are added at their places.
+//! Texts of the edit that makes the world, made as runs.
 
-ghost use Rattle.std.specs.Prelude.{◌≡◌, ◌<◌, ◌≤◌, ◌+◌, length, IfOk, IfErr, IsSorted};
+ghost use Rattle.std.specs.Prelude.{◌≡◌, IfOk, IfErr};
 ghost use Rattle.std.specs.List.{AllByRecursion};
-ghost use Rattle.indexmap.specs.IndexMap.{keys, spare};
 ghost use Rattle.zed_code.specs.Text.{elements};
-ghost use Rattle.zed_texts.specs.ByName.{text_cmp, add as added, add_all as all_added};
 ghost use Rattle.zed_texts.specs.Texts.{elements_of, named, bytes_of as bytes_in, IsUnworked, IsOpened};
 
 use crate::error::TextsError;
-use indexmap::IndexMap;
 use std::alloc::Global;
 use zed_code::Text;
 use zed_edit::Text as PlainText;
@@ -60,34 +57,4 @@ pub(crate) fn all_as_made(
         }
     }
     Ok(made)
-}
-
-/// Adds a text at its place. One of its name that is there stays as it is.
-pub(crate) fn add(entries: &mut IndexMap<TextId, Text>, id: TextId, text: Text)
-    requires room { 0 < spare entries.old }
-    requires sorted { IsSorted text_cmp (keys entries.old) }
-    ensures entries { entries.new.entries ≡ added id text entries.old.entries }
-    ensures room { spare entries.old ≤ spare entries.new + 1 }
-    ensures sorted { IsSorted text_cmp (keys entries.new) }
-{
-    if entries.contains_key(&id) {
-        return;
-    }
-    match entries.insert_sorted(id, text) {
-        Ok(_) => {}
-        Err(_) => {}
-    }
-}
-
-/// Adds texts, each at its place.
-pub(crate) fn add_each(entries: &mut IndexMap<TextId, Text>, texts: Vec<(TextId, Text)>)
-    requires room { length texts.items ≤ spare entries.old }
-    requires sorted { IsSorted text_cmp (keys entries.old) }
-    ensures entries { entries.new.entries ≡ all_added texts.items entries.old.entries }
-    ensures sorted { IsSorted text_cmp (keys entries.new) }
-{
-    for entry in texts {
-        let (id, text) = entry;
-        add(entries, id, text);
-    }
 }

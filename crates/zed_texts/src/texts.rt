@@ -13,14 +13,14 @@ ghost use Rattle.zed_texts.specs.Texts.{elements_of, named, elements_or_none, te
 ghost use Rattle.zed_texts.specs.Looks.{looks_of};
 
 use crate::error::TextsError;
-use crate::made::{add, add_each, all_as_made};
-use crate::seek::seek;
+use crate::made::all_as_made;
 use crate::worked::{kill_in, put_into};
 use indexmap::IndexMap;
 use std::alloc::Global;
 use std::marker::Model;
 use zed_code::Text;
 use zed_edit::{Edit, Op, Plain, Text as PlainText, step};
+use zed_names::{add, add_each, find, seek};
 use zed_types::{ByteRange, ElemId, Stamp, TextId};
 use zed_world::read_is_normal;
 
@@ -65,13 +65,7 @@ impl LiveTexts {
     pub fn get(&self, id: TextId) -> Option<&Text>
         ensures { option_copied result ≡ text_in id self.now }
     {
-        match seek(&self.entries, self.last, id) {
-            Some(i) => {
-                let (_, text) = self.entries.get_index(i)?;
-                Some(text)
-            }
-            None => None,
-        }
+        find(&self.entries, self.last, id)
     }
 
     /// Whether a text was made.
@@ -228,10 +222,10 @@ impl LiveTexts {
         ensures kept { OnErr result (self.new ≡ self.old) }
         ensures runs { OnOk result (AllGrow (λ t. false) self.old self.new) }
     {
-        if self.entries.reserve(1).is_err() {
-            return Err(TextsError::Memory);
+        match add(&mut self.entries, id, Text::new(alloc)) {
+            Ok(()) => {}
+            Err(_) => return Err(TextsError::Memory),
         }
-        add(&mut self.entries, id, Text::new(alloc));
         Ok(())
     }
 
