@@ -59,10 +59,11 @@ impl Body {
         Ok(())
     }
 
-    /// Seeks the byte that an edit names, so that it is found at once from here on. Nothing changes.
+    /// Seeks what an edit names, so that it is found at once from here on. Nothing changes.
     fn hint(&mut self, edit: &Edit)
         ensures { self.new ≡ self.old }
     {
+        self.live.boards.hint(edit);
         self.texts.hint(edit);
     }
 
