@@ -1,11 +1,11 @@
 //! A stat, each of whose fields keeps its latest write.
 
-ghost use Rattle.std.specs.Prelude.{◌≡◌};
-ghost use Rattle.zed_types.specs.Stat.{stat_number_index};
-ghost use Rattle.zed_stats.specs.Fields.{number_at as number_of, value_of, with_number, with_setting, write as written, new_stat, remove as removed};
+ghost use Rattle.std.specs.Prelude.{◌≡◌, slice_index_or};
+ghost use Rattle.zed_types.specs.Stat.{stat_byte_index, stat_number_index};
+ghost use Rattle.zed_stats.specs.Fields.{number_at, value_of, with_number, with_setting, write as written, new_stat, remove as removed};
 
 use crate::field::{FIELDS, StatField};
-use zed_types::{Stamp, StatFields, StatId, StatNumber, StatSetting};
+use zed_types::{Stamp, StatByte, StatFields, StatId, StatNumber, StatSetting};
 
 /// The values of a stat's fields.
 #[derive(Clone, Copy)]
@@ -38,26 +38,31 @@ fn set_value(values: &mut StatValues, setting: StatSetting)
     }
 }
 
-fn number_at(values: &StatValues, field: StatNumber) -> i16
-    ensures { result ≡ number_of (stat_number_index field) values.now }
-{
-    match field.index() {
-        Some(i) => values.fields.numbers[usize::from(i)],
-        None => values.position,
-    }
-}
-
 impl StatValues {
+    /// A byte of the stat.
+    pub fn byte(&self, field: StatByte) -> u8
+        ensures { result ≡ slice_index_or self.now.fields.bytes (stat_byte_index field) 0 }
+    {
+        self.fields.bytes[usize::from(field.index())]
+    }
+
+    /// A number of the stat: one that a new stat is given, or its position.
+    pub fn number(&self, field: StatNumber) -> i16
+        ensures { result ≡ number_at (stat_number_index field) self.now }
+    {
+        match field.index() {
+            Some(i) => self.fields.numbers[usize::from(i)],
+            None => self.position,
+        }
+    }
+
     /// The value of a field.
     pub fn value(&self, field: StatField) -> StatSetting
         ensures { result ≡ value_of field self.now }
     {
         match field {
-            StatField::Byte(byte) => StatSetting::Byte(
-                byte,
-                self.fields.bytes[usize::from(byte.index())],
-            ),
-            StatField::Number(number) => StatSetting::Number(number, number_at(self, number)),
+            StatField::Byte(byte) => StatSetting::Byte(byte, self.byte(byte)),
+            StatField::Number(number) => StatSetting::Number(number, self.number(number)),
             StatField::P3 => StatSetting::P3(self.fields.p3),
             StatField::Follower => StatSetting::Follower(self.follower),
             StatField::Leader => StatSetting::Leader(self.leader),
