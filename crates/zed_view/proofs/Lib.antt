@@ -2,7 +2,6 @@ mod Alike
 pub mod Firsts
 mod NamedTexts
 mod Numbered
-mod NumberedTexts
 mod Shown
 pub mod Sought
 mod TextsAlike

@@ -1,5 +1,7 @@
--- The elements of the text of a name, in live texts and in those that they show.
-use Rattle.std.proofs.Common.{◌≡◌, ◌∙◌, Bool, true, false, cond, List, [], ◌∷◌, Some, None, refl, ap, sym}
+-- The text of a name, in live texts and in those that they show: its elements, and whether it is there.
+use Rattle.std.proofs.Common.{◌≡◌, ◌∙◌, ◌||◌, Bool, true, false, cond, List, [], ◌∷◌, Some, None, refl, ap, sym}
+use Rattle.std.specs.List.{list_any}
+use Rattle.std.specs.Option.{is_some}
 use Rattle.zed_types.specs.declared.names.TextId.{TextId}
 use Rattle.zed_types.specs.declared.text.TextByte.{TextByte}
 use Rattle.zed_types.specs.Names.{same_text}
@@ -37,3 +39,18 @@ of_some_text t ys v h = elements-shown t ys ∙ ap spelled h
 
 pub of_no_text : (t : TextId) (ys : Texts) → text_in t ys ≡ None → elements_in (find_text t (shown_texts (elements_of ys))) ≡ []
 of_no_text t ys h = elements-shown t ys ∙ ap spelled h
+
+-- whether it is there
+pub is_made : (t : TextId) (ys : Texts) → is_some (text_in t ys) ≡ list_any (λ x. same_text x.id t) (shown_texts (elements_of ys))
+is_made t [] = refl
+is_made t (y ∷ ys) = go (same_text t y.0) refl (is_made t ys)
+  where
+    go : (v : Bool) → same_text t y.0 ≡ v → is_some (text_in t ys) ≡ list_any (λ x. same_text x.id t) (shown_texts (elements_of ys))
+        → is_some (cond v (Some y.1) (text_in t ys)) ≡ (same_text y.0 t || list_any (λ x. same_text x.id t) (shown_texts (elements_of ys)))
+    go true v more =
+        let i : t ≡ y.0 = same_text-true t y.0 v in
+        let w : same_text y.0 t ≡ true = ap (λ d. same_text d t) (sym i) ∙ same_text-itself t in
+        rw w refl
+    go false v more =
+        let w : same_text y.0 t ≡ false = apart text_name t y.0 v in
+        rw w more

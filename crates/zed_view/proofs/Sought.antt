@@ -1,20 +1,16 @@
--- The text of a stat, sought board by board; a text that is there; and the name of a byte.
-use Rattle.std.proofs.Common.{◌≡◌, ◌∙◌, ◌<◌, ◌+◌, ℕ, suc, List, ◌++◌, filter, length, drop, get_or, slice_get, Option, Some, None, MatchOption, refl, ap, sym, drop-cons, add-one}
-use Rattle.std.specs.List.{find, flat_map, list_any}
-use Rattle.std.specs.Option.{option_map, option_or, is_some}
+-- The text of a stat, sought board by board; and the name of a byte.
+use Rattle.std.proofs.Common.{◌≡◌, ◌∙◌, ◌<◌, ◌+◌, ℕ, suc, List, ◌++◌, filter, length, drop, get_or, slice_get, Option, Some, None, refl, ap, sym, drop-cons, add-one}
+use Rattle.std.specs.List.{find, flat_map}
+use Rattle.std.specs.Option.{option_map, option_or}
 use Rattle.std.proofs.lemmas.List.Folds.{find-append}
 use Rattle.std.proofs.lemmas.Option.{slice_get-map}
 use Rattle.zed_types.specs.declared.names.StatId.{StatId}
 use Rattle.zed_types.specs.declared.names.TextId.{TextId}
 use Rattle.zed_types.specs.declared.text.TextByte.{TextByte}
-use Rattle.zed_types.specs.Names.{same_stat, same_text}
+use Rattle.zed_types.specs.Names.{same_stat}
 use Rattle.zed_edit.specs.declared.plain.Board.{Board}
 use Rattle.zed_edit.specs.declared.plain.Stat.{Stat}
-use Rattle.zed_edit.specs.declared.plain.Plain.{Plain}
-use Rattle.zed_edit.specs.Document.{find_text}
-use Rattle.zed_laws.proofs.MadeThings.{find-any}
 use Rattle.zed_code.specs.Text.{alive_names}
-use Rattle.zed_view.specs.View.{text_at}
 
 -- the text of a stat among stats
 abbrev pub text_in : StatId → List Stat → Option (Option TextId)
@@ -39,11 +35,6 @@ text_here s bs i d t l h =
 pub text_further : (s : StatId) (bs : List Board) (i : ℕ) (d : Board) → i < length bs → text_in s (get_or bs i d).stats ≡ None → text_in s (flat_map (λ b. b.stats) (drop i bs)) ≡ text_in s (flat_map (λ b. b.stats) (drop (i + 1) bs))
 text_further s bs i d l h =
     rw (drop-cons bs i d l, add-one) (text-append s (get_or bs i d).stats (flat_map (λ b. b.stats) (drop (suc i) bs)) ∙ ap (λ o. option_or o (text_in s (flat_map (λ b. b.stats) (drop (suc i) bs)))) h)
-
--- a text has a number where it was made
-pub is_made : (t : TextId) (p : Plain) (r : Option ℕ) → MatchOption r (find_text t p.texts ≡ None) (λ k. find_text t p.texts ≡ Some (text_at p k)) → is_some r ≡ list_any (λ x. same_text x.id t) p.texts
-is_made t p None h = ap is_some (sym h) ∙ find-any (λ x. same_text x.id t) p.texts
-is_made t p (Some k) h = ap is_some (sym h) ∙ find-any (λ x. same_text x.id t) p.texts
 
 -- the name of a byte that is alive
 pub name_there : (xs : List TextByte) (k : ℕ) → slice_get (alive_names xs) k ≡ option_map (λ x. x.id) (slice_get (filter (λ x. x.alive) xs) k)

@@ -15,13 +15,10 @@ use Rattle.zed_types.specs.Table.{index_of}
 use Rattle.zed_edit.specs.declared.plain.Properties.{Properties}
 use Rattle.zed_edit.specs.declared.plain.Board.{Board}
 use Rattle.zed_edit.specs.declared.plain.Stat.{Stat}
-use Rattle.zed_edit.specs.declared.plain.Text.{Text}
 use Rattle.zed_edit.specs.declared.plain.Plain.{Plain}
-use Rattle.zed_types.specs.Names.{title, stat_of, text_of}
+use Rattle.zed_types.specs.Names.{title, stat_of}
 use Rattle.zed_edit.specs.Stat.{new_stat, player_fields}
 use Rattle.zed_edit.specs.Board.{new_board, empty_tile}
-use Rattle.zed_view.specs.declared.made.MadeBoard.{MadeBoard}
-use Rattle.zed_view.specs.declared.made.MadeStat.{MadeStat}
 
 -- a stat to speak of where a number is past the end
 abbrev pub no_stat : Stat
@@ -39,14 +36,6 @@ board_at p i = slice_index_or p.boards i no_board
 abbrev pub stat_at : Board → ℕ → Stat
 stat_at b j = slice_index_or b.stats j no_stat
 
--- a text to speak of where a number is past the end
-abbrev pub no_text : Text
-no_text = record { id = text_of title.name.stamp 0; elements = [] }
-
--- text k of those that were made
-abbrev pub text_at : Plain → ℕ → Text
-text_at p k = slice_index_or p.texts k no_text
-
 -- whether a place is one of the table
 abbrev pub is_place : Place → Bool
 is_place place = (nat_le 1 place.x && nat_le place.x 60) && (nat_le 1 place.y && nat_le place.y 25)
@@ -54,14 +43,6 @@ is_place place = (nat_le 1 place.x && nat_le place.x 60) && (nat_le 1 place.y &&
 -- the tile at a place of a table
 abbrev pub tile_at : List Tile → Place → Tile
 tile_at tiles place = slice_index_or tiles (index_of place) empty_tile
-
--- what a view lists of a board: the name under which it was made, and whether it was removed
-abbrev pub made_board : Board → MadeBoard
-made_board b = record { id = b.id; removed = b.removed }
-
--- what a view lists of a stat: the name under which it was made, and whether it was removed
-abbrev pub made_stat : Stat → MadeStat
-made_stat s = record { id = s.id; removed = s.removed }
 
 -- a property that is one byte
 abbrev pub board_byte : BoardByte → Properties → ℕ

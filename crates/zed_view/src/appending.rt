@@ -3,7 +3,6 @@ ghost use Rattle.std.specs.Prelude.{◌≡◌, ◌<◌, ◌+◌, ◌++◌, lengt
 ghost use Rattle.zed_types.specs.Text.{alive_bytes};
 ghost use Rattle.zed_code.specs.Text.{elements};
 ghost use Rattle.zed_edit.specs.Document.{text as text_shown};
-ghost use Rattle.zed_view.specs.View.{text_at};
 
 use crate::view::View;
 use std::alloc::AllocError;
@@ -36,16 +35,4 @@ pub fn append_text(view: &View, id: TextId, out: &mut Vec<u8>) -> Result<(), All
         Some(text) => append_live(text, out),
         None => Ok(()),
     }
-}
-
-/// Appends the live bytes of the text of a number, or nothing. Memory comes only where the vector has no room for them; nothing is appended then.
-pub fn append_text_at(view: &View, k: usize, out: &mut Vec<u8>) -> Result<(), AllocError>
-    requires { k < length view.now.texts }
-    ensures ok { OnOk result
-        (out.new.items ≡ out.old.items ++ alive_bytes (text_at view.now k).elements) }
-    ensures err { OnErr result (out.new.items ≡ out.old.items) }
-    ensures memory_only_when { OnErr result
-        (vec_capacity out.old < vec_len out.old + length (alive_bytes (text_at view.now k).elements)) }
-{
-    append_live(view.text_at(k), out)
 }

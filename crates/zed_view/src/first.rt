@@ -5,7 +5,6 @@ ghost use Rattle.zed_edit.specs.Numbers.{boards_there, standing};
 ghost use Rattle.zed_view.specs.First.{FirstHaveFirstNumbers, IsInOrder, NextHaveNextNumbers, first_of, is_behind, put as put_among};
 ghost use Rattle.zed_view.specs.View.{board_at};
 
-use crate::property::Rank;
 use crate::view::View;
 use smallvec::SmallVec;
 use std::alloc::Global;
@@ -17,7 +16,8 @@ fn passes(view: &View, i: usize, after: Option<Standing>) -> bool
     ensures { result
         ≡ not (board_at view.now i).removed && is_behind after (board_at view.now i) }
 {
-    if view.board(i).removed {
+    let (_, board) = view.board(i);
+    if board.is_removed() {
         return false;
     }
     match after {
@@ -86,7 +86,8 @@ impl<'a> View<'a> {
         requires { i < length self.now.boards }
         ensures { result ≡ standing (board_at self.now i) }
     {
-        Standing::new(self.board(i).id, self.property(i, Rank))
+        let (id, board) = self.board(i);
+        Standing::new(id, board.properties.rank())
     }
 
     /// Of the boards that are not removed, or of those of them that stand behind another, the first 101 in the order of their numbers.

@@ -14,10 +14,10 @@ fn alive_stat(view: &View, i: usize, n: usize) -> Option<StatId>
 {
     let mut left = n;
     for j in 0..view.stats(i) {
-        let stat = view.stat(i, j);
+        let (id, stat) = view.stat(i, j);
         if !stat.removed {
             if left == 0 {
-                return Some(stat.id);
+                return Some(id);
             }
             left -= 1;
         }
@@ -32,7 +32,8 @@ impl<'a> View<'a> {
         ensures { result ≡ stat_of_number self.now board n }
     {
         for i in 0..self.boards() {
-            if self.board(i).id == board {
+            let (id, _) = self.board(i);
+            if id == board {
                 return alive_stat(self, i, n);
             }
         }

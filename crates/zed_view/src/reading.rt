@@ -5,7 +5,6 @@ ghost use Rattle.zed_op.specs.declared.thing.Thing.TheVariants.{Text as the_text
 ghost use Rattle.zed_edit.specs.Document.{has, text_register, elements};
 ghost use Rattle.zed_view.specs.View.{board_at};
 
-use crate::field::StatText;
 use crate::view::View;
 use zed_types::{ElemId, StatId, TextId};
 
@@ -16,8 +15,9 @@ fn text_on(view: &View, i: usize, stat: StatId) -> Option<Option<TextId>>
         (find (λ x. same_stat x.id stat) (board_at view.now i).stats) }
 {
     for j in 0..view.stats(i) {
-        if view.stat(i, j).id == stat {
-            return Some(view.field(i, j, StatText));
+        let (id, live) = view.stat(i, j);
+        if id == stat {
+            return Some(live.values.fields.text);
         }
     }
     None
@@ -37,11 +37,11 @@ impl<'a> View<'a> {
     }
 
     /// Whether a text was made.
-    #[tactic(auto, using(crate::proofs::Sought::is_made))]
+    #[tactic(auto, using(crate::proofs::NamedTexts::is_made))]
     pub fn has_text(&self, id: TextId) -> bool
         ensures { result ≡ has self.now (the_text id) }
     {
-        self.text_number(id).is_some()
+        self.texts.has(id)
     }
 
     /// The name of the k-th live byte of a text, if there are so many.

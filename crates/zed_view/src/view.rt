@@ -1,21 +1,18 @@
 //! What a document shows, lent from its live parts to who exports it.
-ghost use Rattle.std.specs.Prelude.{◌≡◌, ◌<◌, ◌≤◌, if◌then◌else◌, length, slice_get, None, Some, IfSome, MatchOption};
-ghost use Rattle.zed_types.specs.Text.{alive_bytes};
+ghost use Rattle.std.specs.Prelude.{◌≡◌, ◌<◌, ◌≤◌, if◌then◌else◌, length, slice_get, None, Some};
 ghost use Rattle.zed_live.specs.Board.{shown_board};
+ghost use Rattle.zed_live.specs.Shown.{shown as shown_header, shown_properties};
 ghost use Rattle.zed_live.specs.Stat.{shown_stat};
-ghost use Rattle.zed_view.specs.View.{board_at, stat_at, text_at, is_place, tile_at, made_board, made_stat};
+ghost use Rattle.zed_view.specs.View.{board_at, stat_at, is_place, tile_at};
 ghost use Rattle.std.specs.Bool.{OnTrue};
 ghost use Rattle.std.specs.Option.{option_copied};
-ghost use Rattle.zed_code.specs.Text.{elements as spelling};
-ghost use Rattle.zed_edit.specs.Document.{text, elements, find_text};
+ghost use Rattle.zed_edit.specs.Document.{text, elements};
 ghost use Rattle.zed_view.specs.Shown.{shown, spelled};
 
-use crate::made::{MadeBoard, MadeStat};
-use crate::register::{HeaderRegister, PropertyRegister, StatRegister};
 use std::marker::Model;
 use zed_code::Text;
 use zed_inbox::Inbox;
-use zed_live::{LiveBoard, LiveBoards, LiveDocument};
+use zed_live::{LiveBoard, LiveBoards, LiveDocument, LiveHeader, LiveProperties};
 use zed_stats::{LiveStat, Stats};
 use zed_texts::LiveTexts;
 use zed_types::{BoardId, COLUMNS, Place, ROWS, StatId, TILES, TextId, Tile};
@@ -58,11 +55,12 @@ impl<'a> View<'a> {
         View { live, texts, inbox }
     }
 
-    /// The value of a register of the header.
-    pub fn header<R: HeaderRegister<'a>>(&self, register: R) -> R::Value
-        ensures { R.shows self.now.header register result }
+    /// The header.
+    pub fn header(&self) -> &'a LiveHeader
+        ensures { shown_header result.now ≡ self.now.header }
     {
-        register.read(&self.live.header)
+        let header: &'a LiveHeader = &self.live.header;
+        header
     }
 
     /// How many boards were made, removed ones too.
@@ -72,9 +70,9 @@ impl<'a> View<'a> {
         self.live.boards.count()
     }
 
-    /// The board of a number, under its name.
+    /// A board under its name, removed or not.
     #[tactic(auto, using(crate::proofs::Numbered::board_there))]
-    fn made(&self, i: usize) -> (BoardId, &'a LiveBoard)
+    pub fn board(&self, i: usize) -> (BoardId, &'a LiveBoard)
         requires { i < length self.now.boards }
         ensures { shown_board result.0 result.1.now ≡ board_at self.now i }
     {
@@ -82,25 +80,13 @@ impl<'a> View<'a> {
         boards.at(i)
     }
 
-    /// A board's name, and whether it is removed.
-    pub fn board(&self, i: usize) -> MadeBoard
+    /// The properties of a board.
+    pub fn properties(&self, i: usize) -> &'a LiveProperties
         requires { i < length self.now.boards }
-        ensures { result ≡ made_board (board_at self.now i) }
+        ensures { shown_properties result.now ≡ (board_at self.now i).properties }
     {
-        let (id, board) = self.made(i);
-        MadeBoard {
-            id,
-            removed: board.is_removed(),
-        }
-    }
-
-    /// The value of a register of a board, its cells aside.
-    pub fn property<R: PropertyRegister<'a>>(&self, i: usize, register: R) -> R::Value
-        requires { i < length self.now.boards }
-        ensures { R.shows (board_at self.now i).properties register result }
-    {
-        let (_, board) = self.made(i);
-        register.read(&board.properties)
+        let (_, board) = self.board(i);
+        &board.properties
     }
 
     /// The tile at a place of the table, columns 1 to 60 and rows 1 to 25. None at any other place.
@@ -109,7 +95,7 @@ impl<'a> View<'a> {
         ensures { result ≡ (if is_place place
             then Some (tile_at (board_at self.now i).tiles place) else None) }
     {
-        let (_, board) = self.made(i);
+        let (_, board) = self.board(i);
         if is_place(place) {
             Some(board.cells.get(place))
         } else {
@@ -122,7 +108,7 @@ impl<'a> View<'a> {
         requires { i < length self.now.boards }
         ensures { result.now ≡ (board_at self.now i).tiles }
     {
-        let (_, board) = self.made(i);
+        let (_, board) = self.board(i);
         board.cells.table()
     }
 
@@ -131,43 +117,20 @@ impl<'a> View<'a> {
         requires { i < length self.now.boards }
         ensures { result ≡ length (board_at self.now i).stats }
     {
-        let (_, board) = self.made(i);
+        let (_, board) = self.board(i);
         board.stats.count()
     }
 
-    /// The stat of a number on a board, under its name.
+    /// A stat under its name, removed or not.
     #[tactic(auto, using(crate::proofs::Numbered::stat_there))]
-    fn made_stat(&self, i: usize, j: usize) -> (StatId, &'a LiveStat)
+    pub fn stat(&self, i: usize, j: usize) -> (StatId, &'a LiveStat)
         requires board { i < length self.now.boards }
         requires stat { j < length (board_at self.now i).stats }
         ensures { shown_stat result.0 result.1.now ≡ stat_at (board_at self.now i) j }
     {
-        let (_, board) = self.made(i);
+        let (_, board) = self.board(i);
         let stats: &'a Stats = &board.stats;
         stats.at(j)
-    }
-
-    /// A stat's name, and whether it is removed.
-    pub fn stat(&self, i: usize, j: usize) -> MadeStat
-        requires board { i < length self.now.boards }
-        requires stat { j < length (board_at self.now i).stats }
-        ensures { result ≡ made_stat (stat_at (board_at self.now i) j) }
-    {
-        let (id, stat) = self.made_stat(i, j);
-        MadeStat {
-            id,
-            removed: stat.removed,
-        }
-    }
-
-    /// The value of a register of a stat.
-    pub fn field<R: StatRegister<'a>>(&self, i: usize, j: usize, register: R) -> R::Value
-        requires board { i < length self.now.boards }
-        requires stat { j < length (board_at self.now i).stats }
-        ensures { R.shows (stat_at (board_at self.now i) j) register result }
-    {
-        let (_, stat) = self.made_stat(i, j);
-        register.read(stat)
     }
 
     /// The live text of a name, if it was made.
@@ -197,35 +160,5 @@ impl<'a> View<'a> {
             Some(text) => text.byte_at(k),
             None => None,
         }
-    }
-
-    /// The number of a text in the order in which texts were made, if it was.
-    #[tactic(auto, using(crate::proofs::NumberedTexts::of_number, crate::proofs::NumberedTexts::of_none))]
-    pub fn text_number(&self, id: TextId) -> Option<usize>
-        ensures result { MatchOption result
-            (find_text id self.now.texts ≡ None)
-            (λ k. find_text id self.now.texts ≡ Some (text_at self.now k)) }
-        ensures within { IfSome result (λ k. k < length self.now.texts) }
-    {
-        self.texts.number_of(id)
-    }
-
-    /// The live text of a number.
-    #[tactic(auto, using(crate::proofs::NumberedTexts::text_there))]
-    pub(crate) fn text_at(&self, k: usize) -> &'a Text
-        requires { k < length self.now.texts }
-        ensures { spelling result.now ≡ (text_at self.now k).elements }
-    {
-        let texts: &'a LiveTexts = self.texts;
-        let (_, text) = texts.at(k);
-        text
-    }
-
-    /// How many live bytes the text of a number has.
-    pub fn length_at(&self, k: usize) -> usize
-        requires { k < length self.now.texts }
-        ensures { result ≡ length (alive_bytes (text_at self.now k).elements) }
-    {
-        self.text_at(k).length()
     }
 }
