@@ -27,7 +27,4 @@ pub use document::Document;
 pub use error::DocumentError;
 pub use intake::Intake;
 pub use laws::{deliveries_come_to_sets, edits_decide, merging_is_of_sets};
-pub use zed_view::{
-    CurrentBoard, Follower, HeaderRegister, Leader, MadeBoard, MadeStat, P3, PropertyRegister,
-    Rank, Saved, StatRegister, StatText, TimeLimit, View, WorldName, append_text, append_text_at,
-};
+pub use zed_view::{View, append_text};

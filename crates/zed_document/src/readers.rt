@@ -27,7 +27,10 @@ fn board_numbered(alloc: Global, view: &View, n: usize) -> Option<BoardId>
         first = view.first_boards(alloc, Some(view.standing_of(*last)));
     }
     match first.as_slice().get(n % 101) {
-        Some(i) => Some(view.board(*i).id),
+        Some(i) => {
+            let (id, _) = view.board(*i);
+            Some(id)
+        }
         None => None,
     }
 }

@@ -1,9 +1,9 @@
 use Rattle.std.proofs.Common.{◌≡◌, ◌∙◌, ◌+◌, ◌*◌, ◌%◌, ◌<◌, ℕ, length, take, drop, Some, ap, arith}
 use Rattle.zed_edit.specs.declared.numbers.Standing.{Standing}
+use Rattle.zed_edit.specs.declared.plain.Board.{Board}
 use Rattle.zed_edit.specs.Numbers.{alive_boards, boards_there}
 use Rattle.zed_view.specs.First.{first_of, is_behind}
 use Rattle.zed_view.specs.View.{board_at}
-use Rattle.zed_view.specs.declared.made.MadeBoard.{MadeBoard}
 use Rattle.zed_document.proofs.BoardWalks.{got, holds_at, is-told, missed, not-told, told-first, told-next}
 use Rattle.zed_document.proofs.readers.board_numbered.Goals as goal
 
@@ -45,7 +45,7 @@ board-requires c =
 pub returns-in-Some-get : goal.returns-in-Some-get
 returns-in-Some-get c =
     let there = c.in-Some-get.ensures.lookup.3 in
-    ap (λ (b : MadeBoard). Some b.id) c.board.ensures
+    ap (λ (b : Board). Some b.id) c.board.ensures
     ∙ is-told c.args.view.now c.requires (board_at c.args.view.now) c.loop-walk.first.items (101 * c.loop-walk._walk) c.loop-walk.invariant.boards c.args.n (c.args.n % 101) c.in-Some-get.i.now (omega arith) (omega (arith, c.loop-walk-test.false))
     (got c.loop-walk.first.items c.as_slice-2.result.now (c.args.n % 101) c.in-Some-get.i.now c.as_slice-2.ensures there.0 (there.1 0))
 
