@@ -1,5 +1,5 @@
 //! Boards as a world file has them.
-ghost use Rattle.std.specs.Prelude.{◌≡◌, ◌<◌, ◌≤◌, not, [], IfOk, length};
+ghost use Rattle.std.specs.Prelude.{◌≡◌, ◌<◌, ◌≤◌, [], IfOk, length};
 ghost use Rattle.std.specs.List.{AllByRecursion};
 ghost use Rattle.zed_world.specs.Normal.{IsInteger};
 ghost use Rattle.zed_edit.specs.Numbers.{alive_stats as stats_there};
@@ -12,7 +12,7 @@ use crate::header::copy_of;
 use crate::numbers::{BoardNames, Names, board_number, exit_number, stat_names, stat_number};
 use crate::program::program_of;
 use std::alloc::{AllocError, Global};
-use zed_document::{Follower, Leader, P3, StatText, TimeLimit, View};
+use zed_document::View;
 use zed_types::{
     BoardByte, BoardFlag, BoardText, Seq, Side, StatByte, StatNumber, ThirdParameter, Tile,
 };
@@ -55,25 +55,27 @@ fn stat_of(
         ≡ stat_with view.now (board_at view.now i) (stat_at (board_at view.now i) j) code }
     ensures fits { FitsStat result }
 {
-    let x = view.field(i, j, StatByte::X);
-    let y = view.field(i, j, StatByte::Y);
+    let (_, stat) = view.stat(i, j);
+    let values = &stat.values;
+    let x = values.byte(StatByte::X);
+    let y = values.byte(StatByte::Y);
     let on_passage = is_passage(view.table(i), x, y);
     StatData {
         x,
         y,
-        step_x: view.field(i, j, StatNumber::StepX),
-        step_y: view.field(i, j, StatNumber::StepY),
-        cycle: view.field(i, j, StatNumber::Cycle),
-        p1: view.field(i, j, StatByte::P1),
-        p2: view.field(i, j, StatByte::P2),
-        p3: parameter_of(boards, on_passage, view.field(i, j, P3)),
-        follower: stat_number(stats, view.field(i, j, Follower)),
-        leader: stat_number(stats, view.field(i, j, Leader)),
+        step_x: values.number(StatNumber::StepX),
+        step_y: values.number(StatNumber::StepY),
+        cycle: values.number(StatNumber::Cycle),
+        p1: values.byte(StatByte::P1),
+        p2: values.byte(StatByte::P2),
+        p3: parameter_of(boards, on_passage, values.fields.p3),
+        follower: stat_number(stats, values.follower),
+        leader: stat_number(stats, values.leader),
         under: Tile {
-            element: view.field(i, j, StatByte::UnderElement),
-            colour: view.field(i, j, StatByte::UnderColour),
+            element: values.byte(StatByte::UnderElement),
+            colour: values.byte(StatByte::UnderColour),
         },
-        position: view.field(i, j, StatNumber::Position),
+        position: values.number(StatNumber::Position),
         code,
     }
 }
@@ -92,28 +94,20 @@ fn properties_of(
         properties ≡ exported_properties view.now (board_at view.now i).properties) }
     ensures fits { IfOk result (λ properties. IsInteger properties.time_limit) }
 {
+    let properties = view.properties(i);
     Ok(Properties {
-        max_shots: view.property(i, BoardByte::MaxShots),
-        dark: view.property(i, BoardFlag::Dark),
-        north: exit_number(boards, view.property(i, Side::North)),
-        south: exit_number(boards, view.property(i, Side::South)),
-        west: exit_number(boards, view.property(i, Side::West)),
-        east: exit_number(boards, view.property(i, Side::East)),
-        re_enter: view.property(i, BoardFlag::ReEnter),
-        message: copy_of(alloc, view.property(i, BoardText::Message))?,
-        start_x: view.property(i, BoardByte::StartX),
-        start_y: view.property(i, BoardByte::StartY),
-        time_limit: view.property(i, TimeLimit),
+        max_shots: properties.byte(BoardByte::MaxShots),
+        dark: properties.flag(BoardFlag::Dark),
+        north: exit_number(boards, properties.exit(Side::North)),
+        south: exit_number(boards, properties.exit(Side::South)),
+        west: exit_number(boards, properties.exit(Side::West)),
+        east: exit_number(boards, properties.exit(Side::East)),
+        re_enter: properties.flag(BoardFlag::ReEnter),
+        message: copy_of(alloc, properties.text(BoardText::Message))?,
+        start_x: properties.byte(BoardByte::StartX),
+        start_y: properties.byte(BoardByte::StartY),
+        time_limit: properties.time_limit(),
     })
-}
-
-/// Whether stat `j` of board `i` isn't removed.
-fn is_there(view: &View, i: usize, j: usize) -> bool
-    requires board { i < length view.now.boards }
-    requires stat { j < length (board_at view.now i).stats }
-    ensures { result ≡ not (stat_at (board_at view.now i) j).removed }
-{
-    !view.stat(i, j).removed
 }
 
 /// The stats of a board, of which those that aren't removed have these names.
@@ -137,8 +131,9 @@ fn stats_of(
     let mut texts = Vec::new(alloc);
     let mut out = Vec::new(alloc);
     for j in 0..view.stats(i) {
-        if is_there(view, i, j) {
-            let text = view.field(i, j, StatText);
+        let (_, stat) = view.stat(i, j);
+        if !stat.removed {
+            let text = stat.values.fields.text;
             let code = program_of(alloc, view, &texts, &out, text)?;
             out.push(stat_of(view, boards, stats, i, j, code))?;
             texts.push(text)?;
@@ -166,7 +161,7 @@ pub(crate) fn board_of(
     let stats = stats_of(alloc, view, boards, &names, i)?;
     let properties = properties_of(alloc, view, boards, i)?;
     Ok(BoardData {
-        name: copy_of(alloc, view.property(i, BoardText::Name))?,
+        name: copy_of(alloc, view.properties(i).text(BoardText::Name))?,
         tiles: *view.table(i),
         properties,
         stats,

@@ -2,12 +2,14 @@
 ghost use Rattle.std.specs.Prelude.{◌≡◌, ◌≤◌, IfOk, length};
 ghost use Rattle.zed_laws.specs.NameOrder.{IsOrdered};
 ghost use Rattle.zed_laws.specs.Regular.{IsRegular};
+ghost use Rattle.zed_live.specs.Shown.{shown};
 ghost use Rattle.zed_export.specs.World.{exported_header};
 ghost use Rattle.zed_export.specs.Fields.{board_names, FitsHeader};
 
 use crate::numbers::{BoardNames, board_number};
 use std::alloc::{AllocError, Global};
-use zed_document::{CurrentBoard, Saved, View, WorldName};
+use zed_document::View;
+use zed_live::LiveHeader;
 use zed_types::{Bytes, FlagSlot, HeaderNumber, KeyColour, Seq};
 use zed_world::Header;
 
@@ -25,18 +27,18 @@ const SLOTS: [FlagSlot; 10] = [
     FlagSlot::Tenth,
 ];
 
-fn keys_of(view: &View) -> [bool; 7]
-    requires { IsRegular view.now }
-    ensures { result ≡ view.now.header.keys }
+fn keys_of(header: &LiveHeader) -> [bool; 7]
+    requires { length (shown header.now).keys ≡ 7 }
+    ensures { result ≡ (shown header.now).keys }
 {
     [
-        view.header(KeyColour::Blue),
-        view.header(KeyColour::Green),
-        view.header(KeyColour::Cyan),
-        view.header(KeyColour::Red),
-        view.header(KeyColour::Purple),
-        view.header(KeyColour::Yellow),
-        view.header(KeyColour::White),
+        header.key(KeyColour::Blue),
+        header.key(KeyColour::Green),
+        header.key(KeyColour::Cyan),
+        header.key(KeyColour::Red),
+        header.key(KeyColour::Purple),
+        header.key(KeyColour::Yellow),
+        header.key(KeyColour::White),
     ]
 }
 
@@ -47,13 +49,13 @@ pub(crate) fn copy_of(alloc: Global, bytes: &[u8]) -> Result<Bytes, AllocError>
     Ok(Bytes::new(bytes.to_vec(alloc)?))
 }
 
-fn flags_of(alloc: Global, view: &View) -> Result<Seq<Bytes>, AllocError>
-    requires { IsRegular view.now }
-    ensures { IfOk result (λ flags. flags ≡ view.now.header.flags) }
+fn flags_of(alloc: Global, header: &LiveHeader) -> Result<Seq<Bytes>, AllocError>
+    requires { length (shown header.now).flags ≡ 10 }
+    ensures { IfOk result (λ flags. flags ≡ (shown header.now).flags) }
 {
     let mut flags = Vec::new(alloc);
     for slot in &SLOTS {
-        flags.push(copy_of(alloc, view.header(*slot))?)?;
+        flags.push(copy_of(alloc, header.flag(*slot))?)?;
     }
     Ok(Seq::from_vec(flags))
 }
@@ -71,20 +73,21 @@ pub(crate) fn header_of(
     ensures result { IfOk result (λ header. header ≡ exported_header view.now) }
     ensures fits { IfOk result (λ header. FitsHeader header) }
 {
+    let header = view.header();
     Ok(Header {
-        ammo: view.header(HeaderNumber::Ammo),
-        gems: view.header(HeaderNumber::Gems),
-        keys: keys_of(view),
-        health: view.header(HeaderNumber::Health),
-        current_board: board_number(boards, view.header(CurrentBoard)),
-        torches: view.header(HeaderNumber::Torches),
-        torch_ticks: view.header(HeaderNumber::TorchTicks),
-        energizer_ticks: view.header(HeaderNumber::EnergizerTicks),
-        score: view.header(HeaderNumber::Score),
-        name: copy_of(alloc, view.header(WorldName))?,
-        flags: flags_of(alloc, view)?,
-        time_passed: view.header(HeaderNumber::TimePassed),
-        hundredths: view.header(HeaderNumber::Hundredths),
-        saved: view.header(Saved),
+        ammo: header.number(HeaderNumber::Ammo),
+        gems: header.number(HeaderNumber::Gems),
+        keys: keys_of(header),
+        health: header.number(HeaderNumber::Health),
+        current_board: board_number(boards, header.current_board()),
+        torches: header.number(HeaderNumber::Torches),
+        torch_ticks: header.number(HeaderNumber::TorchTicks),
+        energizer_ticks: header.number(HeaderNumber::EnergizerTicks),
+        score: header.number(HeaderNumber::Score),
+        name: copy_of(alloc, header.world_name())?,
+        flags: flags_of(alloc, header)?,
+        time_passed: header.number(HeaderNumber::TimePassed),
+        hundredths: header.number(HeaderNumber::Hundredths),
+        saved: header.saved(),
     })
 }

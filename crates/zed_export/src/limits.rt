@@ -24,7 +24,8 @@ fn has_title(view: &View) -> bool
     ensures { result ≡ has view.now (thing.Board title) }
 {
     for i in 0..view.boards() {
-        if view.board(i).id == BoardId::TITLE {
+        let (id, _) = view.board(i);
+        if id == BoardId::TITLE {
             return true;
         }
     }
@@ -38,7 +39,8 @@ fn alive_boards(view: &View) -> usize
 {
     let mut count = 0;
     for i in 0..view.boards() {
-        if !view.board(i).removed {
+        let (_, board) = view.board(i);
+        if !board.is_removed() {
             count += 1;
         }
     }
@@ -52,7 +54,8 @@ pub(crate) fn alive_stats(view: &View, i: usize) -> usize
 {
     let mut count = 0;
     for j in 0..view.stats(i) {
-        if !view.stat(i, j).removed {
+        let (_, stat) = view.stat(i, j);
+        if !stat.removed {
             count += 1;
         }
     }

@@ -96,9 +96,9 @@ fn names_there(alloc: Global, view: &View) -> Result<Names, AllocError>
 {
     let mut names = Vec::new(alloc);
     for i in 0..view.boards() {
-        let board = view.board(i);
-        if !board.removed {
-            names.push(board.id.name)?;
+        let (id, board) = view.board(i);
+        if !board.is_removed() {
+            names.push(id.name)?;
         }
     }
     Ok(Names { names })
@@ -111,7 +111,8 @@ fn names_at(alloc: Global, view: &View, places: &[usize]) -> Result<Vec<Name>, A
 {
     let mut names = Vec::new(alloc);
     for i in places {
-        names.push(view.board(*i).id.name)?;
+        let (id, _) = view.board(*i);
+        names.push(id.name)?;
     }
     Ok(names)
 }
@@ -166,9 +167,9 @@ pub(crate) fn stat_names(alloc: Global, view: &View, i: usize) -> Result<Names, 
 {
     let mut names = Vec::new(alloc);
     for j in 0..view.stats(i) {
-        let stat = view.stat(i, j);
+        let (id, stat) = view.stat(i, j);
         if !stat.removed {
-            names.push(stat.id.name)?;
+            names.push(id.name)?;
         }
     }
     Ok(Names { names })

@@ -1,12 +1,11 @@
 //! Which stats share a program.
 ghost use Rattle.std.specs.Prelude.{◌≡◌, ◌<◌, ◌≤◌, ℕ, List, length, position, IfOk, IfSome};
 ghost use Rattle.zed_edit.specs.Document.{text as text_shown};
-ghost use Rattle.zed_laws.specs.NameOrder.{IsOrdered};
 ghost use Rattle.zed_export.specs.World.{is_of as is_text_of, user_of as lowest_user, code_with, exported_code};
 ghost use Rattle.zed_export.specs.Fields.{IsOwned};
 
 use std::alloc::{AllocError, Global};
-use zed_document::{View, append_text_at};
+use zed_document::{View, append_text};
 use zed_types::{Bytes, TextId};
 use zed_world::{Code, StatData};
 
@@ -42,26 +41,12 @@ pub(crate) fn user_of(texts: &[Option<TextId>], text: TextId) -> Option<usize>
     }
 }
 
-/// How many bytes a text has.
-pub(crate) fn text_length(view: &View, text: TextId) -> usize
-    requires { IsOrdered view.now }
-    ensures { result ≡ length (text_shown view.now text) }
-{
-    match view.text_number(text) {
-        Some(k) => view.length_at(k),
-        None => 0,
-    }
-}
-
 /// The bytes of a text.
 fn text_bytes(alloc: Global, view: &View, text: TextId) -> Result<Vec<u8>, AllocError>
-    requires { IsOrdered view.now }
     ensures { IfOk result (λ bytes. bytes.items ≡ text_shown view.now text) }
 {
     let mut bytes = Vec::new(alloc);
-    if let Some(k) = view.text_number(text) {
-        append_text_at(view, k, &mut bytes)?;
-    }
+    append_text(view, text, &mut bytes)?;
     Ok(bytes)
 }
 
@@ -96,7 +81,6 @@ pub(crate) fn program_of(
     done: &[StatData],
     text: Option<TextId>,
 ) -> Result<Code, AllocError>
-    requires ordered { IsOrdered view.now }
     requires few { length lower.now ≤ 151 }
     requires each { length done.now ≡ length lower.now }
     requires owned { IsOwned view.now lower.now done.now }

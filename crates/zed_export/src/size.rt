@@ -4,16 +4,15 @@ ghost use Rattle.std.specs.List.{flat_map};
 ghost use Rattle.zed_runs.specs.Runs.{greedy};
 ghost use Rattle.zed_world.specs.Writing.{code_text, stat_text, body_text};
 ghost use Rattle.zed_edit.specs.Numbers.{alive_stats};
-ghost use Rattle.zed_laws.specs.NameOrder.{IsOrdered};
 ghost use Rattle.zed_types.specs.declared.property.BoardText.TheVariants.{Name, Message};
 ghost use Rattle.zed_view.specs.View.{board_at, board_text};
 ghost use Rattle.zed_export.specs.World.{exported_code, exported_above, exported_board};
 ghost use Rattle.zed_export.specs.Limits.{told};
 
-use crate::program::{text_length, user_of};
+use crate::program::user_of;
 use smallvec::SmallVec;
 use std::alloc::Global;
-use zed_document::{StatText, View};
+use zed_document::View;
 use zed_runs::{greedy_is_the_one, runs_len};
 use zed_types::{TILES, TextId, Tile};
 
@@ -34,11 +33,10 @@ fn runs_bytes(tiles: &[Tile; TILES]) -> usize
 
 /// How many bytes the program of a stat takes above stats with these texts.
 fn program_bytes(view: &View, lower: &[Option<TextId>], text: Option<TextId>) -> usize
-    requires { IsOrdered view.now }
     ensures { result ≡ length (code_text (exported_code view.now lower.now text)) }
 {
     match text {
-        Some(text) if user_of(lower, text).is_none() => text_length(view, text),
+        Some(text) if user_of(lower, text).is_none() => view.length(text),
         _ => 0,
     }
 }
@@ -47,15 +45,15 @@ fn program_bytes(view: &View, lower: &[Option<TextId>], text: Option<TextId>) ->
 fn stats_bytes(alloc: Global, view: &View, i: usize) -> usize
     requires board { i < length view.now.boards }
     requires few { length (alive_stats (board_at view.now i)) ≤ 151 }
-    requires ordered { IsOrdered view.now }
     ensures { result ≡ told (length (flat_map stat_text
         (exported_above view.now (board_at view.now i) [] (alive_stats (board_at view.now i))))) }
 {
     let mut texts: SmallVec<Option<TextId>, 151> = SmallVec::new(alloc);
     let mut bytes: usize = 0;
     for j in 0..view.stats(i) {
-        if !view.stat(i, j).removed {
-            let text = view.field(i, j, StatText);
+        let (_, stat) = view.stat(i, j);
+        if !stat.removed {
+            let text = stat.values.fields.text;
             let program = program_bytes(view, texts.as_slice(), text);
             bytes = bytes.saturating_add(STAT).saturating_add(program);
             texts.push_reserved(text);
@@ -68,7 +66,6 @@ fn stats_bytes(alloc: Global, view: &View, i: usize) -> usize
 pub(crate) fn body_bytes(alloc: Global, view: &View, i: usize) -> usize
     requires board { i < length view.now.boards }
     requires few { length (alive_stats (board_at view.now i)) ≤ 151 }
-    requires ordered { IsOrdered view.now }
     requires name { length (board_text Name (board_at view.now i).properties) ≤ 50 }
     requires message { length (board_text Message (board_at view.now i).properties) ≤ 58 }
     ensures { result ≡ told (length (body_text (exported_board view.now (board_at view.now i)))) }

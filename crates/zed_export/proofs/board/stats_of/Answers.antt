@@ -11,7 +11,7 @@ use Rattle.zed_export.specs.Fields.{FitsStat}
 use Rattle.zed_export.proofs.Live.{next_passes, next_fails}
 use Rattle.zed_export.proofs.Shares.{owned_more}
 use Rattle.zed_export.proofs.board.stats_of.Goals as goal
-use Rattle.zed_export.proofs.board.stats_of.Goals.{then-is_there+in_ok-code+in_ok-push+in_ok-push-2, else-is_there}
+use Rattle.zed_export.proofs.board.stats_of.Goals.{then-not-stat+in_ok-code+in_ok-push+in_ok-push-2, else-not-stat}
 
 pub loop-j-preserved : goal.loop-j-preserved
 loop-j-preserved c =
@@ -23,17 +23,18 @@ loop-j-preserved c =
     let is_live = λ (x : Stat). not x.removed in
     let left = filter is_live (drop (c.loop-j.j + 1) b.stats) in
     let within : c.loop-j.j < length b.stats = omega (arith, c.stats-j-end.ensures) in
-    elim c.if-is_there.branch [
-      | then-is_there+in_ok-code+in_ok-push+in_ok-push-2 w ↦
-          let live : not s.removed ≡ true = sym c.is_there.ensures ∙ w.if-is_there.true in
+    elim c.if-not-stat.branch [
+      | then-not-stat+in_ok-code+in_ok-push+in_ok-push-2 w ↦
+          let live : not s.removed ≡ true = ap (λ (x : Stat). not x.removed) (sym c.stat.ensures) ∙ ap not w.if-not-stat.true in
           let next = next_passes is_live b.stats c.loop-j.j no_stat within live in
           let x = w.stat_of.result in
           let rest = exported_above p b (before ++ s.fields.text ∷ []) left in
-          let text : w.field-text.result ≡ s.fields.text = w.field-text.ensures in
-          let items : c.if-is_there.texts.items ≡ before ++ s.fields.text ∷ [] = cc (w.in_ok-push-2.ensures.items) in
-          let out : c.if-is_there.out.items ≡ done ++ x ∷ [] = cc (w.in_ok-push.ensures.items) in
+          let own = c.stat.result.1.now.values.fields.text in
+          let text : own ≡ s.fields.text = ap (λ (x : Stat). x.fields.text) c.stat.ensures in
+          let items : c.if-not-stat.texts.items ≡ before ++ s.fields.text ∷ [] = cc (w.in_ok-push-2.ensures.items) in
+          let out : c.if-not-stat.out.items ≡ done ++ x ∷ [] = cc (w.in_ok-push.ensures.items) in
           let code : w.in_ok-code.code ≡ exported_code p before s.fields.text
-          = w.in_ok-code.ensures ∙ ap (λ (texts : List (Option TextId)). exported_code p texts w.field-text.result) w.deref.ensures.value ∙ ap (exported_code p before) text in
+          = w.in_ok-code.ensures ∙ ap (λ (texts : List (Option TextId)). exported_code p texts own) w.deref.ensures.value ∙ ap (exported_code p before) text in
           let is : x ≡ exported_stat p b before s = w.stat_of.ensures.result ∙ ap (stat_with p b s) code in
           record {
             completes = rw (items, out) (append_assoc done (x ∷ []) rest ∙ ap (λ (y : StatData). done ++ y ∷ rest) is ∙ ap (λ (ss : List Stat). done ++ exported_above p b before ss) (sym next) ∙ c.loop-j.invariant.completes);
@@ -42,8 +43,8 @@ loop-j-preserved c =
             owned = rw (items, out) (owned_more p before done s.fields.text x c.loop-j.invariant.each (ap (λ (y : StatData). y.code) is) c.loop-j.invariant.owned);
             fits = rw out (all_joined FitsStat done (x ∷ []) c.loop-j.invariant.fits (w.stat_of.ensures.fits, tt));
           }
-      | else-is_there w ↦
-          let gone : not s.removed ≡ false = sym c.is_there.ensures ∙ w.if-is_there.false in
+      | else-not-stat w ↦
+          let gone : not s.removed ≡ false = ap (λ (x : Stat). not x.removed) (sym c.stat.ensures) ∙ ap not w.if-not-stat.false in
           let next = next_fails is_live b.stats c.loop-j.j no_stat within gone in
           rw (w.texts-is, w.out-is, sym next) c.loop-j.invariant
     ]

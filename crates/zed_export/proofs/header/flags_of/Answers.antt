@@ -1,6 +1,7 @@
 use Rattle.std.proofs.Common.{◌≡◌, ℕ, List, [], ◌∷◌, length, get_or, take, map, ap, ◌∙◌, refl, arith}
 use Rattle.zed_types.specs.declared.header.FlagSlot.{FlagSlot}
 use Rattle.zed_types.specs.Header.{flag_index}
+use Rattle.zed_live.specs.Shown.{shown}
 use Rattle.zed_export.specs.declared.header.TheConstants.{SLOTS}
 use Rattle.zed_export.proofs.header.flags_of.Goals as goal
 
@@ -11,6 +12,6 @@ ten _ p = absurd (omega arith)
 
 pub returns : goal.returns
 returns c =
-    let flags = c.args.view.now.header.flags in
+    let flags = (shown c.args.header.now).flags in
     let all : c.loop-slot.slot-index ≡ 10 = omega arith in
-    c.from_vec.ensures ∙ c.loop-slot.invariant ∙ ap (λ (n : ℕ). map (λ (k : FlagSlot). get_or flags (flag_index k) []) (take n SLOTS)) all ∙ ten flags c.requires.header.flags
+    c.from_vec.ensures ∙ c.loop-slot.invariant ∙ ap (λ (n : ℕ). map (λ (k : FlagSlot). get_or flags (flag_index k) []) (take n SLOTS)) all ∙ ten flags c.requires

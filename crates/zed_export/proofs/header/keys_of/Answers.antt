@@ -1,4 +1,5 @@
 use Rattle.std.proofs.Common.{◌≡◌, Bool, false, List, [], ◌∷◌, length, get_or, refl, arith}
+use Rattle.zed_live.specs.Shown.{shown}
 use Rattle.zed_export.proofs.header.keys_of.Goals as goal
 
 -- a list of seven, written out
@@ -7,4 +8,4 @@ seven (a ∷ b ∷ c ∷ d ∷ e ∷ f ∷ g ∷ []) h = refl
 seven _ h = absurd (omega arith)
 
 pub returns : goal.returns
-returns c = rw (c.header.ensures, c.header-2.ensures, c.header-3.ensures, c.header-4.ensures, c.header-5.ensures, c.header-6.ensures, c.header-7.ensures) (seven c.args.view.now.header.keys c.requires.header.keys)
+returns c = rw (c.key.ensures, c.key-2.ensures, c.key-3.ensures, c.key-4.ensures, c.key-5.ensures, c.key-6.ensures, c.key-7.ensures) (seven (shown c.args.header.now).keys c.requires)

@@ -5,7 +5,6 @@ use Rattle.std.proofs.lemmas.List.{length_push, drop_all}
 use Rattle.zed_types.specs.declared.names.TextId.{TextId}
 use Rattle.zed_world.specs.Writing.{code_text, stat_text}
 use Rattle.zed_edit.specs.declared.plain.Stat.{Stat}
-use Rattle.zed_view.specs.declared.made.MadeStat.{MadeStat}
 use Rattle.zed_view.specs.View.{board_at, stat_at, no_stat}
 use Rattle.zed_export.specs.World.{exported_code, exported_above}
 use Rattle.zed_export.specs.Limits.{told}
@@ -25,12 +24,13 @@ loop-j-preserved c =
     let within : c.loop-j.j < length b.stats = omega (arith, c.stats-j-end.ensures) in
     elim c.if-not-stat.branch [
       | then-not-stat w ↦
-          let live : not s.removed ≡ true = ap (λ (m : MadeStat). not m.removed) (sym c.stat.ensures) ∙ w.if-not-stat.true in
+          let live : not s.removed ≡ true = ap (λ (x : Stat). not x.removed) (sym c.stat.ensures) ∙ ap not w.if-not-stat.true in
           let next = next_passes is_live b.stats c.loop-j.j no_stat within live in
-          let text : w.field-text.result ≡ s.fields.text = w.field-text.ensures in
+          let own = c.stat.result.1.now.values.fields.text in
+          let text : own ≡ s.fields.text = ap (λ (x : Stat). x.fields.text) c.stat.ensures in
           let items : c.if-not-stat.texts.items ≡ before ++ s.fields.text ∷ [] = cc in
           let program : w.program_bytes-program.result ≡ length (code_text (exported_code p before s.fields.text))
-          = w.program_bytes-program.ensures ∙ ap (λ (xs : List (Option TextId)). length (code_text (exported_code p xs w.field-text.result))) w.as_slice.ensures ∙ ap (λ (t : Option TextId). length (code_text (exported_code p before t))) text in
+          = w.program_bytes-program.ensures ∙ ap (λ (xs : List (Option TextId)). length (code_text (exported_code p xs own))) w.as_slice.ensures ∙ ap (λ (t : Option TextId). length (code_text (exported_code p before t))) text in
           let bytes : c.if-not-stat.bytes ≡ told (told (c.loop-j.bytes + 33) + w.program_bytes-program.result)
           = w.bytes-is ∙ w.saturating_add-bytes.ensures ∙ ap (λ (n : ℕ). told (n + w.program_bytes-program.result)) w.saturating_add.ensures in
           let room : length before + length (filter is_live (drop c.loop-j.j b.stats)) ≤ 151 = c.loop-j.invariant.room in
@@ -42,7 +42,7 @@ loop-j-preserved c =
             inline = cc;
           }
       | else-not-stat w ↦
-          let gone : not s.removed ≡ false = ap (λ (m : MadeStat). not m.removed) (sym c.stat.ensures) ∙ w.if-not-stat.false in
+          let gone : not s.removed ≡ false = ap (λ (x : Stat). not x.removed) (sym c.stat.ensures) ∙ ap not w.if-not-stat.false in
           let next = next_fails is_live b.stats c.loop-j.j no_stat within gone in
           rw (w.bytes-is, w.texts-is, sym next) c.loop-j.invariant
     ]
