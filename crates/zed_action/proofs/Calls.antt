@@ -12,8 +12,9 @@ use Rattle.zed_edit.specs.Replay.{replay, can}
 use Rattle.zed_edit.specs.Document.{text}
 use Rattle.zed_document.specs.declared.error.DocumentError.{DocumentError}
 use Rattle.zed_document.specs.declared.error.DocumentError.TheVariants as document
-use Rattle.zed_document.specs.Authoring.{AnswersAuthor, AnswersDeletion, AnswersMade, AnswersToDo, authored, is_part, is_spent, is_spent_for, stretches_of}
-use Rattle.zed_document.specs.Delivery.{edit_with}
+use Rattle.zed_history.specs.Clock.{is_spent}
+use Rattle.zed_history.specs.Finding.{edit_with}
+use Rattle.zed_document.specs.Authoring.{AnswersAuthor, AnswersDeletion, AnswersMade, AnswersToDo, authored, is_part, is_spent_for, stretches_of}
 use Rattle.zed_document.specs.Reading.{has_text}
 use Rattle.zed_document.specs.Counts.{Counts}
 use Rattle.zed_document.specs.Replica.{Replica}

@@ -15,16 +15,17 @@ use Rattle.zed_op.specs.SetLaws.{EditKeepsFit}
 use Rattle.zed_laws.specs.Laws.{OneMoreIsOneStep}
 use Rattle.zed_op.specs.Verdict.{is_genesis, FitIsEachPart}
 use Rattle.std.proofs.lemmas.Bool.{and_parts}
+use Rattle.zed_history.specs.Clock.{greatest_time, next_time}
+use Rattle.zed_history.specs.Finding.{AllBelow}
 use Rattle.zed_document.specs.declared.delivered.Delivered.{Delivered}
 use Rattle.zed_document.specs.declared.error.DocumentError.{DocumentError}
 use Rattle.zed_document.specs.Delivery.{AnswersAt}
 use Rattle.zed_document.specs.Held.{held_stamps, is_among}
-use Rattle.zed_document.specs.Kept.{AllBelow}
-use Rattle.zed_document.specs.Authoring.{AnswersMade, IsLate, greatest_time, next_time, authored}
+use Rattle.zed_document.specs.Authoring.{AnswersMade, IsLate, authored}
 use Rattle.zed_types.proofs.StampOrder.{same_stamp-true}
 use Rattle.zed_document.proofs.Passed.{do_op-passed, passed-below, below-not_among}
-use Rattle.zed_document.proofs.Spots.{with_edit-between}
-use Rattle.zed_document.proofs.Times.{later-all}
+use Rattle.zed_history.proofs.Spots.{with_edit-between}
+use Rattle.zed_history.proofs.Times.{later-all}
 
 -- the stamp of the world is no author's
 not-author : (s : Stamp) → same_stamp s genesis_stamp ≡ true → is_author_stamp s ≡ false

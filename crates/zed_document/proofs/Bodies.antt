@@ -21,9 +21,10 @@ use Rattle.zed_delivery.specs.declared.take.Taken.{Taken}
 use Rattle.zed_delivery.specs.Shows.{BodyShows}
 use Rattle.zed_delivery.specs.Taking.{CalmEditsHoldTheSame, ComesTo, IsApart, IsNewTo, ShowsOneMore, Tells, is_held, woken}
 use Rattle.zed_delivery.specs.TakingAll.{AllComeTo, AreNewTo, RisingAreApart, ShowsAll}
+use Rattle.zed_history.specs.Batch.{AreNew}
+use Rattle.zed_history.specs.Finding.{edit_with}
 use Rattle.zed_document.specs.declared.delivered.Delivered.{Delivered}
-use Rattle.zed_document.specs.Batch.{AreNew}
-use Rattle.zed_document.specs.Delivery.{TellsNew, edit_with, state_of}
+use Rattle.zed_document.specs.Delivery.{TellsNew, state_of}
 use Rattle.zed_document.specs.Held.{held_stamps, is_among, waits_in}
 use Rattle.zed_document.proofs.Taking.{IsRenewed, held-more, new-among, undone, waking}
 use Rattle.zed_document.specs.Kept.{IsKept}

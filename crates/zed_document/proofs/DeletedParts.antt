@@ -24,13 +24,14 @@ use Rattle.zed_edit.specs.Replay.{replay, can, do_edit, hold}
 use Rattle.zed_op.specs.Set.{AllFit, IsRising}
 use Rattle.zed_op.specs.Verdict.{FitIsEachPart}
 use Rattle.zed_laws.specs.TextNames.{ElementsHaveOwnNames, ElementsAreOfEdits, TextsAreOfEdits, StampsPass}
-use Rattle.zed_document.specs.Authoring.{alive, goes_before, with_byte, stretches, stretches_of, deletions, deletions_of, part, is_part, without, greatest_time, next_time, is_spent}
-use Rattle.zed_document.specs.Kept.{AllBelow}
+use Rattle.zed_history.specs.Clock.{greatest_time, is_spent, next_time}
+use Rattle.zed_history.specs.Finding.{AllBelow}
+use Rattle.zed_document.specs.Authoring.{alive, goes_before, with_byte, stretches, stretches_of, deletions, deletions_of, part, is_part, without}
 use Rattle.zed_document.specs.Stretches.{CanFollow}
 use Rattle.zed_document.proofs.Deleted.{kills, left-text, All-alive, All-take, All-drop}
 use Rattle.zed_types.proofs.StampOrder.{same_stamp-true, before_later}
 use Rattle.zed_op.proofs.RealSizes.{own_stamp}
-use Rattle.zed_document.proofs.Times.{later-all}
+use Rattle.zed_history.proofs.Times.{later-all}
 use Rattle.zed_document.proofs.TypedTexts.{changed-text, same_element-itself}
 
 -- a name that a deletion may give as an end

@@ -9,12 +9,13 @@ use Rattle.zed_types.proofs.StampOrder.{same_stamp-itself}
 use Rattle.zed_op.specs.declared.op.Edit.{Edit}
 use Rattle.zed_op.specs.Set.{Agrees, AllFit, set_of, with_edit}
 use Rattle.zed_op.specs.SetLaws.{SetHasItsEdits, SetGrowsByEdits}
+use Rattle.zed_history.specs.Finding.{edit_with}
 use Rattle.zed_document.specs.declared.delivered.Delivered.{Delivered}
 use Rattle.zed_document.specs.declared.error.DocumentError.{DocumentError}
 use Rattle.zed_document.specs.declared.error.DocumentError.TheVariants.{Clash}
-use Rattle.zed_document.specs.Delivery.{AnswersAt, DeliveriesComeToSets, DeliversEach, IsFirstClash, after_edit, edit_with}
+use Rattle.zed_document.specs.Delivery.{AnswersAt, DeliveriesComeToSets, DeliversEach, IsFirstClash, after_edit}
 use Rattle.zed_document.specs.Replica.{Replica}
-use Rattle.zed_document.proofs.Clashing.{edit_with-stands}
+use Rattle.zed_history.proofs.Clashing.{edit_with-stands}
 
 -- what is there is found
 none_found : (s : Stamp) (es : List Edit) (f : Edit) → edit_with s es ≡ None → Contains es f → f.stamp ≢ s

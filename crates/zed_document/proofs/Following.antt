@@ -4,13 +4,13 @@ use Rattle.std.specs.Prelude.{slice_index_or, IfErr}
 use Rattle.zed_op.specs.declared.op.Edit.{Edit}
 use Rattle.zed_op.specs.Fit.{fault}
 use Rattle.zed_op.specs.Set.{with_edit}
+use Rattle.zed_history.specs.Finding.{edit_with}
 use Rattle.zed_document.specs.declared.error.DocumentError.{DocumentError}
 use Rattle.zed_document.specs.declared.error.DocumentError.TheVariants.{Memory}
 use Rattle.zed_document.specs.Authoring.{AnswersToDo, AnswersFault}
-use Rattle.zed_document.specs.Delivery.{edit_with}
 use Rattle.zed_document.specs.Stretches.{IsNext, CanFollow}
 use Rattle.zed_document.proofs.Authored.{last-edit}
-use Rattle.zed_document.proofs.Spots.{edit_with-past}
+use Rattle.zed_history.proofs.Spots.{edit_with-past}
 use Rattle.zed_document.proofs.TypedTexts.{to-fault}
 
 pub next-answers : (es : List Edit) (e : Edit) (r : Result Edit DocumentError) → IsNext es e → (r ≡ Err Memory) ⊎ AnswersToDo (fault e) es e r → (r ≡ Err Memory) ⊎ (r ≡ Ok e)

@@ -3,7 +3,6 @@ pub mod Batches
 pub mod BoardWalks
 pub mod Bodies
 pub mod Checked
-pub mod Clashing
 pub mod Counted
 pub mod CountsAside
 pub mod Deleted
@@ -11,18 +10,11 @@ pub mod DeletedParts
 pub mod FirstClash
 pub mod Following
 pub mod Joining
-pub mod Lacking
 pub mod Looks
-pub mod Lookups
 pub mod Merging
-pub mod Opened
 pub mod Parts
 pub mod Passed
-pub mod Runs
-pub mod Spots
 pub mod Stretched
 pub mod Taking
-pub mod Times
 pub mod TypedTexts
 pub mod Visited
-pub mod Walks

@@ -6,7 +6,7 @@ use Rattle.zed_op.specs.declared.op.Edit.{Edit}
 use Rattle.zed_op.specs.Set.{Agrees, IsRising, union}
 use Rattle.zed_op.specs.SetLaws.{RisingAgrees, UnionHasBoth, UnionCommutes, UnionAssociates, UnionOfItsOwn, UnionOfSets, SetIsOfAnyOrder, SetGrowsByEdits}
 use Rattle.zed_edit.specs.Replay.{replay, held}
-use Rattle.zed_document.specs.Merge.{Agree}
+use Rattle.zed_history.specs.Clash.{Agree}
 use Rattle.zed_document.specs.Laws.{merged, MergeCommutes, MergeAssociates, MergeRepeats, MergeOfItself, EditsDecide, document_of, DeliveriesMakeIt, MergeIsDeliveries, OrderNeverCounts}
 
 pub edits_decide : EditsDecide

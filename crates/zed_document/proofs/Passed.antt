@@ -11,9 +11,9 @@ use Rattle.zed_op.specs.declared.op.Op.TheVariants.{Genesis, SetHeader}
 use Rattle.zed_op.specs.declared.op.Edit.{Edit}
 use Rattle.zed_edit.specs.declared.plain.Plain.{Plain}
 use Rattle.zed_edit.specs.Replay.{can, do_op, open_world, replay_on, step}
+use Rattle.zed_history.specs.Finding.{AllBelow}
 use Rattle.zed_document.specs.Held.{is_among}
 use Rattle.zed_types.proofs.StampOrder.{before_differs}
-use Rattle.zed_document.specs.Kept.{AllBelow}
 
 open_world-passed : (s : Stamp) (w : Result Contents WorldError) (p : Plain) → (open_world s w p).held ≡ p.held
 open_world-passed s (Ok w) p = refl

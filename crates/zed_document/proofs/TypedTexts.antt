@@ -22,16 +22,16 @@ use Rattle.zed_op.specs.Fit.{Fits, fault}
 use Rattle.zed_edit.specs.Replay.{replay, step, can, do_edit, hold}
 use Rattle.zed_op.specs.Set.{IsRising, with_edit}
 use Rattle.zed_laws.specs.TextNames.{HaveOwnNames, ElementsHaveOwnNames}
+use Rattle.zed_history.specs.Clock.{is_spent, next_time}
+use Rattle.zed_history.specs.Finding.{AllBelow, edit_with}
 use Rattle.zed_document.specs.declared.error.DocumentError.{DocumentError}
 use Rattle.zed_document.specs.declared.error.DocumentError.TheVariants.{Memory, Stale, NoSuch, OutOfRange}
-use Rattle.zed_document.specs.Authoring.{alive, byte_before, insertion_at, authored, next_time, is_spent, with_bytes, AnswersMade, AnswersToDo, AnswersFault, AnswersInsertion, MayTakeMemory}
-use Rattle.zed_document.specs.Delivery.{edit_with}
-use Rattle.zed_document.specs.Kept.{AllBelow}
+use Rattle.zed_document.specs.Authoring.{alive, byte_before, insertion_at, authored, with_bytes, AnswersMade, AnswersToDo, AnswersFault, AnswersInsertion, MayTakeMemory}
 use Rattle.zed_document.specs.Reading.{has_text}
 use Rattle.zed_document.specs.Replica.{Replica}
 use Rattle.zed_document.proofs.Authored.{authored-late, last-edit}
 use Rattle.zed_types.proofs.StampOrder.{same_stamp-itself}
-use Rattle.zed_document.proofs.Spots.{edit_with-past}
+use Rattle.zed_history.proofs.Spots.{edit_with-past}
 
 pub same_element-itself : (a : ElemId) → same_element a a ≡ true
 same_element-itself a = rw (same_stamp-itself a.name.stamp) (grind (arith))

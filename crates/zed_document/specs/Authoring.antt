@@ -1,7 +1,6 @@
 -- What an author makes: edits later than all that a document has.
-use Rattle.std.specs.Prelude.{◌≡◌, ◌≢◌, ◌⊎◌, ℕ, zero, suc, ◌+◌, ◌≤◌, ◌==◌, max, nat_lt, nat_le, Bool, true, false, not, ◌&&◌, if◌then◌else◌, List, [], ◌∷◌, ◌++◌, length, take, drop, slice_get, Option, Some, None, option_map, Result, Ok, Err, MatchBool}
+use Rattle.std.specs.Prelude.{◌≡◌, ◌≢◌, ◌⊎◌, ℕ, zero, suc, ◌+◌, ◌≤◌, ◌==◌, nat_lt, nat_le, Bool, true, false, not, ◌&&◌, if◌then◌else◌, List, [], ◌∷◌, ◌++◌, length, take, drop, slice_get, Option, Some, None, option_map, Result, Ok, Err, MatchBool}
 use Rattle.std.specs.List.{filter}
-use Rattle.zed_types.specs.declared.stamp.TheConstants.Stamp.{LAST_TIME}
 use Rattle.zed_types.specs.declared.names.ElemId.{ElemId}
 use Rattle.zed_types.specs.declared.names.TextId.{TextId}
 use Rattle.zed_types.specs.declared.text.ByteRange.{ByteRange}
@@ -15,21 +14,12 @@ use Rattle.zed_edit.specs.Document.{elements, text}
 use Rattle.zed_op.specs.Fit.{Fits, fault}
 use Rattle.zed_edit.specs.Replay.{replay, can}
 use Rattle.zed_op.specs.Verdict.{is_genesis, HangsOnItsWorld}
+use Rattle.zed_history.specs.Clock.{is_spent, next_time}
+use Rattle.zed_history.specs.Finding.{AllBelow, edit_with}
 use Rattle.zed_document.specs.declared.error.DocumentError.{DocumentError}
 use Rattle.zed_document.specs.declared.error.DocumentError.TheVariants.{Stale, NoSuch, OutOfRange, ClockSpent, BadEdit, Clash}
-use Rattle.zed_document.specs.Delivery.{edit_with}
-use Rattle.zed_document.specs.Kept.{AllBelow}
 use Rattle.zed_document.specs.Reading.{has_text}
 use Rattle.zed_document.specs.Replica.{Replica}
-
--- the greatest time of some edits, 0 where there is none
-abbrev pub greatest_time : List Edit → ℕ
-greatest_time [] = 0
-greatest_time (e ∷ es) = max e.stamp.time (greatest_time es)
-
--- the time of the next edit: one more than the greatest, and at least 2
-abbrev pub next_time : List Edit → ℕ
-next_time es = max 2 (greatest_time es + 1)
 
 -- the world is made at time 1, all else at the next time
 abbrev pub time_of : List Edit → Op → ℕ
@@ -38,10 +28,6 @@ time_of es op = if is_genesis op then 1 else next_time es
 -- the edit that a replica makes of an op
 abbrev pub authored : List Edit → ℕ → Op → Edit
 authored es replica op = record { stamp = record { time = time_of es op; replica = replica }; op = op }
-
--- whether fewer times are left than so many edits need
-abbrev pub is_spent : List Edit → ℕ → Bool
-is_spent es count = nat_lt (LAST_TIME + 1) (next_time es + count)
 
 -- whether no time is left for an op; the world needs none
 abbrev pub is_spent_for : List Edit → Op → Bool

@@ -1,13 +1,12 @@
 -- What a delivery answers.
 use Rattle.std.specs.Prelude.{◌≡◌, ◌≢◌, ◌⊎◌, ℕ, Bool, true, false, List, [], ◌∷◌, ◌++◌, Option, Some, None, Result, Ok, Err, Contains, IsOkAnd, MatchBool}
-use Rattle.std.specs.List.{find}
 use Rattle.zed_types.specs.declared.stamp.Stamp.{Stamp}
-use Rattle.zed_types.specs.Stamp.{same_stamp}
 use Rattle.zed_op.specs.declared.cause.Cause.{Cause}
 use Rattle.zed_op.specs.declared.op.Edit.{Edit}
 use Rattle.zed_op.specs.Fit.{Fits, fault}
 use Rattle.zed_op.specs.Verdict.{HangsOnItsWorld}
 use Rattle.zed_op.specs.Set.{Agrees, AllFit, with_edit, set_of}
+use Rattle.zed_history.specs.Finding.{edit_with}
 use Rattle.zed_document.specs.declared.delivered.Delivered.{Delivered}
 use Rattle.zed_document.specs.declared.delivered.State.{State}
 use Rattle.zed_document.specs.declared.delivered.State.TheVariants.{Taken, Held, Known}
@@ -15,10 +14,6 @@ use Rattle.zed_document.specs.declared.error.DocumentError.{DocumentError}
 use Rattle.zed_document.specs.declared.error.DocumentError.TheVariants.{Stale, BadEdit, Clash}
 use Rattle.zed_document.specs.Held.{held_stamps, is_among, woken}
 use Rattle.zed_document.specs.Replica.{Replica}
-
--- the edit with a stamp, if there is one
-abbrev pub edit_with : Stamp → List Edit → Option Edit
-edit_with s es = find (λ e. same_stamp e.stamp s) es
 
 -- what a new edit comes to
 abbrev pub state_of : Bool → State
@@ -61,6 +56,11 @@ DeliversEach d [] r left = (r ≡ Ok tt) × (left ≡ d.edits)
 DeliversEach d (e ∷ es) r left =
     ((told : Delivered) × Answers d e (Ok told) × DeliversEach (after_edit e d) es r left)
     ⊎ ((refusal : DocumentError) × Answers d e (Err refusal) × (r ≡ Err refusal) × (left ≡ d.edits))
+
+-- Ok, or the clash
+abbrev pub unless_clash : Option Stamp → Result (Unit {0}) DocumentError
+unless_clash None = Ok tt
+unless_clash (Some s) = Err (Clash s)
 
 -- another edit of the list has the stamp of this one
 abbrev pub ClashesWith : List Edit → Edit → Type 0

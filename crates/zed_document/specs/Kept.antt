@@ -1,8 +1,6 @@
 -- How a document keeps what it shows.
-use Rattle.std.specs.Prelude.{◌≡◌, Bool, true, false, List}
-use Rattle.std.specs.List.{AllByRecursion}
+use Rattle.std.specs.Prelude.{◌≡◌, Bool, false, List}
 use Rattle.zed_types.specs.declared.stamp.Stamp.{Stamp}
-use Rattle.zed_types.specs.Stamp.{before}
 use Rattle.zed_op.specs.declared.op.Edit.{Edit}
 use Rattle.zed_op.specs.Set.{AllFit, IsRising}
 use Rattle.zed_op.specs.Sizes.{HaveSizes}
@@ -17,7 +15,3 @@ pub record IsKept (edits : List Edit) (stamps : List Stamp) (is_stale : Bool) (b
   pub rising : IsRising edits
   pub held : stamps ≡ held_stamps edits
   pub shown : is_stale ≡ false → BodyShows edits body
-
--- all edits of a log come before a stamp
-abbrev pub AllBelow : Stamp → List Edit → Type 0
-AllBelow s es = AllByRecursion (λ f. before f.stamp s ≡ true) es

@@ -3,8 +3,8 @@ use Rattle.std.specs.Prelude.{◌≡◌, ℕ, false, List, [], ◌∷◌, ◌++�
 use Rattle.zed_op.specs.declared.op.Edit.{Edit}
 use Rattle.zed_op.specs.Set.{Agrees, IsRising, with_edit, union, set_of}
 use Rattle.zed_op.specs.SetLaws.{HaveTheSame}
+use Rattle.zed_history.specs.Clash.{Agree}
 use Rattle.zed_document.specs.Counts.{Counts}
-use Rattle.zed_document.specs.Merge.{Agree}
 use Rattle.zed_document.specs.Replica.{Replica}
 use Rattle.zed_document.specs.Same.{AreAlike, AreSame}
 

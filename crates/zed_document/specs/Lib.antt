@@ -1,5 +1,4 @@
 pub mod Authoring
-pub mod Batch
 pub mod Counts
 pub mod Delivery
 pub mod Errors
@@ -7,7 +6,6 @@ pub mod Held
 pub mod Kept
 pub mod Laws
 pub mod Merge
-pub mod Open
 pub mod Reading
 pub mod Replica
 pub mod Same

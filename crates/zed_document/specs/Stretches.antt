@@ -6,8 +6,8 @@ use Rattle.zed_types.specs.Stamp.{same_stamp}
 use Rattle.zed_op.specs.declared.op.Edit.{Edit}
 use Rattle.zed_op.specs.Fit.{Fits}
 use Rattle.zed_edit.specs.Replay.{replay, can}
+use Rattle.zed_history.specs.Finding.{AllBelow}
 use Rattle.zed_document.specs.Authoring.{alone}
-use Rattle.zed_document.specs.Kept.{AllBelow}
 
 -- whether a byte stands directly behind a stretch, in the same insertion
 abbrev pub ends_before : ByteRange → ElemId → Bool

@@ -6,17 +6,17 @@ ghost use Rattle.std.specs.Prelude.{◌≡◌, ◌≢◌, ◌≤◌, ◌⊎◌, 
 ghost use Rattle.zed_op.specs.Fit.{Fits, fault};
 ghost use Rattle.zed_edit.specs.Replay.{replay, can};
 ghost use Rattle.zed_op.specs.Set.{AllFit, with_edit};
+ghost use Rattle.zed_history.specs.Finding.{edit_with};
 ghost use Rattle.zed_document.specs.Authoring.{AnswersMade, AnswersToDo, IsLate, MayTakeMemory, AnswersAuthor, authored, is_spent_for};
 ghost use Rattle.zed_document.specs.Counts.{NoCountFalls};
-ghost use Rattle.zed_document.specs.Delivery.{edit_with};
 ghost use Rattle.zed_document.specs.Held.{held_stamps, is_among as is_one_of};
 
 use crate::clock::stamp_for;
 use crate::document::Document;
 use crate::error::{DocumentError, of_edit};
-use crate::place::spot_of;
 use zed_delivery::bodies_have_what_is_made;
 use zed_edit::{Edit, Op, check};
+use zed_history::spot_of;
 use zed_laws::replay_goes_edit_by_edit;
 use zed_op::{fit_is_of_parts, sets_stay_fit};
 

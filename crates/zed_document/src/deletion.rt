@@ -7,16 +7,17 @@ ghost use Rattle.zed_edit.specs.Document.{has, text as text_shown, elements as e
 ghost use Rattle.zed_op.specs.declared.thing.Thing.TheVariants.{Text as the_text};
 ghost use Rattle.zed_op.specs.Set.{AllFit, IsRising};
 ghost use Rattle.zed_edit.specs.Replay.{replay};
-ghost use Rattle.zed_document.specs.Authoring.{AnswersDeletion, MayTakeMemoryToDelete, is_spent, deletions, deletions_of, is_part, part, alive, stretches, stretches_of, without, alone as one_byte};
+ghost use Rattle.zed_history.specs.Clock.{is_spent};
+ghost use Rattle.zed_document.specs.Authoring.{AnswersDeletion, MayTakeMemoryToDelete, deletions, deletions_of, is_part, part, alive, stretches, stretches_of, without, alone as one_byte};
 ghost use Rattle.zed_document.specs.Stretches.{IsNext, CanFollow, ends_before as goes_behind, stretched, with_last, begun as begun_by};
 ghost use Rattle.zed_document.specs.Counts.{NoCountFalls};
 ghost use Rattle.zed_document.specs.Reading.{has_text};
 
-use crate::clock::{is_spent as are_spent, next_time};
 use crate::document::Document;
 use crate::error::{DocumentError, of_edit};
 use std::alloc::Global;
 use zed_edit::{Edit, Op};
+use zed_history::{is_spent as are_spent, next_time};
 use zed_laws::{made_things_stay, replay_goes_edit_by_edit, texts_keep_names};
 use zed_op::fit_is_of_parts;
 use zed_types::{ByteRange, ElemId, Stamp, TextId};

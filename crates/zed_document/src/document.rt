@@ -1,13 +1,9 @@
 //! A document: the edits that a replica accepted, and what they make.
 ghost use Rattle.std.specs.Prelude.{◌≡◌, ◌≢◌, ◌≤◌, ◌⊎◌, ◌<◌, [], ◌∷◌, if◌then◌else◌, length, insert, is_ok, true, false, None, Ok, Err, OnOk, OnErr, IfOk, IfErr, IsOkAnd, MatchOption, ◌↔◌};
 
-use crate::batch::{Batch, gather, unless_clash};
 use crate::delivered::{Delivered, State};
-use crate::error::{DocumentError, of_edit};
+use crate::error::{DocumentError, of_edit, unless_clash};
 use crate::held::{HeldStamps, waiting};
-use crate::merge::{copies_new_to, least_clash};
-use crate::moving::join;
-use crate::place::spot_of;
 use crate::visits::{visits_at, visits_before, visits_since};
 use std::alloc::Global;
 use std::marker::Model;
@@ -15,6 +11,7 @@ use zed_delivery::{
     Body, calm_edits_hold_the_same, empty_bodies_show_none, rising_edits_are_apart,
 };
 use zed_edit::{Edit, check};
+use zed_history::{Batch, copies_new_to, gather, join, least_clash, spot_of};
 use zed_laws::held_edits_are_remembered;
 use zed_op::{edit_has_sizes, edits_have_sizes, rising_lists_are_sets, sets_rise, sets_stay_fit};
 use zed_types::{Stamp, TextId};
@@ -52,15 +49,17 @@ impl Model for Document {
 }
 
 impl Document {
+    ghost use Rattle.zed_history.specs.Batch.{AreNew, HasNew, JoinOn};
+    ghost use Rattle.zed_history.specs.Clash.{new_to};
+    ghost use Rattle.zed_history.specs.Finding.{edit_with};
     ghost use Rattle.zed_document.specs.Held.{held_stamps, is_among as is_one_of};
     ghost use Rattle.zed_delivery.specs.Shows.{BodyShows};
-    ghost use Rattle.zed_document.specs.Batch.{AreNew, HasNew, JoinOn};
-    ghost use Rattle.zed_document.specs.Delivery.{Answers, AnswersAt, DeliversEach, MayTakeMemoryFor, TellsNew, edit_with};
+    ghost use Rattle.zed_document.specs.Delivery.{Answers, AnswersAt, DeliversEach, MayTakeMemoryFor, TellsNew};
     ghost use Rattle.zed_edit.specs.Replay.{replay};
     ghost use Rattle.zed_op.specs.Fit.{Fits};
     ghost use Rattle.zed_op.specs.Set.{AllFit, IsRising, union, with_edit};
     ghost use Rattle.zed_op.specs.Sizes.{HaveSizes};
-    ghost use Rattle.zed_document.specs.Merge.{AnswersMerge, below, new_to};
+    ghost use Rattle.zed_document.specs.Merge.{AnswersMerge, below};
     ghost use Rattle.zed_types.specs.declared.stamp.Stamp.{Stamp as TheStamp};
     ghost use Rattle.zed_document.specs.Counts.{NoCountFalls, count_of};
     ghost use Rattle.zed_document.specs.Visits.{TellsVisits};
@@ -323,9 +322,9 @@ impl Document {
         ensures sound { OnOk result (self.new.is_stale ≡ false) }
         ensures visits { OnOk result (NoCountFalls self.old.counts self.new.counts) }
     {
-        let edits = copies_new_to(&self.edits, *self.edits.allocator(), other)?;
-        sets_rise();
-        rising_lists_are_sets();
+        let Ok(edits) = copies_new_to(&self.edits, *self.edits.allocator(), other) else {
+            return Err(DocumentError::Memory);
+        };
         self.take_all(edits)
     }
 
@@ -344,7 +343,9 @@ impl Document {
         ensures visits { OnOk result (NoCountFalls self.old.counts self.new.counts) }
     {
         let alloc = *self.edits.allocator();
-        let Batch { edits, clash } = gather(alloc, &self.edits, edits)?;
+        let Ok(Batch { edits, clash }) = gather(alloc, &self.edits, edits) else {
+            return Err(DocumentError::Memory);
+        };
         self.take_all(edits)?;
         Ok(clash)
     }
@@ -379,7 +380,9 @@ impl Document {
             return Err(DocumentError::Memory);
         };
         let stamps = waiting(alloc, &self.body.inbox)?;
-        join(&mut self.edits, edits)?;
+        let Ok(()) = join(&mut self.edits, edits) else {
+            return Err(DocumentError::Memory);
+        };
         self.held.replace(stamps);
         self.is_stale = false;
         Ok(())

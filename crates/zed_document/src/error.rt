@@ -1,5 +1,6 @@
 //! Why a document refuses a call.
-ghost use Rattle.std.specs.Prelude.{◌≡◌};
+ghost use Rattle.std.specs.Prelude.{◌≡◌, ◌≢◌, Err};
+ghost use Rattle.zed_document.specs.Delivery.{unless_clash};
 ghost use Rattle.zed_document.specs.Errors.{refusal_of};
 
 use thiserror::Error;
@@ -34,5 +35,16 @@ pub(crate) fn of_edit(error: EditError) -> DocumentError
     match error {
         EditError::Memory => DocumentError::Memory,
         EditError::BadEdit(cause) => DocumentError::BadEdit(cause),
+    }
+}
+
+/// Ok, or the clash.
+pub(crate) fn unless_clash(clash: Option<Stamp>) -> Result<(), DocumentError>
+    ensures result { result ≡ unless_clash clash }
+    ensures never_memory { result ≢ Err DocumentError.Memory }
+{
+    match clash {
+        Some(stamp) => Err(DocumentError::Clash(stamp)),
+        None => Ok(()),
     }
 }

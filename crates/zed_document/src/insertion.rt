@@ -9,10 +9,10 @@ ghost use Rattle.zed_document.specs.Authoring.{AnswersInsertion, MayTakeMemoryAt
 ghost use Rattle.zed_document.specs.Counts.{NoCountFalls};
 ghost use Rattle.zed_document.specs.Reading.{TellsOfText};
 
-use crate::clock::next_stamp;
 use crate::document::Document;
 use crate::error::DocumentError;
 use zed_edit::{Edit, Op};
+use zed_history::next_stamp;
 use zed_laws::{replay_goes_edit_by_edit, texts_keep_names};
 use zed_types::{Bytes, ElemId, TextId};
 use zed_view::View;

@@ -1,6 +1,7 @@
 //! A document that takes many edits as they come.
 ghost use Rattle.std.specs.Prelude.{◌≡◌, ◌≢◌, ◌⊎◌, if◌then◌else◌, is_ok, true, false, None, Err, IfOk, OnErr, OnOk, IsOkAnd};
-ghost use Rattle.zed_document.specs.Delivery.{Answers, TellsNew, edit_with};
+ghost use Rattle.zed_history.specs.Finding.{edit_with};
+ghost use Rattle.zed_document.specs.Delivery.{Answers, TellsNew};
 ghost use Rattle.zed_document.specs.Visits.{TellsVisits};
 ghost use Rattle.zed_op.specs.Fit.{Fits};
 ghost use Rattle.zed_op.specs.Set.{with_edit};
@@ -9,11 +10,11 @@ use crate::delivered::{Delivered, State};
 use crate::document::Document;
 use crate::error::DocumentError;
 use crate::held::HeldStamps;
-use crate::open_log::OpenLog;
 use crate::visits::{visits_before, visits_since};
 use std::marker::Model;
 use zed_delivery::{Body, calm_edits_hold_the_same};
 use zed_edit::Edit;
+use zed_history::History;
 use zed_laws::held_edits_are_remembered;
 use zed_op::{edit_has_sizes, edit_joins_a_set, sets_rise, sets_stay_fit};
 
@@ -22,7 +23,7 @@ use zed_op::{edit_has_sizes, edit_joins_a_set, sets_rise, sets_stay_fit};
 #[derive(Drop)]
 pub struct Intake {
     world: u64,
-    log: OpenLog,
+    log: History,
     /// As in a document.
     held: HeldStamps,
     body: Body,
@@ -60,7 +61,7 @@ impl Intake {
         } = document;
         Intake {
             world,
-            log: OpenLog::of(edits),
+            log: History::of(edits),
             held,
             body,
             is_stale,

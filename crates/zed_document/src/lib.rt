@@ -3,7 +3,6 @@
 #![tactic(auto)]
 
 mod author;
-mod batch;
 mod clock;
 mod deletion;
 mod delivered;
@@ -13,12 +12,7 @@ mod held;
 mod insertion;
 mod intake;
 mod laws;
-mod merge;
-mod moving;
-mod open_log;
-mod place;
 mod readers;
-mod run;
 mod same;
 mod visits;
 

@@ -13,7 +13,7 @@ use Rattle.zed_edit.specs.Replay.{replay, held}
 use Rattle.zed_document.specs.declared.error.DocumentError.{DocumentError}
 use Rattle.zed_document.specs.declared.error.DocumentError.TheVariants as document
 use Rattle.zed_document.specs.Laws.{EditsDecide}
-use Rattle.zed_document.specs.Merge.{Agree}
+use Rattle.zed_history.specs.Clash.{Agree}
 use Rattle.zed_document.specs.Reading.{AnswersSame}
 use Rattle.zed_document.specs.Replica.{Replica}
 use Rattle.zed_document.specs.Same.{AreSame}

@@ -8,7 +8,7 @@ use Rattle.zed_op.specs.SetLaws.{HaveTheSame}
 use Rattle.zed_op.specs.Sizes.{HaveSizes}
 use Rattle.zed_edit.specs.declared.plain.Plain.{Plain}
 use Rattle.zed_edit.specs.Replay.{replay, held}
-use Rattle.zed_document.specs.Merge.{Agree}
+use Rattle.zed_history.specs.Clash.{Agree}
 use Rattle.zed_document.specs.Replica.{Replica}
 use Rattle.zed_export.specs.declared.error.ExportError.{ExportError}
 use Rattle.zed_export.specs.declared.error.ExportError.TheVariants.{Memory}

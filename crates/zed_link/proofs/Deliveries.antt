@@ -6,7 +6,8 @@ use Rattle.zed_op.specs.Fit.{Fits}
 use Rattle.zed_op.specs.Verdict.{HangsOnItsWorld}
 use Rattle.zed_document.specs.declared.error.DocumentError.{DocumentError}
 use Rattle.zed_document.specs.declared.error.DocumentError.TheVariants as document
-use Rattle.zed_document.specs.Delivery.{DeliversEach, MayTakeMemoryFor, after_edit, edit_with}
+use Rattle.zed_history.specs.Finding.{edit_with}
+use Rattle.zed_document.specs.Delivery.{DeliversEach, MayTakeMemoryFor, after_edit}
 use Rattle.zed_document.specs.Replica.{Replica}
 use Rattle.zed_document.proofs.CountsAside.{delivers_aside, with_counts}
 use Rattle.zed_link.specs.declared.error.LinkError.{LinkError}

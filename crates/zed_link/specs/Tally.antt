@@ -4,7 +4,8 @@ use Rattle.zed_op.specs.declared.op.Edit.{Edit}
 use Rattle.zed_op.specs.Set.{with_edit}
 use Rattle.zed_document.specs.declared.delivered.State.{State}
 use Rattle.zed_document.specs.declared.delivered.State.TheVariants.{Taken, Held, Known}
-use Rattle.zed_document.specs.Delivery.{edit_with, state_of}
+use Rattle.zed_history.specs.Finding.{edit_with}
+use Rattle.zed_document.specs.Delivery.{state_of}
 use Rattle.zed_document.specs.Held.{held_stamps, is_among}
 use Rattle.zed_link.specs.declared.pulled.Pulled.{Pulled}
 

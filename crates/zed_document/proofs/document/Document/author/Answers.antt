@@ -1,7 +1,7 @@
 use Rattle.std.proofs.Common.{◌≡◌, ap, sym, ◌∙◌, subst}
 use Rattle.zed_types.specs.declared.stamp.Stamp.{Stamp}
+use Rattle.zed_history.specs.Finding.{AllBelow}
 use Rattle.zed_document.specs.Authoring.{authored}
-use Rattle.zed_document.specs.Kept.{AllBelow}
 use Rattle.zed_document.proofs.Authored.{authored-late}
 use Rattle.zed_document.proofs.document.Document.author.Goals as goal
 

@@ -1,7 +1,8 @@
 use Rattle.std.proofs.Common.{◌≡◌, ◌<◌, false, length, ap, sym, ◌∙◌, subst}
 use Rattle.zed_edit.specs.declared.plain.Plain.{Plain}
 use Rattle.zed_edit.specs.Document.{elements}
-use Rattle.zed_document.specs.Authoring.{is_spent, part, alive, stretches, stretches_of}
+use Rattle.zed_history.specs.Clock.{is_spent}
+use Rattle.zed_document.specs.Authoring.{part, alive, stretches, stretches_of}
 use Rattle.zed_document.proofs.DeletedParts.{some-stretch, spent-one}
 use Rattle.zed_document.proofs.document.Document.deletions_in.Goals as goal
 

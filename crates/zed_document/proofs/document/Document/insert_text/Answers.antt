@@ -7,9 +7,10 @@ use Rattle.zed_edit.specs.Document.{text}
 use Rattle.zed_op.specs.Fit.{Fits, fault}
 use Rattle.zed_edit.specs.Replay.{replay}
 use Rattle.zed_op.specs.Set.{with_edit}
+use Rattle.zed_history.specs.Clock.{is_spent}
+use Rattle.zed_history.specs.Finding.{AllBelow}
 use Rattle.zed_document.specs.declared.error.DocumentError.TheVariants.{Memory}
-use Rattle.zed_document.specs.Authoring.{AnswersToDo, authored, insertion_at, with_bytes, is_spent}
-use Rattle.zed_document.specs.Kept.{AllBelow}
+use Rattle.zed_document.specs.Authoring.{AnswersToDo, authored, insertion_at, with_bytes}
 use Rattle.zed_document.proofs.TypedTexts.{Typed, typed, insertion-answers, on-ok, insertion-fits}
 use Rattle.zed_document.proofs.document.Document.insert_text.Goals as goal
 

@@ -1,6 +1,7 @@
 use Rattle.std.proofs.Common.{rules, ◌≡◌, ◌∙◌, false, true, None, ap, refl, subst, sym, inr}
 use Rattle.zed_op.specs.Set.{with_edit}
-use Rattle.zed_document.specs.Delivery.{TellsNew, edit_with}
+use Rattle.zed_history.specs.Finding.{edit_with}
+use Rattle.zed_document.specs.Delivery.{TellsNew}
 use Rattle.zed_document.specs.Kept.{IsKept}
 use Rattle.zed_document.specs.Replica.{Replica}
 use Rattle.zed_document.specs.declared.delivered.Delivered.{Delivered}

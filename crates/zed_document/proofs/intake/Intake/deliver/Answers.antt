@@ -1,13 +1,13 @@
 use Rattle.std.proofs.Common.{◌≡◌, ◌∙◌, false, Some, ap, refl, sym, subst, rules}
 use Rattle.std.specs.Prelude.{Contains}
 use Rattle.zed_op.specs.Set.{IsRising}
-use Rattle.zed_document.specs.Delivery.{edit_with}
+use Rattle.zed_history.specs.Finding.{edit_with}
 use Rattle.zed_document.specs.Replica.{Replica}
 use Rattle.zed_document.specs.declared.delivered.Delivered.{Delivered}
 use Rattle.zed_document.specs.declared.delivered.State.TheVariants.{Known}
 use Rattle.zed_document.specs.Counts.{Counts, counts_of}
 use Rattle.zed_document.specs.Visits.{TellsVisits}
-use Rattle.zed_document.proofs.Clashing.{edit_with-stands}
+use Rattle.zed_history.proofs.Clashing.{edit_with-stands}
 use Rattle.zed_document.proofs.Visited.{tells_known}
 use Rattle.zed_document.proofs.intake.Intake.deliver.Goals as goal
 

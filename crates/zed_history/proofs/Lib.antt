@@ -1,0 +1,9 @@
+pub mod Clashing
+pub mod Gathering
+pub mod Lacking
+pub mod Lookups
+pub mod Opened
+pub mod Runs
+pub mod Spots
+pub mod Times
+pub mod Walks

@@ -1,0 +1,35 @@
+use Rattle.std.proofs.Common.{◌≡◌, ◌∙◌, ◌++◌, ◌∷◌, [], None, ap, sym, subst, List, Option, arith}
+use Rattle.zed_op.specs.declared.op.Edit.{Edit}
+use Rattle.zed_history.specs.Batch.{first_of}
+use Rattle.zed_history.specs.Finding.{edit_with}
+use Rattle.zed_history.specs.Runs.{AreRuns, count_in, found_in}
+use Rattle.zed_history.proofs.Opened.{SetsHold}
+use Rattle.zed_history.proofs.Runs.{count-last, found-empty, found-push, runs-empty, runs-push}
+use Rattle.zed_history.proofs.history.begin_with.Goals as goal
+
+pub returns-clause-runs : goal.returns-clause-runs
+returns-clause-runs c = λ log h none.
+    let laws : SetsHold = record { rises = c.sets_rise.ensures.edit; joins = c.sets_rise.ensures.union; known = c.rising_lists_are_sets.ensures.known } in
+    let left = c.start_run.new.settled.items in
+    let one : c.push_reserved.new.self.items ≡ c.args.edit ∷ [] = c.push_reserved.ensures.items ∙ ap (λ (es : List Edit). es ++ c.args.edit ∷ []) c.in_ok-start_run.ensures.empty in
+    let on : AreRuns (log ∷ left) = c.in_ok-start_run.ensures.runs (log ∷ []) h in
+    let new : found_in c.args.edit.stamp ((log ∷ left) ++ [] ∷ []) ≡ None =
+    found-empty c.args.edit.stamp (log ∷ left) ∙ ap (λ (o : Option Edit). first_of o (found_in c.args.edit.stamp left)) none ∙ c.in_ok-start_run.ensures.found c.args.edit.stamp ∙ c.requires.new in
+    subst (λ (es : List Edit). AreRuns (log ∷ (left ++ es ∷ []))) (sym one) (runs-push laws c.args.edit (log ∷ left) [] (runs-empty (log ∷ left) on) new tt)
+
+pub returns-clause-found : goal.returns-clause-found
+returns-clause-found c = λ s.
+    let laws : SetsHold = record { rises = c.sets_rise.ensures.edit; joins = c.sets_rise.ensures.union; known = c.rising_lists_are_sets.ensures.known } in
+    let left = c.start_run.new.settled.items in
+    let one : c.push_reserved.new.self.items ≡ c.args.edit ∷ [] = c.push_reserved.ensures.items ∙ ap (λ (es : List Edit). es ++ c.args.edit ∷ []) c.in_ok-start_run.ensures.empty in
+    ap (λ (es : List Edit). found_in s (left ++ es ∷ [])) one
+    ∙ found-push laws s c.args.edit left [] (runs-empty left (c.in_ok-start_run.ensures.runs [] c.requires.runs)) tt
+    ∙ ap (λ (o : Option Edit). first_of o (edit_with s (c.args.edit ∷ []))) (found-empty s left ∙ c.in_ok-start_run.ensures.found s)
+
+pub returns-clause-count : goal.returns-clause-count
+returns-clause-count c =
+    let left = c.start_run.new.settled.items in
+    let one : c.push_reserved.new.self.items ≡ c.args.edit ∷ [] = c.push_reserved.ensures.items ∙ ap (λ (es : List Edit). es ++ c.args.edit ∷ []) c.in_ok-start_run.ensures.empty in
+    let is : count_in (left ++ c.push_reserved.new.self.items ∷ []) ≡ count_in (left ++ (c.args.edit ∷ []) ∷ []) = ap (λ (es : List Edit). count_in (left ++ es ∷ [])) one in
+    let last = count-last left (c.args.edit ∷ []) in
+    omega (arith, is, last, c.in_ok-start_run.ensures.count)

@@ -1,0 +1,38 @@
+use Rattle.std.proofs.Common.{◌≡◌, ◌∙◌, ◌++◌, ◌∷◌, [], None, ap, sym, subst, rules, List, Option, arith}
+use Rattle.zed_op.specs.declared.op.Edit.{Edit}
+use Rattle.zed_op.specs.Set.{IsRising}
+use Rattle.zed_history.specs.Batch.{first_of}
+use Rattle.zed_history.specs.Finding.{AllBelow}
+use Rattle.zed_history.specs.Runs.{AreRuns, count_in, found_in}
+use Rattle.zed_history.proofs.Opened.{SetsHold}
+use Rattle.zed_history.proofs.Runs.{count-push, found-push, last-rises, runs-push}
+use Rattle.zed_history.proofs.history.put_late.Goals as goal
+
+pub is_latest-requires : goal.is_latest-requires
+is_latest-requires c = subst IsRising (sym c.deref.ensures.value) (last-rises c.args.settled.now.items c.args.run.now.items c.requires.runs)
+
+pub returns-clause-runs : goal.returns-clause-runs
+returns-clause-runs c = λ log h none.
+    let laws : SetsHold = record { rises = c.sets_rise.ensures.edit; joins = c.sets_rise.ensures.union; known = c.rising_lists_are_sets.ensures.known } in
+    let left = c.args.settled.now.items in
+    let items : c.push_reserved.new.self.items ≡ c.args.run.now.items ++ c.args.edit ∷ [] = search rules in
+    let below : AllBelow c.args.edit.stamp c.args.run.now.items = search rules in
+    let new : found_in c.args.edit.stamp (log ∷ (left ++ c.args.run.now.items ∷ [])) ≡ None =
+    ap (λ (o : Option Edit). first_of o (found_in c.args.edit.stamp (left ++ c.args.run.now.items ∷ []))) none ∙ c.requires.new in
+    subst (λ (es : List Edit). AreRuns (log ∷ (left ++ es ∷ []))) (sym items) (runs-push laws c.args.edit (log ∷ left) c.args.run.now.items h new below)
+
+pub returns-clause-found : goal.returns-clause-found
+returns-clause-found c = λ s.
+    let laws : SetsHold = record { rises = c.sets_rise.ensures.edit; joins = c.sets_rise.ensures.union; known = c.rising_lists_are_sets.ensures.known } in
+    let left = c.args.settled.now.items in
+    let items : c.push_reserved.new.self.items ≡ c.args.run.now.items ++ c.args.edit ∷ [] = search rules in
+    let below : AllBelow c.args.edit.stamp c.args.run.now.items = search rules in
+    ap (λ (es : List Edit). found_in s (left ++ es ∷ [])) items ∙ found-push laws s c.args.edit left c.args.run.now.items c.requires.runs below
+
+pub returns-clause-count : goal.returns-clause-count
+returns-clause-count c =
+    let left = c.args.settled.now.items in
+    let items : c.push_reserved.new.self.items ≡ c.args.run.now.items ++ c.args.edit ∷ [] = search rules in
+    let is : count_in (left ++ c.push_reserved.new.self.items ∷ []) ≡ count_in (left ++ (c.args.run.now.items ++ c.args.edit ∷ []) ∷ []) = ap (λ (es : List Edit). count_in (left ++ es ∷ [])) items in
+    let last = count-push left c.args.run.now.items c.args.edit in
+    omega (arith, is, last)

@@ -1,0 +1,5 @@
+pub mod Batch
+pub mod Clash
+pub mod Clock
+pub mod Finding
+pub mod Runs

@@ -1,0 +1,284 @@
+//! The edits of a replica, to which others come in any order.
+ghost use Rattle.std.specs.Prelude.{◌≡◌, ◌≢◌, ◌≤◌, ◌<◌, ◌+◌, ◌++◌, ◌∷◌, [], true, false, None, Some, List, length, vec_len, vec_capacity, IfSome, IfNone, OnOk, OnErr};
+ghost use Rattle.zed_types.specs.declared.stamp.Stamp.{Stamp as TheStamp};
+ghost use Rattle.zed_op.specs.declared.op.Edit.{Edit as TheEdit};
+ghost use Rattle.zed_op.specs.Set.{IsRising, with_edit};
+ghost use Rattle.zed_history.specs.Batch.{first_of};
+ghost use Rattle.zed_history.specs.Finding.{AllBelow, edit_with};
+ghost use Rattle.zed_history.specs.Runs.{AreRuns, HasRoom, count_in, found_in, joined};
+
+use crate::moving::move_in;
+use crate::place::{is_latest, place_of, spot_of};
+use crate::run::{Run, find_in, seek_in, settle};
+use std::alloc::{AllocError, Global};
+use std::marker::Model;
+use std::mem::replace;
+use zed_op::{Edit, rising_lists_are_sets, sets_rise};
+use zed_types::Stamp;
+
+/// The edits of a replica in stamp order, to which others come in any order: one that comes late moves none of those that are there,
+/// until the history is closed. Contracts see the edits.
+#[derive(Drop)]
+pub struct History {
+    /// Those that the log began with, and those that came as the latest.
+    log: Vec<Edit>,
+    /// Where one was last sought in the log: the next one is sought there first.
+    at: usize,
+    /// Runs of late edits that ended.
+    settled: Vec<Run>,
+    /// The late edits that came last, in stamp order.
+    run: Vec<Edit>,
+    /// So many are late, or fewer.
+    late: usize,
+    /// Room for all, so that closing takes no memory.
+    spare: Vec<Edit>,
+}
+
+impl Model for History {
+    ghost use Rattle.std.specs.Prelude.{◌≡◌, ◌≤◌, ◌++◌, ◌∷◌, [], List, length, vec_capacity};
+    ghost use Rattle.zed_op.specs.declared.op.Edit.{Edit as TheEdit};
+    ghost use Rattle.zed_history.specs.Runs.{AreRuns, HasRoom, count_in, joined};
+
+    ghost Value = { List TheEdit };
+
+    ghost view = { λ l. joined (l.log.items ∷ (l.settled.items ++ l.run.items ∷ [])) };
+
+    ghost invariant = { λ l. AreRuns (l.log.items ∷ (l.settled.items ++ l.run.items ∷ []))
+        × (l.spare.items ≡ [])
+        × HasRoom (length l.log.items) l.late (vec_capacity l.log) (vec_capacity l.spare)
+        × (count_in (l.settled.items ++ l.run.items ∷ []) ≤ l.late) };
+}
+
+/// Makes room behind a log for so many late edits and one more, and elsewhere for all of them, unless none is late.
+fn make_room(
+    log: &mut Vec<Edit>,
+    late: usize,
+    is_latest: bool,
+    spare: &mut Vec<Edit>,
+) -> Result<(), AllocError>
+    requires empty { spare.old.items ≡ [] }
+    requires few { length log.old.items + late ≤ vec_capacity log.old }
+    ensures latest { OnOk result (is_latest ≡ true → HasRoom (length log.new.items + 1) late
+        (vec_capacity log.new) (vec_capacity spare.new)) }
+    ensures late { OnOk result (is_latest ≡ false → HasRoom (length log.new.items) (late + 1)
+        (vec_capacity log.new) (vec_capacity spare.new)) }
+    ensures kept { (log.new.items ≡ log.old.items) × (spare.new.items ≡ []) }
+    ensures room { (vec_capacity log.old ≤ vec_capacity log.new)
+        × (vec_capacity spare.old ≤ vec_capacity spare.new) }
+    ensures free { OnOk result (vec_len log.new < vec_capacity log.new) }
+{
+    log.reserve(late + 1)?;
+    if late == 0 && is_latest {
+        return Ok(());
+    }
+    spare.reserve(log.len() + late + 1)?;
+    Ok(())
+}
+
+/// Ends a run, and begins one that has room for an edit. Memory leaves all as it was.
+fn start_run(
+    alloc: Global,
+    settled: &mut Vec<Run>,
+    run: &mut Vec<Edit>,
+    spare: &mut Vec<Edit>,
+) -> Result<(), AllocError>
+    requires runs { AreRuns (settled.old.items ++ run.old.items ∷ []) }
+    requires empty { spare.old.items ≡ [] }
+    requires room { count_in (settled.old.items ++ run.old.items ∷ []) ≤ vec_capacity spare.old }
+    ensures empty { OnOk result (run.new.items ≡ []) }
+    ensures free { OnOk result (vec_len run.new < vec_capacity run.new) }
+    ensures runs { OnOk result ((before : List (List TheEdit))
+        → AreRuns (before ++ (settled.old.items ++ run.old.items ∷ []))
+        → AreRuns (before ++ settled.new.items)) }
+    ensures found { OnOk result ((s : TheStamp) → found_in s settled.new.items
+        ≡ found_in s (settled.old.items ++ run.old.items ∷ [])) }
+    ensures count { OnOk result (count_in settled.new.items
+        ≤ count_in (settled.old.items ++ run.old.items ∷ [])) }
+    ensures kept { OnErr result ((settled.new.items ≡ settled.old.items)
+        × (run.new.items ≡ run.old.items)) }
+    ensures spare { (spare.new.items ≡ []) × (vec_capacity spare.new ≡ vec_capacity spare.old) }
+{
+    let mut next = Vec::new(alloc);
+    next.reserve(1)?;
+    settled.reserve(1)?;
+    settle(settled, replace(run, next), spare);
+    Ok(())
+}
+
+/// Begins a run with a new edit. Memory leaves all as it was.
+fn begin_with(
+    alloc: Global,
+    settled: &mut Vec<Run>,
+    run: &mut Vec<Edit>,
+    spare: &mut Vec<Edit>,
+    edit: Edit,
+) -> Result<(), AllocError>
+    requires runs { AreRuns (settled.old.items ++ run.old.items ∷ []) }
+    requires empty { spare.old.items ≡ [] }
+    requires room { count_in (settled.old.items ++ run.old.items ∷ []) ≤ vec_capacity spare.old }
+    requires new { found_in edit.stamp (settled.old.items ++ run.old.items ∷ []) ≡ None }
+    ensures runs { OnOk result ((log : List TheEdit)
+        → AreRuns (log ∷ (settled.old.items ++ run.old.items ∷ []))
+        → edit_with edit.stamp log ≡ None
+        → AreRuns (log ∷ (settled.new.items ++ run.new.items ∷ []))) }
+    ensures found { OnOk result ((s : TheStamp)
+        → found_in s (settled.new.items ++ run.new.items ∷ [])
+        ≡ first_of (found_in s (settled.old.items ++ run.old.items ∷ []))
+        (edit_with s (edit ∷ []))) }
+    ensures count { OnOk result (count_in (settled.new.items ++ run.new.items ∷ [])
+        ≤ count_in (settled.old.items ++ run.old.items ∷ []) + 1) }
+    ensures kept { OnErr result ((settled.new.items ≡ settled.old.items)
+        × (run.new.items ≡ run.old.items)) }
+    ensures spare { (spare.new.items ≡ []) × (vec_capacity spare.new ≡ vec_capacity spare.old) }
+{
+    sets_rise();
+    rising_lists_are_sets();
+    start_run(alloc, settled, run, spare)?;
+    run.push_reserved(edit);
+    Ok(())
+}
+
+/// Puts a new edit behind the last run, or begins one. Memory leaves all as it was.
+fn put_late(
+    alloc: Global,
+    settled: &mut Vec<Run>,
+    run: &mut Vec<Edit>,
+    spare: &mut Vec<Edit>,
+    edit: Edit,
+) -> Result<(), AllocError>
+    requires runs { AreRuns (settled.old.items ++ run.old.items ∷ []) }
+    requires empty { spare.old.items ≡ [] }
+    requires room { count_in (settled.old.items ++ run.old.items ∷ []) ≤ vec_capacity spare.old }
+    requires new { found_in edit.stamp (settled.old.items ++ run.old.items ∷ []) ≡ None }
+    ensures runs { OnOk result ((log : List TheEdit)
+        → AreRuns (log ∷ (settled.old.items ++ run.old.items ∷ []))
+        → edit_with edit.stamp log ≡ None
+        → AreRuns (log ∷ (settled.new.items ++ run.new.items ∷ []))) }
+    ensures found { OnOk result ((s : TheStamp)
+        → found_in s (settled.new.items ++ run.new.items ∷ [])
+        ≡ first_of (found_in s (settled.old.items ++ run.old.items ∷ []))
+        (edit_with s (edit ∷ []))) }
+    ensures count { OnOk result (count_in (settled.new.items ++ run.new.items ∷ [])
+        ≤ count_in (settled.old.items ++ run.old.items ∷ []) + 1) }
+    ensures kept { OnErr result ((settled.new.items ≡ settled.old.items)
+        × (run.new.items ≡ run.old.items)) }
+    ensures spare { (spare.new.items ≡ []) × (vec_capacity spare.new ≡ vec_capacity spare.old) }
+{
+    sets_rise();
+    rising_lists_are_sets();
+    if !is_latest(run, edit.stamp) {
+        return begin_with(alloc, settled, run, spare, edit);
+    }
+    run.reserve(1)?;
+    run.push_reserved(edit);
+    Ok(())
+}
+
+/// The edit with a stamp in a run, if there is one.
+fn find_last(run: &[Edit], stamp: Stamp) -> Option<&Edit>
+    requires { IsRising run.now }
+    ensures some { IfSome result (λ f. edit_with stamp run.now ≡ Some f.now) }
+    ensures none { IfNone result (edit_with stamp run.now ≡ None) }
+{
+    match spot_of(run, run.len(), stamp) {
+        Ok(there) => Some(there),
+        Err(_) => None,
+    }
+}
+
+impl History {
+    /// A log in stamp order, to which edits may come. It takes no memory.
+    pub fn of(log: Vec<Edit>) -> History
+        requires { IsRising log.items }
+        ensures { result ≡ log.items }
+    {
+        let alloc = *log.allocator();
+        History {
+            log,
+            at: 0,
+            settled: Vec::new(alloc),
+            run: Vec::new(alloc),
+            late: 0,
+            spare: Vec::new(alloc),
+        }
+    }
+
+    /// The allocator that keeps the edits.
+    pub fn alloc(&self) -> Global {
+        *self.log.allocator()
+    }
+
+    /// Looks for the place of a stamp, where the next call seeks it first.
+    pub fn seek(&mut self, stamp: Stamp)
+        ensures { self.new ≡ self.old }
+    {
+        self.at = place_of(&self.log, self.at, stamp);
+        seek_in(&mut self.settled, stamp);
+    }
+
+    /// The edit with a stamp, if there is one.
+    pub fn find(&self, stamp: Stamp) -> Option<&Edit>
+        ensures some { IfSome result (λ f. edit_with stamp self.now ≡ Some f.now) }
+        ensures none { IfNone result (edit_with stamp self.now ≡ None) }
+    {
+        sets_rise();
+        rising_lists_are_sets();
+        if let Ok(there) = spot_of(&self.log, self.at.saturating_sub(1), stamp) {
+            return Some(there);
+        }
+        if let Some(there) = find_in(&self.settled, stamp) {
+            return Some(there);
+        }
+        find_last(&self.run, stamp)
+    }
+
+    /// Adds an edit of a new stamp. Memory leaves the edits as they were.
+    pub fn add(&mut self, edit: Edit) -> Result<(), AllocError>
+        requires new { edit_with edit.stamp self.old ≡ None }
+        ensures ok { OnOk result (self.new ≡ with_edit edit self.old) }
+        ensures kept { OnErr result (self.new ≡ self.old) }
+    {
+        sets_rise();
+        rising_lists_are_sets();
+        let alloc = *self.log.allocator();
+        let is_latest = is_latest(&self.log, edit.stamp);
+        make_room(&mut self.log, self.late, is_latest, &mut self.spare)?;
+        if is_latest {
+            self.log.push_reserved(edit);
+            return Ok(());
+        }
+        put_late(
+            alloc,
+            &mut self.settled,
+            &mut self.run,
+            &mut self.spare,
+            edit,
+        )?;
+        self.late += 1;
+        Ok(())
+    }
+
+    /// The edits, all of them in one log. It takes no memory.
+    pub fn close(self) -> Vec<Edit>
+        ensures { result.items ≡ self }
+    {
+        sets_rise();
+        rising_lists_are_sets();
+        let History {
+            mut log,
+            at: _,
+            mut settled,
+            run,
+            late,
+            mut spare,
+        } = self;
+        if late == 0 {
+            return log;
+        }
+        move_in(&mut log, run, &mut spare);
+        while let Some(ended) = settled.pop() {
+            move_in(&mut log, ended.into_edits(), &mut spare);
+        }
+        log
+    }
+}

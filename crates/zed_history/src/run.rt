@@ -1,0 +1,130 @@
+//! Late edits that came in stamp order.
+ghost use Rattle.std.specs.Prelude.{◌≡◌, ◌≤◌, ◌<◌, ◌+◌, ◌++◌, ◌∷◌, [], None, Some, List, length, vec_capacity, IfSome, IfNone};
+ghost use Rattle.zed_types.specs.declared.stamp.Stamp.{Stamp as TheStamp};
+ghost use Rattle.zed_op.specs.declared.op.Edit.{Edit as TheEdit};
+ghost use Rattle.zed_op.specs.Set.{IsRising};
+ghost use Rattle.zed_history.specs.Finding.{edit_with};
+ghost use Rattle.zed_history.specs.Runs.{AreRuns, count_in, found_in};
+
+use crate::moving::move_in;
+use crate::place::{place_of, spot_of};
+use std::marker::Model;
+use zed_op::{Edit, rising_lists_are_sets, sets_rise};
+use zed_types::Stamp;
+
+/// Edits in stamp order, and where one was last sought among them. Contracts see the edits.
+#[derive(Drop)]
+pub(crate) struct Run {
+    edits: Vec<Edit>,
+    at: usize,
+}
+
+impl Model for Run {
+    ghost use Rattle.std.specs.Prelude.{List};
+    ghost use Rattle.zed_op.specs.declared.op.Edit.{Edit as TheEdit};
+    ghost use Rattle.zed_op.specs.Set.{IsRising};
+
+    ghost Value = { List TheEdit };
+
+    ghost view = { λ r. r.edits.items };
+
+    ghost invariant = { λ r. IsRising r.edits.items };
+}
+
+impl Run {
+    pub(crate) fn of(edits: Vec<Edit>) -> Run
+        requires { IsRising edits.items }
+        ensures { result ≡ edits.items }
+    {
+        Run { edits, at: 0 }
+    }
+
+    pub(crate) fn into_edits(self) -> Vec<Edit>
+        ensures result { result.items ≡ self }
+        ensures rising { IsRising result.items }
+    {
+        let Run { edits, at: _ } = self;
+        edits
+    }
+
+    /// Looks for the place of a stamp, where the next call seeks it first.
+    fn seek(&mut self, stamp: Stamp)
+        ensures { self.new ≡ self.old }
+    {
+        self.at = place_of(&self.edits, self.at, stamp);
+    }
+
+    /// The edit with a stamp, if there is one.
+    fn find(&self, stamp: Stamp) -> Option<&Edit>
+        ensures some { IfSome result (λ f. edit_with stamp self.now ≡ Some f.now) }
+        ensures none { IfNone result (edit_with stamp self.now ≡ None) }
+    {
+        match spot_of(&self.edits, self.at.saturating_sub(1), stamp) {
+            Ok(there) => Some(there),
+            Err(_) => None,
+        }
+    }
+}
+
+/// Looks for the place of a stamp in each of some runs.
+pub(crate) fn seek_in(runs: &mut [Run], stamp: Stamp)
+    ensures { runs.new ≡ runs.old }
+{
+    for run in runs.iter_mut() {
+        run.seek(stamp);
+    }
+}
+
+/// The edit with a stamp in some runs, if there is one.
+pub(crate) fn find_in(runs: &[Run], stamp: Stamp) -> Option<&Edit>
+    ensures some { IfSome result (λ f. found_in stamp runs.now ≡ Some f.now) }
+    ensures none { IfNone result (found_in stamp runs.now ≡ None) }
+{
+    for run in runs {
+        if let Some(there) = run.find(stamp) {
+            return Some(there);
+        }
+    }
+    None
+}
+
+/// Takes the last of some runs, with room for so many edits more, unless it is twice as long.
+fn take_short(settled: &mut Vec<Run>, more: usize) -> Option<Vec<Edit>>
+    ensures some { IfSome result (λ below. (settled.old.items ≡ settled.new.items ++ below.items ∷ [])
+        × (length below.items + more ≤ vec_capacity below)) }
+    ensures none { IfNone result (settled.new.items ≡ settled.old.items) }
+    ensures capacity { vec_capacity settled.new ≡ vec_capacity settled.old }
+{
+    let last = settled.pop()?;
+    let mut edits = last.into_edits();
+    if edits.len() / 2 >= more || edits.reserve(more).is_err() {
+        settled.push_reserved(Run::of(edits));
+        return None;
+    }
+    Some(edits)
+}
+
+/// Puts a run that ended behind others, joined with those that are not twice as long.
+pub(crate) fn settle(settled: &mut Vec<Run>, ended: Vec<Edit>, spare: &mut Vec<Edit>)
+    requires runs { AreRuns (settled.old.items ++ ended.items ∷ []) }
+    requires free { length settled.old.items < vec_capacity settled.old }
+    requires empty { spare.old.items ≡ [] }
+    requires room { count_in (settled.old.items ++ ended.items ∷ []) ≤ vec_capacity spare.old }
+    ensures runs { (before : List (List TheEdit))
+        → AreRuns (before ++ (settled.old.items ++ ended.items ∷ []))
+        → AreRuns (before ++ settled.new.items) }
+    ensures found { (s : TheStamp) → found_in s settled.new.items
+        ≡ found_in s (settled.old.items ++ ended.items ∷ []) }
+    ensures count { count_in settled.new.items
+        ≤ count_in (settled.old.items ++ ended.items ∷ []) }
+    ensures spare { (spare.new.items ≡ []) × (vec_capacity spare.new ≡ vec_capacity spare.old) }
+{
+    sets_rise();
+    rising_lists_are_sets();
+    let mut edits = ended;
+    while let Some(mut below) = take_short(settled, edits.len()) {
+        move_in(&mut below, edits, spare);
+        edits = below;
+    }
+    settled.push_reserved(Run::of(edits));
+}
