@@ -39,9 +39,7 @@ fn stamp_each(alloc: Global, stamp: Stamp) -> Result<Vec<Stamp>, CellsError>
 {
     let mut stamps = Vec::new(alloc);
     for _ in 0..TILES {
-        if stamps.push(stamp).is_err() {
-            return Err(CellsError::Memory);
-        }
+        stamps.push(stamp)?;
     }
     Ok(stamps)
 }

@@ -1,5 +1,8 @@
 //! Why registers can't be made.
+ghost use Rattle.std.specs.Prelude.{◌≡◌};
+ghost use Rattle.zed_cells.specs.declared.error.CellsError.TheVariants.{Memory};
 
+use std::alloc::AllocFailed;
 use thiserror::Error;
 
 /// Why registers can't be made.
@@ -8,4 +11,12 @@ pub enum CellsError {
     /// A growth was refused.
     #[error("out of memory")]
     Memory,
+}
+
+impl<T: Drop> From<AllocFailed<T>> for CellsError {
+    ghost from_gives = { λ _ e. e ≡ Memory };
+
+    fn from(_error: AllocFailed<T>) -> CellsError {
+        CellsError::Memory
+    }
 }

@@ -45,7 +45,8 @@ pub(crate) fn reserve(block: &mut Block) -> Result<(), CodeError>
     ensures kept { block.new.runs.items ≡ block.old.runs.items }
     ensures room { OnOk result (HasRoom block.new) }
 {
-    block.runs.reserve(2).map_err(CodeError::of_growth)
+    block.runs.reserve(2)?;
+    Ok(())
 }
 
 /// Puts a run at a place, or into the run there, where that is cut. Answers its place.

@@ -50,7 +50,7 @@ fn halve(block: &mut Block, id: usize) -> Result<Block, CodeError>
 {
     let half = block.runs.len() / 2;
     let alloc = *block.runs.allocator();
-    let runs = Vec::from_slice(alloc, &block.runs[half..]).map_err(CodeError::of_growth)?;
+    let runs = Vec::from_slice(alloc, &block.runs[half..])?;
     block.runs.truncate(half);
     Ok(Block { runs, id })
 }
@@ -78,8 +78,8 @@ fn split(blocks: &mut Vec<Block>, places: &mut Vec<usize>, at: Spot) -> Result<S
     ensures ok { IfOk result (λ to.
         IsMoved (lists blocks.old.items) (lists blocks.new.items) at to) }
 {
-    places.reserve(1).map_err(CodeError::of_growth)?;
-    blocks.reserve(1).map_err(CodeError::of_growth)?;
+    places.reserve(1)?;
+    blocks.reserve(1)?;
     let behind = halve(&mut blocks[at.block], places.len())?;
     let half = runs_at(blocks, at.block).len();
     blocks.insert(at.block + 1, behind).unwrap();

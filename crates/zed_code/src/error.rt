@@ -1,7 +1,8 @@
 //! Why a text can't be made or changed.
 ghost use Rattle.std.specs.Prelude.{◌≡◌};
+ghost use Rattle.zed_code.specs.declared.error.CodeError.TheVariants.{Memory};
 
-use std::alloc::AllocError;
+use std::alloc::{AllocError, AllocFailed};
 use thiserror::Error;
 
 /// Why a text can't be made or changed. Its text is for whoever debugs; the program prints none of it.
@@ -12,11 +13,18 @@ pub enum CodeError {
     Memory,
 }
 
-impl CodeError {
-    /// The refusal for a growth that was refused.
-    pub(crate) fn of_growth(_refused: AllocError) -> CodeError
-        ensures { result ≡ CodeError.Memory }
-    {
+impl From<AllocError> for CodeError {
+    ghost from_gives = { λ _ e. e ≡ Memory };
+
+    fn from(_error: AllocError) -> CodeError {
+        CodeError::Memory
+    }
+}
+
+impl<T: Drop> From<AllocFailed<T>> for CodeError {
+    ghost from_gives = { λ _ e. e ≡ Memory };
+
+    fn from(_error: AllocFailed<T>) -> CodeError {
         CodeError::Memory
     }
 }

@@ -152,15 +152,11 @@ fn put_alone(blocks: &mut Vec<Block>, places: &mut Vec<usize>, run: Run) -> Resu
     ensures spot { IfOk result (λ at. at ≡ record { block = 0; place = 0 }) }
     ensures err { OnErr result (blocks.new.items ≡ []) }
 {
-    places.reserve(1).map_err(CodeError::of_growth)?;
+    places.reserve(1)?;
     let mut runs = Vec::new(*blocks.allocator());
-    if runs.push(run).is_err() {
-        return Err(CodeError::Memory);
-    }
+    runs.push(run)?;
     let id = places.len();
-    if blocks.push(Block { runs, id }).is_err() {
-        return Err(CodeError::Memory);
-    }
+    blocks.push(Block { runs, id })?;
     places.push(0).unwrap();
     Ok(Spot { block: 0, place: 0 })
 }

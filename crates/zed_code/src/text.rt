@@ -66,12 +66,8 @@ fn first_blocks(alloc: Global, len: u32) -> Result<Vec<Block>, CodeError>
     if len > 0 {
         let mut runs = Vec::new(alloc);
         let run = Run::whole(Stamp::GENESIS, 0, len);
-        if runs.push(run).is_err() {
-            return Err(CodeError::Memory);
-        }
-        if blocks.push(Block { runs, id: 0 }).is_err() {
-            return Err(CodeError::Memory);
-        }
+        runs.push(run)?;
+        blocks.push(Block { runs, id: 0 })?;
     }
     Ok(blocks)
 }
@@ -102,12 +98,10 @@ impl Text {
         if bytes.is_empty() {
             return Ok(Text::new(alloc));
         }
-        let store = Vec::from_slice(alloc, bytes).map_err(CodeError::of_growth)?;
+        let store = Vec::from_slice(alloc, bytes)?;
         let blocks = first_blocks(alloc, bytes.len() as u32)?;
         let mut places = Vec::new(alloc);
-        if places.push(0).is_err() {
-            return Err(CodeError::Memory);
-        }
+        places.push(0)?;
         Ok(Text {
             store,
             blocks,
@@ -166,9 +160,7 @@ impl Text {
         ensures looks { OnOk result (LooksAtLeast
             (looks_to_insert after stamp self.old.cutting) self.old.visits self.new.visits) }
     {
-        self.store
-            .reserve(bytes.len())
-            .map_err(CodeError::of_growth)?;
+        self.store.reserve(bytes.len())?;
         let run = Run::whole(stamp, self.store.len(), bytes.len() as u32);
         let last = ElemId::new(stamp, bytes.len() as u32 - 1);
         let found = self.found;
@@ -244,7 +236,7 @@ impl Text {
         ensures memory_only_when { OnErr result
             (vec_capacity out.old < vec_len out.old + length (alive_bytes (elements self.now))) }
     {
-        out.reserve(self.length()).map_err(CodeError::of_growth)?;
+        out.reserve(self.length())?;
         for block in &self.blocks {
             push_live(out, &self.store, &block.runs);
         }

@@ -30,10 +30,8 @@ fn add(edits: &mut Vec<Edit>, edit: Edit) -> Result<(), BodyError>
     ensures ok { OnOk result (edits.new.items ≡ edits.old.items ++ edit ∷ []) }
     ensures err { IfErr result (λ e. e ≡ BodyError.Memory) }
 {
-    match edits.push(edit) {
-        Ok(()) => Ok(()),
-        Err(_) => Err(BodyError::Memory),
-    }
+    edits.push(edit)?;
+    Ok(())
 }
 
 impl Body {
@@ -73,12 +71,8 @@ impl Body {
         ensures err { IfErr result (λ e. e ≡ BodyError.Memory) }
         ensures inbox { self.new.inbox ≡ self.old.inbox }
     {
-        if self.live.take(alloc, edit).is_err() {
-            return Err(BodyError::Memory);
-        }
-        if self.texts.take(alloc, edit).is_err() {
-            return Err(BodyError::Memory);
-        }
+        self.live.take(alloc, edit)?;
+        self.texts.take(alloc, edit)?;
         Ok(())
     }
 
@@ -108,10 +102,8 @@ impl Body {
         ensures texts { self.new.texts ≡ self.old.texts }
         ensures kept { OnErr result (self.new ≡ self.old) }
     {
-        match self.inbox.hold(edit) {
-            Ok(()) => Ok(()),
-            Err(_) => Err(BodyError::Memory),
-        }
+        self.inbox.hold(edit)?;
+        Ok(())
     }
 
     /// Does an edit in hand that can be done, and adds it to those done.
@@ -169,10 +161,8 @@ impl Body {
         ensures texts { self.new.texts ≡ self.old.texts }
         ensures kept { OnErr result (self.new ≡ self.old) }
     {
-        match self.inbox.release(thing) {
-            Ok(edits) => Ok(edits),
-            Err(_) => Err(BodyError::Memory),
-        }
+        let edits = self.inbox.release(thing)?;
+        Ok(edits)
     }
 
     /// Tries edits in hand, one after the other. Memory may leave a part of them done.

@@ -17,10 +17,8 @@ fn add(things: &mut Vec<Thing>, thing: Thing) -> Result<(), BodyError>
     ensures ok { OnOk result (things.new.items ≡ things.old.items ++ thing ∷ []) }
     ensures err { IfErr result (λ e. e ≡ BodyError.Memory) }
 {
-    match things.push(thing) {
-        Ok(()) => Ok(()),
-        Err(_) => Err(BodyError::Memory),
-    }
+    things.push(thing)?;
+    Ok(())
 }
 
 fn add_boards(things: &mut Vec<Thing>, boards: &[Board]) -> Result<(), BodyError>
@@ -105,10 +103,8 @@ fn made_alone(alloc: Global, edit: &Edit) -> Result<Vec<Thing>, BodyError>
     ensures err { IfErr result (λ e. e ≡ BodyError.Memory) }
 {
     let mut made = Plain::empty(alloc);
-    match step(alloc, &mut made, edit) {
-        Ok(()) => all_of(alloc, &made),
-        Err(_) => Err(BodyError::Memory),
-    }
+    step(alloc, &mut made, edit)?;
+    all_of(alloc, &made)
 }
 
 /// The bytes that an insertion makes.

@@ -16,10 +16,8 @@ use zed_types::Stamp;
 fn tell(woken: &mut Vec<Stamp>, stamp: Stamp) -> Result<(), BodyError>
     ensures err { IfErr result (λ e. e ≡ BodyError.Memory) }
 {
-    match woken.push(stamp) {
-        Ok(()) => Ok(()),
-        Err(_) => Err(BodyError::Memory),
-    }
+    woken.push(stamp)?;
+    Ok(())
 }
 
 impl Body {

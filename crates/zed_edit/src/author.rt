@@ -30,7 +30,8 @@ fn add_board(alloc: Global, plain: &mut Plain, stamp: Stamp, name: &Bytes) -> Re
     let id = BoardId::new(stamp, 0);
     let player = StatId::new(stamp, 0);
     let board = new_board(alloc, id, player, name)?;
-    plain.boards.push(board).map_err(EditError::of_growth)
+    plain.boards.push(board)?;
+    Ok(())
 }
 
 fn add_stat(
@@ -56,7 +57,8 @@ fn add_text(alloc: Global, plain: &mut Plain, stamp: Stamp) -> Result<(), EditEr
         id: TextId::new(stamp, 0),
         elements: Seq::new(alloc),
     };
-    plain.texts.push(text).map_err(EditError::of_growth)
+    plain.texts.push(text)?;
+    Ok(())
 }
 
 /// Does an edit.
@@ -98,7 +100,8 @@ fn hold(plain: &mut Plain, edit: &Edit) -> Result<(), EditError>
     ensures err { IfErr result (λ e. e ≡ EditError.Memory) }
     ensures kept { OnErr result (plain.new.held ≡ plain.old.held) }
 {
-    plain.held.push(edit.stamp).map_err(EditError::of_growth)
+    plain.held.push(edit.stamp)?;
+    Ok(())
 }
 
 /// Replays one edit more, which comes after those that the document has: does it where all that it names was made, and else keeps its stamp as that of a held edit.

@@ -90,10 +90,7 @@ fn new_properties(alloc: Global, name: &Bytes) -> Result<Properties, EditError>
         time_limit: 0,
         rank: 0,
         exits: [None; 4],
-        texts: [
-            name.copy().map_err(EditError::of_growth)?,
-            Bytes::new(Vec::new(alloc)),
-        ],
+        texts: [name.copy()?, Bytes::new(Vec::new(alloc))],
     })
 }
 
@@ -109,9 +106,7 @@ pub(crate) fn new_board(
 {
     let properties = new_properties(alloc, name)?;
     let mut stats = Seq::new(alloc);
-    stats
-        .push(new_stat(player, true, player_fields()))
-        .map_err(EditError::of_growth)?;
+    stats.push(new_stat(player, true, player_fields()))?;
     Ok(Board {
         id,
         tiles: new_table(),
@@ -126,7 +121,7 @@ fn add_if(board: &mut Board, b: BoardId, stat: Stat) -> Result<(), EditError>
     ensures err { IfErr result (λ e. e ≡ EditError.Memory) }
 {
     if board.id == b {
-        board.stats.push(stat).map_err(EditError::of_growth)?;
+        board.stats.push(stat)?;
     }
     Ok(())
 }

@@ -30,7 +30,7 @@ fn open_boards(
     let mut t = 0;
     for (n, board) in boards.iter().enumerate() {
         let next = opened_board(alloc, stamp, n, m, t, board)?;
-        opened.push(next).map_err(EditError::of_growth)?;
+        opened.push(next)?;
         m += board.stats.as_slice().len();
         t += programs_before(board.stats.as_slice().len(), board.stats.as_slice());
     }
@@ -55,12 +55,12 @@ fn open_text(
     let Code::Own(program) = &stat.code else {
         return Ok(t);
     };
-    let run = run_of(alloc, stamp, program.as_slice()).map_err(EditError::of_growth)?;
+    let run = run_of(alloc, stamp, program.as_slice())?;
     let text = Text {
         id: TextId::new(stamp, t as u32),
         elements: Seq::from_vec(run),
     };
-    texts.push(text).map_err(EditError::of_growth)?;
+    texts.push(text)?;
     Ok(t + 1)
 }
 

@@ -57,12 +57,8 @@ pub(crate) fn set_header(header: &mut Header, setting: &HeaderSetting) -> Result
         HeaderSetting::Key(key, held) => header.keys[usize::from(key.index())] = *held,
         HeaderSetting::Saved(saved) => header.saved = *saved,
         HeaderSetting::CurrentBoard(b) => header.current_board = *b,
-        HeaderSetting::WorldName(name) => header.world_name = name
-            .copy()
-            .map_err(EditError::of_growth)?,
-        HeaderSetting::Flag(slot, flag) => {
-            header.flags[usize::from(slot.index())] = flag.copy().map_err(EditError::of_growth)?
-        }
+        HeaderSetting::WorldName(name) => header.world_name = name.copy()?,
+        HeaderSetting::Flag(slot, flag) => header.flags[usize::from(slot.index())] = flag.copy()?,
     }
     Ok(())
 }

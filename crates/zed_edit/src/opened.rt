@@ -25,7 +25,7 @@ fn copy_of(bytes: &Bytes) -> Result<Bytes, EditError>
     ensures result { IfOk result (λ copy. copy ≡ bytes.now) }
     ensures err { IfErr result (λ e. e ≡ EditError.Memory) }
 {
-    bytes.copy().map_err(EditError::of_growth)
+    Ok(bytes.copy()?)
 }
 
 fn flags_of(flags: &[Bytes]) -> Result<[Bytes; 10], EditError>
@@ -186,9 +186,7 @@ fn opened_stats(
 {
     let mut opened = Seq::new(alloc);
     for (j, x) in board.stats.as_slice().iter().enumerate() {
-        opened
-            .push(opened_stat(stamp, m, t, board, j, x))
-            .map_err(EditError::of_growth)?;
+        opened.push(opened_stat(stamp, m, t, board, j, x))?;
     }
     Ok(opened)
 }

@@ -24,9 +24,7 @@ pub(crate) fn set_property(
         BoardSetting::Rank(n) => properties.rank = *n,
         BoardSetting::Exit(side, board) => properties.exits[usize::from(side.index())] = *board,
         BoardSetting::Text(field, text) => {
-            properties.texts[usize::from(field.index())] = text
-                .copy()
-                .map_err(EditError::of_growth)?
+            properties.texts[usize::from(field.index())] = text.copy()?
         }
     }
     Ok(())

@@ -38,7 +38,7 @@ impl Plain {
         ensures memory_only_when { IfErr result (λ e. 0 < length (text_shown self.now t)) }
     {
         match text_named(self, t) {
-            Some(x) => alive_bytes(alloc, x.elements.as_slice()).map_err(EditError::of_growth),
+            Some(x) => Ok(alive_bytes(alloc, x.elements.as_slice())?),
             None => Ok(Vec::new(alloc)),
         }
     }

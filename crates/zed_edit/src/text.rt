@@ -68,8 +68,8 @@ fn insert_if(alloc: Global, text: &mut Text, put: Insertion, bytes: &[u8]) -> Re
     ensures err { IfErr result (λ e. e ≡ EditError.Memory) }
 {
     if text.id == put.text {
-        let run = run_of(alloc, put.stamp, bytes).map_err(EditError::of_growth)?;
-        put_run(&mut text.elements, put.after, run).map_err(EditError::of_growth)?;
+        let run = run_of(alloc, put.stamp, bytes)?;
+        put_run(&mut text.elements, put.after, run)?;
     }
     Ok(())
 }

@@ -1,5 +1,6 @@
 //! Why an inbox doesn't do what it is asked.
 ghost use Rattle.std.specs.Prelude.{◌≡◌};
+ghost use Rattle.zed_inbox.specs.declared.error.InboxError.TheVariants.{Memory};
 
 use std::alloc::AllocError;
 use thiserror::Error;
@@ -11,11 +12,10 @@ pub enum InboxError {
     Memory,
 }
 
-impl InboxError {
-    /// The refusal for a growth that was refused.
-    pub(crate) fn of_growth(_refused: AllocError) -> InboxError
-        ensures { result ≡ InboxError.Memory }
-    {
+impl From<AllocError> for InboxError {
+    ghost from_gives = { λ _ e. e ≡ Memory };
+
+    fn from(_error: AllocError) -> InboxError {
         InboxError::Memory
     }
 }

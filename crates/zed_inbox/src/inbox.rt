@@ -97,9 +97,7 @@ impl Inbox {
         ensures err { IfErr result (λ e. e ≡ InboxError.Memory) }
         ensures memory_only_when { OnErr result (self.now ≢ []) }
     {
-        let mut stamps = Vec::with_capacity(self.alloc, self.held()).map_err(
-            InboxError::of_growth,
-        )?;
+        let mut stamps = Vec::with_capacity(self.alloc, self.held())?;
         for stamp in self.edits.keys() {
             stamps.push(*stamp).unwrap();
         }
@@ -144,9 +142,7 @@ impl Inbox {
         ensures kept { OnErr result (self.new ≡ self.old) }
         ensures memory_only_when { OnErr result (naming _thing self.old ≢ []) }
     {
-        let mut taken = Vec::with_capacity(self.alloc, stamps.len()).map_err(
-            InboxError::of_growth,
-        )?;
+        let mut taken = Vec::with_capacity(self.alloc, stamps.len())?;
         for stamp in stamps {
             match self.take(*stamp) {
                 Some(edit) => taken.push(edit).unwrap(),

@@ -50,7 +50,7 @@ impl LiveBoard {
         let mut from = copy_properties(&made.properties)?;
         let mut properties = LiveProperties::new();
         properties.write_all(alloc, stamp, &mut from);
-        let cells = Cells::new(alloc, made.tiles, stamp).map_err(LiveError::of_cells)?;
+        let cells = Cells::new(alloc, made.tiles, stamp)?;
         let stats = stats_made(alloc, made.stats.as_slice())?;
         Ok(LiveBoard {
             properties,

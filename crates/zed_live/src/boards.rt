@@ -78,9 +78,7 @@ fn all_as_made(
     let mut made = Vec::new(alloc);
     for board in boards {
         let live = LiveBoard::new(alloc, stamp, board)?;
-        if made.push((board.id, live)).is_err() {
-            return Err(LiveError::Memory);
-        }
+        made.push((board.id, live))?;
     }
     Ok(made)
 }
@@ -229,9 +227,7 @@ impl LiveBoards {
     {
         list_made(&mut self.homes, boards)?;
         let made = all_as_made(alloc, stamp, boards)?;
-        if self.entries.reserve(made.len()).is_err() {
-            return Err(LiveError::Memory);
-        }
+        self.entries.reserve(made.len())?;
         add_each(&mut self.entries, made);
         Ok(())
     }

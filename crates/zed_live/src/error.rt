@@ -1,7 +1,8 @@
 //! Why a live document doesn't take an edit.
 ghost use Rattle.std.specs.Prelude.{◌≡◌};
+ghost use Rattle.zed_live.specs.declared.error.LiveError.TheVariants.{Memory};
 
-use std::alloc::AllocError;
+use std::alloc::{AllocError, AllocFailed};
 use thiserror::Error;
 use zed_cells::CellsError;
 use zed_stats::StatsError;
@@ -14,25 +15,34 @@ pub enum LiveError {
     Memory,
 }
 
-impl LiveError {
-    /// The refusal for a growth that was refused.
-    pub(crate) fn of_growth(_refused: AllocError) -> LiveError
-        ensures { result ≡ LiveError.Memory }
-    {
+impl From<AllocError> for LiveError {
+    ghost from_gives = { λ _ e. e ≡ Memory };
+
+    fn from(_error: AllocError) -> LiveError {
         LiveError::Memory
     }
+}
 
-    /// The refusal for cells that can't be made.
-    pub(crate) fn of_cells(_refused: CellsError) -> LiveError
-        ensures { result ≡ LiveError.Memory }
-    {
+impl<T: Drop> From<AllocFailed<T>> for LiveError {
+    ghost from_gives = { λ _ e. e ≡ Memory };
+
+    fn from(_error: AllocFailed<T>) -> LiveError {
         LiveError::Memory
     }
+}
 
-    /// The refusal for a stat that can't be added.
-    pub(crate) fn of_stats(_refused: StatsError) -> LiveError
-        ensures { result ≡ LiveError.Memory }
-    {
+impl From<CellsError> for LiveError {
+    ghost from_gives = { λ _ e. e ≡ Memory };
+
+    fn from(_error: CellsError) -> LiveError {
+        LiveError::Memory
+    }
+}
+
+impl From<StatsError> for LiveError {
+    ghost from_gives = { λ _ e. e ≡ Memory };
+
+    fn from(_error: StatsError) -> LiveError {
         LiveError::Memory
     }
 }

@@ -82,7 +82,7 @@ pub(crate) fn copy_bytes(bytes: &Bytes) -> Result<Bytes, LiveError>
     ensures ok { IfOk result (λ b. b ≡ bytes.now) }
     ensures err { IfErr result (λ e. e ≡ LiveError.Memory) }
 {
-    bytes.copy().map_err(LiveError::of_growth)
+    Ok(bytes.copy()?)
 }
 
 impl LiveHeader {
@@ -108,7 +108,7 @@ impl LiveHeader {
         ensures kept { OnErr result (self.new ≡ self.old) }
         ensures memory_only_when { OnErr result (header_has_string setting.now ≡ true) }
     {
-        self.put(stamp, setting.copy().map_err(LiveError::of_growth)?);
+        self.put(stamp, setting.copy()?);
         Ok(())
     }
 

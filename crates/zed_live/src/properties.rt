@@ -86,7 +86,7 @@ impl LiveProperties {
         ensures kept { OnErr result (self.new ≡ self.old) }
         ensures memory_only_when { OnErr result (board_has_string setting.now ≡ true) }
     {
-        self.put(stamp, setting.copy().map_err(LiveError::of_growth)?);
+        self.put(stamp, setting.copy()?);
         Ok(())
     }
 

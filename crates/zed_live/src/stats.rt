@@ -29,10 +29,8 @@ fn add_stat(stats: &mut Stats, made: &Stat) -> Result<(), LiveError>
     ensures err { IfErr result (λ e. e ≡ LiveError.Memory) }
     ensures kept { OnErr result (stats.new ≡ stats.old) }
 {
-    match stats.add(made.id, made.is_player, values_of(made)) {
-        Ok(()) => Ok(()),
-        Err(refused) => Err(LiveError::of_stats(refused)),
-    }
+    stats.add(made.id, made.is_player, values_of(made))?;
+    Ok(())
 }
 
 /// Stats as the edit that makes their board leaves them.

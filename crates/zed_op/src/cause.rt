@@ -1,7 +1,8 @@
 //! Why an edit is refused.
 ghost use Rattle.std.specs.Prelude.{◌≡◌};
+ghost use Rattle.zed_op.specs.declared.cause.EditError.TheVariants.{Memory};
 
-use std::alloc::AllocError;
+use std::alloc::{AllocError, AllocFailed};
 use thiserror::Error;
 
 /// Why an edit is refused. The first four are found while a record of an edit file is read, the others in the edit itself.
@@ -34,11 +35,18 @@ pub enum EditError {
     BadEdit(Cause),
 }
 
-impl EditError {
-    /// The refusal for a growth that was refused.
-    pub fn of_growth(_refused: AllocError) -> EditError
-        ensures { result ≡ EditError.Memory }
-    {
+impl From<AllocError> for EditError {
+    ghost from_gives = { λ _ e. e ≡ Memory };
+
+    fn from(_error: AllocError) -> EditError {
+        EditError::Memory
+    }
+}
+
+impl<T: Drop> From<AllocFailed<T>> for EditError {
+    ghost from_gives = { λ _ e. e ≡ Memory };
+
+    fn from(_error: AllocFailed<T>) -> EditError {
         EditError::Memory
     }
 }

@@ -14,7 +14,7 @@ fn copy_bytes(bytes: &Bytes) -> Result<Bytes, EditError>
     ensures err { IfErr result (λ e. e ≡ Memory) }
     ensures memory_only_when { IfErr result (λ e. has_bytes bytes.now ≡ true) }
 {
-    bytes.copy().map_err(EditError::of_growth)
+    Ok(bytes.copy()?)
 }
 
 impl Op {
@@ -25,13 +25,10 @@ impl Op {
     {
         Ok(match self {
             Op::Genesis(bytes) => Op::Genesis(copy_bytes(bytes)?),
-            Op::SetHeader(setting) => Op::SetHeader(setting.copy().map_err(EditError::of_growth)?),
+            Op::SetHeader(setting) => Op::SetHeader(setting.copy()?),
             Op::BoardAdd(name) => Op::BoardAdd(copy_bytes(name)?),
             Op::BoardRemove(board) => Op::BoardRemove(*board),
-            Op::SetBoard(board, setting) => Op::SetBoard(
-                *board,
-                setting.copy().map_err(EditError::of_growth)?,
-            ),
+            Op::SetBoard(board, setting) => Op::SetBoard(*board, setting.copy()?),
             Op::SetCells(board, cells, tile) => Op::SetCells(*board, *cells, *tile),
             Op::StatAdd(board, fields) => Op::StatAdd(*board, *fields),
             Op::StatRemove(stat) => Op::StatRemove(*stat),

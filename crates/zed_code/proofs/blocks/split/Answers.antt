@@ -10,11 +10,11 @@ use Rattle.zed_code.proofs.Rooms.{lists-kept}
 use Rattle.zed_code.proofs.Halves.{same-kept, split-same, split-moved}
 use Rattle.zed_code.proofs.blocks.split.Goals as goal
 
-pub returns-in_err-map_err-clause-same : goal.returns-in_err-map_err-clause-same
-returns-in_err-map_err-clause-same c = same-kept (lists c.args.blocks.now.items) c.args.places.now.items c.reserve.new.self.items c.reserve.ensures.items
+pub returns-in_err-reserve-clause-same : goal.returns-in_err-reserve-clause-same
+returns-in_err-reserve-clause-same c = same-kept (lists c.args.blocks.now.items) c.args.places.now.items c.reserve.new.self.items c.reserve.ensures.items
 
-pub returns-in_err-map_err-2-clause-same : goal.returns-in_err-map_err-2-clause-same
-returns-in_err-map_err-2-clause-same c =
+pub returns-in_err-reserve-2-clause-same : goal.returns-in_err-reserve-2-clause-same
+returns-in_err-reserve-2-clause-same c =
     let P : List (List Run) → Type 0 = λ ls. IsSameText (lists c.args.blocks.now.items) ls c.args.places.now.items c.reserve.new.self.items in
     subst P (sym (ap lists c.reserve-2.ensures.items)) (same-kept (lists c.args.blocks.now.items) c.args.places.now.items c.reserve.new.self.items c.reserve.ensures.items)
 
