@@ -2,10 +2,9 @@
 
 ghost use Rattle.std.specs.Prelude.{◌<◌};
 
-use crate::line::Line;
-use crate::trouble::Trouble;
-use crate::worlds::rewritten;
+use crate::worlds::{no_world, rewritten};
 use std::alloc::{AllocError, Global};
+use test_rows::{Line, Trouble};
 use zed_world::is_canonical;
 
 /// Appends zeros.
@@ -227,8 +226,9 @@ fn put_file(
         return Err(Trouble::Line);
     }
     let bytes = file(alloc, dice, others, most)?;
-    let text = rewritten(alloc, bytes.as_slice(), 32767)??;
-    let is_same = text.as_slice() == bytes.as_slice() && is_canonical(alloc, text.as_slice())?;
+    let text = rewritten(alloc, bytes.as_slice(), 32767)?.map_err(no_world)?;
+    let is_canonical = is_canonical(alloc, text.as_slice()).map_err(no_world)?;
+    let is_same = text.as_slice() == bytes.as_slice() && is_canonical;
     seen.push_str(if is_same {
         "written so, canonical\n"
     } else {

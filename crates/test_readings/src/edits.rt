@@ -1,11 +1,14 @@
 //! Edit files as they are read in pieces and written again.
-use crate::line::{Line, number_of};
-use crate::stage::Stage;
-use crate::trouble::Trouble;
 use std::alloc::{AllocError, Global};
 use std::fmt::Write;
+use test_rows::{Line, Names, Trouble, size_of};
 use zed_editfile::{EditFileError, EditReader, write_edit, write_head};
 use zed_op::{Edit, check};
+
+/// Why a row that writes edits can't be done.
+fn no_edit(_fault: EditFileError) -> Trouble {
+    Trouble::Other("no edit is written")
+}
 
 /// What was read of a file.
 #[derive(Drop)]
@@ -31,7 +34,7 @@ fn read(alloc: Global, bytes: &[u8], size: usize) -> Found {
 
 fn put_edit(alloc: Global, edit: &Edit, out: &mut Vec<u8>) -> Result<(), Trouble> {
     match check(alloc, edit) {
-        Ok(()) => Ok(write_edit(edit, out)?),
+        Ok(()) => write_edit(edit, out).map_err(no_edit),
         Err(_) => Err(Trouble::Line),
     }
 }
@@ -60,7 +63,7 @@ impl Found {
     fn again(&self, alloc: Global) -> Result<Vec<u8>, Trouble> {
         let mut out = Vec::new(alloc);
         if let Some(world) = self.world {
-            write_head(world, &mut out)?;
+            write_head(world, &mut out).map_err(no_edit)?;
         }
         for edit in self.edits.iter() {
             put_edit(alloc, edit, &mut out)?;
@@ -170,7 +173,7 @@ fn put_answers(
 ) -> Result<(), Trouble> {
     let mut left = bytes;
     for word in ends.split(' ') {
-        let len = number_of(word)?;
+        let len = size_of(word)?;
         if left.len() < len {
             return Err(Trouble::Line);
         }
@@ -203,23 +206,23 @@ fn put_pieces(
     line: &mut Line,
     seen: &mut String,
 ) -> Result<(), Trouble> {
-    let size = line.number()?;
+    let size = line.size()?;
     put_read(alloc, bytes, size, seen)
 }
 
 /// Appends what is seen of edit files.
 pub fn put_edits(
     alloc: Global,
-    stage: &Stage,
+    names: &Names,
     line: &mut Line,
     seen: &mut String,
 ) -> Result<(), Trouble> {
     let act = line.word()?;
-    let bytes = stage.bytes(line.word()?)?;
+    let bytes = names.bytes(line.word()?)?;
     match act {
         "read" => put_read(alloc, bytes, bytes.len(), seen),
         "pieces" => put_pieces(alloc, bytes, line, seen),
-        "written" => put_written(alloc, bytes, stage.bytes(line.word()?)?, seen),
+        "written" => put_written(alloc, bytes, names.bytes(line.word()?)?, seen),
         "shown" => put_shown(alloc, bytes, seen),
         "cuts" => put_cuts(alloc, bytes, seen),
         "replaced" => put_replaced(alloc, bytes, seen),

@@ -9,41 +9,29 @@
 #![tactic(auto)]
 
 mod book;
-mod bytes;
 mod dice;
 mod edits;
-mod line;
 mod programs;
 mod records;
 mod stage;
-mod trouble;
 mod worlds;
 
-use book::Report;
+use book::report_of;
 use std::process::ExitCode;
-use std::{env, fs, io};
+use std::{fs, io};
+use test_rows::{Asked, exit_of};
 
 /// Goes through a table; whether all of it holds.
 fn compare(rt: &HostRuntime, file: &str) -> io::Result<bool> {
     let text = fs::read_to_string(rt, file)?;
-    let report = Report::of(rt.alloc(), file, text.as_str())?;
-    print!(rt; "{}", report.told)?;
-    Ok(report.broken == 0)
-}
-
-fn compare_all(rt: &HostRuntime) -> io::Result<bool> {
-    let mut all_hold = true;
-    for file in env::args(rt)?.skip(1) {
-        let holds = compare(rt, file.as_str())?;
-        all_hold = all_hold && holds;
-    }
-    Ok(all_hold)
+    report_of(rt.alloc(), file, text.as_str())?.print(rt)
 }
 
 fn main(rt: HostRuntime) -> io::Result<ExitCode> {
-    if compare_all(&rt)? {
-        Ok(ExitCode::SUCCESS)
-    } else {
-        Ok(ExitCode::from(1))
+    let mut all_hold = true;
+    for file in Asked::of(&rt)?.files {
+        let holds = compare(&rt, file.as_str())?;
+        all_hold = all_hold && holds;
     }
+    Ok(exit_of(all_hold))
 }

@@ -1,9 +1,7 @@
 //! Programs of objects as they are read at a place.
-use crate::bytes::program_of;
-use crate::line::Line;
-use crate::trouble::Trouble;
 use std::alloc::{AllocError, Global};
 use std::fmt::{Debug, Write};
+use test_rows::{Line, Trouble, put_spelled};
 use zed_script::{
     Program, condition, direction, first_label, kind, label_at, label_place, line_after, line_end,
     next_command, standing_at, word_at, word_end,
@@ -158,17 +156,24 @@ fn put_at(
     }
 }
 
+/// The bytes of a program.
+fn program_of(alloc: Global, line: &mut Line) -> Result<Vec<u8>, Trouble> {
+    let mut program = Vec::new(alloc);
+    put_spelled(line.text(), &mut program)?;
+    Ok(program)
+}
+
 /// Appends what is seen of a program: at a place, or of the label that a mark begins there.
 pub fn put_program(alloc: Global, line: &mut Line, seen: &mut String) -> Result<(), Trouble> {
     let act = line.word()?;
-    let at = line.number()?;
+    let at = line.size()?;
     if act == "label" {
         let mark = line.byte()?;
         let label = line.word()?.as_bytes();
-        let program = program_of(alloc, line.text())?;
+        let program = program_of(alloc, line)?;
         put_label(program.as_slice(), at, mark, label, seen)?;
     } else {
-        let program = program_of(alloc, line.text())?;
+        let program = program_of(alloc, line)?;
         put_at(alloc, act, program.as_slice(), at, seen)?;
     }
     Ok(())

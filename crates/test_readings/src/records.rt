@@ -1,9 +1,8 @@
 //! Records of edit files of either version: cut in every field, with a byte too many, and with tags that there aren't.
-use crate::line::{Line, byte_of, number_of};
-use crate::stage::Stage;
-use crate::trouble::Trouble;
+use crate::stage::byte_of;
 use std::alloc::{AllocError, Global};
 use std::fmt::Write;
+use test_rows::{Line, Names, Trouble, size_of};
 use zed_editfile::{EditFileError, EditReader};
 
 /// The fewest bytes that a record has: a stamp and the number of an op.
@@ -111,7 +110,7 @@ fn put_tags(
         };
         seen.push_str(between(is_first))?;
         is_first = false;
-        let place = number_of(place)?;
+        let place = size_of(place)?;
         put_replaced(alloc, version, body, byte_of(byte)?, place, seen)?;
     }
     Ok(seen.push('\n')?)
@@ -120,13 +119,13 @@ fn put_tags(
 /// Appends what is seen of the body of a record.
 pub fn put_record(
     alloc: Global,
-    stage: &Stage,
+    names: &Names,
     line: &mut Line,
     seen: &mut String,
 ) -> Result<(), Trouble> {
     let act = line.word()?;
     let version = line.byte()?;
-    let body = stage.bytes(line.word()?)?;
+    let body = names.bytes(line.word()?)?;
     match act {
         "cuts" => put_cuts(alloc, version, body, seen),
         "tags" => put_tags(alloc, version, body, line, seen),

@@ -1,10 +1,13 @@
 //! World files as they are read and written again.
-use crate::line::Line;
-use crate::stage::Stage;
-use crate::trouble::Trouble;
 use std::alloc::Global;
 use std::fmt::Write;
+use test_rows::{Line, Names, Trouble, size_of};
 use zed_world::{WorldError, is_canonical, read_world, write_world};
+
+/// Why a row that reads a world can't be done.
+pub fn no_world(_fault: WorldError) -> Trouble {
+    Trouble::Other("no world is read")
+}
 
 /// Why bytes are no world file.
 fn fault_of(alloc: Global, bytes: &[u8]) -> Option<WorldError> {
@@ -21,10 +24,10 @@ fn put_fault(fault: Option<WorldError>, seen: &mut String) -> Result<(), Trouble
 
 /// The first bytes of a file that are left where a number of them is asked for.
 fn front<'a>(bytes: &'a [u8], line: &mut Line) -> Result<&'a [u8], Trouble> {
-    if line.text().is_empty() {
+    let Some(word) = line.next_word() else {
         return Ok(bytes);
-    }
-    let len = line.number()?;
+    };
+    let len = size_of(word)?;
     if bytes.len() < len {
         return Err(Trouble::Line);
     }
@@ -54,7 +57,7 @@ pub fn rewritten(
     if 32767 < limit {
         return Err(Trouble::Line);
     }
-    let world = read_world(alloc, bytes)?;
+    let world = read_world(alloc, bytes).map_err(no_world)?;
     Ok(write_world(alloc, &world, limit))
 }
 
@@ -74,7 +77,7 @@ fn put_again(
 }
 
 fn put_canonical(alloc: Global, bytes: &[u8], seen: &mut String) -> Result<(), Trouble> {
-    let told = if is_canonical(alloc, bytes)? {
+    let told = if is_canonical(alloc, bytes).map_err(no_world)? {
         "canonical\n"
     } else {
         "not canonical\n"
@@ -86,13 +89,13 @@ fn put_canonical(alloc: Global, bytes: &[u8], seen: &mut String) -> Result<(), T
 /// Appends what is seen of a file that is written again, as it stands after the limit.
 fn put_rewriting(
     alloc: Global,
-    stage: &Stage,
+    names: &Names,
     bytes: &[u8],
     line: &mut Line,
     seen: &mut String,
 ) -> Result<(), Trouble> {
-    let limit = line.number()?;
-    put_again(alloc, bytes, limit, stage.bytes(line.word()?)?, seen)
+    let limit = line.size()?;
+    put_again(alloc, bytes, limit, names.bytes(line.word()?)?, seen)
 }
 
 fn put_front(
@@ -107,17 +110,17 @@ fn put_front(
 /// Appends what is seen of world files.
 pub fn put_world(
     alloc: Global,
-    stage: &Stage,
+    names: &Names,
     line: &mut Line,
     seen: &mut String,
 ) -> Result<(), Trouble> {
     let act = line.word()?;
-    let bytes = stage.bytes(line.word()?)?;
+    let bytes = names.bytes(line.word()?)?;
     match act {
         "read" => put_front(alloc, bytes, line, seen),
         "cuts" => put_cuts(alloc, bytes, seen),
         "canonical" => put_canonical(alloc, bytes, seen),
-        "again" => put_rewriting(alloc, stage, bytes, line, seen),
+        "again" => put_rewriting(alloc, names, bytes, line, seen),
         _ => Err(Trouble::Line),
     }
 }
