@@ -1,7 +1,6 @@
 //! The acts of a case.
-use crate::line::Line;
-use crate::trouble::Trouble;
 use std::alloc::Global;
+use test_rows::{Line, Trouble};
 use zed_play::Key;
 
 /// What is done, after which a playbook says what is to be seen.
@@ -25,18 +24,6 @@ pub enum Act {
     Drawn(usize),
 }
 
-/// Words of chance, as many as the line has.
-fn words_of(alloc: Global, line: &mut Line) -> Result<Vec<u16>, Trouble> {
-    let mut words = Vec::new(alloc);
-    if line.end().is_ok() {
-        return Ok(words);
-    }
-    for word in line.text().split(' ') {
-        words.push(Line::new(word).count()?)?;
-    }
-    Ok(words)
-}
-
 fn key_of(name: &str) -> Result<Key, Trouble> {
     match name {
         "wait" => Ok(Key::Wait),
@@ -53,7 +40,7 @@ fn key_of(name: &str) -> Result<Key, Trouble> {
 }
 
 fn tick_of(line: &mut Line) -> Result<u16, Trouble> {
-    let tick = line.count()?;
+    let tick = line.short()?;
     if 1 <= tick && tick <= 420 {
         Ok(tick)
     } else {
@@ -75,19 +62,19 @@ fn cell_of(line: &mut Line) -> Result<Act, Trouble> {
 pub fn act_of(alloc: Global, name: &str, line: &mut Line) -> Result<Act, Trouble> {
     match name {
         "turn" => Ok(Act::Turn {
-            stat: usize::from(line.count()?),
-            words: words_of(alloc, line)?,
+            stat: usize::from(line.short()?),
+            words: line.chances(alloc)?,
         }),
         "opened" => Ok(Act::Opened(tick_of(line)?)),
-        "begun" => Ok(Act::Begun(usize::from(line.count()?))),
+        "begun" => Ok(Act::Begun(usize::from(line.short()?))),
         "key" => Ok(Act::Pressed {
             key: key_of(line.word()?)?,
-            words: words_of(alloc, line)?,
+            words: line.chances(alloc)?,
         }),
         "messages" => Ok(Act::Messages),
         "picture" => Ok(Act::Picture),
         "cell" => cell_of(line),
-        "drawn" => Ok(Act::Drawn(usize::from(line.count()?))),
+        "drawn" => Ok(Act::Drawn(usize::from(line.short()?))),
         _ => Err(Trouble::Line),
     }
 }

@@ -1,9 +1,7 @@
 //! The world of a case, and the lines that describe it.
-use crate::line::Line;
 use crate::stat::{change_stat, new_stat, own_bytes};
-use crate::text::put_bytes;
-use crate::trouble::Trouble;
 use std::alloc::{AllocError, Global};
+use test_rows::{Line, Trouble, put_spelled};
 use zed_oop::{Counters, is_on_board};
 use zed_types::{Bytes, COLUMNS, Place, TILES, Tile};
 use zed_world::{Code, StatData, is_passage};
@@ -195,14 +193,14 @@ impl Case {
     }
 
     fn lengthen_program(&mut self, line: &mut Line) -> Result<(), Trouble> {
-        let times = line.count()?;
+        let times = line.short()?;
         let text = line.text();
         let mut bytes = match self.stats.get(self.told) {
             Some(stat) => Vec::from_slice(self.alloc(), own_bytes(&stat.code))?,
             None => return Err(Trouble::Line),
         };
         for _ in 0..times {
-            put_bytes(text, &mut bytes)?;
+            put_spelled(text, &mut bytes)?;
         }
         self.set_program(Code::Own(Bytes::new(bytes)))
     }
@@ -228,7 +226,7 @@ impl Case {
             "change" => self.change_stat(line)?,
             "program" => {
                 let mut bytes = Vec::new(self.alloc());
-                put_bytes(line.text(), &mut bytes)?;
+                put_spelled(line.text(), &mut bytes)?;
                 self.set_program(Code::Own(Bytes::new(bytes)))?;
             }
             "longer" => self.lengthen_program(line)?,
@@ -254,7 +252,7 @@ impl Case {
     fn set_flag(&mut self, line: &mut Line) -> Result<(), Trouble> {
         let i = usize::from(line.byte()?);
         let mut bytes = Vec::new(self.alloc());
-        put_bytes(line.text(), &mut bytes)?;
+        put_spelled(line.text(), &mut bytes)?;
         if bytes.len() > FLAG_BYTES {
             return Err(Trouble::Line);
         }

@@ -1,13 +1,37 @@
 //! The world file of a case.
 use crate::case::{Case, PLAYER, START};
 use crate::stat::{new_stat, own_bytes};
-use crate::trouble::Trouble;
 use std::alloc::{AllocError, Global};
+use test_rows::Trouble;
 use zed_oop::Counters;
-use zed_play::Play;
-use zed_runs::write_runs;
+use zed_play::{Play, PlayError};
+use zed_runs::{RunsError, write_runs};
 use zed_types::{COLUMNS, TILES, Tile};
-use zed_world::{Code, StatData, World, read_world};
+use zed_world::{Code, StatData, World, WorldError, read_world};
+
+/// No world is as the case describes it.
+const NO_WORLD: Trouble = Trouble::Other("no world is as the case describes it");
+
+fn of_runs(error: RunsError) -> Trouble {
+    match error {
+        RunsError::Memory => Trouble::Memory,
+        RunsError::Truncated => NO_WORLD,
+    }
+}
+
+fn of_world(error: WorldError) -> Trouble {
+    match error {
+        WorldError::Memory => Trouble::Memory,
+        _ => NO_WORLD,
+    }
+}
+
+pub fn of_play(error: PlayError) -> Trouble {
+    match error {
+        PlayError::Memory => Trouble::Memory,
+        _ => NO_WORLD,
+    }
+}
 
 fn put_zeros(out: &mut Vec<u8>, times: usize) -> Result<(), AllocError> {
     for _ in 0..times {
@@ -24,7 +48,7 @@ fn put_number(out: &mut Vec<u8>, number: i16) -> Result<(), AllocError> {
 fn put_count(out: &mut Vec<u8>, count: usize) -> Result<(), Trouble> {
     match i16::try_from(count) {
         Ok(number) => Ok(put_number(out, number)?),
-        Err(_) => Err(Trouble::World),
+        Err(_) => Err(NO_WORLD),
     }
 }
 
@@ -32,7 +56,7 @@ fn put_count(out: &mut Vec<u8>, count: usize) -> Result<(), Trouble> {
 fn put_string(out: &mut Vec<u8>, bytes: &[u8], most: usize) -> Result<(), Trouble> {
     match u8::try_from(bytes.len()) {
         Ok(length) => out.push(length)?,
-        Err(_) => return Err(Trouble::World),
+        Err(_) => return Err(NO_WORLD),
     }
     out.extend_from_slice(bytes)?;
     put_zeros(out, most.saturating_sub(bytes.len()))?;
@@ -68,7 +92,7 @@ fn put_counters(out: &mut Vec<u8>, counters: Counters, keys: &[bool]) -> Result<
 /// What stands in front of the boards, 512 bytes.
 fn put_header(out: &mut Vec<u8>, case: &Case) -> Result<(), Trouble> {
     let Some(others) = case.boards.checked_sub(1) else {
-        return Err(Trouble::World);
+        return Err(NO_WORLD);
     };
     put_number(out, -1)?;
     put_number(out, i16::from(others))?;
@@ -128,7 +152,7 @@ fn put_board(
 ) -> Result<(), Trouble> {
     let mut body = Vec::new(alloc);
     put_string(&mut body, &[], 50)?;
-    write_runs(tiles, &mut body)?;
+    write_runs(tiles, &mut body).map_err(of_runs)?;
     body.extend_from_slice(properties)?;
     put_count(&mut body, stats.len().saturating_sub(1))?;
     for stat in stats {
@@ -172,16 +196,16 @@ fn put_empty_boards(alloc: Global, out: &mut Vec<u8>, count: u8) -> Result<(), T
 /// The world of a case.
 pub fn world_of(alloc: Global, case: &Case) -> Result<World, Trouble> {
     if !case.has_its_boards() {
-        return Err(Trouble::World);
+        return Err(NO_WORLD);
     }
     let mut file = Vec::new(alloc);
     put_header(&mut file, case)?;
     put_first_board(alloc, &mut file, case)?;
     put_empty_boards(alloc, &mut file, case.boards.saturating_sub(1))?;
-    Ok(read_world(alloc, file.as_slice())?)
+    read_world(alloc, file.as_slice()).map_err(of_world)
 }
 
 /// A playtest of the first board of a case.
 pub fn play_of(alloc: Global, case: &Case, tick: u16) -> Result<Play, Trouble> {
-    Ok(Play::new(alloc, world_of(alloc, case)?, 0, tick)?)
+    Play::new(alloc, world_of(alloc, case)?, 0, tick).map_err(of_play)
 }

@@ -8,89 +8,67 @@ mod case;
 mod changes;
 mod comparing;
 mod file;
-mod growths;
-mod line;
 mod playbook;
 mod refused;
 mod seen;
 mod speeds;
 mod stat;
 mod text;
-mod trouble;
 
-use comparing::Report;
+use comparing::compare_all;
 use playbook::Playbook;
-use refused::Sweeps;
+use refused::sweep_all;
 use speeds::tell_speeds;
-use std::alloc::{AllocError, Global};
+use std::alloc::Global;
 use std::process::ExitCode;
-use std::{env, fs, io};
-use trouble::Trouble;
+use std::{fs, io};
+use test_rows::{Asked, Report, Trouble, exit_of};
 
-/// What is done with playbooks.
-#[derive(Clone, Copy)]
-enum Task {
-    Compare,
-    Refuse,
-}
-
-fn report_of(alloc: Global, file: &str, text: &str) -> Result<Report, AllocError> {
+fn compare(alloc: Global, file: &str, text: &str) -> Result<Report, Trouble> {
     match Playbook::of(alloc, text) {
-        Ok(playbook) => Report::of(alloc, file, &playbook),
-        Err(fault) => Report::at_fault(alloc, file, fault),
+        Ok(playbook) => Ok(compare_all(alloc, file, &playbook)?),
+        Err(fault) => Ok(Report::at_fault(alloc, file, fault)?),
     }
 }
 
-/// Compares a playbook with what is seen; whether all acts of it hold.
-fn compare(rt: &HostRuntime, file: &str, text: &str) -> io::Result<bool> {
-    let report = report_of(rt.alloc(), file, text)?;
-    print!(rt; "{}", report.told)?;
-    Ok(report.broken == 0)
-}
-
-fn sweep(alloc: Global, file: &str, text: &str) -> Result<Sweeps, Trouble> {
+fn sweep(alloc: Global, file: &str, text: &str) -> Result<Report, Trouble> {
     match Playbook::of(alloc, text) {
-        Ok(playbook) => Sweeps::of(alloc, file, &playbook),
-        Err(fault) => Err(fault.trouble),
+        Ok(playbook) => sweep_all(alloc, file, &playbook),
+        Err(fault) => Ok(Report::at_fault(alloc, file, fault)?),
     }
 }
 
 /// Refuses each growth of a playbook's first acts; whether some were met, and all went as it should.
-fn refuse(rt: &HostRuntime, file: &str, text: &str) -> io::Result<bool> {
-    let sweeps = sweep(rt.alloc(), file, text)?;
-    print!(rt; "{}", sweeps.told)?;
-    Ok(sweeps.wrong == 0 && 0 < sweeps.growths)
-}
-
-fn do_task(rt: &HostRuntime, task: Task, file: &str) -> io::Result<bool> {
+fn refuse(rt: &HostRuntime, file: &str) -> io::Result<bool> {
     let text = fs::read_to_string(rt, file)?;
-    match task {
-        Task::Compare => compare(rt, file, text.as_str()),
-        Task::Refuse => refuse(rt, file, text.as_str()),
-    }
+    let report = sweep(rt.alloc(), file, text.as_str())?;
+    Ok(report.print(rt)? && 0 < report.growths)
 }
 
-/// Does what the words ask for; whether all went well.
-fn do_all(rt: &HostRuntime) -> io::Result<bool> {
-    let mut task = Task::Compare;
-    let mut all_is_well = true;
-    for word in env::args(rt)?.skip(1) {
-        match word.as_str() {
-            "--speeds" => tell_speeds(rt)?,
-            "--refused" => task = Task::Refuse,
-            file => {
-                let is_well = do_task(rt, task, file)?;
-                all_is_well = all_is_well && is_well;
-            }
-        }
+/// Compares a playbook with what is seen; whether all acts of it hold.
+fn play(rt: &HostRuntime, file: &str) -> io::Result<bool> {
+    let text = fs::read_to_string(rt, file)?;
+    compare(rt.alloc(), file, text.as_str())?.print(rt)
+}
+
+/// Does with a playbook what the words ask for; whether all went well.
+fn do_task(rt: &HostRuntime, is_refusing: bool, file: &str) -> io::Result<bool> {
+    if is_refusing {
+        return refuse(rt, file);
     }
-    Ok(all_is_well)
+    if file == "--speeds" {
+        tell_speeds(rt)?;
+        return Ok(true);
+    }
+    play(rt, file)
 }
 
 fn main(rt: HostRuntime) -> io::Result<ExitCode> {
-    if do_all(&rt)? {
-        Ok(ExitCode::SUCCESS)
-    } else {
-        Ok(ExitCode::from(1))
+    let asked = Asked::of(&rt)?;
+    let mut all_is_well = true;
+    for file in asked.files.iter() {
+        let is_well = do_task(&rt, asked.is_refusing, file.as_str())?;
+        all_is_well = all_is_well && is_well;
     }
+    Ok(exit_of(all_is_well))
 }

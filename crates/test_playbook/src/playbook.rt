@@ -1,44 +1,28 @@
 //! A playbook: cases, their acts, and what is to be seen of each.
 use crate::act::{Act, act_of};
 use crate::case::Case;
-use crate::line::Line;
-use crate::trouble::Trouble;
-use std::alloc::{AllocError, Global};
+use std::alloc::Global;
+use test_rows::{Fault, Line, Row, Trouble, is_skipped};
 
-/// An act of a case.
+/// An act of a case, with its row.
 #[derive(Drop)]
-pub struct Scripted {
-    /// The number of its line, from 1.
-    pub number: usize,
-    pub line: String,
+pub struct Scripted<'a> {
+    pub row: Row<'a>,
     pub act: Act,
-    /// What is to be seen of it, line by line.
-    pub wanted: String,
 }
 
 /// A world and what is done in it.
 #[derive(Drop)]
-pub struct Script {
-    pub name: String,
+pub struct Script<'a> {
+    pub name: &'a str,
     pub case: Case,
-    pub acts: Vec<Scripted>,
+    pub acts: Vec<Scripted<'a>>,
 }
 
 /// Cases, in the order of their lines.
 #[derive(Drop)]
-pub struct Playbook {
-    pub scripts: Vec<Script>,
-}
-
-/// The line at which a playbook is at fault.
-#[derive(Clone, Copy)]
-pub struct Fault {
-    pub number: usize,
-    pub trouble: Trouble,
-}
-
-fn is_skipped(line: &str) -> bool {
-    line.is_empty() || line == "#" || line.starts_with("# ")
+pub struct Playbook<'a> {
+    pub scripts: Vec<Script<'a>>,
 }
 
 /// What a line says is to be seen, if it is such a line.
@@ -49,23 +33,16 @@ fn wanted_of(line: &str) -> Option<&str> {
     line.strip_prefix("> ")
 }
 
-impl Scripted {
-    fn want(&mut self, line: &str) -> Result<(), AllocError> {
-        self.wanted.push_str(line)?;
-        self.wanted.push('\n')
-    }
-}
-
-impl Script {
+impl<'a> Script<'a> {
     fn want(&mut self, line: &str) -> Result<(), Trouble> {
         match self.acts.last_mut() {
-            Some(scripted) => Ok(scripted.want(line)?),
+            Some(scripted) => Ok(scripted.row.want(line)?),
             None => Err(Trouble::Line),
         }
     }
 
     /// Takes in a line that describes the world or is an act.
-    fn take(&mut self, alloc: Global, number: usize, line: &str) -> Result<(), Trouble> {
+    fn take(&mut self, alloc: Global, number: usize, line: &'a str) -> Result<(), Trouble> {
         let mut words = Line::new(line);
         let name = words.word()?;
         if self.acts.is_empty() && self.case.describe(name, &mut words)? {
@@ -73,27 +50,23 @@ impl Script {
         }
         let act = act_of(alloc, name, &mut words)?;
         words.end()?;
-        self.acts.push(Scripted {
-            number,
-            line: String::from_str(alloc, line)?,
-            act,
-            wanted: String::new(alloc),
-        })?;
+        let row = Row::new(alloc, number, line);
+        self.acts.push(Scripted { row, act })?;
         Ok(())
     }
 }
 
-impl Playbook {
-    fn begin(&mut self, alloc: Global, name: &str) -> Result<(), Trouble> {
+impl<'a> Playbook<'a> {
+    fn begin(&mut self, alloc: Global, name: &'a str) -> Result<(), Trouble> {
         self.scripts.push(Script {
-            name: String::from_str(alloc, name)?,
+            name,
             case: Case::new(alloc)?,
             acts: Vec::new(alloc),
         })?;
         Ok(())
     }
 
-    fn take(&mut self, alloc: Global, number: usize, line: &str) -> Result<(), Trouble> {
+    fn take(&mut self, alloc: Global, number: usize, line: &'a str) -> Result<(), Trouble> {
         if is_skipped(line) {
             return Ok(());
         }
@@ -110,7 +83,7 @@ impl Playbook {
     }
 
     /// The playbook of a text, or the first line of it that is at fault.
-    pub fn of(alloc: Global, text: &str) -> Result<Playbook, Fault> {
+    pub fn of(alloc: Global, text: &'a str) -> Result<Playbook<'a>, Fault> {
         let mut playbook = Playbook {
             scripts: Vec::new(alloc),
         };

@@ -3,12 +3,11 @@ use crate::act::Act;
 use crate::case::Case;
 use crate::changes::put_changes;
 use crate::file::{play_of, world_of};
-use crate::growths::{MOST, refuse, was_refused};
 use crate::playbook::{Playbook, Script};
 use crate::seen::{Before, put_step, put_turned, turn_on_copy};
-use crate::trouble::Trouble;
 use std::alloc::{AllocError, Global};
 use std::fmt::Write;
+use test_rows::{MOST, Report, Trouble, Turn, refuse, turn_of, was_refused};
 use zed_oop::{Effects, OopError, Scene, turn};
 use zed_play::{Ending, Key, Play, PlayError};
 
@@ -21,43 +20,14 @@ enum Call<'a> {
     Step(FirstStep<'a>),
 }
 
-/// How a call came out while one growth was to be refused.
-#[derive(Clone, Copy)]
-enum Outcome {
-    /// The growth was refused, and the call says so.
-    Refused,
-    /// No growth was left to refuse, and the call came out as with ample memory.
-    Whole,
-    Wrong,
+/// How a call came out of which a growth was refused, and that says so or doesn't.
+fn refused_turn(says_so: bool) -> Turn {
+    turn_of(true, false, says_so)
 }
 
-/// What the sweeps over a playbook came to.
-#[derive(Drop)]
-pub struct Sweeps {
-    /// Calls that were made with each of their growths refused.
-    pub calls: usize,
-    /// Growths that were refused.
-    pub growths: usize,
-    /// Calls that didn't come out as they should.
-    pub wrong: usize,
-    /// The same, line by line.
-    pub told: String,
-}
-
-fn refused_outcome(says_so: bool) -> Outcome {
-    if says_so {
-        Outcome::Refused
-    } else {
-        Outcome::Wrong
-    }
-}
-
-fn whole_outcome(is_whole: bool) -> Outcome {
-    if is_whole {
-        Outcome::Whole
-    } else {
-        Outcome::Wrong
-    }
+/// How a call came out of which none was.
+fn whole_turn(is_whole: bool) -> Turn {
+    turn_of(false, is_whole, false)
 }
 
 /// A turn, and whether a growth of it was refused.
@@ -74,34 +44,34 @@ fn try_turn(
     (turned, was_refused)
 }
 
-fn turn_outcome(
+fn turn_on(
     alloc: Global,
     board: &Scene,
     stat: usize,
     words: &[u16],
     nth: usize,
-) -> Result<Outcome, Trouble> {
+) -> Result<Turn, Trouble> {
     let mut scene = board.copy(alloc)?;
     let (turned, was_refused) = try_turn(alloc, &mut scene, stat, words, nth);
     if was_refused {
-        return Ok(refused_outcome(matches!(turned, Err(OopError::Memory))));
+        return Ok(refused_turn(matches!(turned, Err(OopError::Memory))));
     }
     let mut seen = String::new(alloc);
     put_turned(board, &scene, &turned, &mut seen)?;
     // With ample memory.
     let wanted = turn_on_copy(alloc, board, stat, words)?;
-    Ok(whole_outcome(seen.as_str() == wanted.as_str()))
+    Ok(whole_turn(seen.as_str() == wanted.as_str()))
 }
 
-fn turn_outcome_of(
+fn turn_of_case(
     alloc: Global,
     case: &Case,
     stat: usize,
     words: &[u16],
     nth: usize,
-) -> Result<Outcome, Trouble> {
+) -> Result<Turn, Trouble> {
     let play = play_of(alloc, case, 1)?;
-    turn_outcome(alloc, play.board(), stat, words, nth)
+    turn_on(alloc, play.board(), stat, words, nth)
 }
 
 /// Whether nothing differs between two boards.
@@ -111,21 +81,21 @@ fn is_alike(alloc: Global, one: &Scene, other: &Scene) -> Result<bool, Trouble> 
     Ok(seen.is_empty())
 }
 
-fn copy_outcome(alloc: Global, board: &Scene, nth: usize) -> Result<Outcome, Trouble> {
+fn copy_turn(alloc: Global, board: &Scene, nth: usize) -> Result<Turn, Trouble> {
     refuse(alloc, nth);
     let copied = board.copy(alloc);
     if was_refused(alloc) {
-        return Ok(refused_outcome(copied.is_err()));
+        return Ok(refused_turn(copied.is_err()));
     }
     match copied {
-        Ok(copy) => Ok(whole_outcome(is_alike(alloc, board, &copy)?)),
-        Err(_) => Ok(Outcome::Wrong),
+        Ok(copy) => Ok(whole_turn(is_alike(alloc, board, &copy)?)),
+        Err(_) => Ok(Turn::Wrong),
     }
 }
 
-fn copy_outcome_of(alloc: Global, case: &Case, nth: usize) -> Result<Outcome, Trouble> {
+fn copy_turn_of(alloc: Global, case: &Case, nth: usize) -> Result<Turn, Trouble> {
     let play = play_of(alloc, case, 1)?;
-    copy_outcome(alloc, play.board(), nth)
+    copy_turn(alloc, play.board(), nth)
 }
 
 /// Whether a playtest is as a new one of a case is.
@@ -134,16 +104,16 @@ fn is_new(alloc: Global, case: &Case, tick: u16, play: &Play) -> Result<bool, Tr
     Ok(is_alike(alloc, plain.board(), play.board())? && plain.tick() == play.tick())
 }
 
-fn open_outcome(alloc: Global, case: &Case, tick: u16, nth: usize) -> Result<Outcome, Trouble> {
+fn open_turn(alloc: Global, case: &Case, tick: u16, nth: usize) -> Result<Turn, Trouble> {
     let world = world_of(alloc, case)?;
     refuse(alloc, nth);
     let opened = Play::new(alloc, world, 0, tick);
     if was_refused(alloc) {
-        return Ok(refused_outcome(matches!(opened, Err(PlayError::Memory))));
+        return Ok(refused_turn(matches!(opened, Err(PlayError::Memory))));
     }
     match opened {
-        Ok(play) => Ok(whole_outcome(is_new(alloc, case, tick, &play)?)),
-        Err(_) => Ok(Outcome::Wrong),
+        Ok(play) => Ok(whole_turn(is_new(alloc, case, tick, &play)?)),
+        Err(_) => Ok(Turn::Wrong),
     }
 }
 
@@ -190,127 +160,124 @@ fn plain_step(alloc: Global, case: &Case, step: FirstStep) -> Result<String, Tro
     Ok(seen)
 }
 
-fn step_outcome(
+fn step_turn(
     alloc: Global,
     case: &Case,
     play: &mut Play,
     step: FirstStep,
     nth: usize,
-) -> Result<Outcome, Trouble> {
+) -> Result<Turn, Trouble> {
     let before = Before::of(alloc, play)?;
     let (stepped, was_refused) = try_step(alloc, play, step, nth);
     if was_refused {
         let says_so = matches!(stepped, Err(PlayError::Memory));
         let has_failed = has_failed(alloc, &before, play, step)?;
-        return Ok(refused_outcome(says_so && has_failed));
+        return Ok(refused_turn(says_so && has_failed));
     }
     let mut seen = String::new(alloc);
     before.put_stepped(play, stepped, &mut seen)?;
     let wanted = plain_step(alloc, case, step)?;
-    Ok(whole_outcome(seen.as_str() == wanted.as_str()))
+    Ok(whole_turn(seen.as_str() == wanted.as_str()))
 }
 
-fn step_outcome_of(
-    alloc: Global,
-    case: &Case,
-    step: FirstStep,
-    nth: usize,
-) -> Result<Outcome, Trouble> {
+fn step_turn_of(alloc: Global, case: &Case, step: FirstStep, nth: usize) -> Result<Turn, Trouble> {
     let mut play = play_of(alloc, case, step.tick)?;
-    step_outcome(alloc, case, &mut play, step, nth)
+    step_turn(alloc, case, &mut play, step, nth)
 }
 
-fn call_outcome(alloc: Global, case: &Case, call: Call, nth: usize) -> Result<Outcome, Trouble> {
+fn call_turn(alloc: Global, case: &Case, call: Call, nth: usize) -> Result<Turn, Trouble> {
     match call {
-        Call::Turn { stat, words } => turn_outcome_of(alloc, case, stat, words, nth),
-        Call::Copy => copy_outcome_of(alloc, case, nth),
-        Call::Open(tick) => open_outcome(alloc, case, tick, nth),
-        Call::Step(step) => step_outcome_of(alloc, case, step, nth),
+        Call::Turn { stat, words } => turn_of_case(alloc, case, stat, words, nth),
+        Call::Copy => copy_turn_of(alloc, case, nth),
+        Call::Open(tick) => open_turn(alloc, case, tick, nth),
+        Call::Step(step) => step_turn_of(alloc, case, step, nth),
     }
 }
 
-impl Sweeps {
-    fn tell_wrong(&mut self, line: &str, script: &Script, nth: usize) -> Result<(), AllocError> {
-        self.wrong = self.wrong.saturating_add(1);
-        let name = script.name.as_str();
-        writeln!(
-            self.told,
-            "{name}: {line}: wrong where growth {nth} is refused"
-        )
-    }
+fn tell_wrong(
+    report: &mut Report,
+    script: &Script,
+    line: &str,
+    nth: usize,
+) -> Result<(), AllocError> {
+    report.broken = report.broken.saturating_add(1);
+    let name = script.name;
+    writeln!(
+        report.told,
+        "{name}: {line}: wrong where growth {nth} is refused"
+    )
+}
 
-    /// Makes a call with each of its growths refused, until none is left.
-    fn sweep(
-        &mut self,
-        alloc: Global,
-        script: &Script,
-        line: &str,
-        call: Call,
-    ) -> Result<(), Trouble> {
-        self.calls = self.calls.saturating_add(1);
-        for nth in 1..MOST {
-            match call_outcome(alloc, &script.case, call, nth)? {
-                Outcome::Refused => self.growths = self.growths.saturating_add(1),
-                Outcome::Whole => return Ok(()),
-                Outcome::Wrong => return Ok(self.tell_wrong(line, script, nth)?),
-            }
-        }
-        Ok(self.tell_wrong(line, script, MOST)?)
-    }
-
-    /// The first step of a case whose playtest begins at this tick.
-    fn sweep_step(&mut self, alloc: Global, script: &Script, tick: u16) -> Result<(), Trouble> {
-        for scripted in script.acts.iter() {
-            if let Act::Pressed { key, words } = &scripted.act {
-                let step = Call::Step(FirstStep {
-                    tick,
-                    key: *key,
-                    words: words.as_slice(),
-                });
-                return self.sweep(alloc, script, scripted.line.as_str(), step);
-            }
-        }
-        Ok(())
-    }
-
-    fn sweep_first(&mut self, alloc: Global, script: &Script) -> Result<(), Trouble> {
-        let Some(first) = script.acts.first() else {
-            return Ok(());
-        };
-        let line = first.line.as_str();
-        match &first.act {
-            Act::Turn { stat, words } => {
-                let turn = Call::Turn {
-                    stat: *stat,
-                    words: words.as_slice(),
-                };
-                self.sweep(alloc, script, line, turn)?;
-                self.sweep(alloc, script, "copy", Call::Copy)
-            }
-            Act::Opened(tick) => {
-                self.sweep(alloc, script, line, Call::Open(*tick))?;
-                self.sweep_step(alloc, script, *tick)
-            }
-            _ => Ok(()),
+/// Makes a call with each of its growths refused, until none is left.
+fn sweep(
+    alloc: Global,
+    report: &mut Report,
+    script: &Script,
+    line: &str,
+    call: Call,
+) -> Result<(), Trouble> {
+    report.calls = report.calls.saturating_add(1);
+    for nth in 1..MOST {
+        match call_turn(alloc, &script.case, call, nth)? {
+            Turn::Refused => report.growths = report.growths.saturating_add(1),
+            Turn::Whole => return Ok(()),
+            Turn::Wrong => return Ok(tell_wrong(report, script, line, nth)?),
         }
     }
+    Ok(tell_wrong(report, script, line, MOST)?)
+}
 
-    /// Sweeps over the first acts of a playbook's cases.
-    pub fn of(alloc: Global, file: &str, playbook: &Playbook) -> Result<Sweeps, Trouble> {
-        let mut sweeps = Sweeps {
-            calls: 0,
-            growths: 0,
-            wrong: 0,
-            told: String::new(alloc),
-        };
-        for script in playbook.scripts.iter() {
-            sweeps.sweep_first(alloc, script)?;
+/// The first step of a case whose playtest begins at this tick.
+fn sweep_step(
+    alloc: Global,
+    report: &mut Report,
+    script: &Script,
+    tick: u16,
+) -> Result<(), Trouble> {
+    for scripted in script.acts.iter() {
+        if let Act::Pressed { key, words } = &scripted.act {
+            let step = Call::Step(FirstStep {
+                tick,
+                key: *key,
+                words: words.as_slice(),
+            });
+            return sweep(alloc, report, script, scripted.row.text, step);
         }
-        let (calls, growths) = (sweeps.calls, sweeps.growths);
-        writeln!(
-            sweeps.told,
-            "{file}: {calls} calls, {growths} growths refused"
-        )?;
-        Ok(sweeps)
     }
+    Ok(())
+}
+
+fn sweep_first(alloc: Global, report: &mut Report, script: &Script) -> Result<(), Trouble> {
+    let Some(first) = script.acts.first() else {
+        return Ok(());
+    };
+    match &first.act {
+        Act::Turn { stat, words } => {
+            let turn = Call::Turn {
+                stat: *stat,
+                words: words.as_slice(),
+            };
+            sweep(alloc, report, script, first.row.text, turn)?;
+            sweep(alloc, report, script, "copy", Call::Copy)
+        }
+        Act::Opened(tick) => {
+            sweep(alloc, report, script, first.row.text, Call::Open(*tick))?;
+            sweep_step(alloc, report, script, *tick)
+        }
+        _ => Ok(()),
+    }
+}
+
+/// What the sweeps over the first acts of a playbook's cases come to.
+pub fn sweep_all(alloc: Global, file: &str, playbook: &Playbook) -> Result<Report, Trouble> {
+    let mut report = Report::new(alloc);
+    for script in playbook.scripts.iter() {
+        sweep_first(alloc, &mut report, script)?;
+    }
+    let (calls, growths) = (report.calls, report.growths);
+    writeln!(
+        report.told,
+        "{file}: {calls} calls, {growths} growths refused"
+    )?;
+    Ok(report)
 }

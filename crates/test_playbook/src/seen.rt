@@ -2,11 +2,11 @@
 use crate::act::Act;
 use crate::case::Case;
 use crate::changes::{put_changes, put_keys, put_number};
-use crate::file::{play_of, world_of};
+use crate::file::{of_play, play_of, world_of};
 use crate::text::put_text;
-use crate::trouble::Trouble;
 use std::alloc::{AllocError, Global};
 use std::fmt::Write;
+use test_rows::{Trouble, put_trimmed};
 use zed_oop::{Effects, OopError, Scene, turn};
 use zed_play::{Ending, Key, Messages, Play, PlayError};
 use zed_screen::{Frame, ascii, draw_board, draw_play};
@@ -194,23 +194,10 @@ pub fn put_step(
     before.put_stepped(play, stepped, out)
 }
 
-fn put_row(row: &[u8], out: &mut String) -> Result<(), AllocError> {
-    let mut length = 0;
-    for (i, byte) in row.iter().enumerate() {
-        if *byte != b' ' {
-            length = i.saturating_add(1);
-        }
-    }
-    for byte in row.iter().take(length) {
-        out.push(char::from(*byte))?;
-    }
-    out.push('\n')
-}
-
 fn put_frame(frame: &Frame, out: &mut String) -> Result<(), AllocError> {
     let rows = ascii(frame);
     for row in rows.iter() {
-        put_row(row, out)?;
+        put_trimmed(row, out)?;
     }
     Ok(())
 }
@@ -239,7 +226,7 @@ fn put_begun(alloc: Global, case: &Case, board: usize, out: &mut String) -> Resu
     match Play::new(alloc, world_of(alloc, case)?, board, 1) {
         Ok(_) => Ok(out.push_str("begun\n")?),
         Err(PlayError::NoBoard) => Ok(out.push_str("noboard\n")?),
-        Err(error) => Err(Trouble::from(error)),
+        Err(error) => Err(of_play(error)),
     }
 }
 
@@ -252,7 +239,7 @@ impl<'a> Stage<'a> {
     fn play(&mut self) -> Result<&mut Play, Trouble> {
         match &mut self.play {
             Some(play) => Ok(play),
-            None => Err(Trouble::NotOpened),
+            None => Err(Trouble::Other("no playtest was opened")),
         }
     }
 

@@ -1,11 +1,10 @@
 //! How long turns and steps take. The times are told, and nothing depends on them.
 use crate::case::Case;
 use crate::file::play_of;
-use crate::line::Line;
-use crate::trouble::Trouble;
 use std::alloc::Global;
 use std::io;
 use std::time::Instant;
+use test_rows::{Line, Trouble};
 use zed_oop::{Scene, turn};
 use zed_play::{Key, Play};
 

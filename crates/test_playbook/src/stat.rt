@@ -1,6 +1,5 @@
 //! The stats of a case.
-use crate::line::Line;
-use crate::trouble::Trouble;
+use test_rows::{Line, Trouble};
 use zed_types::{Place, Tile};
 use zed_world::{Code, StatData};
 
