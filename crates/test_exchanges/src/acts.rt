@@ -1,26 +1,15 @@
 //! What is done with a document.
-use crate::desk::Desk;
-use crate::line::Line;
-use crate::rest::Rest;
-use crate::stage::Stage;
+use crate::desk::{Desk, next_text};
 use crate::told::{Told, put_error, put_told, told_of};
-use crate::trouble::Trouble;
-use std::alloc::Global;
 use std::fmt::Write;
+use test_edits::{Stage, copy_of};
+use test_rows::{Line, Trouble};
 use zed_document::{Delivered, DocumentError};
 use zed_op::{Edit, Op};
-use zed_types::{Bytes, TextId};
-
-/// The bytes that the rest of a line has between quotes.
-pub fn quoted_of(alloc: Global, line: &mut Line) -> Result<Bytes, Trouble> {
-    let mut rest = Rest::new(line.text());
-    let bytes = rest.quoted(alloc)?;
-    rest.end()?;
-    Ok(Bytes::new(bytes))
-}
+use zed_types::TextId;
 
 pub fn op_of(edit: &Edit) -> Result<Op, Trouble> {
-    let Edit { op, .. } = edit.copy()?;
+    let Edit { op, .. } = copy_of(edit)?;
     Ok(op)
 }
 
@@ -33,7 +22,7 @@ impl Desk {
 
     /// Delivers a copy of an edit.
     pub fn delivers(&mut self, edit: &Edit) -> Result<Result<Delivered, DocumentError>, Trouble> {
-        let copy = edit.copy()?;
+        let copy = copy_of(edit)?;
         let answer = self.document.deliver(copy);
         self.note(answer);
         Ok(answer)
@@ -64,8 +53,8 @@ impl Desk {
     }
 
     /// Delivers the same edit so many times, each time a time later, and tells of those that aren't taken.
-    fn put_repeats(&mut self, count: usize, edit: &Edit, seen: &mut String) -> Result<(), Trouble> {
-        let mut next = edit.copy()?;
+    fn put_repeats(&mut self, count: u64, edit: &Edit, seen: &mut String) -> Result<(), Trouble> {
+        let mut next = copy_of(edit)?;
         for _ in 0..count {
             let told = told_of(self.delivers(&next)?);
             if told != Told::Taken(0) {
@@ -93,7 +82,7 @@ impl Desk {
         line: &mut Line,
         seen: &mut String,
     ) -> Result<(), Trouble> {
-        let (least, most) = (line.number()? as u64, line.number()? as u64);
+        let (least, most) = (line.number()?, line.number()?);
         let answer = self.delivers(edit)?;
         put_told(told_of(answer), seen)?;
         if let Ok(told) = answer {
@@ -123,7 +112,7 @@ impl Desk {
                 self.put_repeats(count, stage.edit(line.word()?)?, seen)?;
             }
             "looks" => {
-                let text = TextId { name: line.name()? };
+                let text = next_text(line)?;
                 self.put_looks(text, stage.edit(line.word()?)?, line, seen)?;
             }
             _ => return Ok(false),

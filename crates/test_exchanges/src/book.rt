@@ -1,19 +1,6 @@
 //! A book: cases, their rows, and what is to be seen of each.
-use crate::growths::MOST;
-use crate::line::number_of;
-use crate::table::Table;
-use crate::trouble::Trouble;
-use std::alloc::{AllocError, Global};
-
-/// What is done in one line.
-#[derive(Drop)]
-pub struct Row<'a> {
-    /// The number of its line, from 1.
-    pub number: usize,
-    pub text: &'a str,
-    /// What is to be seen of it, line by line.
-    pub wanted: String,
-}
+use std::alloc::Global;
+use test_rows::{Fault, MOST, Row, Trouble, is_skipped, size_of, want_of_last};
 
 /// Rows that begin with two empty replicas.
 #[derive(Drop)]
@@ -34,40 +21,6 @@ pub struct Book<'a> {
     /// Rows that hold wherever the one is stale.
     pub stale: Case<'a>,
     pub cases: Vec<Case<'a>>,
-}
-
-/// The line at which a book is at fault.
-#[derive(Clone, Copy)]
-pub struct Fault {
-    pub number: usize,
-    pub trouble: Trouble,
-}
-
-fn is_skipped(line: &str) -> bool {
-    line.is_empty() || line == "#" || line.starts_with("# ")
-}
-
-impl<'a> Row<'a> {
-    fn want(&mut self, line: &str) -> Result<(), AllocError> {
-        self.wanted.push_str(line)?;
-        self.wanted.push('\n')
-    }
-
-    /// What is seen of the row.
-    pub fn seen(&self, table: &mut Table) -> Result<String, AllocError> {
-        let mut seen = String::new(table.alloc);
-        if let Err(trouble) = table.put_seen(self.text, &mut seen) {
-            seen.push_str(trouble.told())?;
-            seen.push('\n')?;
-        }
-        Ok(seen)
-    }
-
-    /// Whether what is seen of it is what is to be seen.
-    pub fn holds(&self, table: &mut Table) -> Result<bool, AllocError> {
-        let seen = self.seen(table)?;
-        Ok(seen.as_str() == self.wanted.as_str())
-    }
 }
 
 impl<'a> Case<'a> {
@@ -125,33 +78,19 @@ impl<'a> Case<'a> {
         self.part(self.call.saturating_add(1), self.rows.len())
     }
 
-    fn want(&mut self, line: &str) -> Result<(), Trouble> {
-        match self.rows.last_mut() {
-            Some(row) => Ok(row.want(line)?),
-            None => Err(Trouble::Line),
-        }
-    }
-
     fn add(&mut self, alloc: Global, number: usize, text: &'a str) -> Result<(), Trouble> {
         if text.starts_with("call ") || text.starts_with("call_once ") {
             self.call = self.rows.len();
         }
-        let wanted = String::new(alloc);
-        Ok(
-            self.rows.push(Row {
-                number,
-                text,
-                wanted,
-            })?,
-        )
+        Ok(self.rows.push(Row::new(alloc, number, text))?)
     }
 
     fn take(&mut self, alloc: Global, number: usize, line: &'a str) -> Result<(), Trouble> {
         if let Some(wanted) = line.strip_prefix("> ") {
-            return self.want(wanted);
+            return want_of_last(&mut self.rows, wanted);
         }
         if let Some(most) = line.strip_prefix("most ") {
-            self.most = number_of(most)?;
+            self.most = size_of(most)?;
             return Ok(());
         }
         if line == "kept" {
@@ -172,7 +111,7 @@ impl<'a> Book<'a> {
         }
         if let Some(row) = line.strip_prefix("stale ") {
             self.stale.add(alloc, number, row)?;
-            return self.stale.want("Stale");
+            return want_of_last(&mut self.stale.rows, "Stale");
         }
         match self.cases.last_mut() {
             Some(case) => case.take(alloc, number, line),

@@ -1,14 +1,12 @@
 //! Calls that may grow, each with one of its growths refused.
-use crate::acts::{op_of, quoted_of};
-use crate::desk::Desk;
-use crate::growths::{MOST, refuse, was_refused};
-use crate::line::Line;
+use crate::acts::op_of;
+use crate::desk::{Desk, next_text};
 use crate::saved::put_refusal;
-use crate::stage::Stage;
-use crate::told::{Told, put_error, put_stamp, put_told, told_of};
-use crate::trouble::Trouble;
+use crate::told::{Told, put_error, put_told, told_of};
 use std::alloc::{AllocError, Global};
 use std::fmt::Write;
+use test_edits::{Stage, copy_of, put_stamp, quoted_of};
+use test_rows::{Line, MOST, Trouble, refuse, was_refused};
 use zed_document::DocumentError;
 use zed_edit::replay;
 use zed_export::{ExportError, export, save, warnings};
@@ -132,7 +130,7 @@ fn try_copy(alloc: Global, edit: &Edit, nth: usize) -> Outcome {
 
 impl Desk {
     fn try_deliver(&mut self, edit: &Edit, nth: usize) -> Result<Outcome, Trouble> {
-        let copy = edit.copy()?;
+        let copy = copy_of(edit)?;
         refuse(self.alloc, nth);
         let end = End::Told(told_of(self.document.deliver(copy)));
         Ok(outcome_of(self.alloc, end))
@@ -146,9 +144,9 @@ impl Desk {
     }
 
     fn try_types(&mut self, line: &mut Line, nth: usize) -> Result<Outcome, Trouble> {
-        let replica = line.replica()?;
-        let text = TextId { name: line.name()? };
-        let position = line.number()?;
+        let replica = line.short()?;
+        let text = next_text(line)?;
+        let position = line.size()?;
         let bytes = quoted_of(self.alloc, line)?;
         refuse(self.alloc, nth);
         let end = end_of_made(self.document.insert_text(replica, text, position, bytes));
@@ -156,9 +154,9 @@ impl Desk {
     }
 
     fn try_deletes(&mut self, line: &mut Line, nth: usize) -> Result<Outcome, Trouble> {
-        let replica = line.replica()?;
-        let text = TextId { name: line.name()? };
-        let (from, to) = (line.number()?, line.number()?);
+        let replica = line.short()?;
+        let text = next_text(line)?;
+        let (from, to) = (line.size()?, line.size()?);
         if replica == 0 {
             return Err(Trouble::Line);
         }
@@ -259,7 +257,7 @@ impl Desk {
     ) -> Result<Option<Outcome>, Trouble> {
         match verb {
             "authors" => {
-                let replica = line.replica()?;
+                let replica = line.short()?;
                 Ok(Some(self.try_author(replica, stage.edit(line.word()?)?, nth)?))
             }
             "types" => Ok(Some(self.try_types(line, nth)?)),
@@ -277,7 +275,7 @@ impl Desk {
         nth: usize,
     ) -> Result<Option<Outcome>, Trouble> {
         match verb {
-            "takes_text" => Ok(Some(self.try_text(TextId { name: line.name()? }, nth))),
+            "takes_text" => Ok(Some(self.try_text(next_text(line)?, nth))),
             "replays" => Ok(Some(self.try_replay(nth))),
             "exports" => Ok(Some(self.try_export(nth))),
             "makes_file" => Ok(Some(self.try_save(nth))),

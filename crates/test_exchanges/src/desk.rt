@@ -1,11 +1,11 @@
 //! What is seen of a document.
-use crate::line::Line;
-use crate::told::{put_error, put_option, put_quoted, put_stamp, put_whether};
-use crate::trouble::Trouble;
+use crate::told::{put_error, put_whether};
 use std::alloc::Global;
 use std::fmt::Write;
+use test_edits::{next_name, next_stamp, put_option, put_quoted, put_stamp};
+use test_rows::{Line, Trouble};
 use zed_document::{Document, DocumentError, append_text};
-use zed_edit::{Plain, replay};
+use zed_edit::{EditError, Plain, replay};
 use zed_log::marked_line;
 use zed_op::{Edit, Op};
 use zed_types::{BoardId, Name, StatId, TextId};
@@ -17,6 +17,10 @@ pub struct Desk {
     pub document: Document,
     /// How many runs of texts its deliveries told that they looked at.
     pub looks: u64,
+}
+
+fn no_replay(_error: EditError) -> Trouble {
+    Trouble::Memory
 }
 
 pub fn board_name(id: Option<BoardId>) -> Option<Name> {
@@ -40,6 +44,24 @@ fn text_name(id: Option<TextId>) -> Option<Name> {
     }
 }
 
+/// The next word of a line, which is the name of a text.
+pub fn next_text(line: &mut Line) -> Result<TextId, Trouble> {
+    let name = next_name(line)?;
+    Ok(TextId { name })
+}
+
+/// The next word of a line, which is the name of a stat.
+pub fn next_stat(line: &mut Line) -> Result<StatId, Trouble> {
+    let name = next_name(line)?;
+    Ok(StatId { name })
+}
+
+/// The next word of a line, which is the name of a board.
+fn next_board(line: &mut Line) -> Result<BoardId, Trouble> {
+    let name = next_name(line)?;
+    Ok(BoardId { name })
+}
+
 /// Appends that the replay has it otherwise, where it does.
 fn put_unlike(is_alike: bool, seen: &mut String) -> Result<(), Trouble> {
     if is_alike {
@@ -61,7 +83,7 @@ impl Desk {
 
     /// What one author would have who makes the document's edits in their order.
     pub fn replayed(&self) -> Result<Plain, Trouble> {
-        Ok(replay(self.alloc, self.document.edits())?)
+        replay(self.alloc, self.document.edits()).map_err(no_replay)
     }
 
     fn put_counts(&self, seen: &mut String) -> Result<(), Trouble> {
@@ -83,7 +105,7 @@ impl Desk {
     /// Whether the replay of the document's edits has a text of these bytes.
     pub fn replays(&self, id: TextId, wanted: &[u8]) -> Result<bool, Trouble> {
         let plain = self.replayed()?;
-        let replayed = plain.text(self.alloc, id)?;
+        let replayed = plain.text(self.alloc, id).map_err(no_replay)?;
         Ok(replayed.as_slice() == wanted && plain.length(id) == wanted.len())
     }
 
@@ -176,7 +198,7 @@ impl Desk {
     fn put_edits(&self, verb: &str, line: &mut Line, seen: &mut String) -> Result<bool, Trouble> {
         match verb {
             "edits" => self.put_counts(seen)?,
-            "waits" => put_whether(self.document.is_held(line.stamp()?), seen)?,
+            "waits" => put_whether(self.document.is_held(next_stamp(line)?), seen)?,
             "world" => write!(seen, "{}", self.document.world())?,
             "log" => self.put_log(seen)?,
             _ => return Ok(false),
@@ -187,14 +209,14 @@ impl Desk {
     /// Appends what a row asks of texts, boards and stats, if it is such a row.
     fn put_thing(&self, verb: &str, line: &mut Line, seen: &mut String) -> Result<bool, Trouble> {
         match verb {
-            "text" => self.put_text(TextId { name: line.name()? }, seen)?,
-            "visits" => self.put_visits(TextId { name: line.name()? }, seen)?,
-            "board" => self.put_board(line.number()?, seen)?,
+            "text" => self.put_text(next_text(line)?, seen)?,
+            "visits" => self.put_visits(next_text(line)?, seen)?,
+            "board" => self.put_board(line.size()?, seen)?,
             "stat" => {
-                let board = BoardId { name: line.name()? };
-                self.put_stat(board, line.number()?, seen)?;
+                let board = next_board(line)?;
+                self.put_stat(board, line.size()?, seen)?;
             }
-            "text_of" => self.put_text_of(StatId { name: line.name()? }, seen)?,
+            "text_of" => self.put_text_of(next_stat(line)?, seen)?,
             _ => return Ok(false),
         }
         Ok(true)

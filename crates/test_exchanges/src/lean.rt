@@ -1,10 +1,9 @@
 //! Calls that take no memory, made while the first growth would be refused.
-use crate::desk::Desk;
-use crate::growths::{refuse, was_refused};
-use crate::line::Line;
-use crate::told::{put_name, put_whether};
-use crate::trouble::Trouble;
+use crate::desk::{Desk, next_stat, next_text};
+use crate::told::put_whether;
 use std::alloc::{AllocError, Global};
+use test_edits::{next_stamp, put_name};
+use test_rows::{Line, Trouble, refuse, was_refused};
 use zed_document::{Document, Follower, View};
 use zed_op::{Edit, Thing, names};
 use zed_types::{BoardId, StatId, TextId, Tile};
@@ -48,8 +47,8 @@ impl Desk {
 
     /// Asks the readers of things.
     pub fn put_lean_things(&self, line: &mut Line, seen: &mut String) -> Result<(), Trouble> {
-        let stat = StatId { name: line.name()? };
-        let text = TextId { name: line.name()? };
+        let stat = next_stat(line)?;
+        let text = next_text(line)?;
         refuse(self.alloc, 1);
         let is_so = self.has_things(stat, text);
         put_lean(self.alloc, is_so, seen)
@@ -62,7 +61,7 @@ impl Desk {
         line: &mut Line,
         seen: &mut String,
     ) -> Result<(), Trouble> {
-        let (edits, held) = (line.number()?, line.number()?);
+        let (edits, held) = (line.size()?, line.size()?);
         refuse(self.alloc, 1);
         let is_so = self.has_edits(other, edits, held);
         put_lean(self.alloc, is_so, seen)
@@ -70,7 +69,7 @@ impl Desk {
 
     /// Asks whether an edit waits.
     pub fn put_lean_waits(&self, line: &mut Line, seen: &mut String) -> Result<(), Trouble> {
-        let stamp = line.stamp()?;
+        let stamp = next_stamp(line)?;
         refuse(self.alloc, 1);
         let is_held = self.document.is_held(stamp);
         put_lean(self.alloc, is_held, seen)
@@ -78,7 +77,7 @@ impl Desk {
 
     /// Asks the view.
     pub fn put_lean_view(&self, line: &mut Line, seen: &mut String) -> Result<(), Trouble> {
-        let text = TextId { name: line.name()? };
+        let text = next_text(line)?;
         refuse(self.alloc, 1);
         let is_so = match self.document.view() {
             Ok(view) => shows(&view, text),

@@ -1,6 +1,6 @@
 //! The orders in which the edits of a case are delivered.
-use crate::trouble::Trouble;
 use std::alloc::{AllocError, Global};
+use test_rows::Trouble;
 
 /// Every so many edits one comes twice.
 const REPEATED: usize = 4;

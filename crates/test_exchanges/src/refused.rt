@@ -1,11 +1,11 @@
 //! The calls of a book's cases, with each growth of memory refused in turn: the answer is Memory, nothing that should stay is lost, and
 //! after a repair the call made again comes out as with ample memory.
-use crate::book::{Book, Case, Row};
-use crate::comparing::Report;
+use crate::book::{Book, Case};
+use crate::comparing::{hold, play_case, play_shared};
 use crate::table::{Mode, Table};
-use crate::trouble::Trouble;
 use std::alloc::{AllocError, Global};
 use std::fmt::Write;
+use test_rows::{Report, Trouble};
 
 /// How a call came out of which a growth was to be refused.
 #[derive(Clone, Copy)]
@@ -17,27 +17,6 @@ enum Turn {
     /// None was left to refuse, and it came out as with ample memory.
     Whole,
     Wrong,
-}
-
-/// What the sweeps over a book came to.
-#[derive(Drop)]
-pub struct Sweeps {
-    /// Calls that were made with each of their growths refused.
-    calls: usize,
-    /// Growths that were refused.
-    growths: usize,
-    /// The cases without such a call, and what doesn't come out as it should.
-    report: Report,
-}
-
-/// Whether rows hold.
-fn hold(table: &mut Table, rows: &[Row]) -> Result<bool, AllocError> {
-    for row in rows {
-        if !row.holds(table)? {
-            return Ok(false);
-        }
-    }
-    Ok(true)
 }
 
 /// Whether a call that was refused is made up for: by the same call again, or by what the other has.
@@ -110,81 +89,79 @@ fn take_turn(
     }
 }
 
-impl Sweeps {
-    fn tell_wrong(&mut self, file: &str, case: &Case, nth: usize) -> Result<(), AllocError> {
-        self.report.broken = self.report.broken.saturating_add(1);
-        let name = case.name;
-        writeln!(
-            self.report.told,
-            "{file}: {name}: wrong where growth {nth} is refused"
-        )
-    }
+fn tell_wrong(report: &mut Report, file: &str, case: &Case, nth: usize) -> Result<(), AllocError> {
+    report.broken = report.broken.saturating_add(1);
+    let name = case.name;
+    writeln!(
+        report.told,
+        "{file}: {name}: wrong where growth {nth} is refused"
+    )
+}
 
-    /// Refuses each growth of a call in turn, until none is left. Answers the number of the one that comes out otherwise, and of one more
-    /// than there may be.
-    fn sweep(
-        &mut self,
-        table: &mut Table,
-        book: &Book,
-        case: &Case,
-        words: &str,
-    ) -> Result<Option<usize>, Trouble> {
-        let mut is_halfway = !case.is_once();
-        for nth in 1..=case.most.saturating_add(1) {
-            match take_turn(table, book, case, words, nth)? {
-                Turn::Refused => self.growths = self.growths.saturating_add(1),
-                Turn::Halfway => {
-                    self.growths = self.growths.saturating_add(1);
-                    is_halfway = true;
-                }
-                Turn::Whole if 1 < nth && is_halfway => return Ok(None),
-                _ => return Ok(Some(nth)),
+/// Refuses each growth of a call in turn, until none is left. Answers the number of the one that comes out otherwise, and of one more
+/// than there may be.
+fn sweep(
+    table: &mut Table,
+    report: &mut Report,
+    book: &Book,
+    case: &Case,
+    words: &str,
+) -> Result<Option<usize>, Trouble> {
+    let mut is_halfway = !case.is_once();
+    for nth in 1..=case.most.saturating_add(1) {
+        match take_turn(table, book, case, words, nth)? {
+            Turn::Refused => report.growths = report.growths.saturating_add(1),
+            Turn::Halfway => {
+                report.growths = report.growths.saturating_add(1);
+                is_halfway = true;
             }
-        }
-        Ok(Some(case.most))
-    }
-
-    /// Goes through a case, with each growth of its call refused where it has one.
-    fn take(
-        &mut self,
-        table: &mut Table,
-        file: &str,
-        book: &Book,
-        case: &Case,
-    ) -> Result<(), Trouble> {
-        let Some(words) = case.call() else {
-            return Ok(self.report.play_case(table, file, case)?);
-        };
-        self.calls = self.calls.saturating_add(1);
-        match self.sweep(table, book, case, words)? {
-            Some(nth) => Ok(self.tell_wrong(file, case, nth)?),
-            None => Ok(()),
+            Turn::Whole if 1 < nth && is_halfway => return Ok(None),
+            _ => return Ok(Some(nth)),
         }
     }
+    Ok(Some(case.most))
+}
 
-    fn take_book(&mut self, table: &mut Table, file: &str, book: &Book) -> Result<(), Trouble> {
-        self.report.play_shared(table, file, book)?;
-        for case in book.cases.iter() {
-            self.take(table, file, book, case)?;
-        }
-        let (calls, growths) = (self.calls, self.growths);
-        Ok(writeln!(
-            self.report.told,
-            "{file}: {calls} calls, {growths} growths refused"
-        )?)
+/// Goes through a case, with each growth of its call refused where it has one.
+fn take(
+    table: &mut Table,
+    report: &mut Report,
+    file: &str,
+    book: &Book,
+    case: &Case,
+) -> Result<(), Trouble> {
+    let Some(words) = case.call() else {
+        return Ok(play_case(table, report, file, case)?);
+    };
+    report.calls = report.calls.saturating_add(1);
+    match sweep(table, report, book, case, words)? {
+        Some(nth) => Ok(tell_wrong(report, file, case, nth)?),
+        None => Ok(()),
     }
+}
 
-    /// What the sweeps over the cases of a book come to.
-    // A function that owns documents is dear to prove, so this one does nothing else.
-    pub fn of(alloc: Global, file: &str, book: &Book) -> Result<Report, Trouble> {
-        let mut sweeps = Sweeps {
-            calls: 0,
-            growths: 0,
-            report: Report::new(alloc),
-        };
-        let mut table = Table::new(alloc, Mode::Refuse);
-        sweeps.take_book(&mut table, file, book)?;
-        let Sweeps { report, .. } = sweeps;
-        Ok(report)
+fn take_book(
+    table: &mut Table,
+    report: &mut Report,
+    file: &str,
+    book: &Book,
+) -> Result<(), Trouble> {
+    play_shared(table, report, file, book)?;
+    for case in book.cases.iter() {
+        take(table, report, file, book, case)?;
     }
+    let (calls, growths) = (report.calls, report.growths);
+    Ok(writeln!(
+        report.told,
+        "{file}: {calls} calls, {growths} growths refused"
+    )?)
+}
+
+/// What the sweeps over the cases of a book come to: the cases without such a call, and what doesn't come out as it should.
+// A function that owns documents is dear to prove, so this one does nothing else.
+pub fn sweep_all(alloc: Global, file: &str, book: &Book) -> Result<Report, Trouble> {
+    let mut report = Report::new(alloc);
+    let mut table = Table::new(alloc, Mode::Refuse);
+    take_book(&mut table, &mut report, file, book)?;
+    Ok(report)
 }

@@ -1,9 +1,9 @@
 //! What is seen of a document's file.
 use crate::desk::Desk;
-use crate::line::Line;
-use crate::told::{put_quoted, put_whether};
-use crate::trouble::Trouble;
+use crate::told::put_whether;
 use std::fmt::Write;
+use test_edits::put_quoted;
+use test_rows::{Line, Trouble};
 use zed_export::{ExportError, export, save};
 use zed_types::BODY_LIMIT;
 
@@ -77,8 +77,8 @@ impl Desk {
     ) -> Result<bool, Trouble> {
         match verb {
             "saves" => self.put_file(seen)?,
-            "saves_within" => self.put_file_within(line.number()?, seen)?,
-            "file" => self.put_bytes(line.number()?, line.number()?, seen)?,
+            "saves_within" => self.put_file_within(line.size()?, seen)?,
+            "file" => self.put_bytes(line.size()?, line.size()?, seen)?,
             _ => return Ok(false),
         }
         Ok(true)

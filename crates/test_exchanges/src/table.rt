@@ -2,12 +2,11 @@
 use crate::calls::Outcome;
 use crate::desk::Desk;
 use crate::lean::{put_lean_new, put_named};
-use crate::line::Line;
-use crate::stage::Stage;
 use crate::taker::put_orders;
 use crate::told::{put_error, put_whether};
-use crate::trouble::Trouble;
 use std::alloc::Global;
+use test_edits::{Stage, copy_of};
+use test_rows::{Line, Trouble};
 use zed_op::Edit;
 
 /// Which of the two replicas a row is about.
@@ -138,7 +137,7 @@ impl Table {
     fn put_front(&self, names: &str, seen: &mut String) -> Result<(), Trouble> {
         let mut own = Vec::new(self.alloc);
         for name in names.split(' ') {
-            own.push(self.stage.edit(name)?.copy()?)?;
+            own.push(copy_of(self.stage.edit(name)?)?)?;
         }
         let edits = self.one.document.edits();
         let count = count_front(own.as_slice(), edits, self.other.document.edits());
@@ -174,7 +173,7 @@ impl Table {
         let mut words = *line;
         let verb = line.word()?;
         if verb == "begins" {
-            self.begin(who, line.number()? as u64);
+            self.begin(who, line.number()?);
             return Ok(true);
         }
         if self.puts(who, verb, line, seen)? || self.puts_viewed(who, verb, line, seen)? {

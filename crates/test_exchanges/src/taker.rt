@@ -1,11 +1,10 @@
 //! A document that takes the edits of a case in some order: each delivery against a replay of the edits that came so far.
 use crate::desk::Desk;
-use crate::line::Line;
 use crate::orders::{Orders, order_of};
-use crate::stage::NamedEdit;
-use crate::trouble::Trouble;
 use std::alloc::{AllocError, Global};
 use std::fmt::Write;
+use test_edits::NamedEdit;
+use test_rows::{Line, Trouble};
 use zed_document::{Delivered, State};
 use zed_op::Edit;
 use zed_types::Stamp;
@@ -260,7 +259,7 @@ pub fn put_orders(
     seen: &mut String,
 ) -> Result<(), Trouble> {
     let orders = Orders::of(line.word()?)?;
-    let (from, to) = (line.number()?, line.number()?);
+    let (from, to) = (line.size()?, line.size()?);
     if !rises(rows) {
         return Err(Trouble::Line);
     }

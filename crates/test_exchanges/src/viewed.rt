@@ -1,10 +1,10 @@
 //! What is seen of boards, their cells and stats.
-use crate::desk::{Desk, board_name, stat_name};
-use crate::line::Line;
-use crate::told::{put_error, put_name, put_option};
-use crate::trouble::Trouble;
+use crate::desk::{Desk, board_name, next_text, stat_name};
+use crate::told::put_error;
 use std::alloc::AllocError;
 use std::fmt::Write;
+use test_edits::{put_name, put_option};
+use test_rows::{Line, Trouble};
 use zed_document::{Follower, Leader, P3, Rank, View};
 use zed_types::{Side, StatByte, StatNumber, TextId, ThirdParameter};
 
@@ -111,11 +111,11 @@ fn put_names(view: &View, id: TextId, length: usize, seen: &mut String) -> Resul
 
 fn put_view(view: &View, verb: &str, line: &mut Line, seen: &mut String) -> Result<bool, Trouble> {
     match verb {
-        "exit" => put_exit(view, line.number()?, side_of(line.word()?)?, seen)?,
-        "rank" => put_rank(view, line.number()?, seen)?,
-        "cell" => put_cell(view, line.number()?, line.number()?, seen)?,
-        "registers" => put_registers(view, line.number()?, line.number()?, seen)?,
-        "names" => put_names(view, TextId { name: line.name()? }, line.number()?, seen)?,
+        "exit" => put_exit(view, line.size()?, side_of(line.word()?)?, seen)?,
+        "rank" => put_rank(view, line.size()?, seen)?,
+        "cell" => put_cell(view, line.size()?, line.size()?, seen)?,
+        "registers" => put_registers(view, line.size()?, line.size()?, seen)?,
+        "names" => put_names(view, next_text(line)?, line.size()?, seen)?,
         _ => return Ok(false),
     }
     Ok(true)

@@ -2,12 +2,15 @@
 use crate::fields::{put_fields, put_time};
 use crate::patterns::{PATTERNS, Pattern, STAT_ADD};
 use crate::rest::Rest;
-use crate::trouble::Trouble;
 use std::alloc::Global;
-use zed_editfile::EditReader;
+use test_rows::Trouble;
+use zed_editfile::{EditFileError, EditReader};
 use zed_log::line;
-use zed_op::{Edit, Op};
+use zed_op::{Edit, EditError, Op};
 use zed_types::{Bytes, Name, Stamp, TextId};
+
+/// No edit has these fields.
+const NO_EDIT: Trouble = Trouble::Other("no edit that fits");
 
 /// The head of an edit file.
 const HEAD: [u8; 12] = [b'Z', b'E', b'D', 2, 7, 0, 0, 0, 0, 0, 0, 0];
@@ -79,14 +82,27 @@ fn file_of(alloc: Global, stamp: Stamp, words: &str) -> Result<Vec<u8>, Trouble>
     Ok(file)
 }
 
+fn of_file(_error: EditFileError) -> Trouble {
+    NO_EDIT
+}
+
+fn of_copy(_error: EditError) -> Trouble {
+    Trouble::Memory
+}
+
+/// A copy of an edit.
+pub fn copy_of(edit: &Edit) -> Result<Edit, Trouble> {
+    edit.copy().map_err(of_copy)
+}
+
 /// The one edit of a file.
 fn read_edit(alloc: Global, file: &[u8]) -> Result<Edit, Trouble> {
     let mut edits = Vec::new(alloc);
     let mut reader = EditReader::new(alloc, None);
-    reader.feed(file, &mut edits)?;
+    reader.feed(file, &mut edits).map_err(of_file)?;
     match edits.pop() {
         Some(edit) => Ok(edit),
-        None => Err(Trouble::Edit),
+        None => Err(NO_EDIT),
     }
 }
 
@@ -117,7 +133,7 @@ pub fn genesis_of(alloc: Global, stamp: Stamp, world: &[u8]) -> Result<Edit, Tro
 }
 
 /// The edit that puts so many letters at the head of a text.
-pub fn letters_of(alloc: Global, stamp: Stamp, count: usize, text: Name) -> Result<Edit, Trouble> {
+pub fn letters_of(alloc: Global, stamp: Stamp, count: u64, text: Name) -> Result<Edit, Trouble> {
     let mut bytes = Vec::new(alloc);
     for _ in 0..count {
         bytes.push(b'a')?;

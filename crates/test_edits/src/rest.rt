@@ -1,19 +1,12 @@
 //! Words of an edit, read byte after byte.
-use crate::trouble::Trouble;
 use std::alloc::Global;
+use test_rows::{Line, Trouble, digit_of};
+use zed_types::Bytes;
 
 /// What is left of the words.
 #[derive(Clone, Copy)]
 pub struct Rest<'a> {
     left: &'a [u8],
-}
-
-fn digit_of(byte: u8) -> Result<u8, Trouble> {
-    match byte {
-        b'0'..=b'9' => Ok(byte - b'0'),
-        b'a'..=b'f' => Ok(byte - b'a' + 10),
-        _ => Err(Trouble::Line),
-    }
 }
 
 impl<'a> Rest<'a> {
@@ -131,4 +124,12 @@ impl<'a> Rest<'a> {
         }
         Err(Trouble::Line)
     }
+}
+
+/// The bytes that the rest of a line has between quotes.
+pub fn quoted_of(alloc: Global, line: &mut Line) -> Result<Bytes, Trouble> {
+    let mut rest = Rest::new(line.text());
+    let bytes = rest.quoted(alloc)?;
+    rest.end()?;
+    Ok(Bytes::new(bytes))
 }

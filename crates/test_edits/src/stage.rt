@@ -1,18 +1,10 @@
 //! Bytes and edits that have names in a book.
-use crate::bytes::bytes_of;
 use crate::edit::{edit_of, genesis_of, letters_of};
-use crate::line::{Line, stamp_of};
-use crate::trouble::Trouble;
+use crate::words::{next_name, next_stamp, stamp_of};
 use std::alloc::Global;
+use test_rows::{Line, Names, Trouble};
 use zed_op::{Edit, Op};
 use zed_types::{BoardId, Stamp};
-
-/// Bytes with their name.
-#[derive(Drop)]
-struct NamedBytes {
-    name: String,
-    bytes: Vec<u8>,
-}
 
 /// An edit with its name.
 #[derive(Drop)]
@@ -24,7 +16,7 @@ pub struct NamedEdit {
 /// The bytes and edits that were named so far. Those of all cases come first.
 #[derive(Drop)]
 pub struct Stage {
-    bytes: Vec<NamedBytes>,
+    bytes: Names,
     edits: Vec<NamedEdit>,
     /// How many of them are of all cases.
     shared_bytes: usize,
@@ -34,7 +26,7 @@ pub struct Stage {
 impl Stage {
     pub fn new(alloc: Global) -> Stage {
         Stage {
-            bytes: Vec::new(alloc),
+            bytes: Names::new(alloc),
             edits: Vec::new(alloc),
             shared_bytes: 0,
             shared_edits: 0,
@@ -43,24 +35,14 @@ impl Stage {
 
     /// What was named so far is of all cases.
     pub fn share(&mut self) {
-        self.shared_bytes = self.bytes.len();
+        self.shared_bytes = self.bytes.count();
         self.shared_edits = self.edits.len();
     }
 
     /// Forgets what isn't of all cases.
     pub fn clear(&mut self) {
-        self.bytes.truncate(self.shared_bytes);
+        self.bytes.forget(self.shared_bytes);
         self.edits.truncate(self.shared_edits);
-    }
-
-    /// The bytes of a name.
-    pub fn bytes(&self, name: &str) -> Result<&[u8], Trouble> {
-        for named in self.bytes.iter().rev() {
-            if named.name.as_str() == name {
-                return Ok(named.bytes.as_slice());
-            }
-        }
-        Err(Trouble::Line)
     }
 
     /// The edit of a name.
@@ -79,18 +61,12 @@ impl Stage {
         &self.edits[begin..]
     }
 
-    fn name_bytes(&mut self, alloc: Global, line: &mut Line) -> Result<(), Trouble> {
-        let name = String::from_str(alloc, line.word()?)?;
-        let bytes = bytes_of(alloc, self, line.text())?;
-        Ok(self.bytes.push(NamedBytes { name, bytes })?)
-    }
-
     fn name_edit(&mut self, alloc: Global, line: &mut Line) -> Result<(), Trouble> {
         let word = line.word()?;
         let name = String::from_str(alloc, word)?;
         let stamp = match stamp_of(word) {
             Ok(stamp) => stamp,
-            Err(_) => line.stamp()?,
+            Err(_) => next_stamp(line)?,
         };
         let edit = self.edit_of(alloc, stamp, line.text())?;
         Ok(self.edits.push(NamedEdit { name, edit })?)
@@ -99,11 +75,11 @@ impl Stage {
     /// The edit of these words.
     fn edit_of(&self, alloc: Global, stamp: Stamp, words: &str) -> Result<Edit, Trouble> {
         if let Some(world) = words.strip_prefix("genesis ") {
-            return genesis_of(alloc, stamp, self.bytes(world)?);
+            return genesis_of(alloc, stamp, self.bytes.bytes(world)?);
         }
         if let Some(letters) = words.strip_prefix("letters ") {
             let mut line = Line::new(letters);
-            return letters_of(alloc, stamp, line.number()?, line.name()?);
+            return letters_of(alloc, stamp, line.number()?, next_name(&mut line)?);
         }
         // the one op of the books that never fits
         if words == "remove board 1.0:0" {
@@ -116,7 +92,7 @@ impl Stage {
     /// Names what a row names, if it is such a row.
     pub fn names(&mut self, alloc: Global, verb: &str, line: &mut Line) -> Result<bool, Trouble> {
         match verb {
-            "bytes" => self.name_bytes(alloc, line)?,
+            "bytes" => self.bytes.define(alloc, line)?,
             "edit" => self.name_edit(alloc, line)?,
             _ => return Ok(false),
         }

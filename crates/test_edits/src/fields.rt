@@ -1,6 +1,6 @@
 //! The fields of an edit as docs/LOG.md spells them, turned into those of an edit file.
 use crate::rest::Rest;
-use crate::trouble::Trouble;
+use test_rows::Trouble;
 
 fn put_byte(number: u64, out: &mut Vec<u8>) -> Result<(), Trouble> {
     match u8::try_from(number) {
