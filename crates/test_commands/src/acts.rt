@@ -1,8 +1,7 @@
 //! What is done with a session.
-use crate::line::{Counters, Line};
 use crate::told::Told;
-use crate::trouble::Trouble;
 use std::alloc::Global;
+use test_rows::{Line, Trouble};
 
 /// A call of a session.
 #[derive(Drop)]
@@ -37,18 +36,6 @@ pub struct Act {
     pub asked: Asked,
 }
 
-fn words_of(alloc: Global, line: &mut Line) -> Result<Vec<u16>, Trouble> {
-    let mut words = Vec::new(alloc);
-    let text = line.text();
-    if text.is_empty() {
-        return Ok(words);
-    }
-    for word in text.split(' ') {
-        words.push(Line::new(word, Counters::NONE).short()?)?;
-    }
-    Ok(words)
-}
-
 fn numbered(word: &str, line: &mut Line) -> Result<Option<Call>, Trouble> {
     match word {
         "show" => Ok(Some(Call::Show(line.size()?))),
@@ -62,7 +49,7 @@ fn numbered(word: &str, line: &mut Line) -> Result<Option<Call>, Trouble> {
 
 fn call_of(alloc: Global, word: &str, line: &mut Line) -> Result<Option<Call>, Trouble> {
     match word {
-        "press" => Ok(Some(Call::Press(words_of(alloc, line)?))),
+        "press" => Ok(Some(Call::Press(line.chances(alloc)?))),
         "attach" => Ok(Some(Call::Attach)),
         "repair" => Ok(Some(Call::Repair)),
         _ => numbered(word, line),

@@ -1,9 +1,8 @@
 //! A book: bytes with their names, and sections.
-use crate::line::{Counters, Line};
-use crate::names::Names;
+use crate::records::define;
 use crate::section::Section;
-use crate::trouble::Trouble;
 use std::alloc::Global;
+use test_rows::{Fault, Line, Names, Trouble, is_skipped};
 
 /// What a text says.
 #[derive(Drop)]
@@ -12,24 +11,12 @@ pub struct Book<'a> {
     pub sections: Vec<Section<'a>>,
 }
 
-/// The line at which a book is at fault.
-#[derive(Clone, Copy)]
-pub struct Fault {
-    pub number: usize,
-    pub trouble: Trouble,
-}
-
-/// Whether a line is empty or a comment.
-fn is_skipped(line: &str) -> bool {
-    line.is_empty() || line == "#" || line.starts_with("# ")
-}
-
 impl<'a> Book<'a> {
     /// Takes in a line that names bytes, if it is one.
     fn define(&mut self, alloc: Global, line: &str) -> Result<bool, Trouble> {
-        let mut words = Line::new(line, Counters::NONE);
+        let mut words = Line::new(line);
         let word = words.word()?;
-        self.names.define(alloc, word, &mut words)
+        define(alloc, &mut self.names, word, &mut words)
     }
 
     fn take(&mut self, alloc: Global, number: usize, line: &'a str) -> Result<(), Trouble> {

@@ -1,15 +1,10 @@
 //! Commands over a host in memory.
-use crate::bytes::put_lines;
-use crate::growths::{refuse, was_refused};
-use crate::line::Line;
-use crate::names::Names;
-use crate::parts::Parts;
 use crate::row::Outcome;
-use crate::setup::Setup;
-use crate::traces::Traces;
-use crate::trouble::Trouble;
+use crate::said::put_lines;
 use std::alloc::{AllocError, Global};
 use std::fmt::Write;
+use test_devices::{Parts, Setup, Traces};
+use test_rows::{Line, Names, Trouble, refuse, was_refused};
 use zed_host::{Host, MemoryHost, ReadError};
 use zed_link::Link;
 use zed_program::run;
@@ -55,7 +50,7 @@ fn run_over(
         screen.as_mut(),
         keys.as_mut(),
     );
-    let was_refused = was_refused(alloc, nth);
+    let was_refused = nth > 0 && was_refused(alloc);
     Run {
         status,
         was_refused,

@@ -1,10 +1,8 @@
 //! Bytes that go over one link.
-use crate::bytes::{bytes_of, put_front};
-use crate::line::Line;
-use crate::names::Names;
-use crate::trouble::Trouble;
 use std::alloc::Global;
 use std::fmt::Write;
+use test_devices::put_front;
+use test_rows::{Line, Names, Trouble, bytes_of};
 use zed_document::Document;
 use zed_link::{Link, LinkError, MemoryLink, Pulled, receive, send};
 
@@ -36,6 +34,10 @@ fn receive_over(
     }
 }
 
+fn no_document(_error: LinkError) -> Trouble {
+    Trouble::Other("no document is made of these bytes")
+}
+
 /// The document of world 7 that these bytes bring.
 pub fn document_of(alloc: Global, bytes: Vec<u8>) -> Result<Document, Trouble> {
     let mut document = Document::new(alloc, 7);
@@ -43,7 +45,7 @@ pub fn document_of(alloc: Global, bytes: Vec<u8>) -> Result<Document, Trouble> {
         return Ok(document);
     }
     let mut link = MemoryLink::new(alloc, bytes, 4096, None);
-    receive(alloc, &mut link, &mut document)?;
+    receive(alloc, &mut link, &mut document).map_err(no_document)?;
     Ok(document)
 }
 

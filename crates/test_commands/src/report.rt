@@ -1,29 +1,13 @@
 //! How the sections of a book come out.
-use crate::book::{Book, Fault};
-use crate::growths::MOST;
-use crate::line::Counters;
-use crate::names::Names;
+use crate::book::Book;
 use crate::row::{Outcome, Row};
 use crate::section::Section;
 use crate::sight::Sight;
 use crate::stage::sight_of;
-use crate::trouble::Trouble;
 use crate::turn::{Each, Turn, Turns};
 use std::alloc::{AllocError, Global};
 use std::fmt::Write;
-
-/// How a book came out.
-#[derive(Drop)]
-pub struct Report {
-    /// Rows that hold.
-    pub held: usize,
-    /// Sections that don't.
-    pub broken: usize,
-    /// Growths that were refused.
-    pub growths: usize,
-    /// What doesn't hold, and the counts.
-    pub told: String,
-}
+use test_rows::{Counters, MOST, Names, Report, Trouble};
 
 /// What is seen in turns.
 #[derive(Drop)]
@@ -118,103 +102,93 @@ fn wants_refusals(rows: &[Row]) -> bool {
     rows.iter().any(|row| row.is_tried && !row.wanted(Outcome::Refused).is_empty())
 }
 
-impl Report {
-    fn new(alloc: Global) -> Report {
-        Report {
-            held: 0,
-            broken: 0,
-            growths: 0,
-            told: String::new(alloc),
+fn break_section(report: &mut Report, name: &str, what: &str) -> Result<(), AllocError> {
+    report.broken = report.broken.saturating_add(1);
+    write!(report.told, "{name}:\n{what}")
+}
+
+/// Takes what is seen of a section; whether all of it holds.
+fn take(report: &mut Report, name: &str, sight: &Sight) -> Result<bool, AllocError> {
+    report.held = report.held.saturating_add(sight.held);
+    if sight.broken == 0 {
+        return Ok(true);
+    }
+    break_section(report, name, sight.told.as_str())?;
+    Ok(false)
+}
+
+fn compare(
+    alloc: Global,
+    report: &mut Report,
+    names: &Names,
+    section: &Section,
+) -> Result<(), Trouble> {
+    match sight_of_all(alloc, names, section) {
+        Ok(sight) => {
+            take(report, section.name, &sight)?;
+        }
+        Err(trouble) => {
+            break_section(report, section.name, trouble.told())?;
+            report.told.push('\n')?;
         }
     }
+    Ok(())
+}
 
-    fn break_section(&mut self, name: &str, what: &str) -> Result<(), AllocError> {
-        self.broken = self.broken.saturating_add(1);
-        write!(self.told, "{name}:\n{what}")
+/// The growths of a section, of which each was refused in turn, where none is wanted though one is to be refused.
+fn end_sweep(report: &mut Report, section: &Section, growths: usize) -> Result<(), AllocError> {
+    report.growths = report.growths.saturating_add(growths);
+    let is_wanted = wants_refusals(section.before.as_slice())
+        || wants_refusals(section.acts.as_slice());
+    if is_wanted && growths == 0 {
+        break_section(report, section.name, "  no growth was refused\n")?;
     }
+    Ok(())
+}
 
-    /// Takes what is seen of a section; whether all of it holds.
-    fn take(&mut self, name: &str, sight: &Sight) -> Result<bool, AllocError> {
-        self.held = self.held.saturating_add(sight.held);
-        if sight.broken == 0 {
-            return Ok(true);
+/// Goes through a section with each growth refused in turn, until none is left.
+fn sweep(
+    alloc: Global,
+    report: &mut Report,
+    names: &Names,
+    section: &Section,
+) -> Result<(), Trouble> {
+    for nth in 1..MOST {
+        let sight = sight_of(alloc, names, section, Turn::refusing(nth))?;
+        if !take(report, section.name, &sight)? {
+            writeln!(report.told, "  where growth {nth} is refused")?;
+            return Ok(());
         }
-        self.break_section(name, sight.told.as_str())?;
-        Ok(false)
-    }
-
-    fn compare(&mut self, alloc: Global, names: &Names, section: &Section) -> Result<(), Trouble> {
-        match sight_of_all(alloc, names, section) {
-            Ok(sight) => {
-                self.take(section.name, &sight)?;
-            }
-            Err(trouble) => {
-                self.break_section(section.name, trouble.told())?;
-                self.told.push('\n')?;
-            }
+        if sight.outcome == Outcome::Whole {
+            return Ok(end_sweep(report, section, nth.saturating_sub(1))?);
         }
-        Ok(())
     }
+    Ok(break_section(report, section.name, "  more growths than expected\n")?)
+}
 
-    /// The growths of a section, of which each was refused in turn, where none is wanted though one is to be refused.
-    fn end_sweep(&mut self, section: &Section, growths: usize) -> Result<(), AllocError> {
-        self.growths = self.growths.saturating_add(growths);
-        let is_wanted = wants_refusals(section.before.as_slice())
-            || wants_refusals(section.acts.as_slice());
-        if is_wanted && growths == 0 {
-            self.break_section(section.name, "  no growth was refused\n")?;
+/// How the rows of a book come out.
+pub fn compare_all(alloc: Global, file: &str, book: &Book) -> Result<Report, Trouble> {
+    let mut report = Report::new(alloc);
+    for section in book.sections.iter() {
+        compare(alloc, &mut report, &book.names, section)?;
+    }
+    let (sections, held) = (book.sections.len(), report.held);
+    writeln!(report.told, "{file}: {sections} sections, {held} rows hold")?;
+    Ok(report)
+}
+
+/// How they come out with growths refused.
+pub fn sweep_all(alloc: Global, file: &str, book: &Book) -> Result<Report, Trouble> {
+    let mut report = Report::new(alloc);
+    for section in book.sections.iter() {
+        if section.is_tried() {
+            sweep(alloc, &mut report, &book.names, section)?;
         }
-        Ok(())
     }
-
-    /// Goes through a section with each growth refused in turn, until none is left.
-    fn sweep(&mut self, alloc: Global, names: &Names, section: &Section) -> Result<(), Trouble> {
-        for nth in 1..MOST {
-            let sight = sight_of(alloc, names, section, Turn::refusing(nth))?;
-            if !self.take(section.name, &sight)? {
-                writeln!(self.told, "  where growth {nth} is refused")?;
-                return Ok(());
-            }
-            if sight.outcome == Outcome::Whole {
-                return Ok(self.end_sweep(section, nth.saturating_sub(1))?);
-            }
-        }
-        Ok(self.break_section(section.name, "  more growths than expected\n")?)
-    }
-
-    /// How the rows of a book come out.
-    pub fn of(alloc: Global, file: &str, book: &Book) -> Result<Report, Trouble> {
-        let mut report = Report::new(alloc);
-        for section in book.sections.iter() {
-            report.compare(alloc, &book.names, section)?;
-        }
-        let (sections, held) = (book.sections.len(), report.held);
-        writeln!(report.told, "{file}: {sections} sections, {held} rows hold")?;
-        Ok(report)
-    }
-
-    /// How they come out with growths refused.
-    pub fn of_growths(alloc: Global, file: &str, book: &Book) -> Result<Report, Trouble> {
-        let mut report = Report::new(alloc);
-        for section in book.sections.iter() {
-            if section.is_tried() {
-                report.sweep(alloc, &book.names, section)?;
-            }
-        }
-        let (growths, held) = (report.growths, report.held);
-        writeln!(
-            report.told,
-            "{file}: {growths} growths refused, {held} rows hold"
-        )?;
-        Ok(report)
-    }
-
-    /// Of a book that is at fault itself.
-    pub fn at_fault(alloc: Global, file: &str, fault: Fault) -> Result<Report, AllocError> {
-        let mut report = Report::new(alloc);
-        report.broken = 1;
-        let (number, told) = (fault.number, fault.trouble.told());
-        writeln!(report.told, "{file}:{number}: {told}")?;
-        Ok(report)
-    }
+    let (growths, held) = (report.growths, report.held);
+    writeln!(
+        report.told,
+        "{file}: {growths} growths refused, {held} rows hold"
+    )?;
+    Ok(report)
 }

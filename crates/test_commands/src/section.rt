@@ -1,8 +1,8 @@
 //! Sections of a book, each a test of its own.
 use crate::row::Row;
-use crate::trouble::Trouble;
 use crate::turn::Turns;
 use std::alloc::Global;
+use test_rows::Trouble;
 
 /// Which rows of a section a line is among.
 #[derive(Clone, Copy)]

@@ -1,20 +1,14 @@
 //! The acts of a session.
 use crate::acts::{Act, Asked, Call};
-use crate::bytes::bytes_of;
-use crate::growths::{refuse, was_refused};
-use crate::line::Line;
-use crate::names::Names;
-use crate::parts::Parts;
 use crate::received::document_of;
 use crate::row::{Outcome, Row};
-use crate::setup::Setup;
 use crate::sight::Sight;
 use crate::told::{Question, Told, handed_back, put_answer, read_all, repaired};
-use crate::traces::Traces;
-use crate::trouble::Trouble;
 use crate::turn::Turn;
 use std::alloc::Global;
 use std::fmt::Write;
+use test_devices::{Parts, Setup, Traces};
+use test_rows::{Line, Names, Trouble, bytes_of, refuse, was_refused};
 use zed_document::Document;
 use zed_link::Link;
 use zed_session::{HoldsDocument, Session};
@@ -59,7 +53,7 @@ fn put_readers(
 ) -> Result<bool, Trouble> {
     refuse(room.alloc, nth);
     let tick = read_all(session);
-    let was_refused = was_refused(room.alloc, nth);
+    let was_refused = nth > 0 && was_refused(room.alloc);
     writeln!(seen, "{tick:?}")?;
     Ok(was_refused)
 }
@@ -84,7 +78,7 @@ fn put_sight(
 
 /// Looks at what a row asks to see, or hands back the act that it is.
 fn look_at(room: &Room, session: &Session, row: &Row, seen: &mut String) -> Result<Look, Trouble> {
-    let mut line = Line::new(row.line, room.turn.counters);
+    let mut line = Line::counted(row.line, room.turn.counters);
     let word = line.word()?;
     if let Some(act) = Act::of(room.alloc, word, &mut line)? {
         return Ok(Look::Act(act));
@@ -123,7 +117,7 @@ fn act_of(room: &Room, session: &Session, row: &Row, sight: &mut Sight) -> Optio
 
 /// Takes what an act answers, which ends the refusing of a growth.
 fn take_told(room: &Room, row: &Row, asked: Asked, answer: Told, sight: &mut Sight) {
-    let was_refused = was_refused(room.alloc, room.turn.growth_of(row));
+    let was_refused = room.turn.growth_of(row) > 0 && was_refused(room.alloc);
     let mut seen = String::new(room.alloc);
     match asked.told(answer).put(&mut seen) {
         Ok(()) => take_seen(sight, row, was_refused, seen.as_str()),
@@ -159,7 +153,7 @@ fn have_session(room: &Room, document: Document, parts: Parts, rows: &[Row], sig
             take_told(room, row, Asked::Answer, Told::Well(true), sight);
             continue;
         }
-        let ends = room.traces.counts.get().links;
+        let ends = room.traces.ended_links();
         refuse(room.alloc, room.turn.growth_of(row));
         let answer = match &act.call {
             Call::Show(i) => Told::Done(session.show(*i, BODY_LIMIT)),

@@ -1,7 +1,7 @@
 //! What is seen of the rows of a section, held against what is to be seen.
 use crate::row::{Outcome, Row};
 use std::alloc::{AllocError, Global};
-use std::fmt::Write;
+use test_rows::put_broken;
 
 /// What was seen so far in one turn.
 #[derive(Drop)]
@@ -15,14 +15,6 @@ pub struct Sight {
     pub told: String,
     /// All that is seen, in one line.
     pub line: String,
-}
-
-/// Appends each line of a text behind a mark.
-fn put_marked(mark: &str, text: &str, out: &mut String) -> Result<(), AllocError> {
-    for line in text.lines() {
-        writeln!(out, "  {mark} {line}")?;
-    }
-    Ok(())
 }
 
 /// Appends lines to one line.
@@ -49,9 +41,8 @@ impl Sight {
 
     fn break_row(&mut self, row: &Row, seen: &str) -> Result<(), AllocError> {
         self.broken = self.broken.saturating_add(1);
-        writeln!(self.told, "{}: {}", row.number, row.line)?;
-        put_marked("wanted:", row.wanted(self.outcome), &mut self.told)?;
-        put_marked("seen:  ", seen, &mut self.told)
+        let wanted = row.wanted(self.outcome);
+        put_broken("line", row.number, row.line, wanted, seen, &mut self.told)
     }
 
     /// Takes what is seen of a row, once it is known how that came out.

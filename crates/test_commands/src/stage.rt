@@ -1,17 +1,14 @@
 //! One turn of a section.
 use crate::commands::{put_command, put_file};
-use crate::line::{Counters, Line};
-use crate::names::Names;
 use crate::received;
 use crate::row::{Outcome, Row};
 use crate::section::Section;
 use crate::sessions::{Room, play_rows};
-use crate::setup::Setup;
 use crate::sight::Sight;
-use crate::traces::Traces;
-use crate::trouble::Trouble;
 use crate::turn::Turn;
 use std::alloc::Global;
+use test_devices::{Setup, Traces};
+use test_rows::{Line, Names, Trouble};
 use zed_host::MemoryHost;
 
 /// What the rows of a section are done with.
@@ -61,7 +58,7 @@ impl<'a> Stage<'a> {
 
     /// Does a row, and appends what is seen of it. What a growth was refused of is told where one was.
     fn do_row(&mut self, row: &Row, seen: &mut String) -> Result<Outcome, Trouble> {
-        let mut line = Line::new(row.line, self.turn.counters);
+        let mut line = Line::counted(row.line, self.turn.counters);
         match line.word()? {
             "run" => return self.run(row, &mut line, seen),
             "holds" => put_file(&mut self.host, self.names, line.word()?, seen)?,
@@ -107,7 +104,7 @@ impl<'a> Stage<'a> {
         let Some(row) = section.before.last() else {
             return Ok(());
         };
-        let mut line = Line::new(row.line, Counters::NONE);
+        let mut line = Line::new(row.line);
         if line.word()? != "session" {
             return Ok(());
         }

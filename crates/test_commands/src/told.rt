@@ -1,7 +1,7 @@
 //! What a session answers, and how it stands.
-use crate::traces::Traces;
 use std::alloc::{AllocError, AllocFailed};
 use std::fmt::Write;
+use test_devices::Traces;
 use zed_document::Document;
 use zed_link::{Link, Pulled};
 use zed_screen::{ascii, draw_play};
@@ -62,9 +62,9 @@ impl Told {
 /// What is told of a link that is handed back: it comes to its end here, and not before. So many links came to their end before it was
 /// attached.
 pub fn handed_back(traces: &Traces, ends: u64, back: AllocFailed<Box<dyn Link>>) -> Told {
-    let was_kept = traces.counts.get().links == ends;
+    let was_kept = traces.ended_links() == ends;
     drop(back);
-    Told::Back(was_kept && ends < traces.counts.get().links)
+    Told::Back(was_kept && ends < traces.ended_links())
 }
 
 /// Repairs a document.

@@ -1,7 +1,6 @@
 //! The turns in which the rows of a section are done.
-use crate::line::{Counters, Line};
 use crate::row::Row;
-use crate::trouble::Trouble;
+use test_rows::{Counters, Line, Trouble};
 
 /// What is different from one turn of a section to the next.
 #[derive(Clone, Copy)]
@@ -27,11 +26,14 @@ pub struct Each<'a> {
     pub last_piece: u64,
 }
 
+/// Those of a turn without numbers.
+const NO_COUNTERS: Counters = Counters { count: 0, piece: 0 };
+
 impl Turn {
     /// Without numbers, and with a growth refused or, where that is 0, none.
     pub fn refusing(nth: usize) -> Turn {
         Turn {
-            counters: Counters::NONE,
+            counters: NO_COUNTERS,
             nth,
         }
     }
@@ -51,7 +53,7 @@ impl<'a> Each<'a> {
                 last_piece: 0,
             });
         };
-        let mut pieces = Line::new(pieces, Counters::NONE);
+        let mut pieces = Line::new(pieces);
         Ok(Each {
             range,
             first_piece: pieces.number()?,
@@ -61,7 +63,7 @@ impl<'a> Each<'a> {
 
     /// The first and the last number for a piece.
     pub fn range(&self, piece: u64) -> Result<(u64, u64), Trouble> {
-        let mut numbers = Line::new(self.range, Counters { count: 0, piece });
+        let mut numbers = Line::counted(self.range, Counters { count: 0, piece });
         Ok((numbers.number()?, numbers.number()?))
     }
 }

@@ -1,12 +1,9 @@
 //! What devices and links leave where a book sees it.
-use crate::bytes::put_front;
-use crate::line::Line;
-use crate::names::Names;
-use crate::trouble::Trouble;
 use std::alloc::{AllocError, Global};
 use std::cell::Cell;
 use std::fmt::Write;
 use std::rc::Rc;
+use test_rows::{Line, Names, Trouble, put_trimmed};
 use zed_screen::{Frame, ascii};
 
 /// How many calls devices got, and what came to its end.
@@ -90,6 +87,11 @@ impl Traces {
         })
     }
 
+    /// How many links came to their end.
+    pub fn ended_links(&self) -> u64 {
+        self.counts.get().links
+    }
+
     fn put_counts(&self, out: &mut String) -> Result<(), AllocError> {
         let now = self.counts.get();
         writeln!(out, "{} frames, {} keys", now.shows, now.keys)
@@ -167,25 +169,26 @@ impl Traces {
     }
 }
 
-/// How many bytes a row has without the spaces at its end.
-fn length_of(row: &[u8]) -> usize {
-    let mut length = 0;
-    for (i, byte) in row.iter().enumerate() {
-        if *byte != b' ' {
-            length = i.saturating_add(1);
-        }
+/// Appends whether these bytes are the first so many of others.
+pub fn put_front(
+    bytes: &[u8],
+    whole: &[u8],
+    len: usize,
+    out: &mut String,
+) -> Result<(), AllocError> {
+    if bytes.len() == len && whole.starts_with(bytes) {
+        out.push_str("the front\n")
+    } else {
+        writeln!(out, "{} other bytes", bytes.len())
     }
-    length
 }
 
 fn put_row_of(frame: &Frame, row: usize, out: &mut String) -> Result<(), AllocError> {
     let rows = ascii(frame);
-    if let Some(bytes) = rows.get(row) {
-        for byte in bytes.iter().take(length_of(bytes)) {
-            out.push(char::from(*byte))?;
-        }
+    match rows.get(row) {
+        Some(bytes) => put_trimmed(bytes, out),
+        None => out.push('\n'),
     }
-    out.push('\n')
 }
 
 /// The character of a frame at a column and a row, both counted from 0.

@@ -1,12 +1,9 @@
 //! What is there before a command runs or a session begins.
-use crate::bytes::bytes_of;
 use crate::devices::Fails;
-use crate::line::Line;
-use crate::names::{Named, Names};
-use crate::trouble::Trouble;
 use std::alloc::{AllocError, Global};
 use std::collections::VecDeque;
-use zed_host::{Host, MemoryHost};
+use test_rows::{Line, Named, Names, Trouble, bytes_of};
+use zed_host::{Host, MemoryHost, WriteError};
 use zed_play::Key;
 
 /// Which link it is.
@@ -35,6 +32,10 @@ pub struct Setup {
     pub source: Fails,
     /// How many calls of a command the host lets pass before one fails.
     pub passing: Option<u64>,
+}
+
+fn not_put(_error: WriteError) -> Trouble {
+    Trouble::Other("a file isn't put there")
 }
 
 fn shooting(name: &str) -> Result<Key, Trouble> {
@@ -162,7 +163,8 @@ impl Setup {
     pub fn host(&self, alloc: Global) -> Result<MemoryHost, Trouble> {
         let mut host = MemoryHost::new(alloc, self.passing_calls());
         for file in self.files.iter() {
-            host.write(file.name.as_str(), file.bytes.as_slice())?;
+            host.write(file.name.as_str(), file.bytes.as_slice())
+                .map_err(not_put)?;
         }
         Ok(host)
     }

@@ -1,0 +1,15 @@
+//! Devices, links and files over memory, as rows of books describe them: they fail where a book wants it, and leave what they came to
+//! where it sees that.
+#![tactic(auto)]
+
+mod devices;
+mod parts;
+mod setup;
+mod traces;
+mod wires;
+
+pub use devices::{MemoryKeys, MemoryScreen};
+pub use parts::Parts;
+pub use setup::Setup;
+pub use traces::{Traces, put_front};
+pub use wires::{Sink, Wire};
