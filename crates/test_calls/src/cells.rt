@@ -1,7 +1,8 @@
 //! Cells whose growths are refused.
-use crate::growths::{Turn, refuse, refuse_each, turn_of, was_refused};
+use crate::growths::{refuse_each, turn_of};
 use std::alloc::Global;
 use std::test::Fail;
+use test_rows::{Turn, refuse, was_refused};
 use zed_cells::{Cells, CellsError};
 use zed_types::{Place, Rectangle, Stamp, TILES, Tile};
 

@@ -3,12 +3,13 @@ ghost use Rattle.std.specs.Prelude.{◌≡◌, ◌∷◌, [], IfOk};
 ghost use Rattle.zed_types.specs.Text.{run_from};
 ghost use Rattle.zed_code.specs.Text.{elements, genesis};
 
-use crate::growths::{TURNS, refuse, was_refused};
+use crate::growths::{refuse_each, turn_of};
 use crate::stamps::{first_of, stamp};
 use std::alloc::Global;
 use std::test::Fail;
+use test_rows::{MOST, Turn, refuse, was_refused};
 use zed_code::{CodeError, Text};
-use zed_types::Stamp;
+use zed_types::{ElemId, Stamp};
 
 /// The stamps of edits that put bytes.
 const X: Stamp = stamp!(2, 1);
@@ -20,6 +21,57 @@ fn letters(alloc: Global) -> Result<Text, CodeError>
     ensures { IfOk result (λ t. elements t ≡ run_from genesis 0 (65 ∷ 66 ∷ [])) }
 {
     Text::genesis(alloc, b"AB")
+}
+
+fn genesis_once(alloc: Global, nth: usize) -> Turn {
+    refuse(alloc, nth);
+    match letters(alloc) {
+        Ok(text) => turn_of(alloc, text.length() == 2, false),
+        Err(CodeError::Memory) => turn_of(alloc, false, true),
+    }
+}
+
+#[test]
+fn each_growth_of_a_first_text_refused(rt: HostRuntime) -> Result<(), Fail> {
+    refuse_each!(nth => genesis_once(rt.alloc(), nth))
+}
+
+fn text_once(alloc: Global, text: &Text, nth: usize) -> Turn {
+    refuse(alloc, nth);
+    match text.text() {
+        Ok(bytes) => turn_of(alloc, bytes.as_slice() == b"AB".as_slice(), false),
+        Err(CodeError::Memory) => turn_of(alloc, false, true),
+    }
+}
+
+#[test]
+fn each_growth_of_the_bytes_refused(rt: HostRuntime) -> Result<(), Fail> {
+    let text = letters(rt.alloc())?;
+    refuse_each!(nth => text_once(rt.alloc(), &text, nth))
+}
+
+/// Whether what a text tells is told without memory.
+fn tells_without_memory(alloc: Global, text: &mut Text) -> bool {
+    let (first, second) = (
+        ElemId::new(Stamp::GENESIS, 0),
+        ElemId::new(Stamp::GENESIS, 1),
+    );
+    refuse(alloc, 1);
+    text.hint(second);
+    let is_told = text.length() == 2
+        && text.byte_at(1) == Some(b'B')
+        && text.elem_at(0) == Some(first)
+        && text.has(second)
+        && text.visits() == 0
+        && text.same(text);
+    !was_refused(alloc) && is_told
+}
+
+#[test]
+fn readers_take_no_memory_refused(rt: HostRuntime) -> Result<(), Fail> {
+    let mut text = letters(rt.alloc())?;
+    assert!(rt; tells_without_memory(rt.alloc(), &mut text));
+    Ok(())
 }
 
 #[test]
@@ -37,7 +89,7 @@ fn an_insertion_of_nothing_changes_nothing(rt: HostRuntime) -> Result<(), Fail> 
 
 /// Whether each growth of `insert`, refused in turn, leaves the text as it was, up to the call that met none.
 fn sweep_insert(alloc: Global) -> Result<bool, Fail> {
-    for nth in 1..=TURNS {
+    for nth in 1..=MOST {
         let mut text = Text::genesis(alloc, b"ABC")?;
         text.delete(Stamp::GENESIS, 1, 1)?;
         refuse(alloc, nth);
@@ -58,7 +110,7 @@ fn sweep_insert(alloc: Global) -> Result<bool, Fail> {
 
 /// Whether each growth of `delete`, refused in turn, leaves the text as it was, up to the call that met none.
 fn sweep_delete(alloc: Global) -> Result<bool, Fail> {
-    for nth in 1..=TURNS {
+    for nth in 1..=MOST {
         let mut text = letters(alloc)?;
         text.insert(first_of(Stamp::GENESIS), X, b"x")?;
         refuse(alloc, nth);

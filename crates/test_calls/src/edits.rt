@@ -1,7 +1,8 @@
 //! Edit files are fed and written with each growth refused. What is read of other edit files is in the tables of `test_readings`.
-use crate::growths::{Turn, refuse, refuse_each, turn_of};
+use crate::growths::{refuse_each, turn_of};
 use std::alloc::Global;
 use std::test::Fail;
+use test_rows::{Turn, refuse};
 use zed_editfile::{EditFileError, EditReader, write_edit, write_head};
 use zed_op::{Cause, Edit, EditError, Op, check};
 use zed_types::{BoardId, Name, Rectangle, Stamp, StatId, Tile};

@@ -1,7 +1,7 @@
 //! Edits that wait, what each thing releases, and growths refused.
-use crate::growths::{TURNS, refuse, was_refused};
 use std::alloc::Global;
 use std::test::Fail;
+use test_rows::{MOST, refuse, was_refused};
 use zed_inbox::{Inbox, InboxError};
 use zed_op::{Edit, Op, Thing};
 use zed_types::{BoardId, ByteRange, ElemId, Stamp, TextId};
@@ -125,9 +125,30 @@ fn is_whole(inbox: &mut Inbox, is_one_more: bool) -> Result<bool, Fail> {
     )
 }
 
+/// Whether what an inbox of a crowd tells, and the release of what nothing waits for, take no memory.
+fn tells_without_memory(alloc: Global, inbox: &mut Inbox) -> bool {
+    refuse(alloc, 1);
+    let is_told = inbox.held() == 40
+        && inbox.is_held(stamp(100, 2))
+        && !inbox.is_held(stamp(99, 2))
+        && inbox.same(inbox);
+    let released = match inbox.release(byte_of(stamp(3, 1))) {
+        Ok(released) => Some(released.len()),
+        Err(InboxError::Memory) => None,
+    };
+    !was_refused(alloc) && is_told && released == Some(0)
+}
+
+#[test]
+fn readers_take_no_memory_refused(rt: HostRuntime) -> Result<(), Fail> {
+    let mut inbox = crowd(rt.alloc())?;
+    assert!(rt; tells_without_memory(rt.alloc(), &mut inbox));
+    Ok(())
+}
+
 /// Whether each growth of `hold`, refused in turn, leaves the inbox as it was, up to the call that met none and held the edit.
 fn sweep_hold(alloc: Global) -> Result<bool, Fail> {
-    for nth in 1..=TURNS {
+    for nth in 1..=MOST {
         let mut inbox = crowd(alloc)?;
         let edit = deletion(stamp(300, 1), stamp(3, 1));
         refuse(alloc, nth);
@@ -145,7 +166,7 @@ fn sweep_hold(alloc: Global) -> Result<bool, Fail> {
 
 /// Whether each growth of `release`, refused in turn, leaves the inbox as it was, up to the call that met none and released the crowd.
 fn sweep_release(alloc: Global) -> Result<bool, Fail> {
-    for nth in 1..=TURNS {
+    for nth in 1..=MOST {
         let mut inbox = crowd(alloc)?;
         refuse(alloc, nth);
         let released = match inbox.release(byte_of(stamp(2, 1))) {

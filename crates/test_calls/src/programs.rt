@@ -1,8 +1,9 @@
 //! Programs of objects are read with each growth refused, and kinds of tiles are matched. What is read of other programs is in the tables
 //! of `test_readings`.
-use crate::growths::{Turn, refuse, refuse_each, turn_of};
+use crate::growths::{refuse_each, turn_of};
 use std::alloc::Global;
 use std::test::Fail;
+use test_rows::{Turn, refuse};
 use zed_script::{Program, TileKind, next_command, standing_at};
 use zed_types::Tile;
 

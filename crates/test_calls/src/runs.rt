@@ -1,7 +1,8 @@
 //! Runs at their bounds, and each growth refused.
-use crate::growths::{Turn, refuse, refuse_each, turn_of, was_refused};
+use crate::growths::{refuse_each, turn_of};
 use std::alloc::Global;
 use std::test::Fail;
+use test_rows::{Turn, refuse, was_refused};
 use zed_runs::{RunsError, read_runs, write_runs};
 use zed_types::{TILES, Tile};
 

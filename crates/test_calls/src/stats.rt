@@ -1,6 +1,7 @@
 //! Stats by example, and growths refused.
-use crate::growths::{Turn, refuse, refuse_each, turn_of, was_refused};
+use crate::growths::{refuse_each, turn_of};
 use std::test::Fail;
+use test_rows::{Turn, refuse, was_refused};
 use zed_stats::{StatField, StatValues, Stats, StatsError};
 use zed_types::{Stamp, StatByte, StatFields, StatId, StatSetting, ThirdParameter};
 

@@ -2,13 +2,13 @@
 ghost use Rattle.std.specs.Prelude.{◌≡◌, ◌∷◌, [], IfOk};
 ghost use Rattle.zed_texts.specs.Texts.{elements_of};
 
-use crate::growths::{TURNS, refuse, was_refused};
 use crate::stamps::stamp;
 use std::alloc::{AllocError, Global};
 use std::test::Fail;
+use test_rows::{MOST, refuse, was_refused};
 use zed_op::{Edit, Op, check};
 use zed_texts::{LiveTexts, TextsError};
-use zed_types::{ByteRange, Bytes, Name, Stamp, TextId};
+use zed_types::{ByteRange, Bytes, ElemId, Name, Stamp, TextId};
 
 /// The stamps of the edit that adds the text, and of others.
 const MADE: Stamp = stamp!(2, 1);
@@ -84,7 +84,7 @@ fn first_byte() -> ByteRange
 /// Memory and leaves the texts.
 macro_rules! sweep {
     ($alloc:ident, $texts:ident = $begun:expr, $stamp:expr, $op:expr, $whole:expr, $kept:expr) => {{
-        for nth in 1..=TURNS {
+        for nth in 1..=MOST {
             let mut $texts = $begun;
             let edit = Edit {
                 stamp: $stamp,
@@ -110,6 +110,29 @@ fn length_of(texts: &LiveTexts) -> usize {
         Some(text) => text.length(),
         None => 0,
     }
+}
+
+/// Whether what the texts tell is told without memory.
+fn tell_without_memory(alloc: Global, texts: &mut LiveTexts, edit: &Edit) -> bool {
+    refuse(alloc, 1);
+    texts.hint(edit);
+    let is_told = length_of(texts) == 0
+        && texts.has(CODE)
+        && !texts.has_byte(CODE, ElemId::new(FIRST, 0))
+        && texts.count() == 1
+        && texts.looks() == 0;
+    !was_refused(alloc) && is_told
+}
+
+#[test]
+fn readers_take_no_memory_refused(rt: HostRuntime) -> Result<(), Fail> {
+    let mut texts = begun(rt.alloc())?;
+    let edit = Edit {
+        stamp: LAST,
+        op: Op::TextDelete(CODE, first_byte()),
+    };
+    assert!(rt; tell_without_memory(rt.alloc(), &mut texts, &edit));
+    Ok(())
 }
 
 fn sweep_world(alloc: Global) -> Result<bool, Fail> {

@@ -14,7 +14,7 @@ const TYPED: u64 = 2_000;
 const COMPARED: u64 = 250;
 
 /// The most runs of a block.
-const BLOCK: u64 = 256;
+const BLOCK: u64 = 64;
 
 fn stamp(time: u64, replica: u16) -> Stamp {
     Stamp { time, replica }

@@ -1,9 +1,10 @@
 //! World files are read, written and tested with each growth refused, and the time that the largest one takes is told. What is read of
 //! other world files is in the tables of `test_readings`.
-use crate::growths::{Turn, refuse, refuse_each, turn_of};
+use crate::growths::{refuse_each, turn_of};
 use std::alloc::{AllocError, Global};
 use std::test::Fail;
 use std::time::Instant;
+use test_rows::{Turn, refuse};
 use zed_world::{World, WorldError, is_canonical, read_world, write_world};
 
 /// Appends pieces, each with so many zeros behind it.
