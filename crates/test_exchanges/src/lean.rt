@@ -4,7 +4,7 @@ use crate::told::put_whether;
 use std::alloc::{AllocError, Global};
 use test_edits::{next_stamp, put_name};
 use test_rows::{Line, Trouble, refuse, was_refused};
-use zed_document::{Document, Follower, View};
+use zed_document::{Document, View};
 use zed_op::{Edit, Thing, names};
 use zed_types::{BoardId, StatId, TextId, Tile};
 
@@ -21,8 +21,9 @@ fn shows(view: &View, text: TextId) -> bool {
     if view.boards() == 0 || view.stats(0) == 0 {
         return false;
     }
+    let (_, player) = view.stat(0, 0);
     view.table(0).first() == Some(&Tile::EMPTY)
-        && view.field(0, 0, Follower).is_none()
+        && player.values.follower.is_none()
         && view.has_text(text)
         && view.name_at(text, 0).is_some()
 }

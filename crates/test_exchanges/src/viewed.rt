@@ -5,7 +5,7 @@ use std::alloc::AllocError;
 use std::fmt::Write;
 use test_edits::{put_name, put_option};
 use test_rows::{Line, Trouble};
-use zed_document::{Follower, Leader, P3, Rank, View};
+use zed_document::View;
 use zed_types::{Side, StatByte, StatNumber, TextId, ThirdParameter};
 
 fn side_of(word: &str) -> Result<Side, Trouble> {
@@ -23,7 +23,7 @@ fn put_exit(view: &View, n: usize, side: Side, seen: &mut String) -> Result<(), 
     if view.boards() <= n {
         return Err(Trouble::Line);
     }
-    let exit = view.property(n, side);
+    let exit = view.properties(n).exit(side);
     Ok(put_option(board_name(exit), seen)?)
 }
 
@@ -31,7 +31,7 @@ fn put_rank(view: &View, n: usize, seen: &mut String) -> Result<(), Trouble> {
     if view.boards() <= n {
         return Err(Trouble::Line);
     }
-    let rank = view.property(n, Rank);
+    let rank = view.properties(n).rank();
     Ok(write!(seen, "{rank}")?)
 }
 
@@ -64,11 +64,13 @@ fn put_place(view: &View, n: usize, j: usize, seen: &mut String) -> Result<(), T
     if view.boards() <= n || view.stats(n) <= j {
         return Err(Trouble::Line);
     }
-    put_name(view.stat(n, j).id.name, seen)?;
-    let (x, y) = (view.field(n, j, StatByte::X), view.field(n, j, StatByte::Y));
+    let (id, stat) = view.stat(n, j);
+    let values = &stat.values;
+    put_name(id.name, seen)?;
+    let (x, y) = (values.byte(StatByte::X), values.byte(StatByte::Y));
     write!(seen, " ({x},{y})")?;
-    let cycle = view.field(n, j, StatNumber::Cycle);
-    let position = view.field(n, j, StatNumber::Position);
+    let cycle = values.number(StatNumber::Cycle);
+    let position = values.number(StatNumber::Position);
     Ok(write!(seen, " cycle {cycle} position {position}")?)
 }
 
@@ -77,13 +79,14 @@ fn put_links(view: &View, n: usize, j: usize, seen: &mut String) -> Result<(), T
     if view.boards() <= n || view.stats(n) <= j {
         return Err(Trouble::Line);
     }
+    let (_, stat) = view.stat(n, j);
     seen.push_str(" p3 ")?;
-    put_parameter(view.field(n, j, P3), seen)?;
+    put_parameter(stat.values.fields.p3, seen)?;
     seen.push_str(" follower ")?;
-    put_option(stat_name(view.field(n, j, Follower)), seen)?;
+    put_option(stat_name(stat.values.follower), seen)?;
     seen.push_str(" leader ")?;
-    put_option(stat_name(view.field(n, j, Leader)), seen)?;
-    if view.stat(n, j).removed {
+    put_option(stat_name(stat.values.leader), seen)?;
+    if stat.removed {
         seen.push_str(" removed")?;
     }
     Ok(())
