@@ -4,6 +4,7 @@ pub mod TurnLemmas
 pub mod RoomLemmas
 pub mod ChainLemmas
 pub mod ProgramLemmas
+pub mod OwnWords
 pub mod OneTurn
 pub mod Drawing
 pub mod TurnFront

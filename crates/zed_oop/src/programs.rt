@@ -1,8 +1,8 @@
 //! Labels of programs that are hidden and shown again, for all that share them.
-ghost use Rattle.std.specs.Prelude.{◌≡◌};
-ghost use Rattle.zed_oop.specs.Sending.{changed_program, relabel_one, relabelled, relabelled_in};
+ghost use Rattle.std.specs.Prelude.{◌≡◌, None, position};
+ghost use Rattle.zed_oop.specs.Sending.{changed_program, is_colon, relabel_one, relabelled, relabelled_in};
 
-use crate::sending::{is_own, is_target, label_of, restore, zap};
+use crate::sending::{colon, is_own, is_target, label_of, restore, zap};
 use std::alloc::Global;
 use zed_scene::Scene;
 use zed_types::Bytes;
@@ -60,11 +60,32 @@ fn relabel_one(scene: &mut Scene, alloc: Global, relabelling: Relabelling, word:
 
 /// Hides or shows the labels of each target of a word.
 #[tactic(auto, unfolding(crate::specs::Sending::relabelled))]
-pub(crate) fn relabel_all(scene: &mut Scene, alloc: Global, relabelling: Relabelling, word: &[u8])
+fn relabel_each(scene: &mut Scene, alloc: Global, relabelling: Relabelling, word: &[u8])
     ensures { scene.new ≡ relabelled relabelling word.now scene.old }
 {
     let n = scene.stats().len();
     for i in 0..n {
         relabel_one(scene, alloc, relabelling, word, i);
+    }
+}
+
+/// Hides or shows the labels of a word without a target in the program whose turn it is.
+fn relabel_own(scene: &mut Scene, alloc: Global, relabelling: Relabelling, word: &[u8])
+    requires { position is_colon word.now ≡ None }
+    ensures { scene.new ≡ relabelled relabelling word.now scene.old }
+{
+    match scene.running() {
+        Some(i) => relabel_one(scene, alloc, relabelling, word, i),
+        None => {}
+    }
+}
+
+/// Hides or shows the labels of a word in each target of it.
+pub(crate) fn relabel_all(scene: &mut Scene, alloc: Global, relabelling: Relabelling, word: &[u8])
+    ensures { scene.new ≡ relabelled relabelling word.now scene.old }
+{
+    match colon(word) {
+        Some(_) => relabel_each(scene, alloc, relabelling, word),
+        None => relabel_own(scene, alloc, relabelling, word),
     }
 }

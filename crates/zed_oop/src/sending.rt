@@ -1,5 +1,5 @@
 //! Messages to labels, and labels that are hidden and shown again.
-ghost use Rattle.std.specs.Prelude.{◌≡◌, position};
+ghost use Rattle.std.specs.Prelude.{◌≡◌, None, position};
 ghost use Rattle.zed_oop.specs.Sending.{arrived, is_colon, is_meant, is_named, is_number, is_own, is_reached, is_target, label_of, restore_at, restored_in, send_one, sent, sent_alone, set_to, so_far, zapped_in};
 
 use zed_scene::{Scene, Stat};
@@ -7,7 +7,7 @@ use zed_script::{byte_is, first_label, is_restart, is_word, is_word_at, label_at
 use zed_types::Bytes;
 
 /// Where the target of a word ends.
-fn colon(word: &[u8]) -> Option<usize>
+pub(crate) fn colon(word: &[u8]) -> Option<usize>
     ensures { result ≡ position is_colon word.now }
 {
     word.iter().position(|b| *b == b':')
@@ -157,9 +157,9 @@ fn send_one(scene: &mut Scene, word: &[u8], i: usize, before: bool) -> bool
     }
 }
 
-/// Sends a word: the position of each target that has the label is set to it. Tells whether the own one was.
+/// Sends a word with a target to each stat.
 #[tactic(auto, unfolding(crate::specs::Sending::sent))]
-pub(crate) fn send(scene: &mut Scene, word: &[u8]) -> bool
+fn send_to_all(scene: &mut Scene, word: &[u8]) -> bool
     ensures { sent word.now scene.old ≡ so_far scene.new result }
 {
     let n = scene.stats().len();
@@ -168,6 +168,27 @@ pub(crate) fn send(scene: &mut Scene, word: &[u8]) -> bool
         own = send_one(scene, word, i, own);
     }
     own
+}
+
+/// Sends a word without a target, which no other stat hears.
+fn send_to_own(scene: &mut Scene, word: &[u8]) -> bool
+    requires { position is_colon word.now ≡ None }
+    ensures { sent word.now scene.old ≡ so_far scene.new result }
+{
+    match scene.running() {
+        Some(i) => send_one(scene, word, i, false),
+        None => false,
+    }
+}
+
+/// Sends a word: the position of each target that has the label is set to it. Tells whether the own one was.
+pub(crate) fn send(scene: &mut Scene, word: &[u8]) -> bool
+    ensures { sent word.now scene.old ≡ so_far scene.new result }
+{
+    match colon(word) {
+        Some(_) => send_to_all(scene, word),
+        None => send_to_own(scene, word),
+    }
 }
 
 /// Sends a label to stat i alone, if it isn't locked.
