@@ -1,5 +1,6 @@
 -- Runs of bytes.
 use Rattle.std.proofs.lemmas.List.{drop_all}
+use Rattle.std.proofs.lemmas.Slice.Eq.{bytes_eq-Decides}
 use borrow.Author.Tests.{ltb-true, ltb-false}
 use Rattle.std.proofs.lemmas.List.Sums.{prefix_len-le-length}
 use Rattle.std.specs.Char.{is_ascii_digit}
@@ -9,6 +10,10 @@ use Rattle.std.proofs.Common.{Option, Some, None, slice_get, ◌≡◌, ℕ, suc
 use Rattle.std.proofs.Math.Seq.{drop-cons}
 use Rattle.zed_script.specs.declared.text.Class.{Class}
 use Rattle.zed_script.specs.Text.{end_by_first, is_of, number, run_end, with_digit, word_at, word_end, word_start}
+
+-- bytes that are found to be equal
+pub same_bytes : (w x : List ℕ) → bytes_eq w x ≡ true → w ≡ x
+same_bytes w x e = (bytes_eq-Decides w x).0 e
 
 -- a run that isn't at its end yet
 pub run_more : (c : Class) (p : List ℕ) (i : ℕ) → i < length p → is_of c (get_or p i 0) ≡ true → run_end c p (i + 1) ≡ run_end c p i

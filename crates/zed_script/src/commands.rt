@@ -1,13 +1,13 @@
 //! Commands as a program writes them.
 ghost use Rattle.std.specs.Prelude.{◌≡◌, ◌≤◌, IfOk, IfSome, OnErr, Some, length, max};
 ghost use Rattle.zed_script.specs.Command.{AimAt, AmountAt, BehindThen, CommandAt, CommandBehind, ThenAt, ExchangeAt, NameAt, counter_of};
-ghost use Rattle.zed_script.specs.Text.{HasWord};
+ghost use Rattle.zed_script.specs.Text.{HasWord, upper};
 ghost use Rattle.zed_script.specs.Verbs.{IsBare, IsDoing, IsNaming, bare_word, doing_word, naming_word};
 
 use crate::conditions::{Query, condition};
 use crate::heading::{Heading, direction};
 use crate::kinds::{TileKind, kind};
-use crate::text::{is_word, value_at, value_end, word_at, word_end};
+use crate::text::{is_word_at, says, upper, value_at, value_end, word_at, word_end, written_at};
 use std::alloc::{AllocError, Global};
 use zed_types::Bytes;
 
@@ -74,27 +74,27 @@ enum Doing {
 /// The command that does, asks or counts something which a word is, if it is one.
 #[tactic(auto, unfolding(crate::specs::Command::is_deed))]
 fn doing_of(word: &[u8]) -> Option<Doing>
-    ensures { IsDoing word.now result }
+    ensures { IsDoing (upper word.now) result }
 {
-    if is_word(word, "GO") {
+    if says(word, "GO") {
         Some(Doing::Go)
-    } else if is_word(word, "TRY") {
+    } else if says(word, "TRY") {
         Some(Doing::Try)
-    } else if is_word(word, "WALK") {
+    } else if says(word, "WALK") {
         Some(Doing::Walk)
-    } else if is_word(word, "SHOOT") {
+    } else if says(word, "SHOOT") {
         Some(Doing::Shoot)
-    } else if is_word(word, "PUT") {
+    } else if says(word, "PUT") {
         Some(Doing::Put)
-    } else if is_word(word, "IF") {
+    } else if says(word, "IF") {
         Some(Doing::If)
-    } else if is_word(word, "GIVE") {
+    } else if says(word, "GIVE") {
         Some(Doing::Give)
-    } else if is_word(word, "TAKE") {
+    } else if says(word, "TAKE") {
         Some(Doing::Take)
-    } else if is_word(word, "CYCLE") {
+    } else if says(word, "CYCLE") {
         Some(Doing::Cycle)
-    } else if is_word(word, "CHAR") {
+    } else if says(word, "CHAR") {
         Some(Doing::Char)
     } else {
         None
@@ -117,23 +117,23 @@ enum Naming {
 /// The command that names something which a word is, if it is one.
 #[tactic(auto, unfolding(crate::specs::Command::is_naming))]
 fn naming_of(word: &[u8]) -> Option<Naming>
-    ensures { IsNaming word.now result }
+    ensures { IsNaming (upper word.now) result }
 {
-    if is_word(word, "SET") {
+    if says(word, "SET") {
         Some(Naming::Set)
-    } else if is_word(word, "CLEAR") {
+    } else if says(word, "CLEAR") {
         Some(Naming::Clear)
-    } else if is_word(word, "SEND") {
+    } else if says(word, "SEND") {
         Some(Naming::Send)
-    } else if is_word(word, "ZAP") {
+    } else if says(word, "ZAP") {
         Some(Naming::Zap)
-    } else if is_word(word, "RESTORE") {
+    } else if says(word, "RESTORE") {
         Some(Naming::Restore)
-    } else if is_word(word, "BIND") {
+    } else if says(word, "BIND") {
         Some(Naming::Bind)
-    } else if is_word(word, "BECOME") {
+    } else if says(word, "BECOME") {
         Some(Naming::Become)
-    } else if is_word(word, "CHANGE") {
+    } else if says(word, "CHANGE") {
         Some(Naming::Change)
     } else {
         None
@@ -157,25 +157,25 @@ enum Bare {
 /// The command that stands alone which a word is, if it is one.
 #[tactic(auto, unfolding(crate::specs::Command::is_bare))]
 fn bare_of(word: &[u8]) -> Option<Bare>
-    ensures { IsBare word.now result }
+    ensures { IsBare (upper word.now) result }
 {
-    if is_word(word, "END") {
+    if says(word, "END") {
         Some(Bare::End)
-    } else if is_word(word, "ENDGAME") {
+    } else if says(word, "ENDGAME") {
         Some(Bare::EndGame)
-    } else if is_word(word, "IDLE") {
+    } else if says(word, "IDLE") {
         Some(Bare::Idle)
-    } else if is_word(word, "RESTART") {
+    } else if says(word, "RESTART") {
         Some(Bare::Restart)
-    } else if is_word(word, "LOCK") {
+    } else if says(word, "LOCK") {
         Some(Bare::Lock)
-    } else if is_word(word, "UNLOCK") {
+    } else if says(word, "UNLOCK") {
         Some(Bare::Unlock)
-    } else if is_word(word, "DIE") {
+    } else if says(word, "DIE") {
         Some(Bare::Die)
-    } else if is_word(word, "PLAY") {
+    } else if says(word, "PLAY") {
         Some(Bare::Play)
-    } else if is_word(word, "THROWSTAR") {
+    } else if says(word, "THROWSTAR") {
         Some(Bare::ThrowStar)
     } else {
         None
@@ -185,19 +185,19 @@ fn bare_of(word: &[u8]) -> Option<Bare>
 /// The counter of a word.
 #[tactic(auto, unfolding(crate::specs::Command::counter_of))]
 fn counter_of(word: &[u8]) -> Option<Counter>
-    ensures { result ≡ counter_of word.now }
+    ensures { result ≡ counter_of (upper word.now) }
 {
-    if is_word(word, "HEALTH") {
+    if says(word, "HEALTH") {
         Some(Counter::Health)
-    } else if is_word(word, "AMMO") {
+    } else if says(word, "AMMO") {
         Some(Counter::Ammo)
-    } else if is_word(word, "GEMS") {
+    } else if says(word, "GEMS") {
         Some(Counter::Gems)
-    } else if is_word(word, "TORCHES") {
+    } else if says(word, "TORCHES") {
         Some(Counter::Torches)
-    } else if is_word(word, "SCORE") {
+    } else if says(word, "SCORE") {
         Some(Counter::Score)
-    } else if is_word(word, "TIME") {
+    } else if says(word, "TIME") {
         Some(Counter::Time)
     } else {
         None
@@ -205,22 +205,15 @@ fn counter_of(word: &[u8]) -> Option<Counter>
 }
 
 /// A counter and a value.
-fn amount_at(
-    alloc: Global,
-    program: &[u8],
-    at: usize,
-) -> Result<((Option<Counter>, u16), usize), AllocError>
-    ensures result { IfOk result (λ r. AmountAt program.now at r.0 r.1) }
-    ensures within { IfOk result (λ r. r.1 ≤ max at (length program.now)) }
-    ensures ends { IfOk result (λ r. at ≤ r.1) }
+fn amount_at(program: &[u8], at: usize) -> ((Option<Counter>, u16), usize)
+    ensures result { AmountAt program.now at result.0 result.1 }
+    ensures within { result.1 ≤ max at (length program.now) }
+    ensures ends { at ≤ result.1 }
 {
-    let name = word_at(alloc, program, at)?;
+    let name = written_at(program, at);
     let end = word_end(program, at);
     let value = value_at(program, end);
-    Ok((
-        (counter_of(name.as_slice()), value),
-        value_end(program, end),
-    ))
+    ((counter_of(name), value), value_end(program, end))
 }
 
 /// A direction and a kind.
@@ -268,12 +261,12 @@ fn name_at(alloc: Global, program: &[u8], at: usize) -> Result<(Bytes, usize), A
 fn deed_behind(
     alloc: Global,
     program: &[u8],
-    word: &Bytes,
+    word: &[u8],
     verb: Doing,
     at: usize,
 ) -> Result<(OopCommand, usize), AllocError>
-    requires said { word.now ≡ doing_word verb }
-    ensures result { IfOk result (λ r. CommandBehind program.now word.now at r.0 r.1) }
+    requires said { upper word.now ≡ doing_word verb }
+    ensures result { IfOk result (λ r. CommandBehind program.now (upper word.now) at r.0 r.1) }
     ensures within { IfOk result (λ r. r.1 ≤ max at (length program.now)) }
     ensures ends { IfOk result (λ r. at ≤ r.1) }
 {
@@ -303,11 +296,11 @@ fn deed_behind(
             Ok((OopCommand::If(query), end))
         }
         Doing::Give => {
-            let ((counter, value), end) = amount_at(alloc, program, at)?;
+            let ((counter, value), end) = amount_at(program, at);
             Ok((OopCommand::Give(counter, value), end))
         }
         Doing::Take => {
-            let ((counter, value), end) = amount_at(alloc, program, at)?;
+            let ((counter, value), end) = amount_at(program, at);
             Ok((OopCommand::Take(counter, value), end))
         }
         Doing::Cycle => Ok((
@@ -325,12 +318,12 @@ fn deed_behind(
 fn naming_behind(
     alloc: Global,
     program: &[u8],
-    word: &Bytes,
+    word: &[u8],
     verb: Naming,
     at: usize,
 ) -> Result<(OopCommand, usize), AllocError>
-    requires said { word.now ≡ naming_word verb }
-    ensures result { IfOk result (λ r. CommandBehind program.now word.now at r.0 r.1) }
+    requires said { upper word.now ≡ naming_word verb }
+    ensures result { IfOk result (λ r. CommandBehind program.now (upper word.now) at r.0 r.1) }
     ensures within { IfOk result (λ r. r.1 ≤ max at (length program.now)) }
     ensures ends { IfOk result (λ r. at ≤ r.1) }
 {
@@ -371,9 +364,9 @@ fn naming_behind(
 }
 
 /// The command of such a word.
-fn bare_command(program: &[u8], word: &Bytes, verb: Bare, at: usize) -> OopCommand
-    requires said { word.now ≡ bare_word verb }
-    ensures { CommandBehind program.now word.now at result at }
+fn bare_command(program: &[u8], word: &[u8], verb: Bare, at: usize) -> OopCommand
+    requires said { upper word.now ≡ bare_word verb }
+    ensures { CommandBehind program.now (upper word.now) at result at }
 {
     match verb {
         Bare::End => OopCommand::End,
@@ -392,52 +385,49 @@ fn bare_command(program: &[u8], word: &Bytes, verb: Bare, at: usize) -> OopComma
 fn command_behind(
     alloc: Global,
     program: &[u8],
-    word: Bytes,
+    word: &[u8],
     at: usize,
 ) -> Result<(OopCommand, usize), AllocError>
-    ensures result { IfOk result (λ r. CommandBehind program.now word at r.0 r.1) }
+    ensures result { IfOk result (λ r. CommandBehind program.now (upper word.now) at r.0 r.1) }
     ensures within { IfOk result (λ r. r.1 ≤ max at (length program.now)) }
     ensures ends { IfOk result (λ r. at ≤ r.1) }
 {
-    if let Some(verb) = doing_of(word.as_slice()) {
-        return deed_behind(alloc, program, &word, verb, at);
+    if let Some(verb) = doing_of(word) {
+        return deed_behind(alloc, program, word, verb, at);
     }
-    if let Some(verb) = naming_of(word.as_slice()) {
-        return naming_behind(alloc, program, &word, verb, at);
+    if let Some(verb) = naming_of(word) {
+        return naming_behind(alloc, program, word, verb, at);
     }
-    match bare_of(word.as_slice()) {
-        Some(verb) => Ok((bare_command(program, &word, verb, at), at)),
-        None => Ok((OopCommand::Other(word), at)),
+    match bare_of(word) {
+        Some(verb) => Ok((bare_command(program, word, verb, at), at)),
+        None => Ok((OopCommand::Other(upper(alloc, word)?), at)),
     }
 }
 
 /// Where THEN ends, if it stands at a place.
-fn then_end(alloc: Global, program: &[u8], at: usize) -> Result<Option<usize>, AllocError>
-    ensures result { IfOk result (λ r. ThenAt program.now at r) }
-    ensures within { IfOk result (λ r. IfSome r (λ end. end ≤ max at (length program.now))) }
-    ensures ends { IfOk result (λ r. IfSome r (λ end. at ≤ end)) }
-    ensures memory_only_when { OnErr result (HasWord program.now at) }
+fn then_end(program: &[u8], at: usize) -> Option<usize>
+    ensures result { ThenAt program.now at result }
+    ensures within { IfSome result (λ end. end ≤ max at (length program.now)) }
+    ensures ends { IfSome result (λ end. at ≤ end) }
 {
-    let word = word_at(alloc, program, at)?;
-    if is_word(word.as_slice(), "THEN") {
-        Ok(Some(word_end(program, at)))
+    if is_word_at(program, at, b"THEN") {
+        Some(word_end(program, at))
     } else {
-        Ok(None)
+        None
     }
 }
 
 /// Where the words THEN end that stand at a place.
-fn behind_then(alloc: Global, program: &[u8], at: usize) -> Result<usize, AllocError>
-    ensures result { IfOk result (λ r. BehindThen program.now at r) }
-    ensures within { IfOk result (λ r. r ≤ max at (length program.now)) }
-    ensures ends { IfOk result (λ r. at ≤ r) }
-    ensures memory_only_when { OnErr result (HasWord program.now at) }
+fn behind_then(program: &[u8], at: usize) -> usize
+    ensures result { BehindThen program.now at result }
+    ensures within { result ≤ max at (length program.now) }
+    ensures ends { at ≤ result }
 {
     let mut from = at;
     loop {
-        match then_end(alloc, program, from)? {
+        match then_end(program, from) {
             Some(end) => from = end,
-            None => return Ok(from),
+            None => return from,
         }
     }
 }
@@ -454,10 +444,10 @@ pub fn next_command(
     ensures ends { IfOk result (λ r. at ≤ r.1) }
     ensures memory_only_when { OnErr result (HasWord program.now at) }
 {
-    let from = behind_then(alloc, program, at)?;
-    let word = word_at(alloc, program, from)?;
+    let from = behind_then(program, at);
+    let word = written_at(program, from);
     let end = word_end(program, from);
-    if word.as_slice().is_empty() {
+    if word.is_empty() {
         return Ok((None, end));
     }
     let (command, last) = command_behind(alloc, program, word, end)?;

@@ -1,12 +1,12 @@
 //! Conditions as a program writes them.
 ghost use Rattle.std.specs.Prelude.{◌≡◌, ◌≤◌, ◌<◌, IfOk, OnErr, length, max};
 ghost use Rattle.zed_script.specs.Condition.{PartAt, PartBehind, QueryAt};
-ghost use Rattle.zed_script.specs.Text.{HasWord};
+ghost use Rattle.zed_script.specs.Text.{HasWord, upper};
 ghost use Rattle.zed_script.specs.Verbs.{AnyAt, BlockedAt, IsQuestion, question_word};
 
 use crate::heading::{Heading, direction};
 use crate::kinds::{TileKind, kind};
-use crate::text::{is_word, word_at, word_end};
+use crate::text::{says, upper, word_end, written_at};
 use std::alloc::{AllocError, Global};
 use zed_types::Bytes;
 
@@ -47,19 +47,19 @@ enum Question {
 /// The question that a word is, or None where it is a flag's.
 #[tactic(auto, unfolding(crate::specs::Condition::is_question))]
 fn question_of(word: &[u8]) -> Option<Question>
-    ensures { IsQuestion word.now result }
+    ensures { IsQuestion (upper word.now) result }
 {
-    if is_word(word, "NOT") {
+    if says(word, "NOT") {
         Some(Question::Not)
-    } else if is_word(word, "ALLIGNED") {
+    } else if says(word, "ALLIGNED") {
         Some(Question::Aligned)
-    } else if is_word(word, "CONTACT") {
+    } else if says(word, "CONTACT") {
         Some(Question::Contact)
-    } else if is_word(word, "BLOCKED") {
+    } else if says(word, "BLOCKED") {
         Some(Question::Blocked)
-    } else if is_word(word, "ANY") {
+    } else if says(word, "ANY") {
         Some(Question::Any)
-    } else if is_word(word, "ENERGIZED") {
+    } else if says(word, "ENERGIZED") {
         Some(Question::Energized)
     } else {
         None
@@ -90,15 +90,15 @@ fn any_at(alloc: Global, program: &[u8], at: usize) -> Result<(Option<Test>, usi
 fn asked_behind(
     alloc: Global,
     program: &[u8],
-    word: &Bytes,
+    word: &[u8],
     question: Question,
     at: usize,
 ) -> Result<(Option<Test>, usize), AllocError>
-    requires said { word.now ≡ question_word question }
-    ensures result { IfOk result (λ r. PartBehind program.now word.now at r.0 r.1) }
+    requires said { upper word.now ≡ question_word question }
+    ensures result { IfOk result (λ r. PartBehind program.now (upper word.now) at r.0 r.1) }
     ensures within { IfOk result (λ r. r.1 ≤ max at (length program.now)) }
     ensures ends { IfOk result (λ r. at ≤ r.1) }
-    ensures memory_only_when { OnErr result (0 < length word.now) }
+    ensures memory_only_when { OnErr result (0 < length (upper word.now)) }
 {
     match question {
         Question::Not => Ok((None, at)),
@@ -114,17 +114,17 @@ fn asked_behind(
 fn test_behind(
     alloc: Global,
     program: &[u8],
-    word: Bytes,
+    word: &[u8],
     at: usize,
 ) -> Result<(Option<Test>, usize), AllocError>
-    ensures result { IfOk result (λ r. PartBehind program.now word at r.0 r.1) }
+    ensures result { IfOk result (λ r. PartBehind program.now (upper word.now) at r.0 r.1) }
     ensures within { IfOk result (λ r. r.1 ≤ max at (length program.now)) }
     ensures ends { IfOk result (λ r. at ≤ r.1) }
-    ensures memory_only_when { OnErr result (0 < length word) }
+    ensures memory_only_when { OnErr result (0 < length (upper word.now)) }
 {
-    match question_of(word.as_slice()) {
-        Some(question) => asked_behind(alloc, program, &word, question, at),
-        None => Ok((Some(Test::Flag(word)), at)),
+    match question_of(word) {
+        Some(question) => asked_behind(alloc, program, word, question, at),
+        None => Ok((Some(Test::Flag(upper(alloc, word)?)), at)),
     }
 }
 
@@ -135,7 +135,7 @@ fn test_at(alloc: Global, program: &[u8], at: usize) -> Result<(Option<Test>, us
     ensures ends { IfOk result (λ r. at ≤ r.1) }
     ensures memory_only_when { OnErr result (HasWord program.now at) }
 {
-    let word = word_at(alloc, program, at)?;
+    let word = written_at(program, at);
     let end = word_end(program, at);
     test_behind(alloc, program, word, end)
 }

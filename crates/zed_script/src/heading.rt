@@ -1,9 +1,9 @@
 //! Directions as a program writes them.
 ghost use Rattle.std.specs.Prelude.{◌≡◌, ◌≤◌, IfOk, OnErr, Some, length, max};
 ghost use Rattle.zed_script.specs.Heading.{DirectionAt, IsPiece, chosen_of, course_of, turning_of};
-ghost use Rattle.zed_script.specs.Text.{HasWord};
+ghost use Rattle.zed_script.specs.Text.{HasWord, upper};
 
-use crate::text::{is_word, word_at, word_end};
+use crate::text::{says, word_end, written_at};
 use std::alloc::{AllocError, Global};
 use zed_types::Seq;
 
@@ -43,15 +43,15 @@ pub struct Heading {
 
 #[tactic(auto, unfolding(crate::specs::Heading::turning_of))]
 fn turning_of(word: &[u8]) -> Option<Turning>
-    ensures { result ≡ turning_of word.now }
+    ensures { result ≡ turning_of (upper word.now) }
 {
-    if is_word(word, "CW") {
+    if says(word, "CW") {
         Some(Turning::Clockwise)
-    } else if is_word(word, "CCW") {
+    } else if says(word, "CCW") {
         Some(Turning::CounterClockwise)
-    } else if is_word(word, "OPP") {
+    } else if says(word, "OPP") {
         Some(Turning::Opposite)
-    } else if is_word(word, "RNDP") {
+    } else if says(word, "RNDP") {
         Some(Turning::Sideways)
     } else {
         None
@@ -61,17 +61,17 @@ fn turning_of(word: &[u8]) -> Option<Turning>
 /// Where a word leads by chance, or by what the object knows.
 #[tactic(auto, unfolding(crate::specs::Heading::chosen_of))]
 fn chosen_of(word: &[u8]) -> Option<Course>
-    ensures { result ≡ chosen_of word.now }
+    ensures { result ≡ chosen_of (upper word.now) }
 {
-    if is_word(word, "SEEK") {
+    if says(word, "SEEK") {
         Some(Course::Seek)
-    } else if is_word(word, "FLOW") {
+    } else if says(word, "FLOW") {
         Some(Course::Flow)
-    } else if is_word(word, "RND") {
+    } else if says(word, "RND") {
         Some(Course::Random)
-    } else if is_word(word, "RNDNS") {
+    } else if says(word, "RNDNS") {
         Some(Course::RandomNorthOrSouth)
-    } else if is_word(word, "RNDNE") {
+    } else if says(word, "RNDNE") {
         Some(Course::RandomNorthOrEast)
     } else {
         None
@@ -81,17 +81,17 @@ fn chosen_of(word: &[u8]) -> Option<Course>
 /// Where a word leads.
 #[tactic(auto, unfolding(crate::specs::Heading::course_of))]
 fn course_of(word: &[u8]) -> Option<Course>
-    ensures { result ≡ course_of word.now }
+    ensures { result ≡ course_of (upper word.now) }
 {
-    if is_word(word, "N") || is_word(word, "NORTH") {
+    if says(word, "N") || says(word, "NORTH") {
         Some(Course::North)
-    } else if is_word(word, "S") || is_word(word, "SOUTH") {
+    } else if says(word, "S") || says(word, "SOUTH") {
         Some(Course::South)
-    } else if is_word(word, "E") || is_word(word, "EAST") {
+    } else if says(word, "E") || says(word, "EAST") {
         Some(Course::East)
-    } else if is_word(word, "W") || is_word(word, "WEST") {
+    } else if says(word, "W") || says(word, "WEST") {
         Some(Course::West)
-    } else if is_word(word, "I") || is_word(word, "IDLE") {
+    } else if says(word, "I") || says(word, "IDLE") {
         Some(Course::Idle)
     } else {
         chosen_of(word)
@@ -107,21 +107,17 @@ struct Piece {
 }
 
 /// The word of a direction that stands at a place.
-fn piece_at(alloc: Global, program: &[u8], at: usize) -> Result<Piece, AllocError>
-    ensures result { IfOk result (λ r. IsPiece program.now at r.turning r.course r.end) }
-    ensures within { IfOk result (λ r. r.end ≤ max at (length program.now)) }
-    ensures ends { IfOk result (λ r. at ≤ r.end) }
-    ensures memory_only_when { OnErr result (HasWord program.now at) }
+fn piece_at(program: &[u8], at: usize) -> Piece
+    ensures result { IsPiece program.now at result.turning result.course result.end }
+    ensures within { result.end ≤ max at (length program.now) }
+    ensures ends { at ≤ result.end }
 {
-    let word = word_at(alloc, program, at)?;
-    let turning = turning_of(word.as_slice());
-    let course = course_of(word.as_slice());
-    let end = word_end(program, at);
-    Ok(Piece {
-        turning,
-        course,
-        end,
-    })
+    let word = written_at(program, at);
+    Piece {
+        turning: turning_of(word),
+        course: course_of(word),
+        end: word_end(program, at),
+    }
 }
 
 /// The direction that stands at a place, and the place behind it.
@@ -134,7 +130,7 @@ pub fn direction(alloc: Global, program: &[u8], at: usize) -> Result<(Heading, u
     let mut turns = Seq::new(alloc);
     let mut to = at;
     loop {
-        let piece = piece_at(alloc, program, to)?;
+        let piece = piece_at(program, to);
         match piece.turning {
             Some(turning) => turns.push(turning)?,
             None => {

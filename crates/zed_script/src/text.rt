@@ -92,11 +92,14 @@ pub fn word_end(program: &[u8], at: usize) -> usize
 }
 
 /// Bytes in upper case.
-fn upper(alloc: Global, bytes: &[u8]) -> Result<Bytes, AllocError>
+pub(crate) fn upper(alloc: Global, bytes: &[u8]) -> Result<Bytes, AllocError>
     ensures result { IfOk result (λ b. b ≡ upper bytes.now) }
     ensures memory_only_when { OnErr result (0 < length bytes.now) }
 {
-    let mut out = Vec::new(alloc);
+    if bytes.is_empty() {
+        return Ok(Bytes::new(Vec::new(alloc)));
+    }
+    let mut out = Vec::with_capacity(alloc, bytes.len())?;
     for byte in bytes {
         out.push(byte.to_ascii_uppercase())?;
     }
@@ -104,14 +107,22 @@ fn upper(alloc: Global, bytes: &[u8]) -> Result<Bytes, AllocError>
 }
 
 #[tactic(auto, unfolding(crate::specs::Text::word_at, crate::specs::Text::word_end))]
+/// The word that stands at a place, with its letters as they are written.
+pub(crate) fn written_at(program: &[u8], at: usize) -> &[u8]
+    ensures result { upper result.now ≡ word_at program.now at }
+    ensures within { length result.now ≡ length (word_at program.now at) }
+{
+    let from = word_start(program, at);
+    let end = end_of_word(program, from);
+    part(program, from, end)
+}
+
 /// The word that stands at a place, in upper case.
 pub fn word_at(alloc: Global, program: &[u8], at: usize) -> Result<Bytes, AllocError>
     ensures result { IfOk result (λ w. w ≡ word_at program.now at) }
     ensures memory_only_when { OnErr result (HasWord program.now at) }
 {
-    let from = word_start(program, at);
-    let to = end_of_word(program, from);
-    upper(alloc, part(program, from, to))
+    upper(alloc, written_at(program, at))
 }
 
 /// Whether bytes are a word but for the case of their letters, which the word has in upper case.
@@ -131,14 +142,20 @@ fn is_upper_of(bytes: &[u8], word: &[u8]) -> bool
     true
 }
 
-#[tactic(auto, unfolding(crate::specs::Text::word_at, crate::specs::Text::word_end))]
 /// Whether the word that stands at a place is this one.
 pub fn is_word_at(program: &[u8], at: usize, word: &[u8]) -> bool
     ensures result { result ≡ bytes_eq (word_at program.now at) word.now }
 {
-    let from = word_start(program, at);
-    let to = end_of_word(program, from);
-    is_upper_of(part(program, from, to), word)
+    is_upper_of(written_at(program, at), word)
+}
+
+/// Whether a word that is written in letters of any case is this one.
+#[tactic(auto, using(crate::proofs::TextLemmas::same_bytes))]
+pub(crate) fn says(written: &[u8], name: &str) -> bool
+    ensures result { result ≡ bytes_eq (upper written.now) name.now }
+    ensures same { IsTrue result → upper written.now ≡ name.now }
+{
+    is_upper_of(written, name.as_bytes())
 }
 
 /// A number with a digit more, or one that is as good where it is over 32,767 by then.

@@ -5,13 +5,13 @@ use Rattle.zed_script.specs.Heading.{HeadingAt}
 use Rattle.zed_script.specs.Text.{HasWord}
 use Rattle.zed_script.proofs.heading.direction.Given as goal
 
-abbrev pub invariant-loop-turns : goal.invariant-loop-turns
-invariant-loop-turns l = record {
+abbrev pub invariant-loop-turning : goal.invariant-loop-turning
+invariant-loop-turning l = record {
   so_far : (ts : List Turning) (c : Option Course) (e : ℕ) → HeadingAt l.program l.to ts c e → HeadingAt l.program l.fn.at (l.turns ++ ts) c e;
   within : l.to ≤ max l.fn.at (length l.program);
   after : l.fn.at ≤ l.to;
   named : HasWord l.program l.to → HasWord l.program l.fn.at;
 }
 
-abbrev pub decreases-loop-turns : goal.decreases-loop-turns
-decreases-loop-turns l = length l.program - l.to
+abbrev pub decreases-loop-turning : goal.decreases-loop-turning
+decreases-loop-turning l = length l.program - l.to
