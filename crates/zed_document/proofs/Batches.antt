@@ -1,6 +1,6 @@
 -- Edits that join a log are delivered one after the other.
-use Rattle.std.proofs.Common.{◌≡◌, ◌<◌, ◌==◌, ℕ, zero, suc, length, arith, true, false, List, [], ◌∷◌, Some, None, Ok, Err, refl, ap}
-use Rattle.std.specs.Prelude.{◌≢◌, IfSome, IsSomeAnd, Option}
+use Rattle.std.proofs.Common.{◌≡◌, false, List, [], ◌∷◌, Some, None, Ok, Err, Result, refl, ap, subst, sym}
+use Rattle.std.specs.Prelude.{◌≢◌, IfSome, IsSomeAnd, MatchBool, Option}
 use mathlib.Core.Logic.{inl, inr}
 use Rattle.zed_types.specs.declared.stamp.Stamp.{Stamp}
 use Rattle.zed_op.specs.declared.op.Edit.{Edit}
@@ -10,8 +10,9 @@ use Rattle.zed_history.specs.Batch.{HasAnother, IsFree, JoinOn}
 use Rattle.zed_history.specs.Finding.{edit_with}
 use Rattle.zed_document.specs.declared.delivered.Delivered.{Delivered}
 use Rattle.zed_document.specs.declared.delivered.State.TheVariants.{Known}
+use Rattle.zed_document.specs.declared.error.DocumentError.{DocumentError}
 use Rattle.zed_document.specs.declared.error.DocumentError.TheVariants.{Clash, Stale}
-use Rattle.zed_document.specs.Delivery.{Answers, AnswersAt, DeliversEach, after_edit, state_of, unless_clash}
+use Rattle.zed_document.specs.Delivery.{Answers, AnswersAt, AnswersEach, DeliversEach, after_edit, state_of, unless_clash}
 use Rattle.zed_document.specs.Held.{held_stamps, is_among, woken}
 use Rattle.zed_document.specs.Replica.{Replica}
 
@@ -40,11 +41,7 @@ joined-each d (e ∷ es) clash left sound fit h =
       | inr other ↦ inr (Clash e.stamp, clash-answer d e sound fit.0 other.0, ap unless_clash other.1, other.2)
     ]
 
--- nothing is delivered to a stale document
-pub stale-each : (d : Replica) (es : List Edit) → d.is_stale ≡ true → 0 < length es → DeliversEach d es (Err Stale) d.edits
-stale-each d [] stale some = absurd (omega arith)
-stale-each d (e ∷ es) stale some = inr (Stale, rw stale refl, refl, refl)
-
-pub not_none : (n : ℕ) → (n == 0) ≡ false → 0 < n
-not_none zero h = absurd (let bad : true ≡ false = h in cc)
-not_none (suc n) h = omega arith
+-- a document that isn't stale answers as its deliveries do
+pub sound-answers : (d : Replica) (es : List Edit) (r : Result (Unit {0}) DocumentError) (left : List Edit) → d.is_stale ≡ false → DeliversEach d es r left → AnswersEach d es r left
+sound-answers d es r left sound each =
+    subst (λ b. MatchBool b ((r ≡ Err Stale) × (left ≡ d.edits)) (DeliversEach d es r left)) (sym sound) each

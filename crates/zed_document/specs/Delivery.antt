@@ -57,6 +57,10 @@ DeliversEach d (e ∷ es) r left =
     ((told : Delivered) × Answers d e (Ok told) × DeliversEach (after_edit e d) es r left)
     ⊎ ((refusal : DocumentError) × Answers d e (Err refusal) × (r ≡ Err refusal) × (left ≡ d.edits))
 
+-- what they answer, of no edit too: Stale on a stale document, which stays as it is
+abbrev pub AnswersEach : Replica → List Edit → Result (Unit {0}) DocumentError → List Edit → Type 0
+AnswersEach d es r left = MatchBool d.is_stale ((r ≡ Err Stale) × (left ≡ d.edits)) (DeliversEach d es r left)
+
 -- Ok, or the clash
 abbrev pub unless_clash : Option Stamp → Result (Unit {0}) DocumentError
 unless_clash None = Ok tt

@@ -54,7 +54,7 @@ impl Document {
     ghost use Rattle.zed_history.specs.Finding.{edit_with};
     ghost use Rattle.zed_document.specs.Held.{held_stamps, is_among as is_one_of};
     ghost use Rattle.zed_delivery.specs.Shows.{BodyShows};
-    ghost use Rattle.zed_document.specs.Delivery.{Answers, AnswersAt, DeliversEach, MayTakeMemoryFor, TellsNew};
+    ghost use Rattle.zed_document.specs.Delivery.{Answers, AnswersAt, AnswersEach, MayTakeMemoryFor, TellsNew};
     ghost use Rattle.zed_edit.specs.Replay.{replay};
     ghost use Rattle.zed_op.specs.Fit.{Fits};
     ghost use Rattle.zed_op.specs.Set.{AllFit, IsRising, union, with_edit};
@@ -388,13 +388,13 @@ impl Document {
         Ok(())
     }
 
-    /// Delivers edits that fit, one after the other in the order in which they come, up to the first that is refused: Stale, or
-    /// Clash. Those before it stay. After Memory the edits are as before, and the document may be stale. Whatever their order, the
-    /// work is as for edits that come in order.
+    /// Delivers edits that fit, one after the other in the order in which they come, up to the first that is refused: Stale, even
+    /// where there is none, or Clash. Those before it stay. After Memory the edits are as before, and the document may be stale.
+    /// Whatever their order, the work is as for edits that come in order.
     pub fn deliver_all(&mut self, edits: Vec<Edit>) -> Result<(), DocumentError>
         requires { AllFit edits.items }
         ensures result { (result ≡ Err DocumentError.Memory)
-            ⊎ DeliversEach self.old edits.items result self.new.edits }
+            ⊎ AnswersEach self.old edits.items result self.new.edits }
         ensures kept { result ≡ Err DocumentError.Memory → self.new.edits ≡ self.old.edits }
         ensures refused { result ≡ Err DocumentError.Memory
             → self.new.is_stale ≡ false → self.new ≡ self.old }
@@ -406,9 +406,6 @@ impl Document {
         ensures memory_only_when { result ≡ Err DocumentError.Memory
             → (self.old.is_stale ≡ false) × HasNew self.old.edits edits.items }
     {
-        if edits.is_empty() {
-            return Ok(());
-        }
         if self.is_stale {
             return Err(DocumentError::Stale);
         }
