@@ -10,12 +10,16 @@ use Rattle.zed_editfile.specs.declared.error.EditFileError.{EditFileError}
 use Rattle.zed_session.specs.declared.error.SessionError.{SessionError}
 use Rattle.zed_world.specs.declared.error.WorldError.{WorldError}
 use Rattle.zed_files.specs.declared.refusal.Refusal.{Refusal}
-use Rattle.zed_files.specs.declared.refusal.Refusal.TheVariants.{File, Memory}
-use Rattle.std.proofs.Common.{◌≡◌, ◌≤◌, ℕ, arith, Option, Some, None, Result, Ok, Err, MatchResult, is_err, inl, inr}
+use Rattle.zed_files.specs.declared.refusal.Refusal.TheVariants.{Clash, File, Memory}
+use Rattle.zed_op.specs.declared.op.Edit.{Edit}
+use Rattle.zed_types.specs.declared.stamp.Stamp.{Stamp}
+use Rattle.std.proofs.Common.{◌≡◌, ◌≤◌, ◌∙◌, ℕ, List, arith, Option, Some, None, Result, Ok, Err, MatchResult, is_err, refl, sym, inl, inr}
+use Rattle.std.specs.Prelude.{IsErrAnd}
 use mathlib.Core.Logic.{◌⊎◌}
-use Rattle.zed_host.specs.Counting.{Counts}
+use Rattle.zed_document.specs.Delivery.{IsFirstClash}
+use Rattle.zed_host.specs.Counting.{Counts, Rose}
 use Rattle.zed_host.proofs.Counts.{rose_later}
-use Rattle.zed_files.specs.Faults.{TellsFile}
+use Rattle.zed_files.specs.Faults.{NoneForgotten, TellsFailures}
 use Rattle.zed_files.specs.Files.{end_of}
 use Rattle.zed_files.specs.Refusals.{action_refusal, document_refusal, file_refusal, session_refusal, world_refusal}
 
@@ -86,18 +90,59 @@ session_is_other session.NoLink is = cc
 pub is_other : (P : Type 0) (e : Refusal) → (e ≡ Memory) ⊎ P → (P → e ≡ File → ⊥) → e ≡ File → ⊥
 is_other P e why other is = elim why [ inl memory ↦ memory_is_other e memory is | inr p ↦ other p is ]
 
--- what is answered after more calls
-pub tells_later : {X : Type 0} (answer : Result X Refusal) (old middle new : ℕ) → old ≤ middle → TellsFile answer middle new → TellsFile answer old new
-tells_later (Ok x) old middle new up tells = let more = tells.0 in (omega arith, tt)
-tells_later (Err e) old middle new up tells = let more = tells.0 in (omega arith, λ is. rose_later old middle new up (tells.1 is))
+-- edits that were not delivered
+pub undelivered_is_other : (es : List Edit) (e : Refusal) → (e ≡ Memory) ⊎ ((s : Stamp) × IsFirstClash es s × (e ≡ Clash s)) → e ≡ File → ⊥
+undelivered_is_other es e why is = elim why [ inl memory ↦ memory_is_other e memory is | inr clash ↦ (let no = clash.2 in cc) ]
 
--- a write that failed
-pub write_tells : {X : Type 0} (answer : Result X Refusal) (old new : ℕ) → Counts (is_err answer) old new → TellsFile answer old new
-write_tells (Ok x) old new count = (omega (arith, count), tt)
-write_tells (Err e) old new count = (count.0, λ is. count)
+-- ---- no failed call is forgotten
 
--- another refusal
-pub other_tells : {X : Type 0} (P : X → Type 0) (Q : Refusal → Type 0) (answer : Result X Refusal) (old new : ℕ) → old ≤ new → MatchResult answer P (λ e. (e ≡ Memory) ⊎ Q e)
-    → ((e : Refusal) → Q e → e ≡ File → ⊥) → TellsFile answer old new
-other_tells P Q (Ok x) old new up match other = (up, tt)
-other_tells P Q (Err e) old new up match other = (up, λ is. absurd (is_other (Q e) e match (other e) is))
+pub none_yet : {H : Type 0} (faults failed : H → ℕ) (host : H) → NoneForgotten faults failed host host
+none_yet faults failed host = (omega arith, omega arith)
+
+-- calls that didn't fail
+pub unfailed : {H : Type 0} (faults failed : H → ℕ) (old new : H) → faults new ≡ faults old → failed new ≡ failed old → NoneForgotten faults failed old new
+unfailed faults failed old new calm uncounted = (omega (arith, calm), omega (arith, uncounted))
+
+-- none of some calls, nor of those after them
+pub none_later : {H : Type 0} (faults failed : H → ℕ) (old middle new : H) → NoneForgotten faults failed old middle → NoneForgotten faults failed middle new
+    → NoneForgotten faults failed old new
+none_later faults failed old middle new (f, n) (g, m) = (omega (arith, f, g), omega (arith, n, m))
+
+-- what `?` hands on of a call, before which nothing was done
+pub handed_on : {H X : Type 0} (faults failed : H → ℕ) (answer : Result X Refusal) (e : Refusal) (old new : H) → IsErrAnd answer (λ told. told ≡ e)
+    → NoneForgotten faults failed old new × (e ≡ File → Rose (failed old) (failed new)) → TellsFailures faults failed answer old new
+handed_on faults failed (Ok x) e old new told tells = absurd told
+handed_on faults failed (Err x) e old new told tells = (tells.0, λ is. tells.1 (sym told ∙ is))
+
+-- or after some calls
+pub handed_later : {H X : Type 0} (faults failed : H → ℕ) (answer : Result X Refusal) (e : Refusal) (old middle new : H) → IsErrAnd answer (λ told. told ≡ e)
+    → NoneForgotten faults failed old middle → NoneForgotten faults failed middle new × (e ≡ File → Rose (failed middle) (failed new))
+    → TellsFailures faults failed answer old new
+handed_later faults failed answer e old middle new told before tells =
+    handed_on faults failed answer e old new told
+    (none_later faults failed old middle new before tells.0, λ is. rose_later (failed old) (failed middle) (failed new) before.1 (tells.1 is))
+
+-- what it hands on that isn't of the host
+pub other_on : {H X : Type 0} (faults failed : H → ℕ) (answer : Result X Refusal) (e : Refusal) (old new : H) → IsErrAnd answer (λ told. told ≡ e) → (e ≡ File → ⊥)
+    → NoneForgotten faults failed old new → TellsFailures faults failed answer old new
+other_on faults failed answer e old new told other none = handed_on faults failed answer e old new told (none, λ is. absurd (other is))
+
+pub memory_on : {H X : Type 0} (faults failed : H → ℕ) (answer : Result X Refusal) (old new : H) → IsErrAnd answer (λ told. told ≡ Memory)
+    → NoneForgotten faults failed old new → TellsFailures faults failed answer old new
+memory_on faults failed answer old new told none = other_on faults failed answer Memory old new told (memory_is_other Memory refl) none
+
+-- another answer than that of the host, after some calls
+pub other_tells : {H X : Type 0} (faults failed : H → ℕ) (P : X → Type 0) (Q : Refusal → Type 0) (answer : Result X Refusal) (old new : H)
+    → NoneForgotten faults failed old new → MatchResult answer P (λ e. (e ≡ Memory) ⊎ Q e) → ((e : Refusal) → Q e → e ≡ File → ⊥)
+    → TellsFailures faults failed answer old new
+other_tells faults failed P Q (Ok x) old new none match other = (none, tt)
+other_tells faults failed P Q (Err e) old new none match other = (none, λ is. absurd (is_other (Q e) e match (other e) is))
+
+-- the answer of a write, after some calls
+pub write_tells : {H X : Type 0} (faults failed : H → ℕ) (answer : Result X Refusal) (old middle new : H) → NoneForgotten faults failed old middle
+    → Counts (is_err answer) (faults middle) (faults new) → Counts (is_err answer) (failed middle) (failed new) → TellsFailures faults failed answer old new
+write_tells faults failed (Ok x) old middle new (f, n) fault count = ((omega (arith, f, fault), omega (arith, n, count)), tt)
+write_tells faults failed (Err e) old middle new (f, n) fault count = (
+  (let more = fault.0 in omega (arith, f, more), let more = count.0 in omega (arith, n, more)),
+  λ is. rose_later (failed old) (failed middle) (failed new) n count,
+)

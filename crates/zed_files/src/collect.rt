@@ -1,5 +1,5 @@
 //! Edit files, read into a document.
-ghost use Rattle.std.specs.Prelude.{◌≡◌, ◌≤◌, ◌⊎◌, IfErr, IfOk, MatchResult, OnOk, Some, None, Ok, Err, [], ◌++◌, false, true, is_some, List};
+ghost use Rattle.std.specs.Prelude.{◌≡◌, ◌⊎◌, IfErr, IfOk, MatchResult, OnOk, Some, None, Ok, Err, [], ◌++◌, false, true, is_some, List};
 ghost use Rattle.zed_types.specs.declared.stamp.Stamp.{Stamp as TheStamp};
 ghost use Rattle.zed_op.specs.declared.op.Edit.{Edit as TheEdit};
 ghost use Rattle.zed_op.specs.Set.{Agrees, AllFit, set_of};
@@ -8,7 +8,7 @@ ghost use Rattle.zed_files.specs.Asked.{Asks, reading, refusal_in};
 ghost use Rattle.zed_files.specs.Files.{IsFile, edits_then, end_of as no_world};
 ghost use Rattle.zed_files.specs.Collected.{Collects, IsStreamIn};
 ghost use Rattle.zed_files.specs.Texts.{texts_of};
-ghost use Rattle.zed_files.specs.Faults.{TellsFile};
+ghost use Rattle.zed_files.specs.Faults.{NoneForgotten, TellsFailures};
 ghost use Rattle.zed_files.specs.Refusals.{is_file_refusal};
 ghost use Rattle.zed_host.specs.Calls.{Reading, call};
 ghost use Rattle.zed_host.specs.Counting.{Counts, Rose};
@@ -42,10 +42,9 @@ pub fn read_one<H: Host>(host: &mut H, name: &str) -> Result<Vec<u8>, Refusal>
     ensures err { IfErr result (λ e. (e ≡ Refusal.Memory) ⊎ (e ≡ Refusal.File)) }
     ensures asked { H.called host.old
         (call (Reading name.now) (is_file_refusal result)) host.new }
-    ensures failures { Counts (is_file_refusal result) (H.failed host.old) (H.failed host.new) }
+    ensures counts { Counts (is_file_refusal result) (H.failed host.old) (H.failed host.new) }
     ensures calm { OnOk result (H.faults host.new ≡ H.faults host.old) }
-    ensures rises { H.faults host.old ≤ H.faults host.new }
-    ensures file_only_when { TellsFile result (H.failed host.old) (H.failed host.new) }
+    ensures failures { TellsFailures H.faults H.failed result host.old host.new }
 {
     match host.read(name) {
         Ok(bytes) => Ok(bytes),
@@ -114,10 +113,9 @@ fn read_all<H: Host>(alloc: Global, host: &mut H, names: &[&str]) -> Result<Stre
     ensures asked { MatchResult result
         (λ s. Asks H.called (reading (texts_of names.now)) [] s.refusal host.old host.new)
         (λ e. Asks H.called (reading (texts_of names.now)) [] (Some e) host.old host.new) }
-    ensures rises { H.faults host.old ≤ H.faults host.new }
+    ensures failures { NoneForgotten H.faults H.failed host.old host.new }
     ensures file_only_when { IfOk result (λ s. s.refusal ≡ Some Refusal.File
         → Rose (H.failed host.old) (H.failed host.new)) }
-    ensures failures { H.failed host.old ≤ H.failed host.new }
 {
     let mut asked = None;
     let mut edits = Vec::new(alloc);
@@ -165,8 +163,7 @@ pub fn load<H: Host>(alloc: Global, host: &mut H, names: &[&str]) -> Result<Docu
     ensures kept { H.contents host.new ≡ H.contents host.old }
     ensures asked { Asks H.called (reading (texts_of names.now)) []
         (refusal_in result) host.old host.new }
-    ensures rises { H.faults host.old ≤ H.faults host.new }
-    ensures file_only_when { TellsFile result (H.failed host.old) (H.failed host.new) }
+    ensures failures { TellsFailures H.faults H.failed result host.old host.new }
 {
     let Stream {
         world,

@@ -17,7 +17,7 @@ use Rattle.zed_making.specs.Edited.{IsOpened, IsSettled}
 use Rattle.zed_making.specs.Fresh.{refused_as}
 use Rattle.zed_making.specs.Merged.{IsMerged, MadeMostReads, PullsEach, empty_document, with_edits}
 use Rattle.zed_files.specs.Refusals.{file_refusal, link_refusal, world_refusal}
-use Rattle.zed_files.proofs.Failures.{file_is_other, world_is_other, session_is_other}
+use Rattle.zed_files.proofs.Failures.{file_is_other, session_is_other, world_is_other}
 
 -- the document of a file that was read
 pub opened_is_other : (bytes : List ℕ) (e : Refusal) → IsOpened (Some bytes) (Err e) → e ≡ File → ⊥

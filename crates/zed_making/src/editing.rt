@@ -1,5 +1,5 @@
 //! An action of an author on an edit file.
-ghost use Rattle.std.specs.Prelude.{[], ◌∷◌, ◌≡◌, ◌≤◌, ◌⊎◌, Err, IfErr, IfOk, MatchResult, Ok, Some, false};
+ghost use Rattle.std.specs.Prelude.{[], ◌∷◌, ◌≡◌, ◌⊎◌, Err, IfErr, IfOk, MatchResult, Ok, Some, false};
 ghost use Rattle.zed_op.specs.Set.{Agrees, AllFit, set_of};
 ghost use Rattle.zed_types.specs.declared.stamp.Stamp.{Stamp as TheStamp};
 ghost use Rattle.zed_document.specs.Delivery.{IsFirstClash};
@@ -8,7 +8,7 @@ ghost use Rattle.zed_files.specs.Asked.{Asks, reading, refusal_in, writing};
 ghost use Rattle.zed_files.specs.Effects.{Ends};
 ghost use Rattle.zed_files.specs.Texts.{texts_of};
 ghost use Rattle.zed_host.specs.Counting.{Rose};
-ghost use Rattle.zed_files.specs.Faults.{TellsFile};
+ghost use Rattle.zed_files.specs.Faults.{TellsFailures};
 ghost use Rattle.zed_host.specs.HostContents.{HostContents};
 
 use std::alloc::Global;
@@ -60,8 +60,7 @@ fn open<H: Host>(alloc: Global, host: &mut H, file: &str) -> Result<Document, Re
     ensures kept { H.contents host.new ≡ H.contents host.old }
     ensures asked { Asks H.called (reading (file.now ∷ [])) []
         (refusal_in result) host.old host.new }
-    ensures rises { H.faults host.old ≤ H.faults host.new }
-    ensures file_only_when { TellsFile result (H.failed host.old) (H.failed host.new) }
+    ensures failures { TellsFailures H.faults H.failed result host.old host.new }
 {
     let bytes = read_one(host, file)?;
     opened(alloc, bytes.as_slice())
@@ -83,8 +82,7 @@ fn edited<H: Host>(
     ensures kept { H.contents host.new ≡ H.contents host.old }
     ensures asked { Asks H.called (reading (file.now ∷ [])) []
         (refusal_in result) host.old host.new }
-    ensures rises { H.faults host.old ≤ H.faults host.new }
-    ensures file_only_when { TellsFile result (H.failed host.old) (H.failed host.new) }
+    ensures failures { TellsFailures H.faults H.failed result host.old host.new }
 {
     if replica == 0 {
         return Err(Refusal::BadEdit(Cause::Stamp));
@@ -108,8 +106,7 @@ pub fn edit<H: Host>(
         result (H.contents host.new) }
     ensures asked { Asks H.called (reading (file.now ∷ [])) (writing file.now)
         (refusal_in result) host.old host.new }
-    ensures rises { H.faults host.old ≤ H.faults host.new }
-    ensures file_only_when { TellsFile result (H.failed host.old) (H.failed host.new) }
+    ensures failures { TellsFailures H.faults H.failed result host.old host.new }
 {
     let document = edited(alloc, host, file, replica, words)?;
     let text = write_file(alloc, document.world(), document.edits())?;

@@ -1,12 +1,12 @@
 use Rattle.std.proofs.Common.{◌≡◌, ◌∙◌, Some, ap}
-use mathlib.Core.Logic.{inl, inr}
+use mathlib.Core.Logic.{inr}
 use Rattle.std.proofs.lemmas.Result.{err_from_is_err_and}
 use Rattle.zed_files.specs.Files.{edits_then}
 use Rattle.zed_files.specs.Texts.{texts_of}
 use Rattle.zed_files.proofs.Streams.{all_collected, clash_first, file_first}
 use Rattle.zed_files.specs.Asked.{reading}
 use Rattle.zed_files.proofs.Asked.{refused_instead, told_so}
-use Rattle.zed_files.proofs.Failures.{memory_is_other}
+use Rattle.zed_files.proofs.Failures.{memory_is_other, other_on, undelivered_is_other}
 use Rattle.zed_files.proofs.collect.load.Goals as goal
 
 pub returns-in_err-deliver_all-clause-collected : goal.returns-in_err-deliver_all-clause-collected
@@ -26,20 +26,18 @@ returns-in-None-clause-collected g c = λ t at.
     all_collected _ t (texts_of c.args.names.now) c.in_ok-world.field-0.edits.items c.deliver_all.new.document.edits c.in_ok-world.field-0.refusal
     (c.in_ok-world.ensures.stream t at) c.in_ok-deliver_all.ensures.agree c.in-None.is c.in_ok-deliver_all.ensures.set
 
-pub returns-in_err-deliver_all-clause-file_only_when : goal.returns-in_err-deliver_all-clause-file_only_when
-returns-in_err-deliver_all-clause-file_only_when g c =
-    let p = err_from_is_err_and c.from_residual-in_err-deliver_all.result c.from_residual-in_err-deliver_all.ensures.1 in
-    let same : p.0 ≡ c.in_err-deliver_all.field-0.0 = p.2 in
-    rw (p.1, same) (
-      c.in_ok-world.ensures.failures,
-      λ is. elim c.in_err-deliver_all.ensures.err [
-        | inl memory ↦ absurd (memory_is_other _ memory is)
-        | inr clash ↦ absurd (let no = clash.2 in cc)
-      ],
-    )
+pub returns-in_err-world-clause-failures : goal.returns-in_err-world-clause-failures
+returns-in_err-world-clause-failures g c =
+    other_on g.H.Host.faults g.H.Host.failed c.from_residual.result c.in_err-world.field-0.0 _ _ c.from_residual.ensures.1
+    (memory_is_other c.in_err-world.field-0.0 c.in_err-world.ensures.err) c.in_err-world.ensures.failures
 
-pub returns-in-Some-clause-file_only_when : goal.returns-in-Some-clause-file_only_when
-returns-in-Some-clause-file_only_when g c =
+pub returns-in_err-deliver_all-clause-failures : goal.returns-in_err-deliver_all-clause-failures
+returns-in_err-deliver_all-clause-failures g c =
+    other_on g.H.Host.faults g.H.Host.failed c.from_residual-in_err-deliver_all.result c.in_err-deliver_all.field-0.0 _ _ c.from_residual-in_err-deliver_all.ensures.1
+    (undelivered_is_other c.in_ok-world.field-0.edits.items c.in_err-deliver_all.field-0.0 c.in_err-deliver_all.ensures.err) c.in_ok-world.ensures.failures
+
+pub returns-in-Some-clause-failures : goal.returns-in-Some-clause-failures
+returns-in-Some-clause-failures g c =
     (c.in_ok-world.ensures.failures, λ is. c.in_ok-world.ensures.file_only_when (c.in-Some.is ∙ ap (λ e. Some e) is))
 
 pub returns-in_err-world-clause-asked : goal.returns-in_err-world-clause-asked
@@ -53,11 +51,7 @@ returns-in_err-deliver_all-clause-asked g c =
     let p = err_from_is_err_and c.from_residual-in_err-deliver_all.result c.from_residual-in_err-deliver_all.ensures.1 in
     let same : p.0 ≡ c.in_err-deliver_all.field-0.0 = p.2 in
     rw (p.1, same) (refused_instead g.H.Host.called (reading (texts_of c.args.names.now)) c.in_ok-world.field-0.refusal c.in_err-deliver_all.field-0.0 _ _
-    (λ is. elim c.in_err-deliver_all.ensures.err [
-      | inl memory ↦ memory_is_other _ memory is
-      | inr clash ↦ (let no = clash.2 in cc)
-    ])
-    c.in_ok-world.ensures.asked)
+    (undelivered_is_other c.in_ok-world.field-0.edits.items c.in_err-deliver_all.field-0.0 c.in_err-deliver_all.ensures.err) c.in_ok-world.ensures.asked)
 
 pub returns-in-Some-clause-asked : goal.returns-in-Some-clause-asked
 returns-in-Some-clause-asked g c = told_so g.H.Host.called (reading (texts_of c.args.names.now)) _ _ _ _ c.in-Some.is c.in_ok-world.ensures.asked

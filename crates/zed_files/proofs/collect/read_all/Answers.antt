@@ -1,4 +1,4 @@
-use Rattle.std.proofs.Common.{◌∙◌, ◌+◌, ◌≤◌, ◌∷◌, [], arith, Some, None, sym, refl, rules, drop, map}
+use Rattle.std.proofs.Common.{◌∙◌, ◌+◌, ◌∷◌, [], Some, None, sym, refl, rules, drop, map}
 use mathlib.Core.Logic.{inl, inr}
 use Rattle.zed_host.specs.Counting.{Rose}
 use Rattle.zed_host.specs.HostContents.{file_in}
@@ -8,7 +8,7 @@ use Rattle.zed_files.specs.Texts.{texts_of}
 use Rattle.zed_host.proofs.ReadFiles.{as_held, read_so}
 use Rattle.zed_host.proofs.Counts.{rose_later}
 use Rattle.zed_files.proofs.Asked.{next_lost, next_refused, read_enough, read_next, read_whole}
-use Rattle.zed_files.proofs.Failures.{file_is_other, memory_is_other, no_world_is_other}
+use Rattle.zed_files.proofs.Failures.{file_is_other, memory_is_other, no_world_is_other, none_later, unfailed}
 use Rattle.zed_files.proofs.Streams.{all_read, file_fits, fit_append, last_file, next_file, next_read, none_left, unread_file}
 use Rattle.zed_files.proofs.collect.read_all.Goals as goal
 
@@ -30,7 +30,7 @@ loop-name-preserved g c =
     record {
       same = c.in-Ok.ensures.kept ∙ old.same;
       calm = c.in-Ok.ensures.calm ∙ old.calm;
-      uncounted = c.in-Ok.ensures.failures ∙ old.uncounted;
+      uncounted = c.in-Ok.ensures.counts ∙ old.uncounted;
       fit = rw file.2 (fit_append _ _ old.fit (file_fits _ _ _ _ file.1));
       asked = read_next g.H.Host.called c.args.names.now c.loop-name.name-index _ _ _ _ c.loop-name-test.true old.asked c.in-Ok.ensures.asked;
       read = λ t now rest at reads s is.
@@ -60,9 +60,8 @@ returns-in_default g c =
         err = tt;
         asked = read_enough g.H.Host.called c.args.names.now (c.loop-name.name-index + 1) _ _ c.from.result (λ is. file_is_other c.in-Err-read_file.error (sym c.from.ensures ∙ is))
             (read_next g.H.Host.called c.args.names.now c.loop-name.name-index _ _ _ _ c.loop-name-test.true old.asked c.in-Ok.ensures.asked);
-        rises = let same = c.in-Ok.ensures.calm in let calm = old.calm in omega arith;
+        failures = none_later g.H.Host.faults g.H.Host.failed _ c.loop-name.host _ (unfailed g.H.Host.faults g.H.Host.failed _ _ old.calm old.uncounted) c.in-Ok.ensures.failures.0;
         file_only_when = λ is. absurd (file_is_other c.in-Err-read_file.error (let same = c.from.ensures in cc));
-        failures = let same = c.in-Ok.ensures.failures in let before = old.uncounted in omega arith;
       }
     ]
 
@@ -74,23 +73,34 @@ returns-clause-stream g c = λ t at.
 pub returns-in-Err-File : goal.returns-in-Err-File
 returns-in-Err-File g c =
     let old = c.loop-name.invariant in
-    let rises = c.in-Err-File.ensures.rises in
-    let low : g.H.Host.faults c.args.host.now ≤ g.H.Host.faults c.loop-name.host = (let calm = old.calm in omega arith) in
-    let up : g.H.Host.faults c.args.host.now ≤ g.H.Host.faults c.read_one.new.host = (let calm = old.calm in omega arith) in
+    let before = unfailed g.H.Host.faults g.H.Host.failed c.args.host.now c.loop-name.host old.calm old.uncounted in
     record {
       stream = λ t at.
           let others = map (file_in t) (texts_of (drop (c.loop-name.name-index + 1) c.args.names.now)) in
           unread_file (IsStreamIn _ t (texts_of c.args.names.now)) c.loop-name.asked others c.loop-name.edits.items File refl
           (λ s is. old.read t _ (None ∷ others) at
-          (next_read _ t c.args.names.now c.loop-name.name-index _ None others c.loop-name-test.true (read_so _ _ t _ None (rose_later _ _ _ low) (c.in-Err-File.ensures.none t (old.same ∙ at) (search rules))) (as_held _ t _)) s is);
+          (next_read _ t c.args.names.now c.loop-name.name-index _ None others c.loop-name-test.true (read_so _ _ t _ None (rose_later _ _ _ before.0) (c.in-Err-File.ensures.none t (old.same ∙ at) (search rules))) (as_held _ t _)) s is);
       fit = old.fit;
       kept = c.in-Err-File.ensures.kept ∙ old.same;
       err = tt;
       asked = next_lost g.H.Host.called c.args.names.now c.loop-name.name-index _ _ _ _ c.in-Err-File.field-0 File c.loop-name-test.true old.asked c.in-Err-File.ensures.asked (search rules);
-      rises = up;
-      file_only_when = λ is. rw (← old.uncounted) (c.in-Err-File.ensures.file_only_when.1 (search rules));
-      failures = let count = c.in-Err-File.ensures.file_only_when.0 in let before = old.uncounted in omega arith;
+      failures = none_later g.H.Host.faults g.H.Host.failed _ _ _ before c.in-Err-File.ensures.failures.0;
+      file_only_when = λ is. rw (← old.uncounted) (c.in-Err-File.ensures.failures.1 (search rules));
     }
+
+-- no failure is forgotten
+pub returns-clause-failures : goal.returns-clause-failures
+returns-clause-failures g c = let old = c.loop-name.invariant in unfailed g.H.Host.faults g.H.Host.failed _ _ old.calm old.uncounted
+
+pub returns-in-Err-clause-failures : goal.returns-in-Err-clause-failures
+returns-in-Err-clause-failures g c =
+    let old = c.loop-name.invariant in
+    none_later g.H.Host.faults g.H.Host.failed _ c.loop-name.host _ (unfailed g.H.Host.faults g.H.Host.failed _ _ old.calm old.uncounted) c.in-Err.ensures.failures.0
+
+pub returns-in-Memory-clause-failures : goal.returns-in-Memory-clause-failures
+returns-in-Memory-clause-failures g c =
+    let old = c.loop-name.invariant in
+    none_later g.H.Host.faults g.H.Host.failed _ c.loop-name.host _ (unfailed g.H.Host.faults g.H.Host.failed _ _ old.calm old.uncounted) c.in-Ok.ensures.failures.0
 
 pub returns-clause-file_only_when : goal.returns-clause-file_only_when
 returns-clause-file_only_when g c = λ is. absurd (no_world_is_other c.loop-name.asked (let same = c.end_of.ensures in cc))

@@ -10,7 +10,7 @@ use Rattle.zed_files.proofs.Endings.{effect_ends, refused_ends}
 use Rattle.zed_making.proofs.Endings.{edit_so}
 use Rattle.zed_making.proofs.Opened.{not_edited}
 use Rattle.std.proofs.lemmas.Result.{err_from_is_err_and}
-use Rattle.zed_files.proofs.Failures.{memory_is_other, tells_later, write_tells}
+use Rattle.zed_files.proofs.Failures.{file_is_other, handed_on, memory_is_other, memory_on, other_on, write_tells}
 use Rattle.std.proofs.Common.{[], ◌∷◌}
 use Rattle.zed_files.specs.Asked.{reading, refusal_in, writing}
 use Rattle.zed_files.proofs.Asked.{refused_after, refused_at, then_last}
@@ -26,7 +26,7 @@ returns-clause-ends g c = λ t at.
     (Ok (d.world, d.edits), c.in_ok-document.ensures.edited t at, rw (line, text) refl) in
     effect_ends (λ f. ComesToEdit f t c.args.file.now c.args.replica (texts_of c.args.words.now)) c.write_out.result _ _ _ t (Writes c.args.file.now c.as_slice.result.now c.as_str.result.now) _
     (edit_so t c.args.file.now c.args.replica (texts_of c.args.words.now))
-    c.in_ok-document.ensures.rises (counted_up _ _ _ c.write_out.ensures.faults) comes (c.write_out.ensures.ok t here) (c.write_out.ensures.half t here) c.write_out.ensures.err c.write_out.ensures.faults
+    c.in_ok-document.ensures.failures.0.0 (counted_up _ _ _ c.write_out.ensures.faults) comes (c.write_out.ensures.ok t here) (c.write_out.ensures.half t here) c.write_out.ensures.err c.write_out.ensures.faults
 
 pub returns-in_err-document-clause-ends : goal.returns-in_err-document-clause-ends
 returns-in_err-document-clause-ends g c = λ t at.
@@ -45,25 +45,21 @@ returns-in_err-line-clause-ends g c = λ t at.
     let p = err_from_is_err_and c.from_residual-in_err-line.result c.from_residual-in_err-line.ensures.1 in
     rw p.1 (refused_ends _ (ComesToEdit _ t c.args.file.now c.args.replica (texts_of c.args.words.now)) t p.0 _ (c.in_ok-document.ensures.kept ∙ at) (inl (p.2)))
 
-pub returns-in_err-document-clause-file_only_when : goal.returns-in_err-document-clause-file_only_when
-returns-in_err-document-clause-file_only_when g c =
-    let p = err_from_is_err_and c.from_residual.result c.from_residual.ensures.1 in
-    let same : p.0 ≡ c.in_err-document.field-0.0 = p.2 in
-    rw (p.1, same) c.in_err-document.ensures.file_only_when
+pub returns-in_err-document-clause-failures : goal.returns-in_err-document-clause-failures
+returns-in_err-document-clause-failures g c =
+    handed_on g.H.Host.faults g.H.Host.failed c.from_residual.result c.in_err-document.field-0.0 _ _ c.from_residual.ensures.1 c.in_err-document.ensures.failures
 
-pub returns-in_err-text-clause-file_only_when : goal.returns-in_err-text-clause-file_only_when
-returns-in_err-text-clause-file_only_when g c =
-    let p = err_from_is_err_and c.from_residual-in_err-text.result c.from_residual-in_err-text.ensures.1 in
-    rw p.1 (c.in_ok-document.ensures.file_only_when.0, λ is. absurd (memory_is_other p.0 (p.2 ∙ ap file_refusal c.in_err-text.ensures.err) is))
+pub returns-in_err-text-clause-failures : goal.returns-in_err-text-clause-failures
+returns-in_err-text-clause-failures g c =
+    other_on g.H.Host.faults g.H.Host.failed c.from_residual-in_err-text.result (file_refusal c.in_err-text.field-0.0) _ _ c.from_residual-in_err-text.ensures.1 (file_is_other c.in_err-text.field-0.0) c.in_ok-document.ensures.failures.0
 
-pub returns-in_err-line-clause-file_only_when : goal.returns-in_err-line-clause-file_only_when
-returns-in_err-line-clause-file_only_when g c =
-    let p = err_from_is_err_and c.from_residual-in_err-line.result c.from_residual-in_err-line.ensures.1 in
-    rw p.1 (c.in_ok-document.ensures.file_only_when.0, λ is. absurd (memory_is_other p.0 p.2 is))
+pub returns-in_err-line-clause-failures : goal.returns-in_err-line-clause-failures
+returns-in_err-line-clause-failures g c =
+    memory_on g.H.Host.faults g.H.Host.failed c.from_residual-in_err-line.result _ _ c.from_residual-in_err-line.ensures.1 c.in_ok-document.ensures.failures.0
 
-pub returns-clause-file_only_when : goal.returns-clause-file_only_when
-returns-clause-file_only_when g c =
-    tells_later c.write_out.result _ _ _ c.in_ok-document.ensures.file_only_when.0 (write_tells c.write_out.result _ _ c.write_out.ensures.failures)
+pub returns-clause-failures : goal.returns-clause-failures
+returns-clause-failures g c =
+    write_tells g.H.Host.faults g.H.Host.failed c.write_out.result _ _ _ c.in_ok-document.ensures.failures.0 c.write_out.ensures.faults c.write_out.ensures.failures
 
 pub returns-in_err-document-clause-asked : goal.returns-in_err-document-clause-asked
 returns-in_err-document-clause-asked g c =

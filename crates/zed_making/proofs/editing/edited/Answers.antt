@@ -2,7 +2,8 @@ use Rattle.std.proofs.Common.{◌≡◌, ◌∙◌, sym}
 use Rattle.std.proofs.lemmas.Result.{err_from_is_err_and}
 use Rattle.zed_files.specs.Texts.{texts_of}
 use Rattle.zed_making.proofs.Opened.{edited_done, edited_not_opened, edited_refused}
-use Rattle.zed_files.proofs.Failures.{action_is_other}
+use Rattle.zed_files.specs.Refusals.{action_refusal}
+use Rattle.zed_files.proofs.Failures.{action_is_other, handed_on, other_on}
 use Rattle.std.proofs.Common.{[], ◌∷◌}
 use Rattle.zed_files.specs.Asked.{reading}
 use Rattle.zed_files.proofs.Asked.{refused_after}
@@ -26,16 +27,13 @@ returns-in_err-document-clause-edited g c = λ t at.
     rw (p.1, same) (edited_not_opened _ t c.args.file.now c.args.replica (texts_of c.args.words.now) c.in_err-document.field-0.0 c.if-replica-eq0.false
     (c.in_err-document.ensures.opened t at))
 
-pub returns-in_err-document-clause-file_only_when : goal.returns-in_err-document-clause-file_only_when
-returns-in_err-document-clause-file_only_when g c =
-    let p = err_from_is_err_and c.from_residual.result c.from_residual.ensures.1 in
-    let same : p.0 ≡ c.in_err-document.field-0.0 = p.2 in
-    rw (p.1, same) c.in_err-document.ensures.file_only_when
+pub returns-in_err-document-clause-failures : goal.returns-in_err-document-clause-failures
+returns-in_err-document-clause-failures g c =
+    handed_on g.H.Host.faults g.H.Host.failed c.from_residual.result c.in_err-document.field-0.0 _ _ c.from_residual.ensures.1 c.in_err-document.ensures.failures
 
-pub returns-in_err-act-clause-file_only_when : goal.returns-in_err-act-clause-file_only_when
-returns-in_err-act-clause-file_only_when g c =
-    let p = err_from_is_err_and c.from_residual-in_err-act.result c.from_residual-in_err-act.ensures.1 in
-    rw p.1 (c.in_ok-document.ensures.file_only_when.0, λ is. absurd (action_is_other c.in_err-act.field-0.0 (sym p.2 ∙ is)))
+pub returns-in_err-act-clause-failures : goal.returns-in_err-act-clause-failures
+returns-in_err-act-clause-failures g c =
+    other_on g.H.Host.faults g.H.Host.failed c.from_residual-in_err-act.result (action_refusal c.in_err-act.field-0.0) _ _ c.from_residual-in_err-act.ensures.1 (action_is_other c.in_err-act.field-0.0) c.in_ok-document.ensures.failures.0
 
 pub returns-in_err-document-clause-asked : goal.returns-in_err-document-clause-asked
 returns-in_err-document-clause-asked g c =

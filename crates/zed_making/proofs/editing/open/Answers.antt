@@ -2,7 +2,7 @@ use Rattle.std.proofs.Common.{◌≡◌}
 use Rattle.std.proofs.lemmas.Result.{err_from_is_err_and}
 use Rattle.zed_making.proofs.Opened.{read_opens, unread_opens}
 use Rattle.zed_making.proofs.Others.{opened_is_other}
-use Rattle.zed_files.proofs.Failures.{other_tells}
+use Rattle.zed_files.proofs.Failures.{handed_on, other_tells}
 use Rattle.std.proofs.Common.{[], ◌∷◌}
 use Rattle.zed_files.specs.Asked.{reading}
 use Rattle.zed_files.proofs.Asked.{answer_after, read_passed, read_refused}
@@ -18,15 +18,13 @@ returns-in_err-bytes-clause-opened g c = λ t at.
     let same : p.0 ≡ c.in_err-bytes.field-0.0 = p.2 in
     rw (p.1, same) (unread_opens _ t c.args.file.now c.in_err-bytes.field-0.0 c.in_err-bytes.ensures.err (c.in_err-bytes.ensures.none t at))
 
-pub returns-in_err-bytes-clause-file_only_when : goal.returns-in_err-bytes-clause-file_only_when
-returns-in_err-bytes-clause-file_only_when g c =
-    let p = err_from_is_err_and c.from_residual.result c.from_residual.ensures.1 in
-    let same : p.0 ≡ c.in_err-bytes.field-0.0 = p.2 in
-    rw (p.1, same) c.in_err-bytes.ensures.file_only_when
+pub returns-in_err-bytes-clause-failures : goal.returns-in_err-bytes-clause-failures
+returns-in_err-bytes-clause-failures g c =
+    handed_on g.H.Host.faults g.H.Host.failed c.from_residual.result c.in_err-bytes.field-0.0 _ _ c.from_residual.ensures.1 c.in_err-bytes.ensures.failures
 
-pub returns-clause-file_only_when : goal.returns-clause-file_only_when
-returns-clause-file_only_when g c =
-    other_tells _ _ c.opened.result _ _ c.in_ok-bytes.ensures.file_only_when.0 c.opened.ensures.opened (opened_is_other c.as_slice.result.now)
+pub returns-clause-failures : goal.returns-clause-failures
+returns-clause-failures g c =
+    other_tells g.H.Host.faults g.H.Host.failed _ _ c.opened.result _ _ c.in_ok-bytes.ensures.failures.0 c.opened.ensures.opened (opened_is_other c.as_slice.result.now)
 
 pub returns-in_err-bytes-clause-asked : goal.returns-in_err-bytes-clause-asked
 returns-in_err-bytes-clause-asked g c =

@@ -2,7 +2,7 @@ use Rattle.std.proofs.Common.{◌≡◌, arith}
 use Rattle.std.proofs.lemmas.Result.{err_from_is_err_and}
 use Rattle.zed_files.specs.Texts.{text_in}
 use Rattle.zed_making.proofs.Endings.{read_made}
-use Rattle.zed_files.proofs.Failures.{other_tells}
+use Rattle.zed_files.proofs.Failures.{handed_on, none_yet, other_tells}
 use Rattle.zed_making.proofs.Others.{world_taken_is_other}
 use Rattle.std.proofs.Common.{[], ◌∷◌, refl}
 use Rattle.zed_files.specs.Asked.{reading}
@@ -14,19 +14,17 @@ returns-in_ok-bytes-in-Some-clause-result g c = λ t at.
     rw c.in-Some.is (read_made _ t c.in-Some.file.now c.in_ok-bytes-in-Some.bytes.items (text_in c.args.name) c.written_again.result
     (c.in_ok-bytes-in-Some.ensures.bytes t at) (rw c.as_slice.ensures.value at c.written_again.ensures.result))
 
-pub returns-in_err-bytes-in-Some-clause-file_only_when : goal.returns-in_err-bytes-in-Some-clause-file_only_when
-returns-in_err-bytes-in-Some-clause-file_only_when g c =
-    let p = err_from_is_err_and c.from_residual.result c.from_residual.ensures.1 in
-    let same : p.0 ≡ c.in_err-bytes-in-Some.field-0.0 = p.2 in
-    rw (p.1, same) c.in_err-bytes-in-Some.ensures.file_only_when
+pub returns-in_err-bytes-in-Some-clause-failures : goal.returns-in_err-bytes-in-Some-clause-failures
+returns-in_err-bytes-in-Some-clause-failures g c =
+    handed_on g.H.Host.faults g.H.Host.failed c.from_residual.result c.in_err-bytes-in-Some.field-0.0 _ _ c.from_residual.ensures.1 c.in_err-bytes-in-Some.ensures.failures
 
-pub returns-in_ok-bytes-in-Some-clause-file_only_when : goal.returns-in_ok-bytes-in-Some-clause-file_only_when
-returns-in_ok-bytes-in-Some-clause-file_only_when g c =
-    other_tells _ _ c.written_again.result _ _ c.in_ok-bytes-in-Some.ensures.file_only_when.0 c.written_again.ensures.result (world_taken_is_other _)
+pub returns-in_ok-bytes-in-Some-clause-failures : goal.returns-in_ok-bytes-in-Some-clause-failures
+returns-in_ok-bytes-in-Some-clause-failures g c =
+    other_tells g.H.Host.faults g.H.Host.failed _ _ c.written_again.result _ _ c.in_ok-bytes-in-Some.ensures.failures.0 c.written_again.ensures.result (world_taken_is_other _)
 
-pub returns-in-None-clause-file_only_when : goal.returns-in-None-clause-file_only_when
-returns-in-None-clause-file_only_when g c =
-    other_tells _ _ c.made.result _ _ (omega arith) c.made.ensures.result (world_taken_is_other _)
+pub returns-in-None-clause-failures : goal.returns-in-None-clause-failures
+returns-in-None-clause-failures g c =
+    other_tells g.H.Host.faults g.H.Host.failed _ _ c.made.result _ _ (none_yet g.H.Host.faults g.H.Host.failed _) c.made.ensures.result (world_taken_is_other _)
 
 pub returns-in_err-bytes-in-Some-clause-asked : goal.returns-in_err-bytes-in-Some-clause-asked
 returns-in_err-bytes-in-Some-clause-asked g c =
