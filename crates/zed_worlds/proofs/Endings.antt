@@ -4,8 +4,9 @@ use Rattle.zed_files.specs.declared.refusal.Refusal.{Refusal}
 use Rattle.zed_files.specs.declared.refusal.Refusal.TheVariants.{File, Memory}
 use Rattle.std.proofs.Common.{◌≡◌, ℕ, List, Option, Some, None, Result, Ok, Err, MatchResult, ap, refl, subst, sym, inl, inr}
 use Rattle.std.specs.Global.{Vec}
+use Rattle.std.specs.Prelude.{⊤}
 use mathlib.Core.Logic.{◌⊎◌}
-use Rattle.zed_worlds.specs.Shown.{IsPlayed, IsShown, OfSet, PlaysFile, words_in, IsPlayedOf, ComesToShow, ComesToPlay}
+use Rattle.zed_worlds.specs.Shown.{PlaysFile, PlaysOn, ShowsOn, words_in, IsPlayedOf, ComesToShow, ComesToPlay, LacksForPlay}
 use Rattle.zed_host.specs.HostContents.{HostContents, IsRead, file_in}
 use Rattle.zed_host.proofs.ReadFiles.{read_so}
 use Rattle.zed_files.specs.Collected.{Collects}
@@ -63,50 +64,86 @@ not_reported failed limit names t e why = elim why [ inl memory ↦ inl memory |
 
 -- and nothing told of a playtest
 pub not_played : (failed : Type 0) (old new : Stage) (limit board : ℕ) (chance : List ℕ) (names : List (List ℕ)) (t : HostContents) (e : Refusal)
-    → (e ≡ Memory) ⊎ IsPlayedOf failed old new t limit board chance names (Err e) → (e ≡ Memory) ⊎ ComesToPlay failed old new t limit board chance names (Err e)
-not_played failed old new limit board chance names t e why = elim why [ inl memory ↦ inl memory | inr is ↦ inr (Err e, is, refl) ]
+    → ((e ≡ Memory) × (new ≡ old)) ⊎ IsPlayedOf failed old new t limit board chance names (Err e) → (e ≡ Memory) ⊎ ComesToPlay failed old new t limit board chance names (Err e)
+not_played failed old new limit board chance names t e why = elim why [ inl memory ↦ inl memory.0 | inr is ↦ inr (Err e, is, refl) ]
+
+-- a command that answers this
+abbrev refused : Refusal → Result ⊤ Refusal
+refused e = Err e
+
+-- what is so of the stage where that was for want of memory
+pub lacks_for_play : (failed : Type 0) (old new : Stage) (limit board : ℕ) (chance : List ℕ) (names : List (List ℕ)) (t : HostContents) (e : Refusal)
+    → ((e ≡ Memory) × (new ≡ old)) ⊎ IsPlayedOf failed old new t limit board chance names (Err e) → refused e ≡ Err Memory → LacksForPlay failed old new t limit board chance names
+lacks_for_play failed old new limit board chance names t e why is = elim why [
+  | inl memory ↦ inl memory.1
+  | inr played ↦ inr (let same : e ≡ Memory = cc in subst (λ e. IsPlayedOf failed old new t limit board chance names (Err e)) same played)
+]
+
+-- a write doesn't answer that
+pub no_memory : (result : Result ⊤ Refusal) → MatchResult result (λ _. ⊤) (λ e. e ≡ File) → result ≡ Err Memory → ⊥
+no_memory (Ok u) file memory = cc
+no_memory (Err e) file memory = cc
 
 -- and nothing shown
-pub not_shown : (failed : Type 0) (old new : Stage) (limit board : ℕ) (names : List (List ℕ)) (t : HostContents) (e : Refusal)
-    → (e ≡ Memory) ⊎ Collects failed t names (Err e) → (e ≡ Memory) ⊎ ComesToShow failed old new t limit board names (Err e)
-not_shown failed old new limit board names t e why = elim why [ inl memory ↦ inl memory | inr first ↦ inr (Err e, Err e, first, refl, refl) ]
+pub not_shown : (failed : Type 0) (old : Stage) (limit board : ℕ) (names : List (List ℕ)) (t : HostContents) (e : Refusal)
+    → (e ≡ Memory) ⊎ Collects failed t names (Err e) → (e ≡ Memory) ⊎ ComesToShow failed old old t limit board names (Err e)
+not_shown failed old limit board names t e why = elim why [ inl memory ↦ inl memory | inr first ↦ inr (Err e, Err e, first, (refl, refl), refl) ]
 
 -- a board is shown, or not
 pub show_ends : (failed : Type 0) (old after : Stage) (limit : ℕ) (result : Result (Unit {0}) Refusal) (asked board : ℕ) (names : List (List ℕ)) (t : HostContents) (es : List Edit) (new : Option HostContents) → new ≡ Some t
     → asked ≡ board → Collects failed t names (Ok es)
-    → MatchResult result (λ _. OfSet limit (Ok es) asked (IsShown old after) (Ok tt)) (λ e. (e ≡ Memory) ⊎ OfSet limit (Ok es) asked (IsShown old after) (Err e))
+    → MatchResult result (λ _. ShowsOn old after limit (Ok es) asked (Ok tt)) (λ e. (e ≡ Memory) ⊎ ShowsOn old after limit (Ok es) asked (Err e))
     → Ends failed (ComesToShow failed old after t limit board names) t result new
 show_ends failed old after limit (Ok u) asked board names t es new at same all is =
-    (Leaves, (Ok es, Ok tt, all, subst (λ n. OfSet limit (Ok es) n (IsShown old after) (Ok tt)) same is, refl), at)
+    (Leaves, (Ok es, Ok tt, all, subst (λ n. ShowsOn old after limit (Ok es) n (Ok tt)) same is, refl), at)
 show_ends failed old after limit (Err e) asked board names t es new at same all why =
     refused_ends failed (ComesToShow failed old after t limit board names) t e new at (elim why [
       | inl memory ↦ inl memory
-      | inr is ↦ inr (Ok es, Err e, all, subst (λ n. OfSet limit (Ok es) n (IsShown old after) (Err e)) same is, refl)
+      | inr is ↦ inr (Ok es, Err e, all, subst (λ n. ShowsOn old after limit (Ok es) n (Err e)) same is, refl)
     ])
 
 -- what is told of a playtest by the words of a file that was read
 pub played_result : (failed : Type 0) (old new : Stage) (limit : ℕ) (result : Result (Vec ℕ) Refusal) (t : HostContents) (asked board : ℕ) (chance bytes words : List ℕ) (names : List (List ℕ)) (es : List Edit)
     → asked ≡ board → words ≡ words_in bytes → file_in t chance ≡ Some bytes → Collects failed t names (Ok es)
-    → MatchResult result (λ text. OfSet limit (Ok es) asked (IsPlayed old new words) (Ok text.items)) (λ e. (e ≡ Memory) ⊎ OfSet limit (Ok es) asked (IsPlayed old new words) (Err e))
-    → MatchResult result (λ text. IsPlayedOf failed old new t limit board chance names (Ok text.items)) (λ e. (e ≡ Memory) ⊎ IsPlayedOf failed old new t limit board chance names (Err e))
-played_result failed old new limit (Ok text) t asked board chance bytes words names es same are held all is =
-    (Some bytes, inl (sym held), (Ok es, all, subst (λ n. OfSet limit (Ok es) n (IsPlayed old new (words_in bytes)) (Ok text.items)) same (subst (λ ws. OfSet limit (Ok es) asked (IsPlayed old new ws) (Ok text.items)) are is)))
+    → MatchResult result (λ text. PlaysOn old new limit (Ok es) asked words (Ok text.items))
+    (λ e. ((e ≡ Memory) × (new ≡ old)) ⊎ PlaysOn old new limit (Ok es) asked words (Err e))
+    → MatchResult result (λ text. IsPlayedOf failed old new t limit board chance names (Ok text.items))
+    (λ e. ((e ≡ Memory) × (new ≡ old)) ⊎ IsPlayedOf failed old new t limit board chance names (Err e))
+played_result failed old new limit (Ok text) t asked board chance bytes words names es same are held all is = (
+  Some bytes,
+  inl (sym held),
+  (
+    Ok es,
+    all,
+    subst (λ n. PlaysOn old new limit (Ok es) n (words_in bytes) (Ok text.items)) same
+        (subst (λ ws. PlaysOn old new limit (Ok es) asked ws (Ok text.items)) are is),
+  ),
+)
 played_result failed old new limit (Err e) t asked board chance bytes words names es same are held all why =
     elim why [
       | inl memory ↦ inl memory
-      | inr is ↦ inr (Some bytes, inl (sym held), (Ok es, all, subst (λ n. OfSet limit (Ok es) n (IsPlayed old new (words_in bytes)) (Err e)) same (subst (λ ws. OfSet limit (Ok es) asked (IsPlayed old new ws) (Err e)) are is)))
+      | inr is ↦ inr (
+        Some bytes,
+        inl (sym held),
+        (
+          Ok es,
+          all,
+          subst (λ n. PlaysOn old new limit (Ok es) n (words_in bytes) (Err e)) same
+              (subst (λ ws. PlaysOn old new limit (Ok es) asked ws (Err e)) are is),
+        ),
+      )
     ]
 
 -- where the words couldn't be had
-pub not_read : (failed : Type 0) (old new : Stage) (t : HostContents) (limit board : ℕ) (chance : List ℕ) (names : List (List ℕ)) (e : Refusal)
-    → (e ≡ Memory) ⊎ (e ≡ File) → (e ≡ File → IsRead failed t chance None) → (e ≡ Memory) ⊎ IsPlayedOf failed old new t limit board chance names (Err e)
-not_read failed old new t limit board chance names e why none = elim why [
-  | inl memory ↦ inl memory
-  | inr file ↦ inr (None, none file, ap (λ x. Err x) file)
+pub not_read : (failed : Type 0) (old : Stage) (t : HostContents) (limit board : ℕ) (chance : List ℕ) (names : List (List ℕ)) (e : Refusal)
+    → (e ≡ Memory) ⊎ (e ≡ File) → (e ≡ File → IsRead failed t chance None) → ((e ≡ Memory) × (old ≡ old)) ⊎ IsPlayedOf failed old old t limit board chance names (Err e)
+not_read failed old t limit board chance names e why none = elim why [
+  | inl memory ↦ inl (memory, refl)
+  | inr file ↦ inr (None, none file, (ap (λ x. Err x) file, refl))
 ]
 
 -- where the edits couldn't be had
-pub not_collected : (failed : Type 0) (old new : Stage) (t : HostContents) (limit board : ℕ) (chance bytes : List ℕ) (names : List (List ℕ)) (e : Refusal)
-    → file_in t chance ≡ Some bytes → (e ≡ Memory) ⊎ Collects failed t names (Err e) → (e ≡ Memory) ⊎ IsPlayedOf failed old new t limit board chance names (Err e)
-not_collected failed old new t limit board chance bytes names e held why =
-    elim why [ inl memory ↦ inl memory | inr first ↦ inr (Some bytes, inl (sym held), (Err e, first, refl)) ]
+pub not_collected : (failed : Type 0) (old : Stage) (t : HostContents) (limit board : ℕ) (chance bytes : List ℕ) (names : List (List ℕ)) (e : Refusal)
+    → file_in t chance ≡ Some bytes → (e ≡ Memory) ⊎ Collects failed t names (Err e) → ((e ≡ Memory) × (old ≡ old)) ⊎ IsPlayedOf failed old old t limit board chance names (Err e)
+not_collected failed old t limit board chance bytes names e held why =
+    elim why [ inl memory ↦ inl (memory, refl) | inr first ↦ inr (Some bytes, inl (sym held), (Err e, first, (refl, refl))) ]

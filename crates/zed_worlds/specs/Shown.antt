@@ -6,8 +6,8 @@ use Rattle.zed_op.specs.declared.op.Edit.{Edit}
 use Rattle.zed_export.specs.declared.error.ExportError.{ExportError}
 use Rattle.zed_play.specs.declared.key.Key.{Key}
 use Rattle.zed_files.specs.declared.refusal.Refusal.{Refusal}
-use Rattle.zed_files.specs.declared.refusal.Refusal.TheVariants.{File, NoBoard, NoWords, KeyFault, ScreenFault, TooManyTurns}
-use Rattle.std.specs.Prelude.{◌≡◌, ◌⊎◌, ◌≤◌, ◌<◌, ◌+◌, ◌*◌, ℕ, zero, suc, Bool, true, false, List, [], ◌∷◌, drop, Option, Some, None, is_some, slice_get, Result, Ok, Err}
+use Rattle.zed_files.specs.declared.refusal.Refusal.TheVariants.{File, Memory, NoBoard, NoWords, KeyFault, ScreenFault, TooManyTurns}
+use Rattle.std.specs.Prelude.{◌≡◌, ◌⊎◌, ◌≤◌, ◌<◌, ◌+◌, ◌*◌, ℕ, zero, suc, Bool, true, false, List, [], ◌∷◌, drop, Option, Some, None, is_some, slice_get, Result, Ok, Err, MatchResult}
 use Rattle.zed_world.specs.Contents.{Contents}
 use Rattle.zed_edit.specs.Replay.{replay}
 use Rattle.zed_export.specs.Limits.{exported}
@@ -23,7 +23,7 @@ use Rattle.zed_worlds.specs.Told.{told_of}
 use Rattle.zed_files.specs.Refusals.{export_refusal}
 use Rattle.zed_host.specs.HostContents.{HostContents, IsRead}
 use Rattle.zed_files.specs.Collected.{Collects}
-use Rattle.zed_files.specs.Effects.{Effect, Leaves}
+use Rattle.zed_files.specs.Effects.{Effect, Ends, Leaves}
 use Rattle.zed_worlds.specs.Made.{prints_report}
 use Rattle.zed_worlds.specs.Stage.{Stage}
 
@@ -31,20 +31,20 @@ use Rattle.zed_worlds.specs.Stage.{Stage}
 abbrev pub OnBoard : Type 0 → Type 1
 OnBoard X = Header → BoardData → Result X Refusal → Type 0
 
--- the same of a board that may not be there
-abbrev pub OfBoard : {X : Type 0} → Header → Option BoardData → OnBoard X → Result X Refusal → Type 0
-OfBoard header None Does r = r ≡ Err NoBoard
-OfBoard header (Some board) Does r = Does header board r
+-- the same of a board that may not be there; then nothing goes on, and this is so
+abbrev pub OfBoard : {X : Type 0} → Type 0 → Header → Option BoardData → OnBoard X → Result X Refusal → Type 0
+OfBoard Idle header None Does r = (r ≡ Err NoBoard) × Idle
+OfBoard Idle header (Some board) Does r = Does header board r
 
 -- the same of the board of this number of a world, or of the limit that the world is over
-abbrev pub OfWorld : {X : Type 0} → Result Contents ExportError → ℕ → OnBoard X → Result X Refusal → Type 0
-OfWorld (Err e) n Does r = r ≡ Err (export_refusal e)
-OfWorld (Ok w) n Does r = OfBoard w.header (slice_get w.boards n) Does r
+abbrev pub OfWorld : {X : Type 0} → Type 0 → Result Contents ExportError → ℕ → OnBoard X → Result X Refusal → Type 0
+OfWorld Idle (Err e) n Does r = (r ≡ Err (export_refusal e)) × Idle
+OfWorld Idle (Ok w) n Does r = OfBoard Idle w.header (slice_get w.boards n) Does r
 
 -- the same of the world of a set of edits, of at most so many bytes a body, or of what was refused before
-abbrev pub OfSet : {X : Type 0} → ℕ → Result (List Edit) Refusal → ℕ → OnBoard X → Result X Refusal → Type 0
-OfSet limit (Err e) n Does r = r ≡ Err e
-OfSet limit (Ok es) n Does r = OfWorld (exported limit (replay es)) n Does r
+abbrev pub OfSet : {X : Type 0} → Type 0 → ℕ → Result (List Edit) Refusal → ℕ → OnBoard X → Result X Refusal → Type 0
+OfSet Idle limit (Err e) n Does r = (r ≡ Err e) × Idle
+OfSet Idle limit (Ok es) n Does r = OfWorld Idle (exported limit (replay es)) n Does r
 
 -- what is told of a board that is shown, on a stage as it was before and is then: the screen was called once, and shows its picture, if it tells what
 -- it shows; or that call failed
@@ -53,6 +53,15 @@ IsShown old new header board r =
     ((r ≡ Ok tt) × Foretold false old.screen new.screen
     × ((frame : Frame) × Shows frame (data_cell board) × (new.shown ≡ showing frame old.shown)))
     ⊎ ((r ≡ Err ScreenFault) × Foretold true old.screen new.screen)
+
+-- a board of the world of a set of edits is shown on a stage, which is as it was where the command is refused before
+abbrev pub ShowsOn : Stage → Stage → ℕ → Result (List Edit) Refusal → ℕ → Result (Unit {0}) Refusal → Type 0
+ShowsOn old new limit set board r = OfSet (new ≡ old) limit set board (IsShown old new) r
+
+-- the screen was called once, and that passed, or it failed, as it foretold, if it did; or the command was refused before, and then this is so
+abbrev pub CallsOnce : Result (Unit {0}) Refusal → Option (List Bool) → Option (List Bool) → Type 0 → Type 0
+CallsOnce result old new kept =
+    MatchResult result (λ _. Foretold false old new) (λ e. ((e ≡ ScreenFault) × Foretold true old new) ⊎ kept)
 
 -- numbers of two bytes each, the low one first; an odd last byte is dropped
 abbrev pub words_in : List ℕ → List ℕ
@@ -110,12 +119,18 @@ abbrev pub LacksWords : Course → Stage → Type 0
 LacksWords c last =
     (key : Key) × TakesKey (Some key) c.stage last × ShowsNothing c.stage last × Steps (Err step.NoWords) key c.play c.words c.play
 
+-- the step by the next key lacks memory
+abbrev pub LacksMemory : Course → Stage → Type 0
+LacksMemory c last =
+    (key : Key) × (left : Playtest)
+    × TakesKey (Some key) c.stage last × ShowsNothing c.stage last × Steps (Err step.Memory) key c.play c.words left
+
 -- the source of keys fails, as it foretold, if it did
 abbrev pub LacksKey : Course → Stage → Type 0
 LacksKey c last = Foretold true c.stage.source last.source × (last.keys ≡ c.stage.keys) × ShowsNothing c.stage last
 
 -- how play ends after so many steps, and the stage with it: with what is told of the playtest, once that is over; for want of words; by a fault of the
--- source of keys, or of the screen at one step more; or since no more keys may be played
+-- source of keys, or of the screen at one step more; since no more keys may be played; or for want of memory, at the next step or once it is over
 abbrev pub EndsPlay : ℕ → Course → Stage → Result (List ℕ) Refusal → Type 0
 EndsPlay n c last r =
     ((r ≡ Ok (told_of c.play)) × IsOver n c last)
@@ -123,6 +138,7 @@ EndsPlay n c last r =
     ⊎ ((r ≡ Err KeyFault) × GoesOn n c × LacksKey c last)
     ⊎ ((r ≡ Err ScreenFault) × GoesOn n c × ((next : Course) × Advances true c next × (last ≡ next.stage)))
     ⊎ ((r ≡ Err TooManyTurns) × (n ≡ most_keys) × (c.play.ending ≡ None) × (last ≡ c.stage))
+    ⊎ ((r ≡ Err Memory) × (IsOver n c last ⊎ (GoesOn n c × LacksMemory c last)))
 
 -- a playtest is played on, by the words and keys that are left, to its end on a stage
 abbrev pub Plays : Course → Stage → Result (List ℕ) Refusal → Type 0
@@ -136,11 +152,15 @@ course d p words = record { play = p; words = words; stage = d }
 abbrev pub IsPlayed : Stage → Stage → List ℕ → OnBoard (List ℕ)
 IsPlayed old new words header board r = Plays (course old (play_of header board 1) words) new r
 
+-- a board of the world of a set of edits is played by these words on a stage, which is as it was where no playtest begins
+abbrev pub PlaysOn : Stage → Stage → ℕ → Result (List Edit) Refusal → ℕ → List ℕ → Result (List ℕ) Refusal → Type 0
+PlaysOn old new limit set board words r = OfSet (new ≡ old) limit set board (IsPlayed old new words) r
+
 -- the same by the words of a file, which is read before all others
 abbrev pub PlaysFile : Stage → Stage → Option (List ℕ) → ℕ → ℕ → (Result (List Edit) Refusal → Type 0) → Result (List ℕ) Refusal → Type 0
-PlaysFile old new None limit board Collected r = r ≡ Err File
+PlaysFile old new None limit board Collected r = (r ≡ Err File) × (new ≡ old)
 PlaysFile old new (Some bytes) limit board Collected r =
-    (set : Result (List Edit) Refusal) × Collected set × OfSet limit set board (IsPlayed old new (words_in bytes)) r
+    (set : Result (List Edit) Refusal) × Collected set × PlaysOn old new limit set board (words_in bytes) r
 
 -- a board was shown, which leaves the host as it is
 abbrev pub leaves_all : Result (Unit {0}) Refusal → Result Effect Refusal
@@ -156,9 +176,20 @@ IsPlayedOf failed old new t limit board chance files told =
 abbrev pub ComesToShow : Type 0 → Stage → Stage → HostContents → ℕ → ℕ → List (List ℕ) → Result Effect Refusal → Type 0
 ComesToShow failed old new t limit board files r =
     (set : Result (List Edit) Refusal) × (done : Result (Unit {0}) Refusal) × Collects failed t files set
-    × OfSet limit set board (IsShown old new) done × (r ≡ leaves_all done)
+    × ShowsOn old new limit set board done × (r ≡ leaves_all done)
 
 -- what `play` comes to: its effect, or the first refusal
 abbrev pub ComesToPlay : Type 0 → Stage → Stage → HostContents → ℕ → ℕ → List ℕ → List (List ℕ) → Result Effect Refusal → Type 0
 ComesToPlay failed old new t limit board chance files r =
     (told : Result (List ℕ) Refusal) × IsPlayedOf failed old new t limit board chance files told × (r ≡ prints_report told)
+
+-- what is so where `play` lacks memory: the stage is as it was, or a playtest came to that
+abbrev pub LacksForPlay : Type 0 → Stage → Stage → HostContents → ℕ → ℕ → List ℕ → List (List ℕ) → Type 0
+LacksForPlay failed old new t limit board chance files =
+    (new ≡ old) ⊎ IsPlayedOf failed old new t limit board chance files (Err Memory)
+
+-- so `play` ends, with this in its host, and the stage so
+abbrev pub EndsPlaying : Type 0 → Stage → Stage → HostContents → ℕ → ℕ → List ℕ → List (List ℕ) → Result (Unit {0}) Refusal → Option HostContents → Type 0
+EndsPlaying failed old new t limit board chance files result left =
+    Ends failed (ComesToPlay failed old new t limit board chance files) t result left
+    × (result ≡ Err Memory → LacksForPlay failed old new t limit board chance files)

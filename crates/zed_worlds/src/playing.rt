@@ -4,12 +4,11 @@ ghost use Rattle.std.specs.List.{flat_map};
 ghost use Rattle.zed_types.specs.declared.limits.TheConstants.{READ_BODY_LIMIT};
 ghost use Rattle.zed_host.specs.Calls.{Printing};
 ghost use Rattle.zed_host.specs.Counting.{Rose};
-ghost use Rattle.zed_files.specs.Faults.{TellsFile};
+ghost use Rattle.zed_files.specs.Faults.{TellsFailures};
 ghost use Rattle.zed_host.specs.HostContents.{HostContents};
 ghost use Rattle.zed_worlds.specs.Told.{message_line, standing_line, told_of};
 ghost use Rattle.zed_files.specs.Asked.{Asks, reading, refusal_in};
-ghost use Rattle.zed_files.specs.Effects.{Ends};
-ghost use Rattle.zed_worlds.specs.Shown.{ComesToPlay, IsPlayed, IsPlayedOf, OfSet, words_in};
+ghost use Rattle.zed_worlds.specs.Shown.{EndsPlaying, IsPlayedOf, PlaysOn, words_in};
 ghost use Rattle.zed_worlds.specs.Stage.{stage};
 ghost use Rattle.zed_files.specs.Texts.{texts_of};
 
@@ -107,10 +106,9 @@ fn play_board(
         let after = stage (shown screen.new) (screen_foretells screen.new)
         (left keys.new) (keys_foretell keys.new) in
         MatchResult result
-        (λ text. OfSet limit (Ok document.now.edits) board
-        (IsPlayed before after words.now) (Ok text.items))
-        (λ e. (e ≡ Refusal.Memory) ⊎ OfSet limit (Ok document.now.edits) board
-        (IsPlayed before after words.now) (Err e)) }
+        (λ text. PlaysOn before after limit (Ok document.now.edits) board words.now (Ok text.items))
+        (λ e. ((e ≡ Refusal.Memory) × (after ≡ before))
+        ⊎ PlaysOn before after limit (Ok document.now.edits) board words.now (Err e)) }
 {
     let mut playing = Playing::nothing();
     playing.start(alloc, document, board, limit)?;
@@ -152,14 +150,13 @@ fn played<H: Host>(
         MatchResult result
         (λ text. IsPlayedOf failed before after t limit board chance.now
         (texts_of files.now) (Ok text.items))
-        (λ e. (e ≡ Refusal.Memory)
+        (λ e. ((e ≡ Refusal.Memory) × (after ≡ before))
         ⊎ IsPlayedOf failed before after t limit board chance.now
         (texts_of files.now) (Err e)) }
     ensures kept { H.contents host.new ≡ H.contents host.old }
     ensures asked { Asks H.called (reading (chance.now ∷ texts_of files.now)) []
         (refusal_in result) host.old host.new }
-    ensures rises { H.faults host.old ≤ H.faults host.new }
-    ensures file_only_when { TellsFile result (H.failed host.old) (H.failed host.new) }
+    ensures failures { TellsFailures H.faults H.failed result host.old host.new }
 {
     let bytes = read_one(host, chance)?;
     let words = words_of(alloc, bytes.as_slice())?;
@@ -193,13 +190,11 @@ pub fn play<H: Host>(
         (left keys.old) (keys_foretell keys.old) in
         let after = stage (shown screen.new) (screen_foretells screen.new)
         (left keys.new) (keys_foretell keys.new) in
-        Ends failed (ComesToPlay failed before after t limit board chance.now
-        (texts_of files.now)) t
-        result (H.contents host.new) }
+        EndsPlaying failed before after t limit board chance.now
+        (texts_of files.now) result (H.contents host.new) }
     ensures asked { Asks H.called (reading (chance.now ∷ texts_of files.now)) (Printing ∷ [])
         (refusal_in result) host.old host.new }
-    ensures rises { H.faults host.old ≤ H.faults host.new }
-    ensures file_only_when { TellsFile result (H.failed host.old) (H.failed host.new) }
+    ensures failures { TellsFailures H.faults H.failed result host.old host.new }
 {
     let text = played(alloc, host, limit, board, chance, files, screen, keys)?;
     print_out(host, text.as_slice())

@@ -6,7 +6,7 @@ ghost use Rattle.zed_host.specs.Counting.{Rose};
 ghost use Rattle.zed_host.specs.HostContents.{HostContents};
 ghost use Rattle.zed_files.specs.Asked.{Asks, reading, refusal_in, writing};
 ghost use Rattle.zed_files.specs.Effects.{Ends};
-ghost use Rattle.zed_files.specs.Faults.{TellsFile};
+ghost use Rattle.zed_files.specs.Faults.{TellsFailures};
 ghost use Rattle.zed_files.specs.Texts.{texts_of};
 ghost use Rattle.zed_worlds.specs.Made.{ComesToCheck, ComesToSave, IsMade, product_of};
 
@@ -60,8 +60,7 @@ fn made_from<H: Host>(
         ⊎ IsMade failed t (texts_of files.now) (product_of product limit) (Err e)) }
     ensures kept { H.contents host.new ≡ H.contents host.old }
     ensures asked { Asks H.called (reading (texts_of files.now)) [] (refusal_in result) host.old host.new }
-    ensures rises { H.faults host.old ≤ H.faults host.new }
-    ensures file_only_when { TellsFile result (H.failed host.old) (H.failed host.new) }
+    ensures failures { TellsFailures H.faults H.failed result host.old host.new }
 {
     let document = load(alloc, host, files)?;
     product_of(alloc, product, &document, limit)
@@ -82,8 +81,7 @@ pub fn save<H: Host>(
         result (H.contents host.new) }
     ensures asked { Asks H.called (reading (texts_of files.now)) (writing out.now)
         (refusal_in result) host.old host.new }
-    ensures rises { H.faults host.old ≤ H.faults host.new }
-    ensures file_only_when { TellsFile result (H.failed host.old) (H.failed host.new) }
+    ensures failures { TellsFailures H.faults H.failed result host.old host.new }
 {
     let bytes = made_from(alloc, host, Product::WorldFile, limit, files)?;
     let line = bytes_told(alloc, bytes.len())?;
@@ -103,8 +101,7 @@ pub fn check<H: Host>(
         Ends failed (ComesToCheck failed t limit (texts_of files.now)) t result (H.contents host.new) }
     ensures asked { Asks H.called (reading (texts_of files.now)) (Printing ∷ [])
         (refusal_in result) host.old host.new }
-    ensures rises { H.faults host.old ≤ H.faults host.new }
-    ensures file_only_when { TellsFile result (H.failed host.old) (H.failed host.new) }
+    ensures failures { TellsFailures H.faults H.failed result host.old host.new }
 {
     let text = made_from(alloc, host, Product::Report, limit, files)?;
     print_out(host, text.as_slice())

@@ -1,15 +1,14 @@
 //! Boards shown.
-ghost use Rattle.std.specs.Prelude.{[], ◌≡◌, ◌≤◌, ◌⊎◌, Bool, Err, IfErr, List, MatchResult, Ok, OnOk, Option, Some, false, true};
+ghost use Rattle.std.specs.Prelude.{[], ◌≡◌, ◌≤◌, ◌⊎◌, Bool, Err, List, MatchResult, Ok, Option, Some, false};
 ghost use Rattle.zed_types.specs.declared.limits.TheConstants.{READ_BODY_LIMIT};
 ghost use Rattle.zed_host.specs.Counting.{Rose};
-ghost use Rattle.zed_files.specs.Faults.{TellsFile};
+ghost use Rattle.zed_files.specs.Faults.{TellsFailures};
 ghost use Rattle.zed_host.specs.HostContents.{HostContents};
 ghost use Rattle.zed_files.specs.Asked.{Asks, reading, refusal_in};
 ghost use Rattle.zed_files.specs.Effects.{Ends};
 ghost use Rattle.zed_files.specs.Texts.{texts_of};
 ghost use Rattle.zed_play.specs.declared.key.Key.{Key};
-ghost use Rattle.zed_session.specs.Devices.{Foretold};
-ghost use Rattle.zed_worlds.specs.Shown.{ComesToShow, IsShown, OfSet};
+ghost use Rattle.zed_worlds.specs.Shown.{CallsOnce, ComesToShow, ShowsOn};
 ghost use Rattle.zed_worlds.specs.Stage.{stage};
 
 use std::alloc::Global;
@@ -32,14 +31,11 @@ fn show_on(
         → let before = stage (shown screen.old) (screen_foretells screen.old) keys source in
         let after = stage (shown screen.new) (screen_foretells screen.new) keys source in
         MatchResult result
-        (λ _. OfSet limit (Ok document.now.edits) board (IsShown before after) (Ok tt))
+        (λ _. ShowsOn before after limit (Ok document.now.edits) board (Ok tt))
         (λ e. (e ≡ Refusal.Memory)
-        ⊎ OfSet limit (Ok document.now.edits) board (IsShown before after) (Err e)) }
-    ensures once { OnOk result (Foretold false
-        (screen_foretells screen.old) (screen_foretells screen.new)) }
-    ensures kept { IfErr result (λ e. ((e ≡ Refusal.ScreenFault) × Foretold true
-        (screen_foretells screen.old) (screen_foretells screen.new))
-        ⊎ (screen.new ≡ screen.old)) }
+        ⊎ ShowsOn before after limit (Ok document.now.edits) board (Err e)) }
+    ensures once { CallsOnce result
+        (screen_foretells screen.old) (screen_foretells screen.new) (screen.new ≡ screen.old) }
 {
     show_board(alloc, screen, document, board, limit)?;
     Ok(())
@@ -63,14 +59,10 @@ pub fn show<H: Host>(
         let after = stage (shown screen.new) (screen_foretells screen.new) keys source in
         Ends failed (ComesToShow failed before after t limit board (texts_of files.now)) t
         result (H.contents host.new) }
-    ensures once { OnOk result (Foretold false
-        (screen_foretells screen.old) (screen_foretells screen.new)) }
-    ensures kept { IfErr result (λ e. ((e ≡ Refusal.ScreenFault) × Foretold true
-        (screen_foretells screen.old) (screen_foretells screen.new))
-        ⊎ (screen.new ≡ screen.old)) }
+    ensures once { CallsOnce result
+        (screen_foretells screen.old) (screen_foretells screen.new) (screen.new ≡ screen.old) }
     ensures asked { Asks H.called (reading (texts_of files.now)) [] (refusal_in result) host.old host.new }
-    ensures rises { H.faults host.old ≤ H.faults host.new }
-    ensures file_only_when { TellsFile result (H.failed host.old) (H.failed host.new) }
+    ensures failures { TellsFailures H.faults H.failed result host.old host.new }
 {
     let document = load(alloc, host, files)?;
     show_on(alloc, &document, usize::from(board), limit, screen)

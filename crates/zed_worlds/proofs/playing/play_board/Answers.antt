@@ -3,10 +3,10 @@ use Rattle.std.proofs.lemmas.Result.{err_from_is_err_and}
 use Rattle.std.specs.Prelude.{is_some}
 use Rattle.zed_types.proofs.Facts.{none_is}
 use Rattle.zed_play.specs.Playtest.{Playtest}
-use Rattle.zed_files.specs.declared.refusal.Refusal.TheVariants.{TooManyTurns}
+use Rattle.zed_files.specs.declared.refusal.Refusal.TheVariants.{Memory, TooManyTurns}
 use Rattle.zed_worlds.specs.Stage.{Stage, stage}
 use Rattle.zed_worlds.specs.Told.{told_of}
-use Rattle.zed_worlds.specs.Shown.{Course, course, most_keys}
+use Rattle.zed_worlds.specs.Shown.{Course, EndsPlay, course, most_keys}
 use Rattle.zed_files.specs.Refusals.{session_refusal}
 use Rattle.zed_session.specs.declared.playing.Playing.{Playing}
 use Rattle.zed_worlds.proofs.Played.{key_refused, key_steps, lent_is, no_key, play_begins, shown_of, still_lent}
@@ -26,7 +26,7 @@ returns-in_err-start g c =
     let d = c.args.document.now in
     let begins = play_begins before c.args.limit d.edits c.args.board c.args.words.now c.start.new.self (Err c.in_err-start.field-0.0)
     (rw (shown_of c.args.limit d c.requires.sound) at c.in_err-start.ensures.result) in
-    rw (p.1, same) (elim begins [ inl memory ↦ inl memory | inr comes ↦ inr (comes before) ])
+    rw (p.1, same) (elim begins [ inl memory ↦ inl (memory, refl) | inr comes ↦ inr comes ])
 
 -- it begins
 pub loop-init : goal.loop-init
@@ -63,12 +63,9 @@ returns-in_err-used g c =
     let same : p.0 ≡ session_refusal c.in_err-used.field-0.0 = p.2 in
     let old = c.loop.invariant in
     let e = c.in_err-used.field-0.0 in
-    let ends = key_refused e c.loop.counter c.loop.left.now _ _ _ after old.now old.at old.words old.going
+    let how = key_refused e c.loop.counter c.loop.left.now _ _ _ after old.now old.at old.words old.going
     c.in_err-used.ensures.result c.in_err-used.ensures.key_foretold c.in_err-used.ensures.screen_foretold c.in_err-used.ensures.shown c.loop-test.true in
-    rw (p.1, same) (elim ends [
-      | inl memory ↦ inl memory
-      | inr how ↦ inr (old.comes after (Err (session_refusal e)) (c.loop.counter, old.now, old.few, none_more c.loop.counter old.first old.now old.leads, how))
-    ])
+    rw (p.1, same) (inr (old.comes after (Err (session_refusal e)) (c.loop.counter, old.now, old.few, none_more c.loop.counter old.first old.now old.leads, how)))
 
 -- no key is left
 pub returns-in_default-used : goal.returns-in_default-used
@@ -145,7 +142,7 @@ returns g c =
     let few = old.few in
     let past = c.loop-test.false in
     let all : c.loop.counter ≡ most_keys = omega (arith, few, past) in
-    inr (old.comes _ (Err TooManyTurns) (c.loop.counter, old.now, old.few, none_more c.loop.counter old.first old.now old.leads, inr (inr (inr (inr (refl, all, old.going, old.at.1))))))
+    inr (old.comes _ (Err TooManyTurns) (c.loop.counter, old.now, old.few, none_more c.loop.counter old.first old.now old.leads, inr (inr (inr (inr (inl (refl, all, old.going, old.at.1)))))))
 
 -- a playtest that was started goes on
 pub returns-in_default : goal.returns-in_default
@@ -153,13 +150,41 @@ returns-in_default g c =
     let old = c.loop.invariant in
     absurd (still_lent (λ p. p.now) c.playtest.result c.in_ok-used.used c.loop.left.now _ _ _ _ old.now.play old.at.0 c.in_ok-used.ensures.result c.playtest.ensures.result c.in_default.is)
 
--- memory is lacking for what is told
+-- memory is lacking for what is told where no key is left
 pub returns-in_err-told : goal.returns-in_err-told
 returns-in_err-told g c =
+    let after : Stage =
+    stage ((goal.Screen-dyn g c.loop.screen.now).shown c.play_key.new.screen)
+    ((goal.Screen-dyn g c.loop.screen.now).screen_foretells c.play_key.new.screen)
+    ((goal.Keys-dyn g c.loop.keys.now).left c.play_key.new.keys)
+    ((goal.Keys-dyn g c.loop.keys.now).keys_foretell c.play_key.new.keys) in
     let p = err_from_is_err_and c.from_residual-in_err-told.result c.from_residual-in_err-told.ensures.1 in
-    rw p.1 (inl p.2)
+    let same : p.0 ≡ Memory = p.2 in
+    let old = c.loop.invariant in
+    let stays = no_key c.loop.counter c.loop.left.now _ _ _ after old.now old.at old.going (rw c.in_default-used.is at c.in_ok-used.ensures.result) c.in_ok-used.ensures.key_foretold
+    (rw c.in_default-used.is at c.in_ok-used.ensures.screen_foretold) (rw c.in_default-used.is at c.in_ok-used.ensures.shown) c.loop-test.true in
+    let lacks : EndsPlay c.loop.counter old.now after (Err Memory) = inr (inr (inr (inr (inr (refl, inl stays.1))))) in
+    rw (p.1, same) (inr (old.comes after (Err Memory) (c.loop.counter, old.now, old.few, none_more c.loop.counter old.first old.now old.leads, lacks)))
 
+-- or where the playtest has ended
 pub returns-in_err-told-2 : goal.returns-in_err-told-2
 returns-in_err-told-2 g c =
+    let after : Stage =
+    stage ((goal.Screen-dyn g c.loop.screen.now).shown c.play_key.new.screen)
+    ((goal.Screen-dyn g c.loop.screen.now).screen_foretells c.play_key.new.screen)
+    ((goal.Keys-dyn g c.loop.keys.now).left c.play_key.new.keys)
+    ((goal.Keys-dyn g c.loop.keys.now).keys_foretell c.play_key.new.keys) in
     let p = err_from_is_err_and c.from_residual-in_err-told-2.result c.from_residual-in_err-told-2.ensures.1 in
-    rw p.1 (inl p.2)
+    let same : p.0 ≡ Memory = p.2 in
+    let old = c.loop.invariant in
+    let step = key_steps c.in-Some-used.used c.loop.left.now _ _ _ after old.now old.at old.words old.going (rw c.in-Some-used.is at c.in_ok-used.ensures.result)
+    c.in_ok-used.ensures.key_foretold (rw c.in-Some-used.is at c.in_ok-used.ensures.screen_foretold) (rw c.in-Some-used.is at c.in_ok-used.ensures.shown) in
+    let now = step.0 in
+    let play : c.in-Some.play.now ≡ now.play = lent_is (λ p. p.now) c.in-Some.play c.playtest.result _ now.play c.playtest.ensures.result c.in-Some.is (ap (λ (p : Playing). p.playtest) step.2.0) in
+    let ending : c.ending.result ≡ now.play.ending = c.ending.ensures.result ∙ ap (λ (p : Playtest). p.ending) play in
+    let leads = one_more c.loop.counter old.first old.now now old.leads step.1 in
+    let below = c.loop-test.true in
+    let few : c.loop.counter + 1 ≤ most_keys = omega (arith, below) in
+    let lacks : EndsPlay (c.loop.counter + 1) now after (Err Memory) =
+    inr (inr (inr (inr (inr (refl, inl (inl (ap is_some (sym ending) ∙ sym c.is_some.ensures ∙ c.if-is_some.true, step.2.1))))))) in
+    rw (p.1, same) (inr (old.comes after (Err Memory) (c.loop.counter + 1, now, few, none_more (c.loop.counter + 1) old.first now leads, lacks)))

@@ -1,7 +1,7 @@
 use Rattle.std.proofs.Common.{◌≡◌, ◌≤◌, List, None, Ok, Result, ℕ, []}
 use Rattle.zed_files.specs.declared.refusal.Refusal.{Refusal}
 use Rattle.zed_worlds.specs.Stage.{Stage, stage}
-use Rattle.zed_worlds.specs.Shown.{Course, IsPlayed, OfSet, Plays, most_keys}
+use Rattle.zed_worlds.specs.Shown.{Course, Plays, PlaysOn, most_keys}
 use Rattle.zed_worlds.proofs.Played.{IsAt}
 use Rattle.zed_worlds.proofs.Stepping.{Leads}
 use Rattle.zed_worlds.proofs.playing.play_board.Given as goal
@@ -19,9 +19,9 @@ invariant-loop g l = record {
   going : now.play.ending ≡ None;
   few : l.counter ≤ most_keys;
   leads : Leads l.counter first now;
-  comes : (last : Stage) (r : Result (List ℕ) Refusal) → Plays first last r → OfSet l.fn.limit (Ok l.document.edits) l.fn.board
-      (IsPlayed (stage ((goal.Screen-dyn g l.fn.screen.now).shown l.fn.screen.now.1)
+  comes : (last : Stage) (r : Result (List ℕ) Refusal) → Plays first last r
+      → PlaysOn (stage ((goal.Screen-dyn g l.fn.screen.now).shown l.fn.screen.now.1)
       ((goal.Screen-dyn g l.fn.screen.now).screen_foretells l.fn.screen.now.1)
       ((goal.Keys-dyn g l.fn.keys.now).left l.fn.keys.now.1)
-      ((goal.Keys-dyn g l.fn.keys.now).keys_foretell l.fn.keys.now.1)) last l.words) r;
+      ((goal.Keys-dyn g l.fn.keys.now).keys_foretell l.fn.keys.now.1)) last l.fn.limit (Ok l.document.edits) l.fn.board l.words r;
 }

@@ -5,8 +5,8 @@ use Rattle.zed_files.specs.Texts.{texts_of}
 use Rattle.zed_worlds.specs.Shown.{words_in}
 use Rattle.zed_worlds.proofs.Endings.{not_collected, not_read, played_result}
 use Rattle.zed_host.proofs.Counts.{rose_later}
-use Rattle.zed_files.proofs.Failures.{memory_is_other, other_tells}
-use Rattle.zed_worlds.proofs.Others.{played_is_other}
+use Rattle.zed_files.proofs.Failures.{handed_later, handed_on, memory_is_other, memory_on, none_later, other_tells}
+use Rattle.zed_worlds.proofs.Others.{or_memory, played_is_other}
 use Rattle.std.proofs.Common.{◌∷◌, None, Some}
 use Rattle.zed_host.specs.Calls.{Reading}
 use Rattle.zed_files.specs.Asked.{reading}
@@ -20,14 +20,9 @@ returns-in_err-bytes-clause-played g c = λ t at.
     ((goal.Screen-dyn g c.args.screen.now).screen_foretells c.args.screen.now.1)
     ((goal.Keys-dyn g c.args.keys.now).left c.args.keys.now.1)
     ((goal.Keys-dyn g c.args.keys.now).keys_foretell c.args.keys.now.1) in
-    let new : Stage =
-    stage ((goal.Screen-dyn g c.args.screen.now).shown c.args.screen.now.1)
-    ((goal.Screen-dyn g c.args.screen.now).screen_foretells c.args.screen.now.1)
-    ((goal.Keys-dyn g c.args.keys.now).left c.args.keys.now.1)
-    ((goal.Keys-dyn g c.args.keys.now).keys_foretell c.args.keys.now.1) in
     let p = err_from_is_err_and c.from_residual.result c.from_residual.ensures.1 in
     let same : p.0 ≡ c.in_err-bytes.field-0.0 = p.2 in
-    rw (p.1, same) (not_read _ old new t c.args.limit c.args.board c.args.chance.now (texts_of c.args.files.now) c.in_err-bytes.field-0.0
+    rw (p.1, same) (not_read _ old t c.args.limit c.args.board c.args.chance.now (texts_of c.args.files.now) c.in_err-bytes.field-0.0
     c.in_err-bytes.ensures.err (c.in_err-bytes.ensures.none t at))
 
 pub returns-in_err-document-clause-played : goal.returns-in_err-document-clause-played
@@ -37,15 +32,10 @@ returns-in_err-document-clause-played g c = λ t at.
     ((goal.Screen-dyn g c.args.screen.now).screen_foretells c.args.screen.now.1)
     ((goal.Keys-dyn g c.args.keys.now).left c.args.keys.now.1)
     ((goal.Keys-dyn g c.args.keys.now).keys_foretell c.args.keys.now.1) in
-    let new : Stage =
-    stage ((goal.Screen-dyn g c.args.screen.now).shown c.args.screen.now.1)
-    ((goal.Screen-dyn g c.args.screen.now).screen_foretells c.args.screen.now.1)
-    ((goal.Keys-dyn g c.args.keys.now).left c.args.keys.now.1)
-    ((goal.Keys-dyn g c.args.keys.now).keys_foretell c.args.keys.now.1) in
     let p = err_from_is_err_and c.from_residual-in_err-document.result c.from_residual-in_err-document.ensures.1 in
     let same : p.0 ≡ c.in_err-document.field-0.0 = p.2 in
     let here = c.in_ok-bytes.ensures.kept ∙ at in
-    rw (p.1, same) (not_collected _ old new t c.args.limit c.args.board c.args.chance.now c.in_ok-bytes.bytes.items (texts_of c.args.files.now) c.in_err-document.field-0.0
+    rw (p.1, same) (not_collected _ old t c.args.limit c.args.board c.args.chance.now c.in_ok-bytes.bytes.items (texts_of c.args.files.now) c.in_err-document.field-0.0
     (c.in_ok-bytes.ensures.bytes t at) (rw c.in_ok-bytes.ensures.calm at (c.in_err-document.ensures.collected t here)))
 
 pub returns-clause-played : goal.returns-clause-played
@@ -65,28 +55,21 @@ returns-clause-played g c = λ t at.
     played_result _ old new c.args.limit c.play_board.result t c.from.result c.args.board c.args.chance.now c.in_ok-bytes.bytes.items c.as_slice-2.result.now (texts_of c.args.files.now)
     c.in_ok-document.document.edits c.from.ensures words (c.in_ok-bytes.ensures.bytes t at) (rw c.in_ok-bytes.ensures.calm at (c.in_ok-document.ensures.collected t here)) c.play_board.ensures
 
-pub returns-in_err-bytes-clause-file_only_when : goal.returns-in_err-bytes-clause-file_only_when
-returns-in_err-bytes-clause-file_only_when g c =
-    let p = err_from_is_err_and c.from_residual.result c.from_residual.ensures.1 in
-    let same : p.0 ≡ c.in_err-bytes.field-0.0 = p.2 in
-    rw (p.1, same) c.in_err-bytes.ensures.file_only_when
+pub returns-in_err-bytes-clause-failures : goal.returns-in_err-bytes-clause-failures
+returns-in_err-bytes-clause-failures g c =
+    handed_on g.H.Host.faults g.H.Host.failed c.from_residual.result c.in_err-bytes.field-0.0 _ _ c.from_residual.ensures.1 c.in_err-bytes.ensures.failures
 
-pub returns-in_err-words-clause-file_only_when : goal.returns-in_err-words-clause-file_only_when
-returns-in_err-words-clause-file_only_when g c =
-    let p = err_from_is_err_and c.from_residual-in_err-words.result c.from_residual-in_err-words.ensures.1 in
-    rw p.1 (c.in_ok-bytes.ensures.file_only_when.0, λ is. absurd (memory_is_other p.0 p.2 is))
+pub returns-in_err-words-clause-failures : goal.returns-in_err-words-clause-failures
+returns-in_err-words-clause-failures g c =
+    memory_on g.H.Host.faults g.H.Host.failed c.from_residual-in_err-words.result _ _ c.from_residual-in_err-words.ensures.1 c.in_ok-bytes.ensures.failures.0
 
-pub returns-in_err-document-clause-file_only_when : goal.returns-in_err-document-clause-file_only_when
-returns-in_err-document-clause-file_only_when g c =
-    let p = err_from_is_err_and c.from_residual-in_err-document.result c.from_residual-in_err-document.ensures.1 in
-    let same : p.0 ≡ c.in_err-document.field-0.0 = p.2 in
-    let first = c.in_ok-bytes.ensures.file_only_when.0 in
-    let tells = c.in_err-document.ensures.file_only_when in
-    let more = tells.0 in
-    rw (p.1, same) (omega arith, λ is. rose_later _ _ _ first (tells.1 is))
+pub returns-in_err-document-clause-failures : goal.returns-in_err-document-clause-failures
+returns-in_err-document-clause-failures g c =
+    handed_later g.H.Host.faults g.H.Host.failed c.from_residual-in_err-document.result c.in_err-document.field-0.0 _ _ _ c.from_residual-in_err-document.ensures.1
+    c.in_ok-bytes.ensures.failures.0 c.in_err-document.ensures.failures
 
-pub returns-clause-file_only_when : goal.returns-clause-file_only_when
-returns-clause-file_only_when g c =
+pub returns-clause-failures : goal.returns-clause-failures
+returns-clause-failures g c =
     let old : Stage =
     stage ((goal.Screen-dyn g c.args.screen.now).shown c.args.screen.now.1)
     ((goal.Screen-dyn g c.args.screen.now).screen_foretells c.args.screen.now.1)
@@ -97,9 +80,9 @@ returns-clause-file_only_when g c =
     ((goal.Screen-dyn g c.args.screen.now).screen_foretells c.play_board.new.screen)
     ((goal.Keys-dyn g c.args.keys.now).left c.play_board.new.keys)
     ((goal.Keys-dyn g c.args.keys.now).keys_foretell c.play_board.new.keys) in
-    let first = c.in_ok-bytes.ensures.file_only_when.0 in
-    let then = c.in_ok-document.ensures.file_only_when.0 in
-    other_tells _ _ c.play_board.result _ _ (omega arith) c.play_board.ensures (played_is_other c.args.limit c.in_ok-document.document.edits c.from.result old new c.as_slice-2.result.now)
+    let none = none_later g.H.Host.faults g.H.Host.failed _ _ _ c.in_ok-bytes.ensures.failures.0 c.in_ok-document.ensures.failures.0 in
+    other_tells g.H.Host.faults g.H.Host.failed _ _ c.play_board.result _ _ none (or_memory _ _ _ c.play_board.result c.play_board.ensures)
+    (played_is_other c.args.limit c.in_ok-document.document.edits c.from.result old new c.as_slice-2.result.now)
 
 pub returns-in_err-bytes-clause-asked : goal.returns-in_err-bytes-clause-asked
 returns-in_err-bytes-clause-asked g c =
@@ -132,4 +115,4 @@ returns-clause-asked g c =
     ((goal.Keys-dyn g c.args.keys.now).keys_foretell c.play_board.new.keys) in
     answer_after _ _ g.H.Host.called (reading (c.args.chance.now ∷ texts_of c.args.files.now)) c.play_board.result _ _
     (read_before g.H.Host.called (Reading c.args.chance.now) (reading (texts_of c.args.files.now)) None _ _ _ c.in_ok-bytes.ensures.asked c.in_ok-document.ensures.asked)
-    c.play_board.ensures (played_is_other c.args.limit c.in_ok-document.document.edits c.from.result old new c.as_slice-2.result.now)
+    (or_memory _ _ _ c.play_board.result c.play_board.ensures) (played_is_other c.args.limit c.in_ok-document.document.edits c.from.result old new c.as_slice-2.result.now)

@@ -6,7 +6,7 @@ use Rattle.zed_files.specs.Texts.{texts_of}
 use Rattle.zed_host.proofs.Counts.{counted_up}
 use Rattle.zed_files.proofs.Endings.{effect_ends, refused_ends}
 use Rattle.zed_worlds.proofs.Endings.{check_so, not_reported}
-use Rattle.zed_files.proofs.Failures.{tells_later, write_tells}
+use Rattle.zed_files.proofs.Failures.{handed_on, write_tells}
 use Rattle.std.proofs.Common.{[], ◌∷◌}
 use Rattle.zed_host.specs.Calls.{Printing}
 use Rattle.zed_files.specs.Asked.{reading, refusal_in}
@@ -20,7 +20,7 @@ returns-clause-ends g c = λ t at.
     (Ok c.in_ok-text.text.items, c.in_ok-text.ensures.made t at, rw c.as_slice.ensures.value refl) in
     effect_ends (λ f. ComesToCheck f t c.args.limit (texts_of c.args.files.now)) c.print_out.result _ _ _ t (Prints c.as_slice.result.now) _
     (check_so t c.args.limit (texts_of c.args.files.now))
-    c.in_ok-text.ensures.rises (counted_up _ _ _ c.print_out.ensures.faults) comes (c.print_out.ensures.ok t here) (c.print_out.ensures.half t here) c.print_out.ensures.err c.print_out.ensures.faults
+    c.in_ok-text.ensures.failures.0.0 (counted_up _ _ _ c.print_out.ensures.faults) comes (c.print_out.ensures.ok t here) (c.print_out.ensures.half t here) c.print_out.ensures.err c.print_out.ensures.faults
 
 pub returns-in_err-text-clause-ends : goal.returns-in_err-text-clause-ends
 returns-in_err-text-clause-ends g c = λ t at.
@@ -29,15 +29,13 @@ returns-in_err-text-clause-ends g c = λ t at.
     rw (p.1, same) (refused_ends _ (ComesToCheck _ t c.args.limit (texts_of c.args.files.now)) t c.in_err-text.field-0.0 _ (c.in_err-text.ensures.kept ∙ at)
     (not_reported _ c.args.limit (texts_of c.args.files.now) t c.in_err-text.field-0.0 (c.in_err-text.ensures.made t at)))
 
-pub returns-in_err-text-clause-file_only_when : goal.returns-in_err-text-clause-file_only_when
-returns-in_err-text-clause-file_only_when g c =
-    let p = err_from_is_err_and c.from_residual.result c.from_residual.ensures.1 in
-    let same : p.0 ≡ c.in_err-text.field-0.0 = p.2 in
-    rw (p.1, same) c.in_err-text.ensures.file_only_when
+pub returns-in_err-text-clause-failures : goal.returns-in_err-text-clause-failures
+returns-in_err-text-clause-failures g c =
+    handed_on g.H.Host.faults g.H.Host.failed c.from_residual.result c.in_err-text.field-0.0 _ _ c.from_residual.ensures.1 c.in_err-text.ensures.failures
 
-pub returns-clause-file_only_when : goal.returns-clause-file_only_when
-returns-clause-file_only_when g c =
-    tells_later c.print_out.result _ _ _ c.in_ok-text.ensures.file_only_when.0 (write_tells c.print_out.result _ _ c.print_out.ensures.failures)
+pub returns-clause-failures : goal.returns-clause-failures
+returns-clause-failures g c =
+    write_tells g.H.Host.faults g.H.Host.failed c.print_out.result _ _ _ c.in_ok-text.ensures.failures.0 c.print_out.ensures.faults c.print_out.ensures.failures
 
 pub returns-in_err-text-clause-asked : goal.returns-in_err-text-clause-asked
 returns-in_err-text-clause-asked g c =

@@ -3,7 +3,7 @@ use Rattle.std.proofs.lemmas.Result.{err_from_is_err_and}
 use Rattle.zed_worlds.specs.Made.{product_of}
 use Rattle.zed_files.specs.Texts.{texts_of}
 use Rattle.zed_worlds.proofs.Endings.{made_result, not_made}
-use Rattle.zed_files.proofs.Failures.{other_tells}
+use Rattle.zed_files.proofs.Failures.{handed_on, other_tells}
 use Rattle.zed_worlds.proofs.Others.{product_is_other}
 use Rattle.zed_files.specs.Asked.{reading}
 use Rattle.zed_files.proofs.Asked.{answer_after}
@@ -20,15 +20,13 @@ returns-clause-made g c = λ t at.
     made_result _ c.product_of.result t (texts_of c.args.files.now) (product_of c.args.product c.args.limit) c.in_ok-document.document.edits
     (c.in_ok-document.ensures.collected t at) c.product_of.ensures
 
-pub returns-in_err-document-clause-file_only_when : goal.returns-in_err-document-clause-file_only_when
-returns-in_err-document-clause-file_only_when g c =
-    let p = err_from_is_err_and c.from_residual.result c.from_residual.ensures.1 in
-    let same : p.0 ≡ c.in_err-document.field-0.0 = p.2 in
-    rw (p.1, same) c.in_err-document.ensures.file_only_when
+pub returns-in_err-document-clause-failures : goal.returns-in_err-document-clause-failures
+returns-in_err-document-clause-failures g c =
+    handed_on g.H.Host.faults g.H.Host.failed c.from_residual.result c.in_err-document.field-0.0 _ _ c.from_residual.ensures.1 c.in_err-document.ensures.failures
 
-pub returns-clause-file_only_when : goal.returns-clause-file_only_when
-returns-clause-file_only_when g c =
-    other_tells _ _ c.product_of.result _ _ c.in_ok-document.ensures.file_only_when.0 c.product_of.ensures (product_is_other c.args.product c.args.limit c.in_ok-document.document.edits)
+pub returns-clause-failures : goal.returns-clause-failures
+returns-clause-failures g c =
+    other_tells g.H.Host.faults g.H.Host.failed _ _ c.product_of.result _ _ c.in_ok-document.ensures.failures.0 c.product_of.ensures (product_is_other c.args.product c.args.limit c.in_ok-document.document.edits)
 
 pub returns-in_err-document-clause-asked : goal.returns-in_err-document-clause-asked
 returns-in_err-document-clause-asked g c =

@@ -7,7 +7,7 @@ use Rattle.std.proofs.lemmas.Result.{err_from_is_err_and}
 use Rattle.zed_host.proofs.Counts.{counted_up}
 use Rattle.zed_files.proofs.Endings.{effect_ends, refused_ends}
 use Rattle.zed_worlds.proofs.Endings.{not_saved, save_so}
-use Rattle.zed_files.proofs.Failures.{memory_is_other, tells_later, write_tells}
+use Rattle.zed_files.proofs.Failures.{handed_on, memory_is_other, memory_on, write_tells}
 use Rattle.zed_files.specs.Asked.{reading, refusal_in, writing}
 use Rattle.zed_files.proofs.Asked.{refused_after, refused_at, then_last}
 use Rattle.zed_worlds.proofs.saving.save.Goals as goal
@@ -21,7 +21,7 @@ returns-clause-ends g c = λ t at.
     (Ok c.in_ok-bytes.bytes.items, c.in_ok-bytes.ensures.made t at, rw (line, c.as_slice.ensures.value) refl) in
     effect_ends (λ f. ComesToSave f t c.args.limit c.args.out.now (texts_of c.args.files.now)) c.write_out.result _ _ _ t (Writes c.args.out.now c.as_slice.result.now c.as_str.result.now) _
     (save_so t c.args.limit c.args.out.now (texts_of c.args.files.now))
-    c.in_ok-bytes.ensures.rises (counted_up _ _ _ c.write_out.ensures.faults) comes (c.write_out.ensures.ok t here) (c.write_out.ensures.half t here) c.write_out.ensures.err c.write_out.ensures.faults
+    c.in_ok-bytes.ensures.failures.0.0 (counted_up _ _ _ c.write_out.ensures.faults) comes (c.write_out.ensures.ok t here) (c.write_out.ensures.half t here) c.write_out.ensures.err c.write_out.ensures.faults
 
 pub returns-in_err-bytes-clause-ends : goal.returns-in_err-bytes-clause-ends
 returns-in_err-bytes-clause-ends g c = λ t at.
@@ -35,20 +35,17 @@ returns-in_err-line-clause-ends g c = λ t at.
     let p = err_from_is_err_and c.from_residual-in_err-line.result c.from_residual-in_err-line.ensures.1 in
     rw p.1 (refused_ends _ (ComesToSave _ t c.args.limit c.args.out.now (texts_of c.args.files.now)) t p.0 _ (c.in_ok-bytes.ensures.kept ∙ at) (inl p.2))
 
-pub returns-in_err-bytes-clause-file_only_when : goal.returns-in_err-bytes-clause-file_only_when
-returns-in_err-bytes-clause-file_only_when g c =
-    let p = err_from_is_err_and c.from_residual.result c.from_residual.ensures.1 in
-    let same : p.0 ≡ c.in_err-bytes.field-0.0 = p.2 in
-    rw (p.1, same) c.in_err-bytes.ensures.file_only_when
+pub returns-in_err-bytes-clause-failures : goal.returns-in_err-bytes-clause-failures
+returns-in_err-bytes-clause-failures g c =
+    handed_on g.H.Host.faults g.H.Host.failed c.from_residual.result c.in_err-bytes.field-0.0 _ _ c.from_residual.ensures.1 c.in_err-bytes.ensures.failures
 
-pub returns-in_err-line-clause-file_only_when : goal.returns-in_err-line-clause-file_only_when
-returns-in_err-line-clause-file_only_when g c =
-    let p = err_from_is_err_and c.from_residual-in_err-line.result c.from_residual-in_err-line.ensures.1 in
-    rw p.1 (c.in_ok-bytes.ensures.file_only_when.0, λ is. absurd (memory_is_other p.0 p.2 is))
+pub returns-in_err-line-clause-failures : goal.returns-in_err-line-clause-failures
+returns-in_err-line-clause-failures g c =
+    memory_on g.H.Host.faults g.H.Host.failed c.from_residual-in_err-line.result _ _ c.from_residual-in_err-line.ensures.1 c.in_ok-bytes.ensures.failures.0
 
-pub returns-clause-file_only_when : goal.returns-clause-file_only_when
-returns-clause-file_only_when g c =
-    tells_later c.write_out.result _ _ _ c.in_ok-bytes.ensures.file_only_when.0 (write_tells c.write_out.result _ _ c.write_out.ensures.failures)
+pub returns-clause-failures : goal.returns-clause-failures
+returns-clause-failures g c =
+    write_tells g.H.Host.faults g.H.Host.failed c.write_out.result _ _ _ c.in_ok-bytes.ensures.failures.0 c.write_out.ensures.faults c.write_out.ensures.failures
 
 pub returns-in_err-bytes-clause-asked : goal.returns-in_err-bytes-clause-asked
 returns-in_err-bytes-clause-asked g c =

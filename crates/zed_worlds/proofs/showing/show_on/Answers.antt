@@ -15,7 +15,11 @@ returns-in_err-show_board-clause-shows g c = λ keys source.
     let same : p.0 ≡ session_refusal c.in_err-show_board.field-0.0 = p.2 in
     let d = c.args.document.now in
     rw (p.1, same) (not_on_screen old new c.args.limit d.edits c.args.board c.in_err-show_board.field-0.0
-    (rw (shown_of c.args.limit d c.requires.sound) at c.in_err-show_board.ensures.result) c.in_err-show_board.ensures.foretold)
+    (rw (shown_of c.args.limit d c.requires.sound) at c.in_err-show_board.ensures.result) c.in_err-show_board.ensures.foretold
+    (elim c.in_err-show_board.ensures.kept [
+      | inl fault ↦ inl fault
+      | inr stays ↦ inr (ap (λ s. stage ((goal.Screen-dyn g s).shown s.1) ((goal.Screen-dyn g s).screen_foretells s.1) keys source) stays)
+    ]))
 
 pub returns-clause-shows : goal.returns-clause-shows
 returns-clause-shows g c = λ keys source.
@@ -28,8 +32,8 @@ returns-clause-shows g c = λ keys source.
     (rw (shown_of c.args.limit d c.requires.sound) at c.in_ok-show_board.ensures.result) c.in_ok-show_board.ensures.foretold
 
 -- the screen was called once, and failed, or not at all
-pub returns-in_err-show_board-clause-kept : goal.returns-in_err-show_board-clause-kept
-returns-in_err-show_board-clause-kept g c =
+pub returns-in_err-show_board-clause-once : goal.returns-in_err-show_board-clause-once
+returns-in_err-show_board-clause-once g c =
     let p = err_from_is_err_and c.from_residual.result c.from_residual.ensures.1 in
     let same : p.0 ≡ session_refusal c.in_err-show_board.field-0.0 = p.2 in
     rw p.1 (elim c.in_err-show_board.ensures.kept [
