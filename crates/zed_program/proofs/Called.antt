@@ -1,11 +1,32 @@
 -- Which devices a run called.
 use Rattle.zed_files.specs.declared.refusal.Refusal.{Refusal}
-use Rattle.std.proofs.Common.{◌≡◌, Bool, List, Option, Some, None, Ok, Err, refl, inl, inr}
-use Rattle.zed_program.specs.Called.{DrawsOnce, ShowsOnce}
+use Rattle.std.proofs.Common.{◌≡◌, Bool, true, false, ℕ, List, Option, Some, None, Result, Ok, Err, refl, inl, inr}
+use Rattle.std.specs.Prelude.{⊤, ◌⊎◌}
+use Rattle.zed_session.specs.Devices.{Foretold}
+use Rattle.zed_session.specs.Links.{LinkSeen}
+use Rattle.zed_program.specs.Called.{CallsDevices, ShowsOnce, calls_keys, calls_links, calls_screen}
+use Rattle.zed_program.specs.Outcome.{status_of}
 use Rattle.zed_words.specs.Commands.{Command, Save, Check, New, Edit as EditFile, Merge, Show, Play}
+use Rattle.zed_worlds.specs.Shown.{CallsOnce}
+
+-- no device was called by words that need none
+pub none_called : (command : Option Command) (status : ℕ) (links : List LinkSeen) (foretold : Option (List Bool)) (L S K : Type 0) → L → S → K
+    → calls_links command ≡ false → calls_screen command ≡ false → CallsDevices command status links links foretold foretold L S K
+none_called None status links foretold L S K l s k off dark = record { pulls = inl tt; links = λ _. l; shows = tt; screen = λ _. s; keys = λ _. k }
+none_called (Some (Save profile out files)) status links foretold L S K l s k off dark =
+    record { pulls = inl tt; links = λ _. l; shows = tt; screen = λ _. s; keys = λ _. k }
+none_called (Some (Check profile files)) status links foretold L S K l s k off dark =
+    record { pulls = inl tt; links = λ _. l; shows = tt; screen = λ _. s; keys = λ _. k }
+none_called (Some (New out world from name)) status links foretold L S K l s k off dark =
+    record { pulls = inl tt; links = λ _. l; shows = tt; screen = λ _. s; keys = λ _. k }
+none_called (Some (EditFile file replica words)) status links foretold L S K l s k off dark =
+    record { pulls = inl tt; links = λ _. l; shows = tt; screen = λ _. s; keys = λ _. k }
+none_called (Some (Merge out world files)) status links foretold L S K l s k off dark = absurd (cc)
+none_called (Some (Show profile board files)) status links foretold L S K l s k off dark = absurd (cc)
+none_called (Some (Play profile board chance files)) status links foretold L S K l s k off dark = absurd (cc)
 
 -- memory was lacking for the words
-pub words_lack : (command : Option Command) (old new : Option (List Bool)) (kept : Type 0) → kept → ShowsOnce command 1 old new kept
+words_lack : (command : Option Command) (old new : Option (List Bool)) (kept : Type 0) → kept → ShowsOnce command 1 old new kept
 words_lack None old new kept is = tt
 words_lack (Some (Save profile out files)) old new kept is = tt
 words_lack (Some (Check profile files)) old new kept is = tt
@@ -15,25 +36,13 @@ words_lack (Some (Merge out world files)) old new kept is = tt
 words_lack (Some (Show profile board files)) old new kept is = inr (refl, inr is)
 words_lack (Some (Play profile board chance files)) old new kept is = tt
 
--- the command was carried out
-pub drawn : (command : Option Command) (old new : Option (List Bool)) (kept : Type 0) → DrawsOnce command (Ok tt) old new kept → ShowsOnce command 0 old new kept
-drawn None old new kept draws = tt
-drawn (Some (Save profile out files)) old new kept draws = tt
-drawn (Some (Check profile files)) old new kept draws = tt
-drawn (Some (New out world from name)) old new kept draws = tt
-drawn (Some (EditFile file replica words)) old new kept draws = tt
-drawn (Some (Merge out world files)) old new kept draws = tt
-drawn (Some (Show profile board files)) old new kept draws = inl (refl, draws)
-drawn (Some (Play profile board chance files)) old new kept draws = tt
+pub none_called_yet : (command : Option Command) (links : List LinkSeen) (foretold : Option (List Bool)) (L S K : Type 0) → L → S → K
+    → CallsDevices command 1 links links foretold foretold L S K
+none_called_yet command links foretold L S K l s k =
+    record { pulls = inr (refl, l); links = λ _. l; shows = words_lack command foretold foretold S s; screen = λ _. s; keys = λ _. k }
 
--- or refused
-pub not_drawn : (command : Option Command) (e : Refusal) (old new : Option (List Bool)) (kept : Type 0) → DrawsOnce command (Err e) old new kept
-    → ShowsOnce command 1 old new kept
-not_drawn None e old new kept draws = tt
-not_drawn (Some (Save profile out files)) e old new kept draws = tt
-not_drawn (Some (Check profile files)) e old new kept draws = tt
-not_drawn (Some (New out world from name)) e old new kept draws = tt
-not_drawn (Some (EditFile file replica words)) e old new kept draws = tt
-not_drawn (Some (Merge out world files)) e old new kept draws = tt
-not_drawn (Some (Show profile board files)) e old new kept draws = inr (refl, draws)
-not_drawn (Some (Play profile board chance files)) e old new kept draws = tt
+-- a board was shown once, or that failed, or the screen was not called
+pub shown_once : (result : Result ⊤ Refusal) (old new : Option (List Bool)) (kept : Type 0) → CallsOnce result old new kept
+    → ((status_of result ≡ 0) × Foretold false old new) ⊎ ((status_of result ≡ 1) × (Foretold true old new ⊎ kept))
+shown_once (Ok u) old new kept once = inl (refl, once)
+shown_once (Err e) old new kept why = inr (refl, elim why [ inl fault ↦ inl fault.1 | inr stays ↦ inr stays ])

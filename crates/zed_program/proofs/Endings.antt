@@ -1,10 +1,9 @@
 -- How a run ends.
 use Rattle.zed_host.specs.declared.host.WriteError.{WriteError}
 use Rattle.zed_files.specs.declared.refusal.Refusal.{Refusal}
-use Rattle.zed_files.specs.declared.refusal.Refusal.TheVariants.{File, Memory, ScreenFault, TooManyTurns}
+use Rattle.zed_files.specs.declared.refusal.Refusal.TheVariants.{File, Memory, TooManyTurns}
 use Rattle.std.proofs.Common.{◌≡◌, ◌≤◌, ◌∙◌, ℕ, List, length, arith, Option, Some, None, Result, Ok, Err, OnErr, OnOk, ap, is_err, refl, subst, inl, inr}
-use Rattle.std.specs.Prelude.{⊤, Bool, true, false, IfErr, IfSome, MatchResult, ◌⊎◌}
-use Rattle.zed_session.specs.Devices.{Foretold}
+use Rattle.std.specs.Prelude.{⊤, Bool, IfSome, ◌⊎◌}
 use Rattle.zed_program.specs.Devices.{Devices}
 use Rattle.zed_program.specs.Limit.{limit_of}
 use Rattle.zed_words.specs.Commands.{Command, Save, Check, New, Edit as EditFile, Merge, Show, Play}
@@ -13,12 +12,12 @@ use Rattle.zed_host.specs.HostContents.{HalfComplained, HostContents, StillTells
 use Rattle.zed_files.specs.Lines.{line_of}
 use Rattle.zed_host.proofs.Counts.{no_rise}
 use Rattle.zed_files.proofs.Failures.{memory_is_other}
-use Rattle.zed_program.specs.Outcome.{ComesTo, EndsCalmly, EndsRun, HasStatus, HasTurned, IsComplained, IsTold, RefusedRun}
+use Rattle.zed_program.specs.Outcome.{ComesTo, EndsCalmly, EndsRun, HasLacked, HasStatus, HasTurned, IsComplained, IsTold, RefusedRun}
 use Rattle.zed_files.specs.Effects.{Effect, Ends, IsRefused, after}
 use Rattle.zed_session.specs.Links.{LinkSeen}
 use Rattle.zed_op.specs.declared.op.Edit.{Edit}
 use Rattle.zed_making.specs.Merged.{ComesToMerge, IsMerged, MadeMostReads}
-use Rattle.zed_worlds.specs.Shown.{ComesToPlay, ComesToShow}
+use Rattle.zed_worlds.specs.Shown.{CallsOnce, ComesToShow, EndsPlaying}
 use Rattle.zed_worlds.specs.Stage.{Stage}
 use Rattle.zed_making.proofs.Endings.{create_so, edit_so}
 use Rattle.zed_making.proofs.Others.{merged_turns}
@@ -67,8 +66,9 @@ has_turned old new (Play profile board chance files) failed t u e refused is = t
 
 -- a refusal, and then its line
 pub refused_run : (before after : Devices) (command : Command) (t u : HostContents) (e : Refusal) (old middle now : ℕ) (counted : Type 0) (new : Option HostContents) → old ≤ middle → middle ≤ now
-    → IsRefused (Rose old middle) (ComesTo (Rose old middle) before after command t) t e u → IsTold (Rose middle now) e u new → (e ≡ File → counted) → EndsRun before after (Some command) t old now counted 1 new
-refused_run before after command t u e old middle now counted new up more refused told file =
+    → IsRefused (Rose old middle) (ComesTo (Rose old middle) before after command t) t e u → IsTold (Rose middle now) e u new → (e ≡ File → counted)
+    → (e ≡ Memory → HasLacked (Rose old middle) before after command t) → EndsRun before after (Some command) t old now counted 1 new
+refused_run before after command t u e old middle now counted new up more refused told file lacked =
     inr (
       refl,
       record {
@@ -80,14 +80,25 @@ refused_run before after command t u e old middle now counted new up more refuse
         rises = (up, more);
         file_only_when = file;
         turns_only_when = λ is. has_turned before after command (Rose old middle) t u e refused is;
+        memory_only_when = lacked;
       },
     )
 
+-- no device was called
+lacks_idle : (failed : Type 0) (before : Devices) (command : Command) (t : HostContents) → HasLacked failed before before command t
+lacks_idle failed before (Save profile out files) t = tt
+lacks_idle failed before (Check profile files) t = tt
+lacks_idle failed before (New out world from name) t = tt
+lacks_idle failed before (EditFile file replica words) t = tt
+lacks_idle failed before (Merge out world files) t = tt
+lacks_idle failed before (Show profile board files) t = refl
+lacks_idle failed before (Play profile board chance files) t = inl refl
+
 -- want of memory, whatever was asked for
-pub memory_run : (before after : Devices) (command : Option Command) (t : HostContents) (old now : ℕ) (counted : Type 0) (new : Option HostContents) → old ≤ now
-    → IsComplained (Rose old now) (line_of Memory) t new → EndsRun before after command t old now counted 1 new
-memory_run before after None t old now counted new up told = inr (refl, told)
-memory_run before after (Some command) t old now counted new up told =
+pub memory_run : (before : Devices) (command : Option Command) (t : HostContents) (old now : ℕ) (counted : Type 0) (new : Option HostContents) → old ≤ now
+    → IsComplained (Rose old now) (line_of Memory) t new → EndsRun before before command t old now counted 1 new
+memory_run before None t old now counted new up told = inr (refl, told)
+memory_run before (Some command) t old now counted new up told =
     inr (
       refl,
       record {
@@ -99,6 +110,7 @@ memory_run before after (Some command) t old now counted new up told =
         rises = (omega arith, up);
         file_only_when = λ is. absurd (memory_is_other Memory refl is);
         turns_only_when = λ is. absurd (cc);
+        memory_only_when = λ is. lacks_idle (Rose old old) before command t;
       },
     )
 
@@ -161,14 +173,13 @@ show_as failed old after given limit board names files t result new is same ends
     (subst (λ ns. Ends failed (ComesToShow failed old after t given board ns) t result new) same ends)
 
 pub play_as : (failed : Type 0) (old after : Stage) (given limit board : ℕ) (chance : List ℕ) (names files : List (List ℕ)) (t : HostContents) (result : Result ⊤ Refusal) (new : Option HostContents) → given ≡ limit → names ≡ files
-    → Ends failed (ComesToPlay failed old after t given board chance names) t result new → Ends failed (ComesToPlay failed old after t limit board chance files) t result new
+    → EndsPlaying failed old after t given board chance names result new → EndsPlaying failed old after t limit board chance files result new
 play_as failed old after given limit board chance names files t result new is same ends =
-    subst (λ n. Ends failed (ComesToPlay failed old after t n board chance files) t result new) is
-    (subst (λ ns. Ends failed (ComesToPlay failed old after t given board chance ns) t result new) same ends)
+    subst (λ n. EndsPlaying failed old after t n board chance files result new) is
+    (subst (λ ns. EndsPlaying failed old after t given board chance ns result new) same ends)
 
--- a board was shown once, or that failed, or the screen was not called
-pub drawn_once : (result : Result ⊤ Refusal) (old new : Option (List Bool)) (kept : Type 0) → OnOk result (Foretold false old new)
-    → IfErr result (λ e. ((e ≡ ScreenFault) × Foretold true old new) ⊎ kept)
-    → MatchResult result (λ _. Foretold false old new) (λ e. Foretold true old new ⊎ kept)
-drawn_once (Ok u) old new kept once why = once
-drawn_once (Err e) old new kept once why = elim why [ inl fault ↦ inl fault.1 | inr stays ↦ inr stays ]
+-- memory was lacking for a board that was to be shown
+pub show_lacks : {S : Type 0} (look : S → Stage) (result : Result ⊤ Refusal) (old new : S) (before after : Option (List Bool)) → CallsOnce result before after (new ≡ old)
+    → result ≡ Err Memory → look new ≡ look old
+show_lacks look (Ok u) old new before after once is = absurd (cc)
+show_lacks look (Err e) old new before after why is = elim why [ inl fault ↦ absurd (let no = fault.0 in cc) | inr stays ↦ ap look stays ]

@@ -1,7 +1,7 @@
 -- Which devices a command calls.
 use Rattle.zed_op.specs.declared.op.Edit.{Edit}
 use Rattle.zed_files.specs.declared.refusal.Refusal.{Refusal}
-use Rattle.std.specs.Prelude.{◌≡◌, ◌⊎◌, ℕ, Bool, true, false, List, Option, Some, None, Result, MatchResult, length}
+use Rattle.std.specs.Prelude.{◌≡◌, ◌⊎◌, ℕ, Bool, true, false, List, Option, Some, Result, length}
 use Rattle.zed_session.specs.Devices.{Foretold}
 use Rattle.zed_session.specs.Links.{LinkSeen}
 use Rattle.zed_making.specs.Merged.{IsMerged}
@@ -34,8 +34,12 @@ ShowsOnce (Some (Show profile board files)) status old new kept =
     ((status ≡ 0) × Foretold false old new) ⊎ ((status ≡ 1) × (Foretold true old new ⊎ kept))
 ShowsOnce command status old new kept = Unit {0}
 
--- the same by what the command answers
-abbrev pub DrawsOnce : Option Command → Result (Unit {0}) Refusal → Option (List Bool) → Option (List Bool) → Type 0 → Type 0
-DrawsOnce (Some (Show profile board files)) result old new kept =
-    MatchResult result (λ _. Foretold false old new) (λ e. Foretold true old new ⊎ kept)
-DrawsOnce command result old new kept = Unit {0}
+-- what words, with this status, call of links, of a screen that foretells this, and of keys; of each it is told what is so where it is as it was.
+-- `merge` pulls over its links, unless memory was lacking before, and no other command calls one; `show` calls the screen once, and only `play`
+-- calls it too; and no other command asks for a key
+pub record CallsDevices (command : Option Command) (status : ℕ) (before after : List LinkSeen) (old new : Option (List Bool)) (links_kept screen_kept keys_kept : Type 0) : Type 0 where
+  pub pulls : PullsLinks command before after ⊎ ((status ≡ 1) × links_kept)
+  pub links : calls_links command ≡ false → links_kept
+  pub shows : ShowsOnce command status old new screen_kept
+  pub screen : calls_screen command ≡ false → screen_kept
+  pub keys : calls_keys command ≡ false → keys_kept

@@ -1,19 +1,19 @@
 -- What a command leaves in its host, and what `run` does. `failed` says that the device failed meanwhile.
 use Rattle.zed_files.specs.declared.refusal.Refusal.{Refusal}
 use Rattle.zed_files.specs.declared.refusal.Refusal.TheVariants.{File, Memory, TooManyTurns}
-use Rattle.std.specs.Prelude.{◌≡◌, ◌≤◌, ◌⊎◌, ℕ, true, List, Option, Some, None, Result, Ok, Err, length}
+use Rattle.std.specs.Prelude.{◌≡◌, ◌≤◌, ◌⊎◌, ℕ, true, List, Option, Some, None, Result, Ok, Err, length, ⊤}
 use Rattle.zed_program.specs.Devices.{Devices}
 use Rattle.zed_program.specs.Limit.{limit_of}
 use Rattle.zed_files.specs.Lines.{has_numbers, line_of}
 use Rattle.zed_host.specs.Counting.{Rose}
 use Rattle.zed_host.specs.HostContents.{HalfComplained, HostContents, StillTells, with_complaint}
 use Rattle.zed_words.specs.Commands.{Command, Save, Check, New, Edit as EditFile, Merge, Show, Play}
-use Rattle.zed_files.specs.Effects.{Effect, after as left_by, IsRefused}
+use Rattle.zed_files.specs.Effects.{Effect, Ends, after as left_by, IsRefused}
 use Rattle.zed_making.specs.Edited.{ComesToEdit}
 use Rattle.zed_making.specs.Fresh.{ComesToNew}
 use Rattle.zed_making.specs.Merged.{ComesToMerge, MadeMostReads}
 use Rattle.zed_worlds.specs.Made.{ComesToSave, ComesToCheck}
-use Rattle.zed_worlds.specs.Shown.{ComesToShow, ComesToPlay}
+use Rattle.zed_worlds.specs.Shown.{ComesToShow, ComesToPlay, LacksForPlay}
 
 -- what a command comes to, by what its devices tell before it and then: its effect, or the first refusal
 abbrev pub ComesTo : Type 0 → Devices → Devices → Command → HostContents → Result Effect Refusal → Type 0
@@ -43,9 +43,25 @@ abbrev pub HasTurned : Devices → Devices → Command → Type 0
 HasTurned old new (Merge out world files) = MadeMostReads old.links new.links
 HasTurned old new command = Unit {0}
 
+-- what is so where a command lacks memory: a board wasn't shown, and of `play` the stage is as it was, or a playtest came to that
+abbrev pub HasLacked : Type 0 → Devices → Devices → Command → HostContents → Type 0
+HasLacked failed old new (Show profile board files) t = new.stage ≡ old.stage
+HasLacked failed old new (Play profile board chance files) t = LacksForPlay failed old.stage new.stage t (limit_of profile) board chance files
+HasLacked failed old new command t = Unit {0}
+
+-- so a command ends, with this in its host, and its devices so
+abbrev pub EndsCommand : Type 0 → Devices → Devices → Command → HostContents → Result ⊤ Refusal → Option HostContents → Type 0
+EndsCommand failed old new command t result left =
+    Ends failed (ComesTo failed old new command t) t result left × (result ≡ Err Memory → HasLacked failed old new command t)
+
+-- the status of a command that answers this
+abbrev pub status_of : Result ⊤ Refusal → ℕ
+status_of (Ok u) = 0
+status_of (Err e) = 1
+
 -- a command is refused and the user is told; the faults are counted from `old`, to `middle` before the
 -- user is told, and to `now`; and `counted` says that the host counts a call more that failed, which `File` shows; too many turns of a
--- merge are shown by its links
+-- merge are shown by its links, and want of memory by the stage
 pub record RefusedRun (before after : Devices) (command : Command) (t : HostContents) (old now : ℕ) (counted : Type 0) (new : Option HostContents) : Type 0 where
   pub refusal : Refusal
   pub left : HostContents
@@ -55,6 +71,7 @@ pub record RefusedRun (before after : Devices) (command : Command) (t : HostCont
   pub rises : (old ≤ middle) × (middle ≤ now)
   pub file_only_when : refusal ≡ File → counted
   pub turns_only_when : refusal ≡ TooManyTurns → HasTurned before after command
+  pub memory_only_when : refusal ≡ Memory → HasLacked (Rose old middle) before after command t
 
 -- a command is carried out with status 0, or refused with status 1. Words that are refused change no
 -- file; the status is 2, or 1 where memory ran out

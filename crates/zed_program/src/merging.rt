@@ -1,10 +1,10 @@
 //! Edit files joined to one.
-ghost use Rattle.std.specs.Prelude.{[], ◌≡◌, ◌≤◌, ◌<◌, Err, IfOk, List, MatchResult, Ok, OnOk, Result, Some, false, length, map};
+ghost use Rattle.std.specs.Prelude.{[], ◌≡◌, ◌<◌, Err, IfOk, List, MatchResult, Ok, OnOk, Result, Some, false, length, map};
 ghost use Rattle.zed_op.specs.declared.op.Edit.{Edit as TheEdit};
 ghost use Rattle.zed_document.specs.Counts.{NoCountFalls};
 ghost use Rattle.zed_session.specs.Links.{PullsOver, seen};
 ghost use Rattle.zed_host.specs.Counting.{Rose};
-ghost use Rattle.zed_files.specs.Faults.{TellsFile};
+ghost use Rattle.zed_files.specs.Faults.{TellsFailures};
 ghost use Rattle.zed_host.specs.HostContents.{HostContents};
 ghost use Rattle.zed_making.specs.Merged.{ComesToMerge, IsMerged};
 ghost use Rattle.zed_files.specs.Asked.{Asks, refusal_in, writing};
@@ -82,8 +82,7 @@ pub(crate) fn merge<H: Host>(
     ensures no_link { length links.old.items < length files.now
         → (result ≡ Err Refusal.NoLink) × (links.new ≡ links.old) }
     ensures asked { Asks H.called [] (writing out.now) (refusal_in result) host.old host.new }
-    ensures rises { H.faults host.old ≤ H.faults host.new }
-    ensures file_only_when { TellsFile result (H.failed host.old) (H.failed host.new) }
+    ensures failures { TellsFailures H.faults H.failed result host.old host.new }
 {
     let document = pulled_from(alloc, world, files.len(), links)?;
     let text = write_file(alloc, document.world(), document.edits())?;

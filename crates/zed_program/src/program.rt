@@ -7,13 +7,12 @@ ghost use Rattle.zed_files.specs.Files.{joined};
 ghost use Rattle.zed_program.specs.Joining.{AsksToMerge, MergesSet};
 ghost use Rattle.zed_files.specs.Asked.{Asks, refusal_in};
 ghost use Rattle.zed_program.specs.Asked.{Complains, RunAsks, last_of, reads_of};
-ghost use Rattle.zed_program.specs.Called.{DrawsOnce, PullsLinks, ShowsOnce, calls_keys, calls_links, calls_screen};
+ghost use Rattle.zed_program.specs.Called.{CallsDevices};
 ghost use Rattle.zed_program.specs.Devices.{devices};
-ghost use Rattle.zed_files.specs.Effects.{Ends};
-ghost use Rattle.zed_program.specs.Outcome.{ComesTo, EndsCalmly, EndsRun, IsTold};
+ghost use Rattle.zed_program.specs.Outcome.{EndsCalmly, EndsCommand, EndsRun, IsTold, status_of};
 ghost use Rattle.zed_program.specs.Saving.{AsksToSave, SavedReadsBack, SavesSet};
 ghost use Rattle.zed_host.specs.Counting.{NothingFailed, Rose};
-ghost use Rattle.zed_files.specs.Faults.{TellsFile};
+ghost use Rattle.zed_files.specs.Faults.{NoneForgotten, TellsFailures};
 ghost use Rattle.zed_host.specs.HostContents.{HostContents};
 ghost use Rattle.zed_words.specs.declared.profile.Profile.{Profile as TheProfile};
 ghost use Rattle.zed_words.specs.Laws.{with_option};
@@ -41,8 +40,7 @@ fn complain_of<H: Host>(alloc: Global, host: &mut H, refusal: &Refusal)
         → let failed = Rose (H.faults host.old) (H.faults host.new) in
         IsTold failed refusal.now t (H.contents host.new) }
     ensures asked { Complains H.called refusal.now host.old host.new }
-    ensures rises { H.faults host.old ≤ H.faults host.new }
-    ensures failures { H.failed host.old ≤ H.failed host.new }
+    ensures failures { NoneForgotten H.faults H.failed host.old host.new }
 {
     let _ = match plain_line(refusal) {
         Some(text) => host.complain(text.as_bytes()),
@@ -67,20 +65,15 @@ fn act<H: Host>(
         (shown screen.old) (screen_foretells screen.old) (left keys.old) (keys_foretell keys.old) in
         let after = devices (map (λ link. seen (ends link) (reads link)) links.new.items)
         (shown screen.new) (screen_foretells screen.new) (left keys.new) (keys_foretell keys.new) in
-        Ends failed (ComesTo failed before after (meaning_of command.now) t) t result (H.contents host.new) }
+        EndsCommand failed before after (meaning_of command.now) t result (H.contents host.new) }
     ensures asked { Asks H.called (reads_of (meaning_of command.now))
         (last_of (meaning_of command.now)) (refusal_in result) host.old host.new }
-    ensures pulls { PullsLinks (Some (meaning_of command.now))
+    ensures devices { CallsDevices (Some (meaning_of command.now)) (status_of result)
         (map (λ link. seen (ends link) (reads link)) links.old.items)
-        (map (λ link. seen (ends link) (reads link)) links.new.items) }
-    ensures links { calls_links (Some (meaning_of command.now)) ≡ false → links.new ≡ links.old }
-    ensures screen { calls_screen (Some (meaning_of command.now)) ≡ false
-        → screen.new ≡ screen.old }
-    ensures keys { calls_keys (Some (meaning_of command.now)) ≡ false → keys.new ≡ keys.old }
-    ensures shows { DrawsOnce (Some (meaning_of command.now)) result
-        (screen_foretells screen.old) (screen_foretells screen.new) (screen.new ≡ screen.old) }
-    ensures rises { H.faults host.old ≤ H.faults host.new }
-    ensures file_only_when { TellsFile result (H.failed host.old) (H.failed host.new) }
+        (map (λ link. seen (ends link) (reads link)) links.new.items)
+        (screen_foretells screen.old) (screen_foretells screen.new)
+        (links.new ≡ links.old) (screen.new ≡ screen.old) (keys.new ≡ keys.old) }
+    ensures failures { TellsFailures H.faults H.failed result host.old host.new }
 {
     match command {
         Command::Save {
@@ -162,18 +155,11 @@ fn run_words<H: Host>(
         result (H.contents host.new) }
     ensures asked { RunAsks H.called (command_of (map string_bytes words.now))
         result host.old host.new }
-    ensures pulls { PullsLinks (command_of (map string_bytes words.now))
+    ensures devices { CallsDevices (command_of (map string_bytes words.now)) result
         (map (λ link. seen (ends link) (reads link)) links.old.items)
         (map (λ link. seen (ends link) (reads link)) links.new.items)
-        ⊎ (links.new ≡ links.old) }
-    ensures links { calls_links (command_of (map string_bytes words.now)) ≡ false
-        → links.new ≡ links.old }
-    ensures screen { calls_screen (command_of (map string_bytes words.now)) ≡ false
-        → screen.new ≡ screen.old }
-    ensures keys { calls_keys (command_of (map string_bytes words.now)) ≡ false
-        → keys.new ≡ keys.old }
-    ensures shows { ShowsOnce (command_of (map string_bytes words.now)) result
-        (screen_foretells screen.old) (screen_foretells screen.new) (screen.new ≡ screen.old) }
+        (screen_foretells screen.old) (screen_foretells screen.new)
+        (links.new ≡ links.old) (screen.new ≡ screen.old) (keys.new ≡ keys.old) }
     ensures accepted { IsSome (command_of (map string_bytes words.now))
         → (result ≡ 0) ⊎ (result ≡ 1) }
     ensures refused { command_of (map string_bytes words.now) ≡ None
@@ -233,20 +219,12 @@ pub fn run<H: Host>(
     ensures asked { RunAsks H.called (command_of (map string_bytes words.now))
         result host.old host.new }
 
-    // What was asked of the devices: `merge` pulls over the links, unless memory was lacking for its words, and no other command calls one;
-    // `show` calls the screen once, and only `play` calls it too; and no other command asks for a key.
-    ensures pulls { PullsLinks (command_of (map string_bytes words.now))
+    // What was asked of the devices.
+    ensures devices { CallsDevices (command_of (map string_bytes words.now)) result
         (map (λ link. seen (ends link) (reads link)) links.old.items)
         (map (λ link. seen (ends link) (reads link)) links.new.items)
-        ⊎ (links.new ≡ links.old) }
-    ensures links { calls_links (command_of (map string_bytes words.now)) ≡ false
-        → links.new ≡ links.old }
-    ensures screen { calls_screen (command_of (map string_bytes words.now)) ≡ false
-        → screen.new ≡ screen.old }
-    ensures keys { calls_keys (command_of (map string_bytes words.now)) ≡ false
-        → keys.new ≡ keys.old }
-    ensures shows { ShowsOnce (command_of (map string_bytes words.now)) result
-        (screen_foretells screen.old) (screen_foretells screen.new) (screen.new ≡ screen.old) }
+        (screen_foretells screen.old) (screen_foretells screen.new)
+        (links.new ≡ links.old) (screen.new ≡ screen.old) (keys.new ≡ keys.old) }
 
     // Where its `failures()` stay as they were, nothing failed.
     ensures calm { H.faults host.old ≤ H.failed host.old

@@ -9,7 +9,7 @@ use Rattle.zed_session.specs.Links.{seen}
 use Rattle.zed_host.proofs.Counts.{counted_up}
 use Rattle.zed_files.proofs.Endings.{effect_ends, refused_ends}
 use Rattle.zed_making.proofs.Pulls.{each_of, merge_comes, merge_so, not_merged}
-use Rattle.zed_files.proofs.Failures.{memory_is_other, write_tells}
+use Rattle.zed_files.proofs.Failures.{file_is_other, memory_is_other, memory_on, none_yet, other_on, write_tells}
 use Rattle.zed_making.proofs.Others.{merged_is_other}
 use Rattle.std.proofs.Common.{[]}
 use Rattle.zed_files.specs.Asked.{writing}
@@ -54,28 +54,23 @@ returns-in_err-line-clause-ends g c = λ t at.
     let p = err_from_is_err_and c.from_residual-in_err-line.result c.from_residual-in_err-line.ensures.1 in
     rw p.1 (refused_ends _ (ComesToMerge links news c.args.out.now c.args.world (length c.args.files.now)) t p.0 _ at (inl p.2))
 
-pub returns-in_err-document-clause-file_only_when : goal.returns-in_err-document-clause-file_only_when
-returns-in_err-document-clause-file_only_when g c =
-    let p = err_from_is_err_and c.from_residual.result c.from_residual.ensures.1 in
-    let same : p.0 ≡ c.in_err-document.field-0.0 = p.2 in
-    let still : g.H.Host.failed c.args.host.now ≤ g.H.Host.failed c.args.host.now = omega arith in
-    rw (p.1, same) (still, λ is. absurd (merged_is_other c.args.world _ _ _ c.in_err-document.field-0.0 c.in_err-document.ensures.pulled is))
+pub returns-in_err-document-clause-failures : goal.returns-in_err-document-clause-failures
+returns-in_err-document-clause-failures g c =
+    other_on g.H.Host.faults g.H.Host.failed c.from_residual.result c.in_err-document.field-0.0 _ _ c.from_residual.ensures.1
+    (merged_is_other c.args.world _ _ _ c.in_err-document.field-0.0 c.in_err-document.ensures.pulled) (none_yet g.H.Host.faults g.H.Host.failed _)
 
-pub returns-in_err-text-clause-file_only_when : goal.returns-in_err-text-clause-file_only_when
-returns-in_err-text-clause-file_only_when g c =
-    let p = err_from_is_err_and c.from_residual-in_err-text.result c.from_residual-in_err-text.ensures.1 in
-    let still : g.H.Host.failed c.args.host.now ≤ g.H.Host.failed c.args.host.now = omega arith in
-    rw p.1 (still, λ is. absurd (memory_is_other p.0 (p.2 ∙ ap file_refusal c.in_err-text.ensures.err) is))
+pub returns-in_err-text-clause-failures : goal.returns-in_err-text-clause-failures
+returns-in_err-text-clause-failures g c =
+    other_on g.H.Host.faults g.H.Host.failed c.from_residual-in_err-text.result (file_refusal c.in_err-text.field-0.0) _ _ c.from_residual-in_err-text.ensures.1
+    (file_is_other c.in_err-text.field-0.0) (none_yet g.H.Host.faults g.H.Host.failed _)
 
-pub returns-in_err-line-clause-file_only_when : goal.returns-in_err-line-clause-file_only_when
-returns-in_err-line-clause-file_only_when g c =
-    let p = err_from_is_err_and c.from_residual-in_err-line.result c.from_residual-in_err-line.ensures.1 in
-    let still : g.H.Host.failed c.args.host.now ≤ g.H.Host.failed c.args.host.now = omega arith in
-    rw p.1 (still, λ is. absurd (memory_is_other p.0 p.2 is))
+pub returns-in_err-line-clause-failures : goal.returns-in_err-line-clause-failures
+returns-in_err-line-clause-failures g c =
+    memory_on g.H.Host.faults g.H.Host.failed c.from_residual-in_err-line.result _ _ c.from_residual-in_err-line.ensures.1 (none_yet g.H.Host.faults g.H.Host.failed _)
 
-pub returns-clause-file_only_when : goal.returns-clause-file_only_when
-returns-clause-file_only_when g c =
-    write_tells c.write_out.result _ _ c.write_out.ensures.failures
+pub returns-clause-failures : goal.returns-clause-failures
+returns-clause-failures g c =
+    write_tells g.H.Host.faults g.H.Host.failed c.write_out.result _ _ _ (none_yet g.H.Host.faults g.H.Host.failed _) c.write_out.ensures.faults c.write_out.ensures.failures
 
 pub returns-in_err-document-clause-asked : goal.returns-in_err-document-clause-asked
 returns-in_err-document-clause-asked g c =

@@ -1,25 +1,27 @@
-use Rattle.std.proofs.Common.{◌≡◌, ◌∙◌, ap, length, true, false}
+use Rattle.std.proofs.Common.{◌≡◌, ◌∙◌, Some, ap, inl, length, refl, true, false}
 use Rattle.zed_files.specs.Texts.{texts_of}
 use Rattle.zed_making.proofs.Pulls.{as_many}
 use Rattle.zed_worlds.specs.Stage.{Stage, stage}
-use Rattle.zed_program.proofs.Endings.{drawn_once, merge_as, play_as, pulls_as, show_as}
+use Rattle.zed_words.specs.Commands.{meaning_of}
+use Rattle.zed_program.proofs.Called.{none_called, shown_once}
+use Rattle.zed_program.proofs.Endings.{merge_as, play_as, pulls_as, show_as, show_lacks}
 use Rattle.zed_program.proofs.program.act.Goals as goal
 
 pub returns-in-Save-clause-ends : goal.returns-in-Save-clause-ends
-returns-in-Save-clause-ends g c = λ t at. rw (c.in-Save.is, ← c.limit_of.ensures.result, ← c.as_slice.ensures.value) (c.save.ensures.ends t at)
+returns-in-Save-clause-ends g c = λ t at. rw (c.in-Save.is, ← c.limit_of.ensures.result, ← c.as_slice.ensures.value) (c.save.ensures.ends t at, λ is. tt)
 
 pub returns-in-Check-clause-ends : goal.returns-in-Check-clause-ends
-returns-in-Check-clause-ends g c = λ t at. rw (c.in-Check.is, ← c.limit_of-in-Check.ensures.result, ← c.as_slice-in-Check.ensures.value) (c.check.ensures.ends t at)
+returns-in-Check-clause-ends g c = λ t at. rw (c.in-Check.is, ← c.limit_of-in-Check.ensures.result, ← c.as_slice-in-Check.ensures.value) (c.check.ensures.ends t at, λ is. tt)
 
 pub returns-in-New-clause-ends : goal.returns-in-New-clause-ends
-returns-in-New-clause-ends g c = λ t at. rw c.in-New.is (c.make_new.ensures.ends t at)
+returns-in-New-clause-ends g c = λ t at. rw c.in-New.is (c.make_new.ensures.ends t at, λ is. tt)
 
 pub returns-in-Edit-clause-ends : goal.returns-in-Edit-clause-ends
-returns-in-Edit-clause-ends g c = λ t at. rw (c.in-Edit.is, ← c.as_slice-in-Edit.ensures.value) (c.edit.ensures.ends t at)
+returns-in-Edit-clause-ends g c = λ t at. rw (c.in-Edit.is, ← c.as_slice-in-Edit.ensures.value) (c.edit.ensures.ends t at, λ is. tt)
 
 pub returns-in-Merge-clause-ends : goal.returns-in-Merge-clause-ends
 returns-in-Merge-clause-ends g c = λ t at.
-    rw c.in-Merge.is (merge_as _ _ _ _ _ _ _ t _ _ (ap length c.as_slice-in-Merge.ensures.value ∙ as_many _ _) (c.merge.ensures.ends t at))
+    rw c.in-Merge.is (merge_as _ _ _ _ _ _ _ t _ _ (ap length c.as_slice-in-Merge.ensures.value ∙ as_many _ _) (c.merge.ensures.ends t at), λ is. tt)
 
 pub returns-in-Show-clause-ends : goal.returns-in-Show-clause-ends
 returns-in-Show-clause-ends g c = λ t at.
@@ -33,7 +35,12 @@ returns-in-Show-clause-ends g c = λ t at.
     ((goal.Screen-dyn g c.args.screen.now).screen_foretells c.show.new.screen)
     ((goal.Keys-dyn g c.args.keys.now).left c.args.keys.now.1)
     ((goal.Keys-dyn g c.args.keys.now).keys_foretell c.args.keys.now.1) in
-    rw c.in-Show.is (show_as _ old new _ _ _ _ _ t _ _ c.limit_of-in-Show.ensures.result (ap texts_of c.as_slice-in-Show.ensures.value) (c.show.ensures.ends t ((goal.Keys-dyn g c.args.keys.now).left c.args.keys.now.1) ((goal.Keys-dyn g c.args.keys.now).keys_foretell c.args.keys.now.1) at))
+    rw c.in-Show.is (
+      show_as _ old new _ _ _ _ _ t _ _ c.limit_of-in-Show.ensures.result (ap texts_of c.as_slice-in-Show.ensures.value) (c.show.ensures.ends t ((goal.Keys-dyn g c.args.keys.now).left c.args.keys.now.1) ((goal.Keys-dyn g c.args.keys.now).keys_foretell c.args.keys.now.1) at),
+      λ is. show_lacks (λ s. stage ((goal.Screen-dyn g s).shown s.1) ((goal.Screen-dyn g s).screen_foretells s.1)
+          ((goal.Keys-dyn g c.args.keys.now).left c.args.keys.now.1) ((goal.Keys-dyn g c.args.keys.now).keys_foretell c.args.keys.now.1))
+          c.show.result _ _ _ _ c.show.ensures.once is,
+    )
 
 pub returns-in-Play-clause-ends : goal.returns-in-Play-clause-ends
 returns-in-Play-clause-ends g c = λ t at.
@@ -60,23 +67,49 @@ returns-in-Show-clause-asked g c = rw (c.in-Show.is, ← c.as_slice-in-Show.ensu
 pub returns-in-Play-clause-asked : goal.returns-in-Play-clause-asked
 returns-in-Play-clause-asked g c = rw (c.in-Play.is, ← c.as_slice-in-Play.ensures.value) c.play.ensures.asked
 
-pub returns-in-Merge-clause-pulls : goal.returns-in-Merge-clause-pulls
-returns-in-Merge-clause-pulls g c =
-    rw c.in-Merge.is (pulls_as _ _ _ _ _ (ap length c.as_slice-in-Merge.ensures.value ∙ as_many _ _) c.merge.ensures.links)
+-- which devices a command calls
+pub returns-in-Save-clause-devices : goal.returns-in-Save-clause-devices
+returns-in-Save-clause-devices g c =
+    none_called (Some (meaning_of c.args.command.now)) _ _ _ _ _ _ refl refl refl (rw c.in-Save.is refl) (rw c.in-Save.is refl)
 
--- which devices a command doesn't call
-pub returns-in-Merge-clause-links : goal.returns-in-Merge-clause-links
-returns-in-Merge-clause-links g c = λ off. absurd (let bad : true ≡ false = rw c.in-Merge.is at off in cc)
+pub returns-in-Check-clause-devices : goal.returns-in-Check-clause-devices
+returns-in-Check-clause-devices g c =
+    none_called (Some (meaning_of c.args.command.now)) _ _ _ _ _ _ refl refl refl (rw c.in-Check.is refl) (rw c.in-Check.is refl)
 
-pub returns-in-Show-clause-screen : goal.returns-in-Show-clause-screen
-returns-in-Show-clause-screen g c = λ off. absurd (let bad : true ≡ false = rw c.in-Show.is at off in cc)
+pub returns-in-New-clause-devices : goal.returns-in-New-clause-devices
+returns-in-New-clause-devices g c =
+    none_called (Some (meaning_of c.args.command.now)) _ _ _ _ _ _ refl refl refl (rw c.in-New.is refl) (rw c.in-New.is refl)
 
-pub returns-in-Play-clause-screen : goal.returns-in-Play-clause-screen
-returns-in-Play-clause-screen g c = λ off. absurd (let bad : true ≡ false = rw c.in-Play.is at off in cc)
+pub returns-in-Edit-clause-devices : goal.returns-in-Edit-clause-devices
+returns-in-Edit-clause-devices g c =
+    none_called (Some (meaning_of c.args.command.now)) _ _ _ _ _ _ refl refl refl (rw c.in-Edit.is refl) (rw c.in-Edit.is refl)
 
-pub returns-in-Play-clause-keys : goal.returns-in-Play-clause-keys
-returns-in-Play-clause-keys g c = λ off. absurd (let bad : true ≡ false = rw c.in-Play.is at off in cc)
+pub returns-in-Merge-clause-devices : goal.returns-in-Merge-clause-devices
+returns-in-Merge-clause-devices g c =
+    rw c.in-Merge.is (record {
+      pulls = inl (pulls_as _ _ _ _ _ (ap length c.as_slice-in-Merge.ensures.value ∙ as_many _ _) c.merge.ensures.links);
+      links = λ off. absurd (let bad : true ≡ false = off in cc);
+      shows = tt;
+      screen = λ _. refl;
+      keys = λ _. refl;
+    })
 
--- a board is shown once
-pub returns-in-Show-clause-shows : goal.returns-in-Show-clause-shows
-returns-in-Show-clause-shows g c = rw c.in-Show.is (drawn_once c.show.result _ _ _ c.show.ensures.once c.show.ensures.kept)
+pub returns-in-Show-clause-devices : goal.returns-in-Show-clause-devices
+returns-in-Show-clause-devices g c =
+    rw c.in-Show.is (record {
+      pulls = inl tt;
+      links = λ _. refl;
+      shows = shown_once c.show.result _ _ _ c.show.ensures.once;
+      screen = λ dark. absurd (let bad : true ≡ false = dark in cc);
+      keys = λ _. refl;
+    })
+
+pub returns-in-Play-clause-devices : goal.returns-in-Play-clause-devices
+returns-in-Play-clause-devices g c =
+    rw c.in-Play.is (record {
+      pulls = inl tt;
+      links = λ _. refl;
+      shows = tt;
+      screen = λ dark. absurd (let bad : true ≡ false = dark in cc);
+      keys = λ off. absurd (let bad : true ≡ false = off in cc);
+    })
