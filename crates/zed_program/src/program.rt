@@ -7,7 +7,7 @@ ghost use Rattle.zed_files.specs.Files.{joined};
 ghost use Rattle.zed_program.specs.Joining.{AsksToMerge, MergesSet};
 ghost use Rattle.zed_files.specs.Asked.{Asks, refusal_in};
 ghost use Rattle.zed_program.specs.Asked.{Complains, RunAsks, last_of, reads_of};
-ghost use Rattle.zed_program.specs.Called.{CallsDevices};
+ghost use Rattle.zed_program.specs.Called.{CallsDevices, PullsLinks};
 ghost use Rattle.zed_program.specs.Devices.{devices};
 ghost use Rattle.zed_program.specs.Outcome.{EndsCalmly, EndsCommand, EndsRun, IsTold, status_of};
 ghost use Rattle.zed_program.specs.Saving.{AsksToSave, SavedReadsBack, SavesSet};
@@ -73,6 +73,9 @@ fn act<H: Host>(
         (map (λ link. seen (ends link) (reads link)) links.new.items)
         (screen_foretells screen.old) (screen_foretells screen.new)
         (links.new ≡ links.old) (screen.new ≡ screen.old) (keys.new ≡ keys.old) }
+    ensures pulls { PullsLinks (Some (meaning_of command.now))
+        (map (λ link. seen (ends link) (reads link)) links.old.items)
+        (map (λ link. seen (ends link) (reads link)) links.new.items) }
     ensures failures { TellsFailures H.faults H.failed result host.old host.new }
 {
     match command {

@@ -67,6 +67,11 @@ returns-in-Show-clause-asked g c = rw (c.in-Show.is, ← c.as_slice-in-Show.ensu
 pub returns-in-Play-clause-asked : goal.returns-in-Play-clause-asked
 returns-in-Play-clause-asked g c = rw (c.in-Play.is, ← c.as_slice-in-Play.ensures.value) c.play.ensures.asked
 
+-- over which links a merge pulls
+pub returns-in-Merge-clause-pulls : goal.returns-in-Merge-clause-pulls
+returns-in-Merge-clause-pulls g c =
+    rw c.in-Merge.is (pulls_as _ _ _ _ _ (ap length c.as_slice-in-Merge.ensures.value ∙ as_many _ _) c.merge.ensures.links)
+
 -- which devices a command calls
 pub returns-in-Save-clause-devices : goal.returns-in-Save-clause-devices
 returns-in-Save-clause-devices g c =
