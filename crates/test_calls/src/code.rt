@@ -1,7 +1,8 @@
 //! Texts whose growths are refused, which a document that is stale then doesn't show.
 ghost use Rattle.std.specs.Prelude.{◌≡◌, ◌∷◌, [], IfOk};
 ghost use Rattle.zed_types.specs.Text.{run_from};
-ghost use Rattle.zed_code.specs.Text.{elements, genesis};
+ghost use Rattle.zed_types.specs.Stamp.{genesis_stamp};
+ghost use Rattle.zed_code.specs.Text.{elements};
 
 use crate::growths::{refuse_each, turn_of};
 use crate::stamps::{first_of, stamp};
@@ -18,7 +19,7 @@ const Y: Stamp = stamp!(2, 2);
 
 /// The text `AB` of the edit that makes the world.
 fn letters(alloc: Global) -> Result<Text, CodeError>
-    ensures { IfOk result (λ t. elements t ≡ run_from genesis 0 (65 ∷ 66 ∷ [])) }
+    ensures { IfOk result (λ t. elements t ≡ run_from genesis_stamp 0 (65 ∷ 66 ∷ [])) }
 {
     Text::genesis(alloc, b"AB")
 }

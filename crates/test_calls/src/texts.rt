@@ -6,8 +6,9 @@ use crate::stamps::stamp;
 use std::alloc::{AllocError, Global};
 use std::test::Fail;
 use test_rows::{MOST, refuse, was_refused};
+use zed_edit::made_by;
 use zed_op::{Edit, Op, check};
-use zed_texts::{LiveTexts, TextsError};
+use zed_texts::LiveTexts;
 use zed_types::{ByteRange, Bytes, ElemId, Name, Stamp, TextId};
 
 /// The stamps of the edit that adds the text, and of others.
@@ -80,27 +81,39 @@ fn first_byte() -> ByteRange
     }
 }
 
-/// Takes an edit with each growth refused in turn, up to the call that meets none. Whether that one takes it, and each other answers
-/// Memory and leaves the texts.
+/// Makes a call with each growth refused in turn, up to the one that meets none. Whether that one passes, and each other leaves the texts.
 macro_rules! sweep {
-    ($alloc:ident, $texts:ident = $begun:expr, $stamp:expr, $op:expr, $whole:expr, $kept:expr) => {{
+    ($alloc:ident, $texts:ident = $begun:expr, $call:expr, $whole:expr, $kept:expr) => {{
         for nth in 1..=MOST {
             let mut $texts = $begun;
-            let edit = Edit {
-                stamp: $stamp,
-                op: $op,
-            };
-            check($alloc, &edit)?;
             refuse($alloc, nth);
-            let answer = $texts.take($alloc, &edit);
+            let answer = $call;
             if !was_refused($alloc) {
                 return Ok(answer.is_ok() && $whole);
             }
-            if answer != Err(TextsError::Memory) || !$kept {
+            if answer.is_ok() || !$kept {
                 return Ok(false);
             }
         }
         Ok(false)
+    }};
+}
+
+/// Takes an edit so.
+macro_rules! sweep_edit {
+    ($alloc:ident, $texts:ident = $begun:expr, $stamp:expr, $op:expr, $whole:expr, $kept:expr) => {{
+        let edit = Edit {
+            stamp: $stamp,
+            op: $op,
+        };
+        check($alloc, &edit)?;
+        sweep!(
+            $alloc,
+            $texts = $begun,
+            $texts.take($alloc, &edit),
+            $whole,
+            $kept
+        )
     }};
 }
 
@@ -135,12 +148,18 @@ fn readers_take_no_memory_refused(rt: HostRuntime) -> Result<(), Fail> {
     Ok(())
 }
 
+/// The texts of a world.
 fn sweep_world(alloc: Global) -> Result<bool, Fail> {
+    let edit = Edit {
+        stamp: Stamp::GENESIS,
+        op: Op::Genesis(world(alloc)?),
+    };
+    check(alloc, &edit)?;
+    let made = made_by(alloc, &edit)?;
     sweep!(
         alloc,
         texts = begun(alloc)?,
-        Stamp::GENESIS,
-        Op::Genesis(world(alloc)?),
+        texts.open(alloc, &edit, made.texts.as_slice()),
         texts.count() == 2,
         (texts.count() == 1)
     )
@@ -148,7 +167,7 @@ fn sweep_world(alloc: Global) -> Result<bool, Fail> {
 
 /// A first text.
 fn sweep_addition(alloc: Global) -> Result<bool, Fail> {
-    sweep!(
+    sweep_edit!(
         alloc,
         texts = LiveTexts::new(alloc),
         MADE,
@@ -160,7 +179,7 @@ fn sweep_addition(alloc: Global) -> Result<bool, Fail> {
 
 /// A first insertion.
 fn sweep_insertion(alloc: Global) -> Result<bool, Fail> {
-    sweep!(
+    sweep_edit!(
         alloc,
         texts = begun(alloc)?,
         SECOND,
@@ -172,7 +191,7 @@ fn sweep_insertion(alloc: Global) -> Result<bool, Fail> {
 
 /// A deletion in a text without a run.
 fn sweep_deletion(alloc: Global) -> Result<bool, Fail> {
-    sweep!(
+    sweep_edit!(
         alloc,
         texts = begun(alloc)?,
         LAST,

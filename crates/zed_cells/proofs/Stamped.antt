@@ -7,7 +7,8 @@ use Rattle.zed_types.specs.declared.written.Written.{Written}
 use Rattle.zed_types.specs.Stamp.{before}
 use Rattle.zed_types.specs.Table.{map_from}
 use Rattle.zed_types.proofs.StampOrder.{before_irrefl}
-use Rattle.zed_cells.specs.Writes.{written_at, later}
+use Rattle.zed_types.specs.Register.{written_at}
+use Rattle.zed_cells.specs.Writes.{later}
 use Rattle.zed_cells.specs.Cells.{with_stamps, tiles_of, keep_where}
 
 -- the tiles are what they were

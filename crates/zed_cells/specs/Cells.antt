@@ -5,9 +5,9 @@ use Rattle.zed_types.specs.declared.stamp.Stamp.{Stamp}
 use Rattle.zed_types.specs.declared.tile.Tile.{Tile}
 use Rattle.zed_types.specs.declared.tile.Rectangle.{Rectangle}
 use Rattle.zed_types.specs.declared.written.Written.{Written}
-use Rattle.zed_types.specs.Register.{latest_of}
+use Rattle.zed_types.specs.Register.{latest_of, written_at}
 use Rattle.zed_types.specs.Table.{is_inside, place_at, map_from}
-use Rattle.zed_cells.specs.Writes.{written_at, later}
+use Rattle.zed_cells.specs.Writes.{later}
 
 -- tiles, each with the stamp beside it
 abbrev pub with_stamps : List Tile → List Stamp → List (Written Tile)

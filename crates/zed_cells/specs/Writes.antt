@@ -1,13 +1,8 @@
 -- Registers that take writes as they come: the later one stays.
 use Rattle.std.specs.Prelude.{ℕ, if◌then◌else◌, List, slice_set, slice_index_or, Option, None}
-use Rattle.zed_types.specs.declared.stamp.Stamp.{Stamp}
 use Rattle.zed_types.specs.declared.written.Written.{Written}
 use Rattle.zed_types.specs.Stamp.{before}
 use Rattle.zed_types.specs.Register.{keep_later}
-
--- a value with the stamp of its write
-abbrev pub written_at : {V : Type 0} → Stamp → V → Written V
-written_at s v = record { stamp = s; value = v }
 
 -- the later of two writes; of two with one stamp the first
 abbrev pub later : {V : Type 0} → Written V → Written V → Written V

@@ -3,7 +3,7 @@
 ghost use Rattle.std.specs.Prelude.{◌≡◌, ◌≤◌, ◌<◌, ◌+◌, ◌&&◌, ◌==◌, nat_le, nat_lt, IsTrue, IfOk, length, map, replicate, slice_get, Some};
 ghost use Rattle.zed_types.specs.Table.{index_of};
 ghost use Rattle.zed_types.specs.declared.tile.TheConstants.{TILES};
-ghost use Rattle.zed_cells.specs.Writes.{written_at};
+ghost use Rattle.zed_types.specs.Register.{written_at};
 ghost use Rattle.zed_types.specs.Table.{is_in_table};
 ghost use Rattle.zed_cells.specs.Cells.{with_stamps, tiles_of, keep_where, set_cells};
 

@@ -2,7 +2,7 @@
 ghost use Rattle.std.specs.Prelude.{◌≡◌};
 ghost use Rattle.zed_cells.specs.declared.error.CellsError.TheVariants.{Memory};
 
-use std::alloc::AllocFailed;
+use std::alloc::{AllocError, AllocFailed};
 use thiserror::Error;
 
 /// Why registers can't be made.
@@ -18,5 +18,12 @@ impl<T: Drop> From<AllocFailed<T>> for CellsError {
 
     fn from(_error: AllocFailed<T>) -> CellsError {
         CellsError::Memory
+    }
+}
+
+/// A growth that was refused is all that can be wrong.
+impl From<CellsError> for AllocError {
+    fn from(_error: CellsError) -> AllocError {
+        AllocError
     }
 }

@@ -18,10 +18,6 @@ abbrev pub StandsAfter : Option ElemId → Stamp → List TextByte → Type 0
 StandsAfter None s xs = Unit {0}
 StandsAfter (Some a) s xs = (before a.name.stamp s ≡ true) × (list_any (λ x. same_element x.id a) xs ≡ true)
 
--- the stamp of the edit that makes the world
-abbrev pub genesis : Stamp
-genesis = record { time = 1; replica = 0 }
-
 -- bytes from..to, both included, of the edit `s`
 abbrev pub bytes_from : Stamp → ℕ → ℕ → ByteRange
 bytes_from s from to = record { stamp = s; first = from; last = to }

@@ -28,3 +28,10 @@ impl<T: Drop> From<AllocFailed<T>> for CodeError {
         CodeError::Memory
     }
 }
+
+/// A growth that was refused is all that can be wrong.
+impl From<CodeError> for AllocError {
+    fn from(_error: CodeError) -> AllocError {
+        AllocError
+    }
+}

@@ -3,10 +3,10 @@
 ghost use Rattle.std.specs.Prelude.{◌≡◌, ◌↔◌, IsTrue, ◌<◌, ◌≤◌, ◌+◌, ◌++◌, ◌^◌, vec_len, vec_capacity, length, [], false, true, map, OnOk, OnErr, IfOk, IfErr, Some, None, MatchOption, slice_get};
 ghost use Rattle.std.specs.List.{AllByRecursion, filter, list_any};
 ghost use Rattle.zed_types.specs.declared.limits.TheConstants.{READ_BODY_LIMIT};
-ghost use Rattle.zed_types.specs.Stamp.{before, same_stamp};
+ghost use Rattle.zed_types.specs.Stamp.{before, genesis_stamp, same_stamp};
 ghost use Rattle.zed_types.specs.Names.{same_element};
 ghost use Rattle.zed_types.specs.Text.{run_from, put_late, kill, alive_bytes};
-ghost use Rattle.zed_code.specs.Text.{elements, StandsAfter, IsNewStamp, HasMore, alive_names, bytes_from, genesis};
+ghost use Rattle.zed_code.specs.Text.{elements, StandsAfter, IsNewStamp, HasMore, alive_names, bytes_from};
 ghost use Rattle.zed_code.specs.Runs.{if_any, whole};
 ghost use Rattle.zed_code.specs.Blocks.{lists, runs_of, NoneEmpty};
 ghost use Rattle.zed_code.specs.Looks.{looks_to_insert, looks_to_delete};
@@ -59,7 +59,7 @@ impl Model for Text {
 
 /// The blocks of a text that is made with so many bytes.
 fn first_blocks(alloc: Global, len: u32) -> Result<Vec<Block>, CodeError>
-    ensures runs { IfOk result (λ blocks. runs_of blocks.items ≡ if_any (whole genesis 0 len)) }
+    ensures runs { IfOk result (λ blocks. runs_of blocks.items ≡ if_any (whole genesis_stamp 0 len)) }
     ensures full { IfOk result (λ blocks. NoneEmpty (lists blocks.items)) }
 {
     let mut blocks = Vec::new(alloc);
@@ -90,7 +90,7 @@ impl Text {
     /// A text of the edit that makes the world: its bytes, numbered from 0. One without bytes takes no memory.
     pub fn genesis(alloc: Global, bytes: &[u8]) -> Result<Text, CodeError>
         requires { length bytes.now ≤ READ_BODY_LIMIT }
-        ensures ok { IfOk result (λ t. elements t ≡ run_from genesis 0 bytes.now) }
+        ensures ok { IfOk result (λ t. elements t ≡ run_from genesis_stamp 0 bytes.now) }
         ensures runs { IfOk result (λ t. length t.cutting ≤ 1) }
         ensures visits { IfOk result (λ t. t.visits ≡ 0) }
         ensures memory_only_when { OnErr result (0 < length bytes.now) }

@@ -134,9 +134,6 @@ tried_done e b c old d all hand others h =
     (λ x k. or_more (others x) (list_any (λ f. makes f x) old) (list_any (λ f. makes f x) (old ++ e ∷ [])) (any-more (λ f. makes f x) old (e ∷ [])) k)
     (λ x k. ap (λ v. others x || v) (any-last (λ f. makes f x) old e k) ∙ or-last (others x))
 
-pub tried_held : (e : Edit) (b c : Body) (old : List Edit) → IsHeldBack e b c → IsTried e b old c old
-tried_held e b c old d all hand others h = d all hand (awaited others old) h
-
 pub first_in_hand : (e : Edit) (rest : List Edit) (done : List Edit) (b : Body) → AreInHand (e ∷ rest) done b → IsInHand e b
 first_in_hand e rest done b h = (h.0, rest, awaited h.1 done, h.2)
 

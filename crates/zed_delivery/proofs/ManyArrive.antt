@@ -16,9 +16,8 @@ use Rattle.zed_texts.specs.Shows.{NoneIsEmpty as TextsNone, TextsShow}
 use Rattle.zed_texts.specs.Texts.{Texts, elements_of}
 use Rattle.zed_delivery.specs.declared.body.Body.{Body}
 use Rattle.zed_delivery.specs.Counts.{HaveFew}
-use Rattle.zed_delivery.specs.Shows.{BodyShows}
-use Rattle.zed_delivery.specs.Taking.{IsEmpty, IsApart, ComesTo, IsNewTo, ShowsOneMore}
-use Rattle.zed_delivery.specs.TakingAll.{AreApart, AllComeTo, AreNewTo, ShowsAll, ComeOneByOne, EmptyShowsNone, RisingAreApart}
+use Rattle.zed_delivery.specs.Taking.{IsEmpty, IsApart, ComesTo, ShowsOneMore}
+use Rattle.zed_delivery.specs.TakingAll.{AreApart, AllComeTo, ComeOneByOne, EmptyShowsNone, RisingAreApart}
 use Rattle.zed_delivery.proofs.Members.{all-members}
 use Rattle.zed_delivery.proofs.Stirring.{few_of_none}
 
@@ -46,14 +45,8 @@ apart-none (e ∷ es) = (tt, apart-none es)
 
 -- ---- one after the other
 
-pub come_at_first : (more : List Edit) (b : Body) → ComeOneByOne more b more b
-come_at_first more b es k = (es, k, refl)
-
 first-comes : (e : Edit) (rest es : List Edit) (b : Body) → AllComeTo (e ∷ rest) es b → ComesTo e es b
 first-comes e rest es b k = record { rising = k.rising; fit = k.fit; shows = k.shows; apart = k.apart.0 }
-
-pub next_is_new : (more : List Edit) (b : Body) (e : Edit) (rest : List Edit) (c : Body) → AreNewTo more b → ComeOneByOne more b (e ∷ rest) c → IsNewTo e c
-next_is_new more b e rest c h come = let k = come h.0 h.1 in (k.0, first-comes e rest k.0 c k.1)
 
 pub one_more_came : (more : List Edit) (b : Body) (e : Edit) (rest : List Edit) (c d : Body) → Fits e → ComeOneByOne more b (e ∷ rest) c → ShowsOneMore e c d → ComeOneByOne more b rest d
 one_more_came more b e rest c d fits come shows es h =
@@ -74,9 +67,6 @@ pub rest_fits : (i : ℕ) (es : List Edit) → AllFit es → AllFit (drop i es)
 rest_fits zero es a = a
 rest_fits (suc i) [] a = tt
 rest_fits (suc i) (e ∷ es) a = rest_fits i es a.1
-
-pub all_came : (more : List Edit) (b c : Body) → ComeOneByOne more b [] c → ShowsAll more b c
-all_came more b c come es h = let k = come es h in subst (λ xs. BodyShows xs c) k.2 k.1.shows
 
 -- ---- from no edit on
 

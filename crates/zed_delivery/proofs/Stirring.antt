@@ -1,5 +1,5 @@
 -- How the runs of texts grow as edits are put in, and how their counts rise.
-use Rattle.std.proofs.Common.{◌≡◌, ◌∙◌, ℕ, ◌≤◌, ◌+◌, Bool, true, false, cond, List, [], ◌∷◌, length, count_by, Option, Some, None, refl, ap, sym, subst, arith}
+use Rattle.std.proofs.Common.{◌≡◌, ◌∙◌, ℕ, ◌≤◌, ◌+◌, Bool, true, false, cond, List, [], ◌∷◌, length, count_by, Option, Some, None, ap, sym, subst, arith}
 use Rattle.std.proofs.lemmas.List.Sums.{sum_by-cons}
 use mathlib.Core.Logic.{inl, inr}
 use Rattle.zed_types.specs.Stamp.{before, same_stamp}
@@ -88,17 +88,11 @@ grown_falls_not changed es xs ys few grow t = go (changed t) (text_in t xs) (tex
 
 -- ---- a cascade
 
-pub stirs_none : (b c : Body) → c ≡ b → Stirs 0 b c
-stirs_none b c h = subst (Stirs 0 b) (sym h) (record { none_falls = λ t. less-itself (text_in t b.texts); fewer = inl (refl, omega arith) })
-
 pub stirs_done : (e : Edit) (b c : Body) → IsInHand e b → AllGrow (λ t. changes_text t e.op) b.texts c.texts → c.inbox ≡ b.inbox → Stirs 1 b c
 stirs_done e b c hand grow same = record {
   none_falls = grown_falls_not (λ t. changes_text t e.op) hand.3.0 b.texts c.texts hand.3.1.few grow;
   fewer = inr (let n = ap length same in omega (arith, n));
 }
-
-pub stirs_held : (b c : Body) → c.texts ≡ b.texts → length c.inbox ≤ length b.inbox + 1 → Stirs 1 b c
-stirs_held b c same few = record { none_falls = none_falls-itself b.texts c.texts same; fewer = inl (same, few) }
 
 pub stirs_on : (n m : ℕ) (b c d : Body) → Stirs n b c → Stirs m c d → Stirs (n + m) b d
 stirs_on n m b c d s t = record {

@@ -1,8 +1,7 @@
 -- What waits for things is tried.
-use Rattle.std.proofs.Common.{◌≡◌, ◌∙◌, Bool, true, false, ◌||◌, List, [], ◌∷◌, ◌++◌, length, refl, ap, sym, subst}
+use Rattle.std.proofs.Common.{◌≡◌, ◌∙◌, Bool, true, false, ◌||◌, List, [], ◌∷◌, ◌++◌, refl, ap, sym}
 use Rattle.std.specs.List.{list_any}
 use Rattle.std.proofs.lemmas.List.Folds.{list_any-append}
-use Rattle.zed_types.proofs.Facts.{none_of_length}
 use mathlib.Core.Logic.{◌⊎◌, inl, inr}
 use Rattle.zed_op.specs.declared.op.Edit.{Edit}
 use Rattle.zed_op.specs.declared.thing.Thing.{Thing}
@@ -40,9 +39,6 @@ still_halfway all done waits hand before after wait h = record {
 -- more things may be to come, and any where none waits
 pub more_to_come : (all done waits hand : List Edit) (before after : Thing → Bool) → ((x : Thing) → before x ≡ true → after x ≡ true) → IsHalfway all done waits hand before → IsHalfway all done waits hand after
 more_to_come all done waits hand before after more h = still_halfway all done waits hand before after (λ e m. elim (h.waiting e m) [ inl c ↦ inl c | inr a ↦ inr (a.0, a.1, more a.0 a.2) ]) h
-
-none_waits : (all done hand : List Edit) (before after : Thing → Bool) → IsHalfway all done [] hand before → IsHalfway all done [] hand after
-none_waits all done hand before after h = still_halfway all done [] hand before after (λ e m. absurd m) h
 
 pub body_more : (all hand : List Edit) (before after : Thing → Bool) (b : Body) → ((x : Thing) → before x ≡ true → after x ≡ true) → IsBodyHalfway all hand before b → IsBodyHalfway all hand after b
 body_more all hand before after b more h = (h.0, h.1, more_to_come all h.0 b.inbox hand before after more h.2)
@@ -103,10 +99,3 @@ is_followed e old new b c w all others h =
     body_more all [] (awaited (or_among others []) new) (awaited others new) c
     (λ x k. none_left (others x) (list_any (λ f. makes f x) new) k)
     (w all others (body_more all [] (awaited others (old ++ e ∷ [])) (awaited (or_among others things) old) b (made_now e old others) h))
-
-pub none_follows : (e : Edit) (old : List Edit) (b : Body) → length b.inbox ≡ 0 → IsFollowed e b old b old
-none_follows e old b none all others h =
-    let empty = none_of_length b.inbox none in
-    let P : List Edit → Type 0 = λ w. IsHalfway all h.0 w [] (awaited others (old ++ e ∷ [])) in
-    let Q : List Edit → Type 0 = λ w. IsHalfway all h.0 w [] (awaited others old) in
-    (h.0, h.1, subst Q (sym empty) (none_waits all h.0 [] (awaited others (old ++ e ∷ [])) (awaited others old) (subst P empty h.2)))

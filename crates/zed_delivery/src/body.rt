@@ -1,5 +1,5 @@
 //! The live parts of a document, and the edits that wait.
-ghost use Rattle.std.specs.Prelude.{◌≡◌, ◌≤◌, ◌+◌, ◌∷◌, ◌++◌, [], length, true, false, IfOk, IfErr, OnOk, OnErr};
+ghost use Rattle.std.specs.Prelude.{◌≡◌, ◌≤◌, ◌+◌, ◌∷◌, ◌++◌, [], length, true, false, IfOk, OnOk, OnErr};
 ghost use Rattle.zed_op.specs.Fit.{Fits};
 ghost use Rattle.zed_op.specs.Set.{AllFit};
 ghost use Rattle.zed_texts.specs.Texts.{elements_of, IsReady};
@@ -9,13 +9,13 @@ ghost use Rattle.zed_delivery.specs.Things.{has_thing as is_made, can_do, IsPutI
 ghost use Rattle.zed_delivery.specs.Counts.{AreWorkedBy};
 ghost use Rattle.zed_delivery.specs.Stirring.{Stirs};
 
-use crate::error::BodyError;
 use crate::laws::bodies_begin_and_end;
 use crate::things::has_thing;
-use std::alloc::Global;
+use std::alloc::{AllocError, Global};
+use zed_edit::made_by;
 use zed_inbox::Inbox;
 use zed_live::{LiveDocument, document_shows_its_edits};
-use zed_op::{Edit, Thing, all_named, edit_has_sizes};
+use zed_op::{Edit, Op, Thing, all_named, edit_has_sizes};
 use zed_texts::{LiveTexts, texts_show_their_edits};
 
 /// A header, boards and texts, each with what the edits done make of them, and the edits that wait for what isn't made yet.
@@ -26,9 +26,8 @@ pub struct Body {
     pub inbox: Inbox,
 }
 
-fn add(edits: &mut Vec<Edit>, edit: Edit) -> Result<(), BodyError>
+fn add(edits: &mut Vec<Edit>, edit: Edit) -> Result<(), AllocError>
     ensures ok { OnOk result (edits.new.items ≡ edits.old.items ++ edit ∷ []) }
-    ensures err { IfErr result (λ e. e ≡ BodyError.Memory) }
 {
     edits.push(edit)?;
     Ok(())
@@ -63,25 +62,31 @@ impl Body {
     }
 
     /// Puts an edit in that can be done, whenever it comes. On Memory a part of it may be in.
-    pub(crate) fn put_in(&mut self, alloc: Global, edit: &Edit) -> Result<(), BodyError>
+    pub(crate) fn put_in(&mut self, alloc: Global, edit: &Edit) -> Result<(), AllocError>
         requires fits { Fits edit.now }
         requires ready { IsReady edit.now.stamp edit.now.op (elements_of self.old.texts) }
         ensures ok { OnOk result
             (IsPutIn edit.now self.old.live self.old.texts self.new.live self.new.texts) }
-        ensures err { IfErr result (λ e. e ≡ BodyError.Memory) }
         ensures inbox { self.new.inbox ≡ self.old.inbox }
     {
-        self.live.take(alloc, edit)?;
-        self.texts.take(alloc, edit)?;
-        Ok(())
+        match &edit.op {
+            Op::Genesis(_) => {
+                let world = made_by(alloc, edit)?;
+                self.texts.open(alloc, edit, world.texts.as_slice())?;
+                self.live.open(alloc, edit, world)
+            }
+            _ => {
+                self.live.take(alloc, edit)?;
+                self.texts.take(alloc, edit)
+            }
+        }
     }
 
     /// Does an edit in hand that can be done.
-    pub(crate) fn do_one(&mut self, alloc: Global, edit: &Edit) -> Result<(), BodyError>
+    pub(crate) fn do_one(&mut self, alloc: Global, edit: &Edit) -> Result<(), AllocError>
         requires hand { IsInHand edit.now self.old }
         requires can { can_do self.old.live.boards self.old.texts edit.now ≡ true }
         ensures ok { OnOk result (IsDone edit.now self.old self.new) }
-        ensures err { IfErr result (λ e. e ≡ BodyError.Memory) }
         ensures inbox { self.new.inbox ≡ self.old.inbox }
         ensures runs { OnOk result (AreWorkedBy edit.now self.old.texts self.new.texts) }
     {
@@ -94,10 +99,9 @@ impl Body {
     }
 
     /// Holds an edit in hand that can't be done. Memory leaves the body as it was.
-    pub(crate) fn hold_one(&mut self, edit: Edit) -> Result<(), BodyError>
+    pub(crate) fn hold_one(&mut self, edit: Edit) -> Result<(), AllocError>
         requires { can_do self.old.live.boards self.old.texts edit ≡ false }
         ensures ok { OnOk result (IsHeldBack edit self.old self.new) }
-        ensures err { IfErr result (λ e. e ≡ BodyError.Memory) }
         ensures few { OnOk result (length self.new.inbox ≤ length self.old.inbox + 1) }
         ensures texts { self.new.texts ≡ self.old.texts }
         ensures kept { OnErr result (self.new ≡ self.old) }
@@ -112,12 +116,11 @@ impl Body {
         alloc: Global,
         done: &mut Vec<Edit>,
         edit: Edit,
-    ) -> Result<(), BodyError>
+    ) -> Result<(), AllocError>
         requires hand { IsInHand edit self.old }
         requires can { can_do self.old.live.boards self.old.texts edit ≡ true }
         ensures ok { OnOk result
             (IsTried edit self.old done.old.items self.new done.new.items) }
-        ensures err { IfErr result (λ e. e ≡ BodyError.Memory) }
         ensures fits { OnOk result (AllFit done.old.items → AllFit done.new.items) }
         ensures one { OnOk result (length done.new.items ≡ length done.old.items + 1) }
         ensures inbox { self.new.inbox ≡ self.old.inbox }
@@ -134,11 +137,10 @@ impl Body {
         alloc: Global,
         done: &mut Vec<Edit>,
         edit: Edit,
-    ) -> Result<(), BodyError>
+    ) -> Result<(), AllocError>
         requires { IsInHand edit self.old }
         ensures ok { OnOk result
             (IsTried edit self.old done.old.items self.new done.new.items) }
-        ensures err { IfErr result (λ e. e ≡ BodyError.Memory) }
         ensures fits { OnOk result (AllFit done.old.items → AllFit done.new.items) }
         ensures few { OnOk result (length self.new.inbox + length done.new.items
             ≤ length self.old.inbox + (length done.old.items + 1)) }
@@ -153,9 +155,8 @@ impl Body {
     }
 
     /// Takes the edits that wait for a thing in hand. Memory leaves the body as it was.
-    pub(crate) fn release(&mut self, thing: Thing) -> Result<Vec<Edit>, BodyError>
+    pub(crate) fn release(&mut self, thing: Thing) -> Result<Vec<Edit>, AllocError>
         ensures ok { IfOk result (λ edits. IsReleased thing edits.items self.old self.new) }
-        ensures err { IfErr result (λ e. e ≡ BodyError.Memory) }
         ensures few { IfOk result (λ edits.
             length edits.items + length self.new.inbox ≡ length self.old.inbox) }
         ensures texts { self.new.texts ≡ self.old.texts }
@@ -171,11 +172,10 @@ impl Body {
         alloc: Global,
         done: &mut Vec<Edit>,
         edits: Vec<Edit>,
-    ) -> Result<(), BodyError>
+    ) -> Result<(), AllocError>
         requires { AreInHand edits.items done.old.items self.old }
         ensures ok { OnOk result
             (AreTried edits.items self.old done.old.items [] self.new done.new.items) }
-        ensures err { IfErr result (λ e. e ≡ BodyError.Memory) }
         ensures fits { OnOk result (AllFit done.old.items → AllFit done.new.items) }
         ensures few { OnOk result (length self.new.inbox + length done.new.items
             ≤ length self.old.inbox + (length done.old.items + length edits.items)) }

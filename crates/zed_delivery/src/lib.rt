@@ -2,7 +2,6 @@
 #![tactic(auto)]
 
 mod body;
-mod error;
 mod laws;
 mod made;
 mod settle;
@@ -12,7 +11,6 @@ mod things;
 mod wake;
 
 pub use body::Body;
-pub use error::BodyError;
 pub use laws::{
     bodies_begin_and_end, bodies_have_what_is_made, calm_edits_hold_the_same, cascades_settle,
     empty_bodies_show_none, rising_edits_are_apart,

@@ -1,5 +1,5 @@
 //! The things that an edit makes, in a list.
-ghost use Rattle.std.specs.Prelude.{◌≡◌, ◌∷◌, ◌++◌, [], ◌<◌, ◌^◌, map, length, IfOk, IfErr, OnOk};
+ghost use Rattle.std.specs.Prelude.{◌≡◌, ◌∷◌, ◌++◌, [], ◌<◌, ◌^◌, map, length, IfOk, OnOk};
 ghost use Rattle.zed_types.specs.Text.{run_from};
 ghost use Rattle.zed_op.specs.Fit.{Fits};
 ghost use Rattle.zed_op.specs.Names.{names_of};
@@ -7,23 +7,20 @@ ghost use Rattle.zed_delivery.specs.Made.{board_thing, text_thing, stat_things, 
 ghost use Rattle.zed_laws.specs.Winners.{made_boards};
 ghost use Rattle.zed_laws.specs.Making.{made_texts};
 
-use crate::error::BodyError;
-use std::alloc::Global;
-use zed_edit::{Board, Plain, Stat, Text, step};
+use std::alloc::{AllocError, Global};
+use zed_edit::{Board, Plain, Stat, Text, made_by};
 use zed_op::{Edit, Op, Thing};
 use zed_types::{ElemId, Stamp, StatId, TextByte, TextId};
 
-fn add(things: &mut Vec<Thing>, thing: Thing) -> Result<(), BodyError>
+fn add(things: &mut Vec<Thing>, thing: Thing) -> Result<(), AllocError>
     ensures ok { OnOk result (things.new.items ≡ things.old.items ++ thing ∷ []) }
-    ensures err { IfErr result (λ e. e ≡ BodyError.Memory) }
 {
     things.push(thing)?;
     Ok(())
 }
 
-fn add_boards(things: &mut Vec<Thing>, boards: &[Board]) -> Result<(), BodyError>
+fn add_boards(things: &mut Vec<Thing>, boards: &[Board]) -> Result<(), AllocError>
     ensures ok { OnOk result (things.new.items ≡ things.old.items ++ map board_thing boards.now) }
-    ensures err { IfErr result (λ e. e ≡ BodyError.Memory) }
 {
     for board in boards {
         add(things, Thing::Board(board.id))?;
@@ -31,9 +28,8 @@ fn add_boards(things: &mut Vec<Thing>, boards: &[Board]) -> Result<(), BodyError
     Ok(())
 }
 
-fn add_stats(things: &mut Vec<Thing>, stats: &[Stat]) -> Result<(), BodyError>
+fn add_stats(things: &mut Vec<Thing>, stats: &[Stat]) -> Result<(), AllocError>
     ensures ok { OnOk result (things.new.items ≡ things.old.items ++ stat_things stats.now) }
-    ensures err { IfErr result (λ e. e ≡ BodyError.Memory) }
 {
     for stat in stats {
         add(things, Thing::Stat(stat.id))?;
@@ -41,9 +37,8 @@ fn add_stats(things: &mut Vec<Thing>, stats: &[Stat]) -> Result<(), BodyError>
     Ok(())
 }
 
-fn add_all_stats(things: &mut Vec<Thing>, boards: &[Board]) -> Result<(), BodyError>
+fn add_all_stats(things: &mut Vec<Thing>, boards: &[Board]) -> Result<(), AllocError>
     ensures ok { OnOk result (things.new.items ≡ things.old.items ++ all_stat_things boards.now) }
-    ensures err { IfErr result (λ e. e ≡ BodyError.Memory) }
 {
     for board in boards {
         add_stats(things, board.stats.as_slice())?;
@@ -51,9 +46,8 @@ fn add_all_stats(things: &mut Vec<Thing>, boards: &[Board]) -> Result<(), BodyEr
     Ok(())
 }
 
-fn add_texts(things: &mut Vec<Thing>, texts: &[Text]) -> Result<(), BodyError>
+fn add_texts(things: &mut Vec<Thing>, texts: &[Text]) -> Result<(), AllocError>
     ensures ok { OnOk result (things.new.items ≡ things.old.items ++ map text_thing texts.now) }
-    ensures err { IfErr result (λ e. e ≡ BodyError.Memory) }
 {
     for text in texts {
         add(things, Thing::Text(text.id))?;
@@ -61,9 +55,8 @@ fn add_texts(things: &mut Vec<Thing>, texts: &[Text]) -> Result<(), BodyError>
     Ok(())
 }
 
-fn add_bytes(things: &mut Vec<Thing>, text: TextId, elements: &[TextByte]) -> Result<(), BodyError>
+fn add_bytes(things: &mut Vec<Thing>, text: TextId, elements: &[TextByte]) -> Result<(), AllocError>
     ensures ok { OnOk result (things.new.items ≡ things.old.items ++ byte_things text elements.now) }
-    ensures err { IfErr result (λ e. e ≡ BodyError.Memory) }
 {
     for element in elements {
         add(things, Thing::Element(text, element.id))?;
@@ -71,9 +64,8 @@ fn add_bytes(things: &mut Vec<Thing>, text: TextId, elements: &[TextByte]) -> Re
     Ok(())
 }
 
-fn add_all_bytes(things: &mut Vec<Thing>, texts: &[Text]) -> Result<(), BodyError>
+fn add_all_bytes(things: &mut Vec<Thing>, texts: &[Text]) -> Result<(), AllocError>
     ensures ok { OnOk result (things.new.items ≡ things.old.items ++ all_byte_things texts.now) }
-    ensures err { IfErr result (λ e. e ≡ BodyError.Memory) }
 {
     for text in texts {
         add_bytes(things, text.id, text.elements.as_slice())?;
@@ -82,9 +74,8 @@ fn add_all_bytes(things: &mut Vec<Thing>, texts: &[Text]) -> Result<(), BodyErro
 }
 
 /// The things of a document.
-fn all_of(alloc: Global, plain: &Plain) -> Result<Vec<Thing>, BodyError>
+fn all_of(alloc: Global, plain: &Plain) -> Result<Vec<Thing>, AllocError>
     ensures ok { IfOk result (λ things. things.items ≡ things_in plain.now.boards plain.now.texts) }
-    ensures err { IfErr result (λ e. e ≡ BodyError.Memory) }
 {
     let mut things = Vec::new(alloc);
     add_boards(&mut things, plain.boards.as_slice())?;
@@ -95,15 +86,13 @@ fn all_of(alloc: Global, plain: &Plain) -> Result<Vec<Thing>, BodyError>
 }
 
 /// The things that an edit makes that names nothing.
-fn made_alone(alloc: Global, edit: &Edit) -> Result<Vec<Thing>, BodyError>
+fn made_alone(alloc: Global, edit: &Edit) -> Result<Vec<Thing>, AllocError>
     requires fits { Fits edit.now }
     requires alone { names_of edit.now.op ≡ [] }
     ensures ok { IfOk result (λ things.
         things.items ≡ things_in (made_boards edit.now.stamp edit.now.op) (made_texts edit.now.stamp edit.now.op)) }
-    ensures err { IfErr result (λ e. e ≡ BodyError.Memory) }
 {
-    let mut made = Plain::empty(alloc);
-    step(alloc, &mut made, edit)?;
+    let made = made_by(alloc, edit)?;
     all_of(alloc, &made)
 }
 
@@ -113,10 +102,9 @@ fn inserted(
     stamp: Stamp,
     text: TextId,
     bytes: &[u8],
-) -> Result<Vec<Thing>, BodyError>
+) -> Result<Vec<Thing>, AllocError>
     requires { length bytes.now < 2 ^ 32 }
     ensures ok { IfOk result (λ things. things.items ≡ byte_things text (run_from stamp 0 bytes.now)) }
-    ensures err { IfErr result (λ e. e ≡ BodyError.Memory) }
 {
     let mut things = Vec::new(alloc);
     for (i, _) in bytes.iter().enumerate() {
@@ -128,9 +116,8 @@ fn inserted(
     Ok(things)
 }
 
-fn one(alloc: Global, thing: Thing) -> Result<Vec<Thing>, BodyError>
+fn one(alloc: Global, thing: Thing) -> Result<Vec<Thing>, AllocError>
     ensures ok { IfOk result (λ things. things.items ≡ thing ∷ []) }
-    ensures err { IfErr result (λ e. e ≡ BodyError.Memory) }
 {
     let mut things = Vec::new(alloc);
     add(&mut things, thing)?;
@@ -138,10 +125,9 @@ fn one(alloc: Global, thing: Thing) -> Result<Vec<Thing>, BodyError>
 }
 
 /// The things that an edit makes where it is done.
-pub(crate) fn things_of(alloc: Global, edit: &Edit) -> Result<Vec<Thing>, BodyError>
+pub(crate) fn things_of(alloc: Global, edit: &Edit) -> Result<Vec<Thing>, AllocError>
     requires { Fits edit.now }
     ensures ok { IfOk result (λ things. things.items ≡ things_made edit.now.stamp edit.now.op) }
-    ensures err { IfErr result (λ e. e ≡ BodyError.Memory) }
 {
     match &edit.op {
         Op::Genesis(_) | Op::BoardAdd(_) | Op::TextAdd => made_alone(alloc, edit),

@@ -1,5 +1,5 @@
 //! A cascade: what an edit that is done wakes, what that wakes, and so on, until nothing is left to wake.
-ghost use Rattle.std.specs.Prelude.{◌≡◌, ◌≤◌, ◌+◌, ◌∷◌, ◌++◌, [], length, IfErr, OnOk};
+ghost use Rattle.std.specs.Prelude.{◌≡◌, ◌≤◌, ◌+◌, ◌∷◌, ◌++◌, [], length, OnOk};
 ghost use Rattle.zed_op.specs.Fit.{Fits};
 ghost use Rattle.zed_op.specs.Set.{AllFit};
 ghost use Rattle.zed_delivery.specs.Steps.{AreInHand};
@@ -8,14 +8,11 @@ ghost use Rattle.zed_delivery.specs.Settling.{AreSettled};
 ghost use Rattle.zed_delivery.specs.Stirring.{Stirs};
 
 use crate::body::Body;
-use crate::error::BodyError;
-use std::alloc::Global;
+use std::alloc::{AllocError, Global};
 use zed_op::Edit;
 use zed_types::Stamp;
 
-fn tell(woken: &mut Vec<Stamp>, stamp: Stamp) -> Result<(), BodyError>
-    ensures err { IfErr result (λ e. e ≡ BodyError.Memory) }
-{
+fn tell(woken: &mut Vec<Stamp>, stamp: Stamp) -> Result<(), AllocError> {
     woken.push(stamp)?;
     Ok(())
 }
@@ -27,11 +24,10 @@ impl Body {
         alloc: Global,
         rest: &mut Vec<Edit>,
         edit: Edit,
-    ) -> Result<(), BodyError>
+    ) -> Result<(), AllocError>
         requires fits { Fits edit }
         requires last { AreInHand [] (rest.old.items ++ edit ∷ []) self.old }
         ensures ok { OnOk result (IsFollowed edit self.old rest.old.items self.new rest.new.items) }
-        ensures err { IfErr result (λ e. e ≡ BodyError.Memory) }
         ensures fits { OnOk result (AllFit rest.old.items → AllFit rest.new.items) }
         ensures few { OnOk result (length self.new.inbox + length rest.new.items
             ≤ length self.old.inbox + (length rest.old.items)) }
@@ -47,11 +43,10 @@ impl Body {
         alloc: Global,
         done: Vec<Edit>,
         woken: &mut Vec<Stamp>,
-    ) -> Result<(), BodyError>
+    ) -> Result<(), AllocError>
         requires fit { AllFit done.items }
         requires hand { AreInHand [] done.items self.old }
         ensures ok { OnOk result (AreSettled done.items self.old [] self.new) }
-        ensures err { IfErr result (λ e. e ≡ BodyError.Memory) }
         ensures few { OnOk result (length self.new.inbox ≤ length self.old.inbox + length done.items) }
         ensures visits { OnOk result (Stirs 0 self.old self.new) }
     {

@@ -1,5 +1,5 @@
 //! A body takes edits, in whatever order they come.
-ghost use Rattle.std.specs.Prelude.{◌≡◌, ◌≤◌, true, false, length, IfOk, IfErr, OnOk, OnErr};
+ghost use Rattle.std.specs.Prelude.{◌≡◌, ◌≤◌, true, false, length, IfOk, OnOk, OnErr};
 ghost use Rattle.zed_op.specs.Fit.{Fits};
 ghost use Rattle.zed_delivery.specs.Things.{can_do};
 ghost use Rattle.zed_delivery.specs.Counts.{Works};
@@ -7,8 +7,7 @@ ghost use Rattle.zed_delivery.specs.Stirring.{IsDoneWithAll};
 ghost use Rattle.zed_delivery.specs.Taking.{IsEmpty, IsNewTo, ShowsOneMore, Tells};
 
 use crate::body::Body;
-use crate::error::BodyError;
-use std::alloc::Global;
+use std::alloc::{AllocError, Global};
 use zed_op::Edit;
 use zed_types::Stamp;
 
@@ -28,12 +27,11 @@ impl Body {
         alloc: Global,
         edit: &Edit,
         woken: &mut Vec<Stamp>,
-    ) -> Result<(), BodyError>
+    ) -> Result<(), AllocError>
         requires fits { Fits edit.now }
         requires new { IsNewTo edit.now self.old }
         requires can { can_do self.old.live.boards self.old.texts edit.now ≡ true }
         ensures ok { OnOk result (ShowsOneMore edit.now self.old self.new) }
-        ensures err { IfErr result (λ e. e ≡ BodyError.Memory) }
         ensures few { OnOk result (length self.new.inbox ≤ length self.old.inbox) }
         ensures visits { OnOk result (IsDoneWithAll edit.now self.old self.new) }
     {
@@ -45,15 +43,14 @@ impl Body {
     }
 
     /// Holds a copy of a new edit that can't be done.
-    fn hold_copy(&mut self, edit: &Edit) -> Result<(), BodyError>
+    fn hold_copy(&mut self, edit: &Edit) -> Result<(), AllocError>
         requires fits { Fits edit.now }
         requires cant { can_do self.old.live.boards self.old.texts edit.now ≡ false }
         ensures ok { OnOk result (ShowsOneMore edit.now self.old self.new) }
-        ensures err { IfErr result (λ e. e ≡ BodyError.Memory) }
         ensures texts { self.new.texts ≡ self.old.texts }
     {
         let Ok(copy) = edit.copy() else {
-            return Err(BodyError::Memory);
+            return Err(AllocError);
         };
         self.hold_one(copy)?;
         Ok(())
@@ -73,12 +70,11 @@ impl Body {
         alloc: Global,
         edit: &Edit,
         woken: &mut Vec<Stamp>,
-    ) -> Result<Taken, BodyError>
+    ) -> Result<Taken, AllocError>
         requires fits { Fits edit.now }
         requires new { IsNewTo edit.now self.old }
         ensures ok { OnOk result (ShowsOneMore edit.now self.old self.new) }
         ensures tells { IfOk result (λ t. Tells edit.now self.old t) }
-        ensures err { IfErr result (λ e. e ≡ BodyError.Memory) }
         ensures visits { IfOk result (λ t. Works edit.now t self.old.texts self.new.texts) }
     {
         if !self.can(edit) {
@@ -104,12 +100,11 @@ impl Body {
         alloc: Global,
         edit: &Edit,
         woken: &mut Vec<Stamp>,
-    ) -> Result<Taken, BodyError>
+    ) -> Result<Taken, AllocError>
         requires fits { Fits edit.now }
         requires new { IsNewTo edit.now self.old }
         ensures ok { OnOk result (ShowsOneMore edit.now self.old self.new) }
         ensures tells { IfOk result (λ t. Tells edit.now self.old t) }
-        ensures err { IfErr result (λ e. e ≡ BodyError.Memory) }
         ensures emptied { OnErr result (IsEmpty self.new) }
         ensures visits { IfOk result (λ t. Works edit.now t self.old.texts self.new.texts) }
     {

@@ -1,5 +1,5 @@
 //! An edit that is done wakes what waits for the things that it makes.
-ghost use Rattle.std.specs.Prelude.{◌≡◌, ◌≤◌, ◌+◌, ◌∷◌, ◌++◌, [], length, IfErr, OnOk};
+ghost use Rattle.std.specs.Prelude.{◌≡◌, ◌≤◌, ◌+◌, ◌∷◌, ◌++◌, [], length, OnOk};
 ghost use Rattle.zed_op.specs.Fit.{Fits};
 ghost use Rattle.zed_op.specs.Set.{AllFit};
 ghost use Rattle.zed_delivery.specs.Steps.{AreInHand};
@@ -7,9 +7,8 @@ ghost use Rattle.zed_delivery.specs.Stirring.{Stirs};
 ghost use Rattle.zed_delivery.specs.Waking.{AreToWake, IsWoken, AreWoken, IsFollowed};
 
 use crate::body::Body;
-use crate::error::BodyError;
 use crate::made::things_of;
-use std::alloc::Global;
+use std::alloc::{AllocError, Global};
 use zed_op::{Edit, Thing};
 
 impl Body {
@@ -19,10 +18,9 @@ impl Body {
         alloc: Global,
         done: &mut Vec<Edit>,
         thing: Thing,
-    ) -> Result<(), BodyError>
+    ) -> Result<(), AllocError>
         requires { AreInHand [] done.old.items self.old }
         ensures ok { OnOk result (IsWoken thing self.old done.old.items self.new done.new.items) }
-        ensures err { IfErr result (λ e. e ≡ BodyError.Memory) }
         ensures fits { OnOk result (AllFit done.old.items → AllFit done.new.items) }
         ensures few { OnOk result (length self.new.inbox + length done.new.items
             ≤ length self.old.inbox + (length done.old.items)) }
@@ -39,11 +37,10 @@ impl Body {
         alloc: Global,
         done: &mut Vec<Edit>,
         things: Vec<Thing>,
-    ) -> Result<(), BodyError>
+    ) -> Result<(), AllocError>
         requires { AreToWake things.items done.old.items self.old }
         ensures ok { OnOk result
             (AreWoken things.items self.old done.old.items [] self.new done.new.items) }
-        ensures err { IfErr result (λ e. e ≡ BodyError.Memory) }
         ensures fits { OnOk result (AllFit done.old.items → AllFit done.new.items) }
         ensures few { OnOk result (length self.new.inbox + length done.new.items
             ≤ length self.old.inbox + (length done.old.items)) }
@@ -56,12 +53,11 @@ impl Body {
     }
 
     /// Tries what waits for the things that an edit makes. Memory may leave a part of it done.
-    fn follow(&mut self, alloc: Global, done: &mut Vec<Edit>, edit: &Edit) -> Result<(), BodyError>
+    fn follow(&mut self, alloc: Global, done: &mut Vec<Edit>, edit: &Edit) -> Result<(), AllocError>
         requires fits { Fits edit.now }
         requires last { AreInHand [] (done.old.items ++ edit.now ∷ []) self.old }
         ensures ok { OnOk result
             (IsFollowed edit.now self.old done.old.items self.new done.new.items) }
-        ensures err { IfErr result (λ e. e ≡ BodyError.Memory) }
         ensures fits { OnOk result (AllFit done.old.items → AllFit done.new.items) }
         ensures few { OnOk result (length self.new.inbox + length done.new.items
             ≤ length self.old.inbox + (length done.old.items)) }
@@ -78,12 +74,11 @@ impl Body {
         alloc: Global,
         done: &mut Vec<Edit>,
         edit: &Edit,
-    ) -> Result<(), BodyError>
+    ) -> Result<(), AllocError>
         requires fits { Fits edit.now }
         requires last { AreInHand [] (done.old.items ++ edit.now ∷ []) self.old }
         ensures ok { OnOk result
             (IsFollowed edit.now self.old done.old.items self.new done.new.items) }
-        ensures err { IfErr result (λ e. e ≡ BodyError.Memory) }
         ensures fits { OnOk result (AllFit done.old.items → AllFit done.new.items) }
         ensures few { OnOk result (length self.new.inbox + length done.new.items
             ≤ length self.old.inbox + (length done.old.items)) }

@@ -1,13 +1,13 @@
 -- An edit that an author makes is taken, and what its making answers.
-use Rattle.std.proofs.Common.{◌≡◌, inl, inr, ℕ, ◌<◌, Bool, true, false, List, [], ◌∷◌, ◌++◌, Option, Some, None, Result, Ok, Err, refl, ap, sym, ◌∙◌, append-nil, arith}
+use Rattle.std.proofs.Common.{◌≡◌, ℕ, ◌<◌, Bool, true, false, List, [], ◌∷◌, ◌++◌, Result, refl, ap, sym, ◌∙◌, append-nil, arith}
 use Rattle.zed_types.specs.declared.stamp.Stamp.{Stamp}
-use Rattle.zed_types.specs.Stamp.{same_stamp}
+use Rattle.zed_types.specs.Stamp.{same_stamp, genesis_stamp}
 use Rattle.zed_op.specs.declared.op.Op.{Op}
 use Rattle.zed_op.specs.declared.op.Op.TheVariants.{Genesis}
 use Rattle.zed_op.specs.declared.op.Edit.{Edit}
 use Rattle.zed_edit.specs.declared.plain.Plain.{Plain}
 use Rattle.zed_edit.specs.Document.{empty_document}
-use Rattle.zed_op.specs.Fit.{Fits, genesis_stamp, is_author_stamp, is_own_stamp}
+use Rattle.zed_op.specs.Fit.{Fits, is_author_stamp, is_own_stamp}
 use Rattle.zed_op.specs.Names.{names_of}
 use Rattle.zed_edit.specs.Replay.{replay, replay_on, step, can, has_all}
 use Rattle.zed_op.specs.Set.{AllFit, with_edit}
@@ -17,11 +17,9 @@ use Rattle.zed_op.specs.Verdict.{is_genesis, FitIsEachPart}
 use Rattle.std.proofs.lemmas.Bool.{and_parts}
 use Rattle.zed_history.specs.Clock.{greatest_time, next_time}
 use Rattle.zed_history.specs.Finding.{AllBelow}
-use Rattle.zed_document.specs.declared.delivered.Delivered.{Delivered}
 use Rattle.zed_document.specs.declared.error.DocumentError.{DocumentError}
-use Rattle.zed_document.specs.Delivery.{AnswersAt}
 use Rattle.zed_document.specs.Held.{held_stamps, is_among}
-use Rattle.zed_document.specs.Authoring.{AnswersMade, IsLate, authored}
+use Rattle.zed_document.specs.Authoring.{IsLate, authored}
 use Rattle.zed_types.proofs.StampOrder.{same_stamp-true}
 use Rattle.zed_document.proofs.Passed.{do_op-passed, passed-below, below-not_among}
 use Rattle.zed_history.proofs.Spots.{with_edit-between}
@@ -87,17 +85,6 @@ taken-late parts one keeps e es fit f late c = go (is_genesis e.op) refl
 
 abbrev Made : Type 0
 Made = Result Edit DocumentError
-
--- what a delivery answered is what the making answers
-pub made-ok : (o : Option Edit) (es : List Edit) (e : Edit) (d : Delivered) → AnswersAt o es e (Ok d) → AnswersMade o e (Ok e)
-made-ok None es e d h = refl
-made-ok (Some f) es e d (inl h) = inl (h.0, refl)
-made-ok (Some f) es e d (inr h) = absurd (let k = h.1 in cc)
-
-pub made-err : (o : Option Edit) (es : List Edit) (e : Edit) (x : DocumentError) → AnswersAt o es e (Err x) → AnswersMade o e (Err x)
-made-err None es e x h = absurd h
-made-err (Some f) es e x (inl h) = absurd (h.1)
-made-err (Some f) es e x (inr h) = inr (h.0, (let k = h.1 in cc))
 
 -- an edit at the next time is later than all
 pub authored-late : (es : List Edit) (replica : ℕ) (op : Op) → IsLate es (authored es replica op)

@@ -184,13 +184,6 @@ stretches-some : (ys : List TextByte) → 0 < length ys → 0 < length (stretche
 stretches-some [] l = absurd (omega arith)
 stretches-some (y ∷ ys) l = byte-some y.id (stretches ys)
 
--- a part has a stretch
--- where a part begins and ends
-pub part-bounds : (from to len : ℕ) → is_part from to len ≡ true → (from < to) × (to ≤ len)
-part-bounds from to len is =
-    let k = and_parts (ltb from to) (leb to len) is in
-    (ltb-true from to k.0, leb-true to len k.1)
-
 pub some-stretch : (es : List Edit) (t : TextId) (from to : ℕ) → is_part from to (length (text (replay es) t)) ≡ true → 0 < length (stretches_of es t from to)
 some-stretch es t from to is =
     let xs : List TextByte = alive (elements (replay es) t) in
@@ -203,6 +196,3 @@ some-stretch es t from to is =
 -- times that suffice for all suffice for one
 pub spent-one : (es : List Edit) (n : ℕ) → 0 < n → is_spent es n ≡ false → is_spent es 1 ≡ false
 spent-one es n l h = grind (arith)
-
-pub spent-count : (es : List Edit) (n : ℕ) → is_spent es n ≡ false → next_time es + n ≤ 281474976710656
-spent-count es n h = grind (arith)

@@ -1,6 +1,6 @@
 -- Edits that are made one after the other.
-use Rattle.std.proofs.Common.{◌≡◌, ◌⊎◌, inl, inr, ℕ, zero, suc, ◌+◌, ◌<◌, List, [], ◌∷◌, ◌++◌, length, drop, None, Result, Ok, Err, ap, sym, ◌∙◌, append-nil, add-one, arith, subst}
-use Rattle.std.specs.Prelude.{slice_index_or, IfErr}
+use Rattle.std.proofs.Common.{◌≡◌, ◌⊎◌, inl, inr, List, [], ◌∷◌, ◌++◌, None, Result, Ok, Err, ap, sym, ◌∙◌, append-nil, subst}
+use Rattle.std.specs.Prelude.{IfErr}
 use Rattle.zed_op.specs.declared.op.Edit.{Edit}
 use Rattle.zed_op.specs.Fit.{fault}
 use Rattle.zed_op.specs.Set.{with_edit}
@@ -8,7 +8,7 @@ use Rattle.zed_history.specs.Finding.{edit_with}
 use Rattle.zed_document.specs.declared.error.DocumentError.{DocumentError}
 use Rattle.zed_document.specs.declared.error.DocumentError.TheVariants.{Memory}
 use Rattle.zed_document.specs.Authoring.{AnswersToDo, AnswersFault}
-use Rattle.zed_document.specs.Stretches.{IsNext, CanFollow}
+use Rattle.zed_document.specs.Stretches.{IsNext}
 use Rattle.zed_document.proofs.Authored.{last-edit}
 use Rattle.zed_history.proofs.Spots.{edit_with-past}
 use Rattle.zed_document.proofs.TypedTexts.{to-fault}
@@ -22,15 +22,6 @@ next-answers es e r n (inr h) =
 
 pub next-last : (es : List Edit) (e : Edit) → IsNext es e → with_edit e es ≡ es ++ e ∷ []
 next-last es e n = last-edit e es n.0
-
--- an edit at its place
-pub drop-edit : (es : List Edit) (i : ℕ) (e : Edit) → i < length es → e ≡ slice_index_or es i e → drop i es ≡ e ∷ drop (i + 1) es
-drop-edit [] i e l h = absurd (omega arith)
-drop-edit (f ∷ es) zero e l h = ap (λ x. x ∷ es) (sym h)
-drop-edit (f ∷ es) (suc i) e l h = rw add-one (rw add-one at (drop-edit es i e (omega arith) h))
-
-pub follow-next : (es fs : List Edit) (i : ℕ) (e : Edit) → i < length fs → e ≡ slice_index_or fs i e → CanFollow es (drop i fs) → IsNext es e × CanFollow (es ++ e ∷ []) (drop (i + 1) fs)
-follow-next es fs i e l h f = rw (drop-edit fs i e l h) at f
 
 pub next-only : (r : Result Edit DocumentError) (e : Edit) → (r ≡ Err Memory) ⊎ (r ≡ Ok e) → IfErr r (λ x. x ≡ Memory)
 next-only (Ok f) e h = tt

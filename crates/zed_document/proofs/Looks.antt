@@ -5,11 +5,10 @@ use Rattle.std.specs.Option.{option_map}
 use Rattle.std.proofs.lemmas.List.Sums.{sum_by-cons}
 use Rattle.zed_types.specs.declared.names.Name.{Name}
 use Rattle.zed_types.specs.declared.names.TextId.{TextId}
-use Rattle.zed_types.specs.Names.{same_text}
+use Rattle.zed_types.specs.Names.{same_text, NamesRise, is_earlier}
 use Rattle.zed_types.proofs.StampOrder.{before_irrefl, same_text-true, same_text-itself, same_text-apart}
 use Rattle.zed_types.proofs.Facts.{all_weaker}
 use Rattle.zed_op.specs.declared.op.Edit.{Edit}
-use Rattle.zed_laws.specs.NameOrder.{NamesRise, is_earlier}
 use Rattle.zed_code.specs.Pieces.{Shown}
 use Rattle.zed_code.specs.Visits.{greatest, raised}
 use Rattle.zed_code.specs.Text.{elements}

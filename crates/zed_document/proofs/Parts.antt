@@ -1,22 +1,12 @@
 -- A part of a text's alive bytes, walked by positions.
-use Rattle.std.proofs.Common.{◌≡◌, ℕ, zero, suc, ◌+◌, ◌<◌, ◌≤◌, List, [], ◌∷◌, ◌++◌, Option, Some, None, length, refl, ap, subst, sym, ◌∙◌, arith, add-one}
-use Rattle.std.proofs.lemmas.List.{length-map}
+use Rattle.std.proofs.Common.{◌≡◌, ℕ, zero, suc, ◌+◌, ◌<◌, ◌≤◌, List, [], ◌∷◌, ◌++◌, Option, Some, None, refl, ap, subst, sym, ◌∙◌, arith, add-one}
 use Rattle.std.specs.Prelude.{slice_get, option_map}
 use Rattle.zed_types.specs.declared.names.ElemId.{ElemId}
-use Rattle.zed_types.specs.declared.names.TextId.{TextId}
 use Rattle.zed_types.specs.declared.text.TextByte.{TextByte}
-use Rattle.zed_edit.specs.declared.plain.Plain.{Plain}
-use Rattle.zed_edit.specs.Document.{elements, text}
-use Rattle.zed_document.specs.Authoring.{alive, part, stretches}
+use Rattle.zed_document.specs.Authoring.{part, stretches}
 use Rattle.zed_document.specs.Stretches.{begun, with_last}
 use Rattle.zed_document.proofs.Counted.{Counts, count-next, count-few}
 use Rattle.zed_document.proofs.Stretched.{stretches-behind}
-use Rattle.zed_document.proofs.TypedTexts.{get-there}
-
-pub part-empty : {X : Type 0} (from : ℕ) (xs : List X) → part from from xs ≡ []
-part-empty zero xs = refl
-part-empty (suc from) [] = refl
-part-empty (suc from) (x ∷ xs) = part-empty from xs
 
 part-next : {X : Type 0} (from k : ℕ) (xs : List X) (x : X) → from ≤ k → slice_get xs k ≡ Some x → part from (suc k) xs ≡ part from k xs ++ x ∷ []
 part-next from k [] x l h = absurd (cc)
@@ -29,12 +19,6 @@ part-next (suc from) (suc k) (y ∷ ys) x l h = part-next from k ys x (omega ari
 named : (o : Option TextByte) (name : ElemId) → option_map (λ x. x.id) o ≡ Some name → (x : TextByte) × (o ≡ Some x) × (x.id ≡ name)
 named None name h = absurd (cc)
 named (Some x) name h = (x, refl, cc)
-
-pub there-is_name : (p : Plain) (t : TextId) (k : ℕ) → k < length (text p t) → (name : ElemId) × (option_map (λ x. x.id) (slice_get (alive (elements p t)) k) ≡ Some name)
-there-is_name p t k l =
-    let n : length (text p t) ≡ length (alive (elements p t)) = length-map (alive (elements p t)) (λ x. x.byte) in
-    let there = get-there (alive (elements p t)) k (omega arith) in
-    (there.0.id, ap (option_map (λ x. x.id)) there.1)
 
 pub next-counts : (n : ℕ) (b : Option ElemId) (from k : ℕ) (xs : List TextByte) (name : ElemId) → from ≤ k → Counts n b (part from k xs) → option_map (λ x. x.id) (slice_get xs k) ≡ Some name → Counts (n + begun b name) (Some name) (part from (k + 1) xs)
 next-counts n b from k xs name l h get =

@@ -58,11 +58,6 @@ pub alive-run : (s : Stamp) (n : ℕ) (bytes : List ℕ) → alive_bytes (run_fr
 alive-run s n [] = refl
 alive-run s n (b ∷ bytes) = ap (λ rest. b ∷ rest) (alive-run s (n + 1) bytes)
 
-pub get-some : {X : Type 0} (xs : List X) (k : ℕ) (x : X) → slice_get xs k ≡ Some x → k < length xs
-get-some [] k x h = absurd (cc)
-get-some (y ∷ ys) zero x h = omega arith
-get-some (y ∷ ys) (suc k) x h = let l = get-some ys k x h in omega arith
-
 pub get-there : {X : Type 0} (xs : List X) (k : ℕ) → k < length xs → (x : X) × (slice_get xs k ≡ Some x)
 get-there [] k l = absurd (omega arith)
 get-there (y ∷ ys) zero l = (y, refl)

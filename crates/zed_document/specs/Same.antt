@@ -1,12 +1,8 @@
 -- When two documents are the same.
 use Rattle.std.specs.Prelude.{◌≡◌}
-use Rattle.zed_edit.specs.declared.plain.Plain.{Plain}
+use Rattle.zed_edit.specs.Document.{HaveSameContent}
 use Rattle.zed_edit.specs.Replay.{replay, held}
 use Rattle.zed_document.specs.Replica.{Replica}
-
--- two plain documents have the same header, boards and texts, removed and dead things included
-abbrev pub HaveSameContent : Plain → Plain → Type 0
-HaveSameContent p q = (p.header ≡ q.header) × (p.boards ≡ q.boards) × (p.texts ≡ q.texts)
 
 -- two documents have one world and one log, and both are stale or neither is; how often their runs were looked at may differ
 abbrev pub AreAlike : Replica → Replica → Type 0

@@ -1,24 +1,43 @@
-//! Edits that an author makes, each with the next stamp.
-
-// What an author makes at a replica: edits later than all that it has.
-
-ghost use Rattle.std.specs.Prelude.{◌≡◌, ◌≢◌, ◌≤◌, ◌⊎◌, if◌then◌else◌, false, true, insert, is_ok, length, take, None, Err, Ok, OnErr, OnOk, MatchBool};
+//! Edits that an author makes at a replica, each later than all that it has.
+ghost use Rattle.std.specs.Prelude.{◌≡◌, ◌≢◌, ◌≤◌, ◌⊎◌, if◌then◌else◌, false, true, insert, is_ok, length, take, None, Err, Ok, OnErr, OnOk, MatchBool, IfSome, IfNone, OnSome};
 ghost use Rattle.zed_op.specs.Fit.{Fits, fault};
 ghost use Rattle.zed_edit.specs.Replay.{replay, can};
-ghost use Rattle.zed_op.specs.Set.{AllFit, with_edit};
+ghost use Rattle.zed_op.specs.Set.{AllFit, IsRising, with_edit};
+ghost use Rattle.zed_op.specs.Verdict.{is_genesis as makes_world};
 ghost use Rattle.zed_history.specs.Finding.{edit_with};
 ghost use Rattle.zed_document.specs.Authoring.{AnswersMade, AnswersToDo, IsLate, MayTakeMemory, AnswersAuthor, authored, is_spent_for};
 ghost use Rattle.zed_document.specs.Counts.{NoCountFalls};
 ghost use Rattle.zed_document.specs.Held.{held_stamps, is_among as is_one_of};
 
-use crate::clock::stamp_for;
 use crate::document::Document;
-use crate::error::{DocumentError, of_edit};
+use crate::error::DocumentError;
 use zed_delivery::bodies_have_what_is_made;
 use zed_edit::{Edit, Op, check};
-use zed_history::spot_of;
+use zed_history::{next_stamp, spot_of};
 use zed_laws::replay_goes_edit_by_edit;
 use zed_op::{fit_is_of_parts, sets_stay_fit};
+use zed_types::Stamp;
+
+/// Whether an edit makes the world.
+fn is_genesis(op: &Op) -> bool
+    ensures { result ≡ makes_world op.now }
+{
+    matches!(op, Op::Genesis(_))
+}
+
+/// The stamp of an edit that is to be made, unless no time is left for it.
+fn stamp_for(edits: &[Edit], replica: u16, op: &Op) -> Option<Stamp>
+    requires { IsRising edits.now }
+    ensures spent { IfNone result (is_spent_for edits.now op.now ≡ true) }
+    ensures left { OnSome result (is_spent_for edits.now op.now ≡ false) }
+    ensures next { IfSome result (λ s. s ≡ (authored edits.now replica op.now).stamp) }
+{
+    if is_genesis(op) {
+        Some(Stamp { time: 1, replica })
+    } else {
+        next_stamp(edits, replica)
+    }
+}
 
 /// A late edit that can be done is taken.
 fn are_late_edits_taken(edits: &[Edit], edit: &Edit)
@@ -95,10 +114,8 @@ impl Document {
         ensures memory_only_when { result ≡ Err DocumentError.Memory
             → MayTakeMemory self.old.edits edit }
     {
-        match check(self.alloc(), &edit) {
-            Ok(()) => self.make_checked(edit),
-            Err(error) => Err(of_edit(error)),
-        }
+        check(self.alloc(), &edit)?;
+        self.make_checked(edit)
     }
 
     /// Makes an edit that fits, where it can be done.
@@ -126,14 +143,14 @@ impl Document {
             → edit_with edit.stamp self.old.edits ≡ None }
     {
         if self.has_all_of(&edit) {
-            self.take(edit)
+            self.take_made(edit)
         } else {
             Err(DocumentError::NoSuch)
         }
     }
 
     /// Takes an edit that fits and can be done.
-    fn take(&mut self, edit: Edit) -> Result<Edit, DocumentError>
+    fn take_made(&mut self, edit: Edit) -> Result<Edit, DocumentError>
         requires sound { self.old.is_stale ≡ false }
         requires fits { Fits edit }
         requires late { IsLate self.old.edits edit }
@@ -182,7 +199,7 @@ impl Document {
             → self.new.is_stale ≡ false → self.new ≡ self.old }
         ensures visits { OnOk result (NoCountFalls self.old.counts self.new.counts) }
     {
-        let copy = edit.copy().map_err(of_edit)?;
+        let copy = edit.copy()?;
         let _ = self.accept(place, edit)?;
         Ok(copy)
     }

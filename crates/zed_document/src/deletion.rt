@@ -14,8 +14,8 @@ ghost use Rattle.zed_document.specs.Counts.{NoCountFalls};
 ghost use Rattle.zed_document.specs.Reading.{has_text};
 
 use crate::document::Document;
-use crate::error::{DocumentError, of_edit};
-use std::alloc::Global;
+use crate::error::DocumentError;
+use std::alloc::{AllocError, Global};
 use zed_edit::{Edit, Op};
 use zed_history::{is_spent as are_spent, next_time};
 use zed_laws::{made_things_stay, replay_goes_edit_by_edit, texts_keep_names};
@@ -53,9 +53,8 @@ fn alone(byte: ElemId) -> ByteRange
 }
 
 /// One more byte behind stretches: part of the last, or a stretch of its own.
-fn add_name(ranges: &mut Vec<ByteRange>, name: ElemId) -> Result<(), DocumentError>
-    ensures ok { OnOk result (ranges.new.items ≡ with_last ranges.old.items name) }
-    ensures err { IfErr result (λ e. e ≡ DocumentError.Memory) }
+fn add_name(ranges: &mut Vec<ByteRange>, name: ElemId) -> Result<(), AllocError>
+    ensures { OnOk result (ranges.new.items ≡ with_last ranges.old.items name) }
 {
     let count = ranges.len();
     if count > 0 {
@@ -65,9 +64,7 @@ fn add_name(ranges: &mut Vec<ByteRange>, name: ElemId) -> Result<(), DocumentErr
             return Ok(());
         }
     }
-    if ranges.push(alone(name)).is_err() {
-        return Err(DocumentError::Memory);
-    }
+    ranges.push(alone(name))?;
     Ok(())
 }
 
@@ -113,11 +110,10 @@ fn stretches_in(
     text: TextId,
     from: usize,
     to: usize,
-) -> Result<Vec<ByteRange>, DocumentError>
+) -> Result<Vec<ByteRange>, AllocError>
     requires { is_part from to (length (text_shown view.now text)) ≡ true }
     ensures ok { IfOk result (λ ranges.
         ranges.items ≡ stretches (part from to (alive (elements_of view.now text)))) }
-    ensures err { IfErr result (λ e. e ≡ DocumentError.Memory) }
 {
     let mut ranges = Vec::new(alloc);
     for k in from..to {
@@ -133,10 +129,9 @@ fn edits_of(
     replica: u16,
     text: TextId,
     ranges: &[ByteRange],
-) -> Result<Vec<Edit>, DocumentError>
+) -> Result<Vec<Edit>, AllocError>
     requires { time + length ranges.now ≤ 281474976710656 }
     ensures ok { IfOk result (λ made. made.items ≡ deletions time replica text ranges.now) }
-    ensures err { IfErr result (λ e. e ≡ DocumentError.Memory) }
 {
     let mut made = Vec::new(alloc);
     let mut next = time;
@@ -146,9 +141,7 @@ fn edits_of(
             replica,
         };
         let op = Op::TextDelete(text, *range);
-        if made.push(Edit { stamp, op }).is_err() {
-            return Err(DocumentError::Memory);
-        }
+        made.push(Edit { stamp, op })?;
         next += 1;
     }
     Ok(made)
@@ -218,13 +211,8 @@ impl Document {
             return Err(DocumentError::ClockSpent);
         }
         let ranges = stretches_in(self.alloc(), view, text, from, to)?;
-        edits_of(
-            self.alloc(),
-            next_time(self.edits()),
-            replica,
-            text,
-            &ranges,
-        )
+        let time = next_time(self.edits());
+        Ok(edits_of(self.alloc(), time, replica, text, &ranges)?)
     }
 
     /// Makes edits one after the other, each of which can be done when its turn comes.
@@ -240,11 +228,7 @@ impl Document {
         ensures visits { OnOk result (NoCountFalls self.old.counts self.new.counts) }
     {
         for edit in edits {
-            let copy = match edit.copy() {
-                Ok(copy) => copy,
-                Err(error) => return Err(of_edit(error)),
-            };
-            let _ = self.make_next(copy)?;
+            let _ = self.make_next(edit.copy()?)?;
         }
         Ok(())
     }

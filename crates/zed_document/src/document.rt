@@ -2,7 +2,7 @@
 ghost use Rattle.std.specs.Prelude.{◌≡◌, ◌≢◌, ◌≤◌, ◌⊎◌, ◌<◌, [], ◌∷◌, if◌then◌else◌, length, insert, is_ok, true, false, None, Ok, Err, OnOk, OnErr, IfOk, IfErr, IsOkAnd, MatchOption, ◌↔◌};
 
 use crate::delivered::{Delivered, State};
-use crate::error::{DocumentError, of_edit, unless_clash};
+use crate::error::{DocumentError, unless_clash};
 use crate::held::{HeldStamps, waiting};
 use crate::visits::{visits_at, visits_before, visits_since};
 use std::alloc::Global;
@@ -172,10 +172,8 @@ impl Document {
         if self.is_stale {
             return Err(DocumentError::Stale);
         }
-        match check(*self.edits.allocator(), &edit) {
-            Ok(()) => self.receive(edit),
-            Err(error) => Err(of_edit(error)),
-        }
+        check(*self.edits.allocator(), &edit)?;
+        self.receive(edit)
     }
 
     /// Takes an edit that fits.
@@ -228,9 +226,7 @@ impl Document {
             TellsVisits edit self.old.edits self.old.counts self.new.counts d) }
     {
         let alloc = *self.edits.allocator();
-        if self.edits.reserve(1).is_err() {
-            return Err(DocumentError::Memory);
-        }
+        self.edits.reserve(1)?;
         sets_rise();
         sets_stay_fit();
         held_edits_are_remembered();
@@ -240,9 +236,7 @@ impl Document {
         // until all is done; what fails midway leaves it so
         self.is_stale = true;
         let mut woken = Vec::new(alloc);
-        let Ok(taken) = self.body.take(alloc, &edit, &mut woken) else {
-            return Err(DocumentError::Memory);
-        };
+        let taken = self.body.take(alloc, &edit, &mut woken)?;
         self.held.follow(edit.stamp, taken.held)?;
         self.held.wake(taken.woken, &woken, &self.body.inbox);
         self.edits.insert(place, edit).unwrap();
@@ -269,10 +263,7 @@ impl Document {
         if self.is_stale {
             rising_lists_are_sets();
             rising_edits_are_apart();
-            let Ok(body) = Body::of(*self.edits.allocator(), &self.edits) else {
-                return Err(DocumentError::Memory);
-            };
-            self.body = body;
+            self.body = Body::of(*self.edits.allocator(), &self.edits)?;
             self.is_stale = false;
         }
         Ok(())
@@ -322,14 +313,12 @@ impl Document {
         ensures sound { OnOk result (self.new.is_stale ≡ false) }
         ensures visits { OnOk result (NoCountFalls self.old.counts self.new.counts) }
     {
-        let Ok(edits) = copies_new_to(&self.edits, *self.edits.allocator(), other) else {
-            return Err(DocumentError::Memory);
-        };
+        let edits = copies_new_to(&self.edits, *self.edits.allocator(), other)?;
         self.take_all(edits)
     }
 
-    /// Takes edits that join the own ones, one after the other, up to the first that clashes, and tells its stamp.
-    fn join_all(&mut self, edits: Vec<Edit>) -> Result<Option<Stamp>, DocumentError>
+    /// Takes those of many edits that are new, up to the first that clashes, and tells its stamp.
+    fn take_batch(&mut self, edits: Vec<Edit>) -> Result<Option<Stamp>, DocumentError>
         requires sound { self.old.is_stale ≡ false }
         requires fit { AllFit edits.items }
         ensures joins { IfOk result (λ clash.
@@ -343,9 +332,7 @@ impl Document {
         ensures visits { OnOk result (NoCountFalls self.old.counts self.new.counts) }
     {
         let alloc = *self.edits.allocator();
-        let Ok(Batch { edits, clash }) = gather(alloc, &self.edits, edits) else {
-            return Err(DocumentError::Memory);
-        };
+        let Batch { edits, clash } = gather(alloc, &self.edits, edits)?;
         self.take_all(edits)?;
         Ok(clash)
     }
@@ -376,13 +363,9 @@ impl Document {
         edits_have_sizes(&edits);
         // until all is done; what fails midway leaves it so
         self.is_stale = true;
-        let Ok(()) = self.body.take_all(alloc, &edits) else {
-            return Err(DocumentError::Memory);
-        };
+        self.body.take_all(alloc, &edits)?;
         let stamps = waiting(alloc, &self.body.inbox)?;
-        let Ok(()) = join(&mut self.edits, edits) else {
-            return Err(DocumentError::Memory);
-        };
+        join(&mut self.edits, edits)?;
         self.held.replace(stamps);
         self.is_stale = false;
         Ok(())
@@ -409,7 +392,7 @@ impl Document {
         if self.is_stale {
             return Err(DocumentError::Stale);
         }
-        let clash = self.join_all(edits)?;
+        let clash = self.take_batch(edits)?;
         unless_clash(clash)
     }
 }

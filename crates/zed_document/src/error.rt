@@ -2,7 +2,9 @@
 ghost use Rattle.std.specs.Prelude.{◌≡◌, ◌≢◌, Err};
 ghost use Rattle.zed_document.specs.Delivery.{unless_clash};
 ghost use Rattle.zed_document.specs.Errors.{refusal_of};
+ghost use Rattle.zed_document.specs.declared.error.DocumentError.TheVariants.{Memory};
 
+use std::alloc::{AllocError, AllocFailed};
 use thiserror::Error;
 use zed_edit::{Cause, EditError};
 use zed_types::Stamp;
@@ -28,13 +30,30 @@ pub enum DocumentError {
     ClockSpent,
 }
 
-/// The refusal of a document for one of an edit.
-pub(crate) fn of_edit(error: EditError) -> DocumentError
-    ensures { result ≡ refusal_of error }
-{
-    match error {
-        EditError::Memory => DocumentError::Memory,
-        EditError::BadEdit(cause) => DocumentError::BadEdit(cause),
+impl From<EditError> for DocumentError {
+    ghost from_gives = { λ error refusal. refusal ≡ refusal_of error };
+
+    fn from(error: EditError) -> DocumentError {
+        match error {
+            EditError::Memory => DocumentError::Memory,
+            EditError::BadEdit(cause) => DocumentError::BadEdit(cause),
+        }
+    }
+}
+
+impl From<AllocError> for DocumentError {
+    ghost from_gives = { λ _ e. e ≡ Memory };
+
+    fn from(_error: AllocError) -> DocumentError {
+        DocumentError::Memory
+    }
+}
+
+impl<T: Drop> From<AllocFailed<T>> for DocumentError {
+    ghost from_gives = { λ _ e. e ≡ Memory };
+
+    fn from(_error: AllocFailed<T>) -> DocumentError {
+        DocumentError::Memory
     }
 }
 

@@ -7,8 +7,7 @@ ghost use Rattle.zed_types.specs.Stamp.{stamp_cmp};
 ghost use Rattle.zed_op.specs.Set.{stamps_of};
 ghost use Rattle.zed_document.specs.Held.{is_among as is_one_of, waits_in};
 
-use crate::error::DocumentError;
-use std::alloc::Global;
+use std::alloc::{AllocError, Global};
 use std::collections::BTreeSet;
 use std::marker::Model;
 use zed_inbox::Inbox;
@@ -58,21 +57,15 @@ fn drop_all(stamps: &mut BTreeSet<Stamp>, inbox: &Inbox)
 }
 
 /// The stamps of the edits that wait.
-pub(crate) fn waiting(alloc: Global, inbox: &Inbox) -> Result<BTreeSet<Stamp>, DocumentError>
-    ensures ok { IfOk result (λ stamps. stamps.keys ≡ stamps_of inbox.now) }
-    ensures err { IfErr result (λ e. e ≡ DocumentError.Memory) }
+pub(crate) fn waiting(alloc: Global, inbox: &Inbox) -> Result<BTreeSet<Stamp>, AllocError>
+    ensures { IfOk result (λ stamps. stamps.keys ≡ stamps_of inbox.now) }
 {
     let mut stamps = BTreeSet::new(alloc);
     if inbox.held() == 0 {
         return Ok(stamps);
     }
-    let Ok(listed) = inbox.stamps() else {
-        return Err(DocumentError::Memory);
-    };
-    for stamp in listed {
-        if stamps.insert(stamp).is_err() {
-            return Err(DocumentError::Memory);
-        }
+    for stamp in inbox.stamps()? {
+        stamps.insert(stamp)?;
     }
     Ok(stamps)
 }
@@ -102,14 +95,13 @@ impl HeldStamps {
     }
 
     /// Holds an edit that a body took, if it waits. Memory leaves the stamps as they were.
-    pub(crate) fn follow(&mut self, stamp: Stamp, is_held: bool) -> Result<(), DocumentError>
+    pub(crate) fn follow(&mut self, stamp: Stamp, is_held: bool) -> Result<(), AllocError>
         ensures ok { OnOk result (self.new ≡ (if is_held
             then insert_key stamp_cmp self.old stamp else self.old)) }
-        ensures err { IfErr result (λ e. e ≡ DocumentError.Memory) }
         ensures kept { OnErr result (self.new ≡ self.old) }
     {
-        if is_held && self.stamps.insert(stamp).is_err() {
-            return Err(DocumentError::Memory);
+        if is_held {
+            self.stamps.insert(stamp)?;
         }
         Ok(())
     }

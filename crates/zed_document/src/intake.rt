@@ -138,9 +138,7 @@ impl Intake {
         // until all is done; what fails midway leaves it so
         self.is_stale = true;
         let mut woken = Vec::new(alloc);
-        let Ok(taken) = self.body.take(alloc, &edit, &mut woken) else {
-            return Err(DocumentError::Memory);
-        };
+        let taken = self.body.take(alloc, &edit, &mut woken)?;
         let stamp = edit.stamp;
         self.held.follow(stamp, taken.held)?;
         let Ok(()) = self.log.add(edit) else {

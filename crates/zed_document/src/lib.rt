@@ -3,7 +3,6 @@
 #![tactic(auto)]
 
 mod author;
-mod clock;
 mod deletion;
 mod delivered;
 mod document;

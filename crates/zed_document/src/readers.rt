@@ -41,6 +41,7 @@ impl Document {
     pub fn board(&self, n: usize) -> Result<Option<BoardId>, DocumentError>
         ensures { result ≡ unless_stale self.now (board_of_number (replay self.now.edits) n) }
     {
+        // Its contract says that the edits rise, as the law wants it.
         self.edits();
         replay_is_ordered();
         match self.view() {

@@ -1,28 +1,12 @@
 -- Looking for a member of a list in parts, and counting those that are alive.
-use Rattle.std.proofs.Common.{◌≡◌, ℕ, ◌+◌, ◌<◌, Bool, true, false, List, [], ◌∷◌, ◌++◌, length, filter, count_by, cond, ap, ◌&&◌, Some, None, refl, drop, get_or, sym, arith, suc, zero, not, ◌-◌, ◌∙◌, slice_get, add-one, drop-cons}
+use Rattle.std.proofs.Common.{◌≡◌, ℕ, ◌+◌, ◌<◌, Bool, true, false, List, [], ◌∷◌, length, filter, count_by, cond, ap, ◌&&◌, Some, refl, drop, get_or, sym, arith, suc, zero, not, ◌-◌, ◌∙◌, slice_get, add-one, drop-cons}
 use Rattle.std.proofs.lemmas.List.{length-map}
-use Rattle.std.proofs.lemmas.List.Folds.{find-append}
 use Rattle.std.proofs.lemmas.List.Sums.{length-filter, sum_by-cons}
-use Rattle.std.specs.List.{find, flat_map}
 use Rattle.zed_types.specs.declared.text.TextByte.{TextByte}
 use Rattle.zed_types.specs.Text.{alive_bytes}
 use Rattle.zed_edit.specs.declared.plain.Board.{Board}
 use Rattle.zed_edit.specs.declared.plain.Stat.{Stat}
 use Rattle.zed_edit.specs.Numbers.{comes_before, boards_before}
-
-find-append_none : {X : Type 0} (q : X → Bool) (xs ys : List X) → find q xs ≡ None → find q (xs ++ ys) ≡ find q ys
-find-append_none q xs ys h = let e = find-append q xs ys in rw h at e
-
-find-append_some : {X : Type 0} (q : X → Bool) (xs ys : List X) (y : X) → find q xs ≡ Some y → find q (xs ++ ys) ≡ Some y
-find-append_some q xs ys y h = let e = find-append q xs ys in rw h at e
-
--- a stat that is not on board i is on a later one
-pub find_further : (q : Stat → Bool) (bs : List Board) (i : ℕ) (d : Board) → i < length bs → find q (get_or bs i d).stats ≡ None → find q (flat_map (λ b. b.stats) (drop i bs)) ≡ find q (flat_map (λ b. b.stats) (drop (i + 1) bs))
-find_further q bs i d l h = rw (drop-cons bs i d l, add-one) (find-append_none q (get_or bs i d).stats (flat_map (λ b. b.stats) (drop (suc i) bs)) h)
-
--- a stat that is on board i
-pub find_here : (q : Stat → Bool) (bs : List Board) (i : ℕ) (d : Board) (x : Stat) → i < length bs → find q (get_or bs i d).stats ≡ Some x → find q (flat_map (λ b. b.stats) (drop i bs)) ≡ Some x
-find_here q bs i d x l h = rw (drop-cons bs i d l) (find-append_some q (get_or bs i d).stats (flat_map (λ b. b.stats) (drop (suc i) bs)) x h)
 
 pub count_alive : (xs : List TextByte) → count_by (λ x. x.alive) xs ≡ length (alive_bytes xs)
 count_alive xs = sym (length-map (filter (λ x. x.alive) xs) (λ (x : TextByte). x.byte) ∙ length-filter (λ (x : TextByte). x.alive) xs)

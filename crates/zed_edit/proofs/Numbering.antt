@@ -11,11 +11,11 @@ use Rattle.std.proofs.lemmas.List.{length-map}
 use Rattle.std.proofs.lemmas.List.MinMax.{ranks_by}
 use Rattle.std.proofs.lemmas.List.Sorted.{sorted_far, length_permutation, IsPermutation-refl, IsPermutation-trans, IsPermutation-append_left, IsPermutation-to_front, IsPermutation-cons}
 use Rattle.zed_types.specs.declared.names.BoardId.{BoardId}
-use Rattle.zed_types.specs.Names.{same_board}
+use Rattle.zed_types.specs.Names.{same_board, name_cmp}
 use Rattle.zed_types.proofs.Orderings.{less_from, then_eq, name_same}
 use Rattle.zed_edit.specs.declared.numbers.Standing.{Standing}
 use Rattle.zed_edit.specs.declared.plain.Board.{Board}
-use Rattle.zed_edit.specs.Numbers.{AreApart, boards_before, board_with, by_number, name_cmp, standing, standing_cmp, stands_before}
+use Rattle.zed_edit.specs.Numbers.{AreApart, boards_before, board_with, by_number, standing, standing_cmp, stands_before}
 use Rattle.zed_edit.specs.NumberLaws.{EachHasItsNumber, NumberedStandAtTheirPlaces, NumbersArePlaces, StandingsSortByNumber}
 use Rattle.zed_edit.proofs.Ordered.{Rises, before, count-mapped, count-cons, count-yes, count-permutation, find-mapped, found-again, found-is, as-many, has-place, numbered, place-found, walk}
 

@@ -3,23 +3,13 @@ use Rattle.std.specs.Prelude.{◌≤◌, ℕ, ◌+◌, ◌==◌, nat_lt, Bool, �
 use Rattle.std.specs.List.{range_with_len}
 use Rattle.std.specs.Ordering.{nat_cmp, ordering_then}
 use Rattle.std.specs.declared.cmp.Ordering.{Ordering}
-use Rattle.zed_types.specs.declared.names.Name.{Name}
 use Rattle.zed_types.specs.declared.names.BoardId.{BoardId}
 use Rattle.zed_types.specs.declared.names.StatId.{StatId}
-use Rattle.zed_types.specs.Stamp.{before, same_stamp, stamp_cmp}
-use Rattle.zed_types.specs.Names.{same_board, same_stat, title}
+use Rattle.zed_types.specs.Names.{is_earlier, name_cmp, same_board, same_stat, title}
 use Rattle.zed_edit.specs.declared.numbers.Standing.{Standing}
 use Rattle.zed_edit.specs.declared.plain.Board.{Board}
 use Rattle.zed_edit.specs.declared.plain.Stat.{Stat}
 use Rattle.zed_edit.specs.declared.plain.Plain.{Plain}
-
--- whether a name comes before another: by stamp, and then by index
-abbrev pub is_earlier : Name → Name → Bool
-is_earlier a b = before a.stamp b.stamp || (same_stamp a.stamp b.stamp && nat_lt a.index b.index)
-
--- the order of names
-abbrev pub name_cmp : Name → Name → Ordering
-name_cmp a b = ordering_then (stamp_cmp a.stamp b.stamp) (nat_cmp a.index b.index)
 
 -- where a board of a rank stands: the title first, whatever its rank, and each other behind the boards of lower ranks
 abbrev pub standing_of : BoardId → ℕ → Standing

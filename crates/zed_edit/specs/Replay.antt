@@ -68,6 +68,10 @@ MayGrow p e = (may_grow e.op ≡ true) ⊎ (can p e ≡ false)
 abbrev pub step : Plain → Edit → Plain
 step p e = if can p e then do_edit p e else hold p e
 
+-- what one author makes by an edit who made none before
+abbrev pub made_by : Edit → Plain
+made_by e = step empty_document e
+
 -- what edits, in rising stamp order, make of a document
 abbrev pub replay_on : Plain → List Edit → Plain
 replay_on p [] = p

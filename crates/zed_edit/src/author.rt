@@ -7,7 +7,7 @@ ghost use Rattle.zed_types.specs.Table.{is_in_table};
 ghost use Rattle.zed_op.specs.Fit.{Fits, is_in_range};
 ghost use Rattle.zed_op.specs.Set.{AllFit, IsRising, StampsRise, stamps_of};
 ghost use Rattle.zed_edit.specs.Document.{empty_document};
-ghost use Rattle.zed_edit.specs.Replay.{MayGrow, MayGrowBy, do_op, do_edit as done, held as held_of, hold as held_back, step as stepped, replay_on as replayed_on, replay as replayed};
+ghost use Rattle.zed_edit.specs.Replay.{MayGrow, MayGrowBy, made_by as made_alone, do_op, do_edit as done, held as held_of, hold as held_back, step as stepped, replay_on as replayed_on, replay as replayed};
 
 use crate::board::{
     add_to_boards, fill_boards, new_board, remove_boards, remove_stats_on, set_boards, set_stats_on,
@@ -18,7 +18,7 @@ use crate::made::can;
 use crate::plain::{Plain, Text};
 use crate::stat::new_stat;
 use crate::text::{Insertion, delete_bytes, insert_bytes};
-use std::alloc::Global;
+use std::alloc::{AllocError, Global};
 use zed_op::{Edit, EditError, Op};
 use zed_types::{BoardId, Bytes, Seq, Stamp, StatFields, StatId, TextId};
 
@@ -119,6 +119,19 @@ pub fn step(alloc: Global, plain: &mut Plain, edit: &Edit) -> Result<(), EditErr
         do_edit(alloc, plain, edit)
     } else {
         hold(plain, edit)
+    }
+}
+
+/// What one author makes by an edit who made none before. The caller gives an edit that fits.
+pub fn made_by(alloc: Global, edit: &Edit) -> Result<Plain, AllocError>
+    requires { Fits edit.now }
+    ensures ok { IfOk result (λ made. made ≡ made_alone edit.now) }
+    ensures memory_only_when { OnErr result (MayGrow empty_document edit.now) }
+{
+    let mut made = Plain::empty(alloc);
+    match step(alloc, &mut made, edit) {
+        Ok(()) => Ok(made),
+        Err(_) => Err(AllocError),
     }
 }
 

@@ -16,7 +16,7 @@ mod shown;
 mod stat;
 mod text;
 
-pub use author::{replay, step};
+pub use author::{made_by, replay, step};
 pub use cells::new_table;
 pub use has::{has_board, has_element, has_stat, has_text, has_thing};
 pub use made::can;

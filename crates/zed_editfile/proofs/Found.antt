@@ -114,9 +114,6 @@ at_rest asked world version rest = record { asked = asked; world = world; versio
 abbrev moved : Option ℕ → Option ℕ → ℕ → Stop → Progress
 moved asked world version s = record { asked = asked; world = world; version = version; rest = s.rest; fault = s.fault }
 
-stop_same : (s : Stop) → record { rest = s.rest; fault = s.fault } ≡ s
-stop_same s = refl
-
 -- a reader in the head has all the bytes
 in_head : (asked : Option ℕ) (v : ℕ) (rest bytes : List ℕ) (found : List Edit) → Reads bytes found (at_rest asked None v rest) → (bytes ≡ rest) × (found ≡ []) × (v ≡ 0)
 in_head asked v rest bytes found r = elim r [

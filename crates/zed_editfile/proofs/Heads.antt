@@ -96,9 +96,6 @@ fails_not_waits e rest h = waits_not_fails rest e (sym h)
 none_not_waits : (rest : List ℕ) → None ≡ waits rest → ⊥
 none_not_waits rest h = absurd cc
 
-none_not_fails : (e : EditFileError) → None ≡ fails e → ⊥
-none_not_fails e h = absurd cc
-
 short_waits : (asked : Option ℕ) (h rest : List ℕ) → length h < 4 → head_stop asked h ≡ waits rest → (h ≡ rest) × (length h < 12)
 short_waits asked h rest lt s = elim (chosen (not (has_letters h)) (fails Magic) (waits h) (waits rest) (sym (short_stop asked h lt) ∙ s)) [
   | inl m ↦ absurd (fails_not_waits Magic rest m.1)

@@ -14,13 +14,6 @@ IsBytes bytes = (i : ℕ) → get_or bytes i 0 < 256
 pub IsBytes-drop : (n : ℕ) (bytes : List ℕ) → IsBytes bytes → IsBytes (drop n bytes)
 IsBytes-drop n bytes h i = rw get_or-drop (h (n + i))
 
-pub IsBytes-take : (n : ℕ) (bytes : List ℕ) → IsBytes bytes → IsBytes (take n bytes)
-IsBytes-take n bytes h i =
-    elim (cases_lt i n) [
-      | inl lt ↦ rw (get_or-take n bytes i 0 lt) (h i)
-      | inr le ↦ rw (get_or_past (take n bytes) i 0 (omega (arith, length-take n bytes))) (omega arith)
-    ]
-
 pub IsBytes-rest : (b : ℕ) (bytes : List ℕ) → IsBytes (b ∷ bytes) → IsBytes bytes
 IsBytes-rest b bytes h i = h (suc i)
 
@@ -32,11 +25,6 @@ pub IsBytes-front : (front bytes : List ℕ) → IsBytes (front ++ bytes) → Is
 IsBytes-front [] bytes h i = omega arith
 IsBytes-front (b ∷ front) bytes h zero = h 0
 IsBytes-front (b ∷ front) bytes h (suc i) = IsBytes-front front bytes (IsBytes-rest b (front ++ bytes) h) i
-
-pub IsBytes-both : (front bytes : List ℕ) → IsBytes front → IsBytes bytes → IsBytes (front ++ bytes)
-IsBytes-both [] bytes f h i = h i
-IsBytes-both (b ∷ front) bytes f h zero = f 0
-IsBytes-both (b ∷ front) bytes f h (suc i) = IsBytes-both front bytes (IsBytes-rest b front f) h i
 
 pub length_number : (n x : ℕ) → length (number n x) ≡ n
 unfolding number

@@ -18,8 +18,7 @@ use Rattle.std.proofs.lemmas.List.Sums.{position_or_len_is}
 use Rattle.zed_types.specs.declared.stamp.Stamp.{Stamp}
 use Rattle.zed_types.specs.declared.names.Name.{Name}
 use Rattle.zed_types.specs.Stamp.{stamp_cmp}
-use Rattle.zed_types.specs.Names.{same_name}
-use Rattle.zed_laws.specs.NameOrder.{is_earlier, NamesRise}
+use Rattle.zed_types.specs.Names.{same_name, NamesRise, is_earlier}
 
 -- the order of names
 abbrev pub name_cmp : Name → Name → Ordering

@@ -3,10 +3,11 @@ use Rattle.std.proofs.Common.{◌≡◌, ℕ, zero, suc, ◌<◌, Bool, true, fa
 use Rattle.std.specs.Prelude.{filter}
 use Rattle.std.specs.List.{AllByRecursion}
 use Rattle.zed_types.specs.declared.names.Name.{Name}
+use Rattle.zed_types.specs.Names.{NamesRise, is_earlier}
 use Rattle.zed_edit.specs.declared.plain.Board.{Board}
 use Rattle.zed_edit.specs.declared.plain.Stat.{Stat}
 use Rattle.zed_edit.specs.declared.plain.Plain.{Plain}
-use Rattle.zed_laws.specs.NameOrder.{is_earlier, NamesRise, IsOrdered}
+use Rattle.zed_laws.specs.NameOrder.{IsOrdered}
 use Rattle.zed_edit.specs.Numbers.{boards_there}
 use Rattle.zed_export.specs.Fields.{stat_names}
 use Rattle.zed_export.proofs.Each.{each_filtered}

@@ -44,11 +44,6 @@ pub record FitsBoard (b : BoardData) : Type 0 where
   pub time_limit : IsInteger b.properties.time_limit
   pub stats : AllByRecursion FitsStat b.stats
 
--- each number of a world does
-pub record FitsWorld (w : Contents) : Type 0 where
-  pub header : FitsHeader w.header
-  pub boards : AllByRecursion FitsBoard w.boards
-
 -- the names of the boards that aren't removed, by number
 abbrev pub board_names : Plain → List Name
 board_names p = map (λ b. b.id.name) (alive_boards p)

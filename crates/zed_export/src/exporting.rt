@@ -99,6 +99,7 @@ fn shown_within<'d>(
     let Ok(view) = document.view() else {
         return Err(ExportError::Stale);
     };
+    // Its contract says that the edits rise, as the laws want it.
     document.edits();
     replay_is_regular();
     replay_is_ordered();

@@ -32,7 +32,7 @@ pub(crate) struct Names {
 impl Model for Names {
     ghost use Rattle.std.specs.Prelude.{List};
     ghost use Rattle.zed_types.specs.declared.names.Name.{Name as TheName};
-    ghost use Rattle.zed_laws.specs.NameOrder.{NamesRise};
+    ghost use Rattle.zed_types.specs.Names.{NamesRise};
 
     ghost Value = { List TheName };
 

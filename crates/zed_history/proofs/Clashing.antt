@@ -60,10 +60,6 @@ pub serve-on : (own rest left : List Edit) (s : Stamp) (fs : List Edit) → AllB
 serve-on own rest left s [] a h n = tt
 serve-on own rest left s (f ∷ fs) a h n = (h f.stamp n.0 ∙ a.0, serve-on own rest left s fs a.1 h n.1)
 
-pub serve-all : (own : List Edit) (fs : List Edit) → AllByRecursion (λ f. edit_with f.stamp own ≡ edit_with f.stamp own) fs
-serve-all own [] = tt
-serve-all own (f ∷ fs) = (refl, serve-all own fs)
-
 -- an edit from a rising log on
 from-head : (f : Edit) (fs : List Edit) → AllByRecursion (λ g. before f.stamp g.stamp ≡ true) fs → AllFrom f.stamp fs
 from-head f [] a = tt

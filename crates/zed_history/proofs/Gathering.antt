@@ -84,17 +84,6 @@ pub record IsGoing (log all rest edits : List Edit) : Type 0 where
   pub brings : HasNew (union log edits) rest → HasNew log all
   pub new : (edits ≡ []) ⊎ HasNew log all
 
-pub going-begins : (log all edits : List Edit) → AllFit all → edits ≡ [] → IsGoing log all all edits
-going-begins log all edits fit none = subst (IsGoing log all all) (sym none) (record {
-  rising = tt;
-  fit = tt;
-  apart = tt;
-  rest_fit = fit;
-  joins = λ clash left h. h;
-  brings = λ h. h;
-  new = inl refl;
-})
-
 pub going-on : SetsHold → (log all rest others ms ns : List Edit) (e : Edit) → IsRising log → others ≡ e ∷ rest → IsGoing log all others ms
     → MatchOption (there log ms e.stamp) (ns ≡ with_edit e ms) (λ f. (f ≡ e) × (ns ≡ ms))
     → IsGoing log all rest ns
@@ -128,25 +117,6 @@ going-clashes laws log all rest others ms ns e r split was kept other = subst (�
       joins = g.joins (Some e.stamp) (union log ms) (inr (another laws log ms e r other, refl, refl));
       new = g.new;
     }
-
-pub going-ends : (log all rest ms : List Edit) → rest ≡ [] → IsGoing log all rest ms → IsBatch log all ms None
-going-ends log all rest ms none was = go (subst (λ es. IsGoing log all es ms) none was)
-  where
-    go : IsGoing log all [] ms → IsBatch log all ms None
-    go g = record {
-      rising = g.rising;
-      fit = g.fit;
-      apart = g.apart;
-      joins = g.joins None (union log ms) (refl, refl);
-      new = g.new;
-    }
-
-pub going-lacks : SetsHold → (log all rest others ms : List Edit) (e : Edit) → IsRising log → others ≡ e ∷ rest → IsGoing log all others ms
-    → there log ms e.stamp ≡ None → HasNew log all
-going-lacks laws log all rest others ms e r split was none = go (subst (λ es. IsGoing log all es ms) split was)
-  where
-    go : IsGoing log all (e ∷ rest) ms → HasNew log all
-    go g = g.brings (inl (there-is laws log ms e.stamp r ∙ none))
 
 pub when-none : (o : Option Stamp) {P : Type 0} → o ≡ None → IfNone o P → P
 when-none o is h = rw is at h

@@ -30,13 +30,6 @@ pub edit_with-past : (s : Stamp) (low rest : List Edit) → AllBelow s low → e
 edit_with-past s [] rest b = refl
 edit_with-past s (f ∷ low) rest b = rw (before_differs f.stamp s b.0) (edit_with-past s low rest b.1)
 
-pub with_edit-there : (e f : Edit) (low high : List Edit) → AllBelow e.stamp low → before e.stamp f.stamp ≡ false → same_stamp e.stamp f.stamp ≡ true → with_edit e (low ++ f ∷ high) ≡ low ++ f ∷ high
-with_edit-there e f [] high b n t = rw (n, t)
-with_edit-there e f (g ∷ low) high b n t =
-    let after = before_asym g.stamp e.stamp b.0 in
-    let other = before_differs_after g.stamp e.stamp b.0 in
-    rw (after, other) (ap (λ rest. g ∷ rest) (with_edit-there e f low high b.1 n t))
-
 -- in a rising log all before an edit that is below a stamp are below it too
 pub AllBelow-take : (s : Stamp) (es : List Edit) (i : ℕ) → IsRising es → IfSome (slice_get es i) (λ f. before f.stamp s ≡ true) → i < length es → AllBelow s (take (suc i) es)
 AllBelow-take s [] i r h l = tt

@@ -7,7 +7,7 @@ use Rattle.zed_types.specs.Stamp.{before, same_stamp}
 use Rattle.zed_op.specs.declared.op.Edit.{Edit}
 use Rattle.zed_op.specs.Set.{IsRising}
 use Rattle.zed_history.specs.Finding.{AllAbove, AllBelow, AllFrom}
-use Rattle.zed_types.proofs.StampOrder.{before_trans, before_other_after}
+use Rattle.zed_types.proofs.StampOrder.{before_other_after}
 use Rattle.zed_history.proofs.Spots.{AllBelow-take, above-later}
 
 from-trans : (a b c : Stamp) → before a b ≡ true → before a c ≡ false → before b c ≡ false
@@ -34,14 +34,6 @@ below-take s es zero r h l = tt
 below-take s es (suc i) r h l =
     let q : suc i - 1 ≡ i = omega arith in
     AllBelow-take s es i r (rw q at (h (omega arith))) (omega arith)
-
-pub AllBelow-append : (s : Stamp) (es fs : List Edit) → AllBelow s es → AllBelow s fs → AllBelow s (es ++ fs)
-AllBelow-append s [] fs a b = b
-AllBelow-append s (e ∷ es) fs a b = (a.0, AllBelow-append s es fs a.1 b)
-
-pub AllBelow-later : (s t : Stamp) (es : List Edit) → before s t ≡ true → AllBelow s es → AllBelow t es
-AllBelow-later s t [] b a = tt
-AllBelow-later s t (e ∷ es) b a = (before_trans e.stamp s t a.0 b, AllBelow-later s t es b a.1)
 
 -- a rising log from a stamp on that doesn't begin with it is above it
 pub above-rising : (s : Stamp) (es : List Edit) → IsRising es → AllFrom s es → IfSome (slice_get es 0) (λ f. same_stamp s f.stamp ≡ false) → AllAbove s es

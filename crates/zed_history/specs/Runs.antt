@@ -35,3 +35,9 @@ AreRuns (r ∷ rs) = IsRising r × AllByRecursion (AreNew r) rs × AreRuns rs
 abbrev pub count_in : List (List Edit) → ℕ
 count_in [] = 0
 count_in (r ∷ rs) = length r + count_in rs
+
+-- runs hold what others hold, in as many edits or fewer, and whatever runs stand apart from these stand apart from them
+pub record SettleTo (old new : List (List Edit)) : Type 0 where
+  pub runs : (others : List (List Edit)) → AreRuns (others ++ old) → AreRuns (others ++ new)
+  pub found : (s : Stamp) → found_in s new ≡ found_in s old
+  pub count : count_in new ≤ count_in old

@@ -5,7 +5,7 @@ ghost use Rattle.zed_op.specs.declared.op.Edit.{Edit as TheEdit};
 ghost use Rattle.zed_op.specs.Set.{IsRising, with_edit};
 ghost use Rattle.zed_history.specs.Batch.{first_of};
 ghost use Rattle.zed_history.specs.Finding.{AllBelow, edit_with};
-ghost use Rattle.zed_history.specs.Runs.{AreRuns, HasRoom, count_in, found_in, joined};
+ghost use Rattle.zed_history.specs.Runs.{AreRuns, HasRoom, SettleTo, count_in, found_in, joined};
 
 use crate::moving::move_in;
 use crate::place::{is_latest, place_of, spot_of};
@@ -87,13 +87,8 @@ fn start_run(
     requires room { count_in (settled.old.items ++ run.old.items ∷ []) ≤ vec_capacity spare.old }
     ensures empty { OnOk result (run.new.items ≡ []) }
     ensures free { OnOk result (vec_len run.new < vec_capacity run.new) }
-    ensures runs { OnOk result ((before : List (List TheEdit))
-        → AreRuns (before ++ (settled.old.items ++ run.old.items ∷ []))
-        → AreRuns (before ++ settled.new.items)) }
-    ensures found { OnOk result ((s : TheStamp) → found_in s settled.new.items
-        ≡ found_in s (settled.old.items ++ run.old.items ∷ [])) }
-    ensures count { OnOk result (count_in settled.new.items
-        ≤ count_in (settled.old.items ++ run.old.items ∷ [])) }
+    ensures settles { OnOk result
+        (SettleTo (settled.old.items ++ run.old.items ∷ []) settled.new.items) }
     ensures kept { OnErr result ((settled.new.items ≡ settled.old.items)
         × (run.new.items ≡ run.old.items)) }
     ensures spare { (spare.new.items ≡ []) × (vec_capacity spare.new ≡ vec_capacity spare.old) }
@@ -102,39 +97,6 @@ fn start_run(
     next.reserve(1)?;
     settled.reserve(1)?;
     settle(settled, replace(run, next), spare);
-    Ok(())
-}
-
-/// Begins a run with a new edit. Memory leaves all as it was.
-fn begin_with(
-    alloc: Global,
-    settled: &mut Vec<Run>,
-    run: &mut Vec<Edit>,
-    spare: &mut Vec<Edit>,
-    edit: Edit,
-) -> Result<(), AllocError>
-    requires runs { AreRuns (settled.old.items ++ run.old.items ∷ []) }
-    requires empty { spare.old.items ≡ [] }
-    requires room { count_in (settled.old.items ++ run.old.items ∷ []) ≤ vec_capacity spare.old }
-    requires new { found_in edit.stamp (settled.old.items ++ run.old.items ∷ []) ≡ None }
-    ensures runs { OnOk result ((log : List TheEdit)
-        → AreRuns (log ∷ (settled.old.items ++ run.old.items ∷ []))
-        → edit_with edit.stamp log ≡ None
-        → AreRuns (log ∷ (settled.new.items ++ run.new.items ∷ []))) }
-    ensures found { OnOk result ((s : TheStamp)
-        → found_in s (settled.new.items ++ run.new.items ∷ [])
-        ≡ first_of (found_in s (settled.old.items ++ run.old.items ∷ []))
-        (edit_with s (edit ∷ []))) }
-    ensures count { OnOk result (count_in (settled.new.items ++ run.new.items ∷ [])
-        ≤ count_in (settled.old.items ++ run.old.items ∷ []) + 1) }
-    ensures kept { OnErr result ((settled.new.items ≡ settled.old.items)
-        × (run.new.items ≡ run.old.items)) }
-    ensures spare { (spare.new.items ≡ []) × (vec_capacity spare.new ≡ vec_capacity spare.old) }
-{
-    sets_rise();
-    rising_lists_are_sets();
-    start_run(alloc, settled, run, spare)?;
-    run.push_reserved(edit);
     Ok(())
 }
 
@@ -166,10 +128,12 @@ fn put_late(
 {
     sets_rise();
     rising_lists_are_sets();
-    if !is_latest(run, edit.stamp) {
-        return begin_with(alloc, settled, run, spare, edit);
+    if is_latest(run, edit.stamp) {
+        run.reserve(1)?;
+        run.push_reserved(edit);
+        return Ok(());
     }
-    run.reserve(1)?;
+    start_run(alloc, settled, run, spare)?;
     run.push_reserved(edit);
     Ok(())
 }

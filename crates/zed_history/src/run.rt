@@ -1,10 +1,8 @@
 //! Late edits that came in stamp order.
-ghost use Rattle.std.specs.Prelude.{◌≡◌, ◌≤◌, ◌<◌, ◌+◌, ◌++◌, ◌∷◌, [], None, Some, List, length, vec_capacity, IfSome, IfNone};
-ghost use Rattle.zed_types.specs.declared.stamp.Stamp.{Stamp as TheStamp};
-ghost use Rattle.zed_op.specs.declared.op.Edit.{Edit as TheEdit};
+ghost use Rattle.std.specs.Prelude.{◌≡◌, ◌≤◌, ◌<◌, ◌+◌, ◌++◌, ◌∷◌, [], None, Some, length, vec_capacity, IfSome, IfNone};
 ghost use Rattle.zed_op.specs.Set.{IsRising};
 ghost use Rattle.zed_history.specs.Finding.{edit_with};
-ghost use Rattle.zed_history.specs.Runs.{AreRuns, count_in, found_in};
+ghost use Rattle.zed_history.specs.Runs.{AreRuns, SettleTo, count_in, found_in};
 
 use crate::moving::move_in;
 use crate::place::{place_of, spot_of};
@@ -110,13 +108,7 @@ pub(crate) fn settle(settled: &mut Vec<Run>, ended: Vec<Edit>, spare: &mut Vec<E
     requires free { length settled.old.items < vec_capacity settled.old }
     requires empty { spare.old.items ≡ [] }
     requires room { count_in (settled.old.items ++ ended.items ∷ []) ≤ vec_capacity spare.old }
-    ensures runs { (before : List (List TheEdit))
-        → AreRuns (before ++ (settled.old.items ++ ended.items ∷ []))
-        → AreRuns (before ++ settled.new.items) }
-    ensures found { (s : TheStamp) → found_in s settled.new.items
-        ≡ found_in s (settled.old.items ++ ended.items ∷ []) }
-    ensures count { count_in settled.new.items
-        ≤ count_in (settled.old.items ++ ended.items ∷ []) }
+    ensures settles { SettleTo (settled.old.items ++ ended.items ∷ []) settled.new.items }
     ensures spare { (spare.new.items ≡ []) × (vec_capacity spare.new ≡ vec_capacity spare.old) }
 {
     sets_rise();

@@ -19,3 +19,10 @@ impl From<AllocError> for InboxError {
         InboxError::Memory
     }
 }
+
+/// A growth that was refused is all that can be wrong.
+impl From<InboxError> for AllocError {
+    fn from(_error: InboxError) -> AllocError {
+        AllocError
+    }
+}

@@ -2,11 +2,11 @@
 use Rattle.std.proofs.Common.{◌≡◌, ◌∙◌, ◌+◌, ◌≤◌, Bool, true, false, cond, not, List, [], ◌∷◌, count_by, filter, refl, ap, arith}
 use Rattle.std.specs.List.{AllByRecursion}
 use Rattle.zed_types.specs.declared.names.BoardId.{BoardId}
-use Rattle.zed_types.specs.Names.{same_board}
+use Rattle.zed_types.specs.Names.{same_board, NamesRise, is_earlier}
 use Rattle.zed_edit.specs.declared.plain.Board.{Board}
 use Rattle.zed_edit.specs.Numbers.{AreApart}
 use Rattle.zed_edit.proofs.Ordered.{count-cons}
-use Rattle.zed_laws.specs.NameOrder.{is_earlier, NamesRise, BoardsThereAreApart}
+use Rattle.zed_laws.specs.NameOrder.{BoardsThereAreApart}
 
 -- a name that comes after one of this name is another
 later-other : (a b id : BoardId) → is_earlier a.name b.name ≡ true → same_board a id ≡ true → same_board b id ≡ false

@@ -4,7 +4,7 @@ use Rattle.std.specs.List.{AllByRecursion, list_all, list_any}
 use Rattle.std.proofs.lemmas.Bool.{and_parts}
 use Rattle.zed_types.specs.declared.stamp.Stamp.{Stamp}
 use Rattle.zed_types.specs.declared.names.ElemId.{ElemId}
-use Rattle.zed_types.specs.Stamp.{before, same_stamp}
+use Rattle.zed_types.specs.Stamp.{before, same_stamp, genesis_stamp}
 use Rattle.zed_types.specs.Names.{same_text, same_element}
 use Rattle.zed_types.specs.Text.{run_from}
 use Rattle.zed_op.specs.declared.op.Op.{Op}
@@ -13,7 +13,7 @@ use Rattle.zed_op.specs.declared.op.Edit.{Edit}
 use Rattle.zed_op.specs.declared.thing.Thing.{Thing}
 use Rattle.zed_op.specs.declared.thing.Thing.TheVariants.{Board as board, Stat as stat, Text as text, Element as element}
 use Rattle.zed_op.specs.Names.{names_of, stamp_of}
-use Rattle.zed_op.specs.Fit.{genesis_stamp, is_stamp, is_own_stamp}
+use Rattle.zed_op.specs.Fit.{is_stamp, is_own_stamp}
 use Rattle.zed_op.specs.Set.{AllFit}
 use Rattle.zed_op.proofs.FitParts.{fit_is_each_part}
 use Rattle.zed_types.proofs.StampOrder.{before_differs_after}

@@ -6,12 +6,12 @@ use Rattle.std.proofs.lemmas.List.Elements.{filter_map-append}
 use Rattle.zed_types.specs.declared.stamp.Stamp.{Stamp}
 use Rattle.zed_types.specs.declared.written.Written.{Written}
 use Rattle.zed_types.specs.Stamp.{before, same_stamp}
-use Rattle.zed_types.specs.Register.{keep_later, latest_of, last_value, value_or}
+use Rattle.zed_types.specs.Register.{keep_later, latest_of, last_value, value_or, written_at}
 use Rattle.zed_op.specs.declared.op.Edit.{Edit}
 use Rattle.zed_edit.specs.declared.plain.Plain.{Plain as Document}
 use Rattle.zed_edit.specs.Replay.{can, step, taken_on}
 use Rattle.zed_op.specs.Set.{IsRising}
-use Rattle.zed_laws.specs.Registers.{written_at, writes_of, kept_after, LateWriteIsCompared}
+use Rattle.zed_laws.specs.Registers.{writes_of, kept_after, LateWriteIsCompared}
 use Rattle.zed_types.proofs.StampOrder.{before_trans, before_differs}
 use Rattle.zed_laws.proofs.LateInsertion.{rising-high}
 

@@ -11,7 +11,7 @@ use Rattle.zed_types.specs.declared.stat_field.StatSetting.{StatSetting}
 use Rattle.zed_types.specs.declared.stat_field.StatSetting.TheVariants as stat
 use Rattle.zed_types.specs.Stamp.{before}
 use Rattle.zed_types.specs.Stat.{stat_number_index}
-use Rattle.zed_types.specs.Names.{name_of, board_of, stat_of, text_of, same_board, same_stat, same_text}
+use Rattle.zed_types.specs.Names.{name_of, board_of, stat_of, text_of, same_board, same_stat, same_text, NamesRise, is_earlier}
 use Rattle.zed_types.specs.Table.{map_from}
 use Rattle.zed_types.specs.Text.{run_from, put_after, kill}
 use Rattle.zed_types.proofs.StampOrder.{same_stamp-itself, before_irrefl}
@@ -34,7 +34,7 @@ use Rattle.zed_edit.specs.Stat.{with_number, set_stat, new_stat, remove_stat}
 use Rattle.zed_edit.specs.Document.{empty_document, change_such, change_elements}
 use Rattle.zed_edit.specs.Genesis.{programs_of, programs_before, opened_stat, opened_boards, opened_boards_from, opened_text, opened_texts}
 use Rattle.zed_edit.specs.Replay.{can, do_op, open_world, step, replay_on}
-use Rattle.zed_laws.specs.NameOrder.{is_earlier, NamesRise, StatsRise, IsOrdered, ReplayIsOrdered}
+use Rattle.zed_laws.specs.NameOrder.{StatsRise, IsOrdered, ReplayIsOrdered}
 
 -- ---- lists of named things
 

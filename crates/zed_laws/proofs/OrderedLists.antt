@@ -5,11 +5,10 @@ use Rattle.std.proofs.lemmas.Bool.{and_parts, or_parts}
 use Rattle.zed_types.specs.declared.stamp.Stamp.{Stamp}
 use Rattle.zed_types.specs.declared.names.Name.{Name}
 use Rattle.zed_types.specs.Stamp.{before, same_stamp}
-use Rattle.zed_types.specs.Names.{name_of, same_name}
+use Rattle.zed_types.specs.Names.{name_of, same_name, NamesRise, is_earlier}
 use mathlib.Core.Logic.{◌⊎◌, inl, inr}
 use Rattle.zed_types.proofs.StampOrder.{same_stamp-true, same_stamp-itself, before_trans}
 use Rattle.zed_types.proofs.Facts.{some_is, or_right}
-use Rattle.zed_laws.specs.NameOrder.{is_earlier, NamesRise}
 use Rattle.zed_laws.specs.Ordered.{OrderedAreTheirMembers}
 
 -- a stamp and an index before another

@@ -7,7 +7,7 @@ use Rattle.zed_types.specs.declared.names.Name.{Name}
 use Rattle.zed_types.specs.declared.names.BoardId.{BoardId}
 use Rattle.zed_types.specs.declared.names.StatId.{StatId}
 use Rattle.zed_types.specs.Stamp.{before, same_stamp}
-use Rattle.zed_types.specs.Names.{name_of, board_of, stat_of, same_name, same_board, same_stat}
+use Rattle.zed_types.specs.Names.{name_of, board_of, stat_of, same_name, same_board, same_stat, NamesRise, is_earlier}
 use Rattle.zed_types.specs.Table.{map_from}
 use Rattle.zed_types.proofs.StampOrder.{same_stamp-true, same_stamp-itself, same_name-true, before_differs, before_differs_after}
 use Rattle.zed_types.proofs.Facts.{all_joined, all_weaker}
@@ -29,7 +29,7 @@ use Rattle.zed_edit.specs.Stat.{set_stat, new_stat, remove_stat}
 use Rattle.zed_edit.specs.Document.{empty_document, change_such, change_stats_of}
 use Rattle.zed_edit.specs.Genesis.{opened_stat, opened_stats, opened_boards_from, opened_boards, programs_before}
 use Rattle.zed_edit.specs.Replay.{can, do_op, do_edit, hold, open_world, step, replay_on, replay}
-use Rattle.zed_laws.specs.NameOrder.{is_earlier, NamesRise, IsOrdered}
+use Rattle.zed_laws.specs.NameOrder.{IsOrdered}
 use Rattle.zed_laws.proofs.NamesInOrder.{All-both, All-map, StampsAre, NamesPass, IsBoardOf, pass-opened_boards, above-opened_stats, set_stat-stamp, order-step, IsBefore, before-next, none-before, replay_ordered}
 use Rattle.zed_laws.specs.Winners.{stats_of}
 use Rattle.zed_laws.specs.OwnNames.{NamesDiffer, BoardsHaveOwnNames, StatsHaveOwnNames, TextsHaveOwnNames}

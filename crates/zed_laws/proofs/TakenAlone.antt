@@ -5,7 +5,7 @@ use Rattle.std.proofs.lemmas.Bool.{and_parts, and_from}
 use mathlib.Core.Path.{fun_ext}
 use mathlib.Core.Logic.{◌⊎◌, inl, inr}
 use Rattle.zed_types.specs.declared.stamp.Stamp.{Stamp}
-use Rattle.zed_types.specs.Stamp.{before}
+use Rattle.zed_types.specs.Stamp.{before, genesis_stamp}
 use Rattle.zed_world.specs.Contents.{Contents}
 use Rattle.zed_world.specs.Reading.{world_at}
 use Rattle.zed_world.specs.declared.error.WorldError.{WorldError}
@@ -17,7 +17,7 @@ use Rattle.zed_op.specs.declared.thing.Thing.{Thing}
 use Rattle.zed_op.specs.declared.thing.Thing.TheVariants.{Board as board, Stat as stat, Text as text, Element as element}
 use Rattle.zed_edit.specs.Document.{empty_document, has}
 use Rattle.zed_op.specs.Names.{names_of, stamp_of}
-use Rattle.zed_op.specs.Fit.{Fits, genesis_stamp, is_author_stamp, is_stamp, is_own_stamp}
+use Rattle.zed_op.specs.Fit.{Fits, is_author_stamp, is_stamp, is_own_stamp}
 use Rattle.zed_op.specs.Set.{AllFit}
 use Rattle.zed_edit.specs.Replay.{can, open_world, do_op, do_edit, hold, step, replay_on, replay, taken_on, taken, held_on, held}
 use Rattle.zed_laws.specs.Laws.{TakenMakeAll, LateEditHoldsNone, LateEditHoldsNoOther}

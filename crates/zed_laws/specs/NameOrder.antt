@@ -1,23 +1,13 @@
 -- The order in which made things stand: that of their names.
-use Rattle.std.specs.Prelude.{◌≡◌, Bool, true, ◌&&◌, ◌||◌, nat_lt, List, [], ◌∷◌}
+use Rattle.std.specs.Prelude.{List}
 use Rattle.std.specs.List.{AllByRecursion}
-use Rattle.zed_types.specs.declared.names.Name.{Name}
-use Rattle.zed_types.specs.Stamp.{before, same_stamp}
+use Rattle.zed_types.specs.Names.{NamesRise}
 use Rattle.zed_op.specs.declared.op.Edit.{Edit}
 use Rattle.zed_op.specs.Set.{IsRising}
 use Rattle.zed_edit.specs.declared.plain.Board.{Board}
 use Rattle.zed_edit.specs.declared.plain.Plain.{Plain}
 use Rattle.zed_edit.specs.Numbers.{AreApart, boards_there}
 use Rattle.zed_edit.specs.Replay.{replay}
-
--- whether a name comes before another: by stamp, and then by index
-abbrev pub is_earlier : Name → Name → Bool
-is_earlier a b = before a.stamp b.stamp || (same_stamp a.stamp b.stamp && nat_lt a.index b.index)
-
--- the name of each member comes before those of the members behind it
-abbrev pub NamesRise : {X : Type 0} → (X → Name) → List X → Type 0
-NamesRise name [] = Unit {0}
-NamesRise name (x ∷ xs) = AllByRecursion (λ y. is_earlier (name x) (name y) ≡ true) xs × NamesRise name xs
 
 -- the stats of a board stand in the order of their names
 abbrev pub StatsRise : Board → Type 0

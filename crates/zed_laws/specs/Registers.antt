@@ -2,16 +2,12 @@
 use Rattle.std.specs.Prelude.{◌≡◌, ℤ, pos, slice_index_or, List, ◌∷◌, ◌++◌, filter_map, Option, Some, None, option_map}
 use Rattle.zed_types.specs.declared.stamp.Stamp.{Stamp}
 use Rattle.zed_types.specs.declared.written.Written.{Written}
-use Rattle.zed_types.specs.Register.{keep_later, latest_of}
+use Rattle.zed_types.specs.Register.{keep_later, latest_of, written_at}
 use Rattle.zed_types.specs.declared.header.HeaderNumber.{HeaderNumber}
 use Rattle.zed_types.specs.Header.{header_number_index}
 use Rattle.zed_op.specs.declared.op.Edit.{Edit}
 use Rattle.zed_edit.specs.declared.plain.Header.{Header}
 use Rattle.zed_op.specs.Set.{IsRising}
-
--- a value with the stamp of its write
-abbrev pub written_at : {V : Type 0} → Stamp → V → Written V
-written_at s v = record { stamp = s; value = v }
 
 -- what edits write into a register, each write with its stamp
 abbrev pub writes_of : {V : Type 0} → (Edit → Option V) → List Edit → List (Written V)

@@ -8,7 +8,7 @@ use Rattle.zed_types.specs.declared.names.StatId.{StatId}
 use Rattle.zed_types.specs.declared.stamp.Stamp.{Stamp}
 use Rattle.zed_types.specs.declared.written.Written.{Written}
 use Rattle.zed_types.specs.Names.{same_board}
-use Rattle.zed_types.specs.Register.{keep_later, latest_of}
+use Rattle.zed_types.specs.Register.{keep_later, latest_of, written_at}
 use Rattle.zed_types.specs.Stamp.{before}
 use Rattle.zed_types.proofs.StampOrder.{same_name-itself}
 use Rattle.zed_types.proofs.Facts.{or_right}
@@ -32,7 +32,6 @@ use Rattle.zed_laws.proofs.Found.{found-holds}
 use Rattle.zed_laws.proofs.Homes.{home-wins}
 use Rattle.zed_laws.proofs.OrderedLists.{ordered_are_their_members}
 use Rattle.zed_laws.proofs.OwnNames.{boards_have_own_names, stats_have_own_names}
-use Rattle.zed_cells.specs.Writes.{written_at}
 use Rattle.zed_stats.specs.declared.stat.LiveStat.{LiveStat}
 use Rattle.zed_live.specs.Shows.{latest_in}
 use Rattle.zed_live.specs.Stat.{shown_stat}

@@ -11,7 +11,7 @@ use Rattle.zed_types.specs.declared.tile.Rectangle.{Rectangle}
 use Rattle.zed_types.specs.declared.names.BoardId.{BoardId}
 use Rattle.zed_types.specs.declared.property.BoardSetting.{BoardSetting}
 use Rattle.zed_types.specs.Board.{board_byte_index, board_flag_index, side_index, board_text_index}
-use Rattle.zed_types.specs.Register.{keep_later, latest_of}
+use Rattle.zed_types.specs.Register.{keep_later, latest_of, written_at}
 use Rattle.zed_types.specs.Table.{is_inside, place_at}
 use Rattle.zed_types.proofs.StampOrder.{same_board-true}
 use Rattle.zed_types.proofs.Facts.{none_is, length-map_from}
@@ -25,7 +25,6 @@ use Rattle.zed_edit.specs.Board.{empty_tile}
 use Rattle.zed_laws.specs.Registers.{kept_after}
 use Rattle.zed_laws.specs.Fields.{Field, board_byte, board_flag, time_limit, rank, exit, board_text, board_removed, cell}
 use Rattle.zed_laws.specs.Winners.{of_board, find_board, made_boards, changes_board}
-use Rattle.zed_cells.specs.Writes.{written_at}
 use Rattle.zed_cells.specs.Cells.{set_cells, writes_into, CellsHoldTheLatest}
 use Rattle.zed_stats.specs.Arrivals.{FieldsHoldTheLatest}
 use Rattle.zed_live.specs.declared.board.LiveBoard.{LiveBoard}

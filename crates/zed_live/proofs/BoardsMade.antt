@@ -7,9 +7,8 @@ use Rattle.zed_world.specs.declared.error.WorldError.{WorldError}
 use Rattle.zed_op.specs.declared.op.Op.TheVariants.{Genesis, BoardAdd}
 use Rattle.zed_op.specs.declared.op.Edit.{Edit}
 use Rattle.zed_edit.specs.Document.{empty_document}
-use Rattle.zed_edit.specs.Replay.{open_world}
+use Rattle.zed_edit.specs.Replay.{made_by, open_world}
 use Rattle.zed_laws.specs.Winners.{opened_from}
-use Rattle.zed_live.specs.Header.{made_by}
 use Rattle.zed_live.specs.Boards.{Boards, add_all, all_as_made, boards_after}
 
 opened : (s : Stamp) (r : Result Contents WorldError) → (open_world s r empty_document).boards ≡ opened_from s r

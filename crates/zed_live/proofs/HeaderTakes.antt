@@ -11,7 +11,7 @@ use Rattle.zed_types.specs.declared.header.FlagSlot.{FlagSlot}
 use Rattle.zed_types.specs.declared.header.HeaderSetting.{HeaderSetting}
 use Rattle.zed_types.specs.declared.header.HeaderSetting.TheVariants as header
 use Rattle.zed_types.specs.Header.{header_number_index, key_index, flag_index}
-use Rattle.zed_types.specs.Register.{keep_later}
+use Rattle.zed_types.specs.Register.{keep_later, written_at}
 use Rattle.zed_world.specs.Contents.{Contents}
 use Rattle.zed_world.specs.Reading.{world_at}
 use Rattle.zed_world.specs.declared.error.WorldError.{WorldError}
@@ -27,7 +27,7 @@ use Rattle.zed_laws.proofs.RegularSteps.{ReadIsNormal}
 use Rattle.zed_laws.specs.Fields.{Field, header_number, key, saved, current_board, world_name, flag}
 use Rattle.zed_laws.specs.Winners.{Register, of_header, opened_header}
 use Rattle.zed_laws.proofs.HeaderFields.{number-within, key-within, flag-within}
-use Rattle.zed_cells.specs.Writes.{written_at, register}
+use Rattle.zed_cells.specs.Writes.{register}
 use Rattle.zed_live.specs.declared.header.LiveHeader.{LiveHeader}
 use Rattle.zed_live.specs.Header.{write_header, write_each, write_all, open_header, header_after}
 use Rattle.zed_live.specs.Shows.{latest_in, HeaderShows, NoneIsUnwritten, HeaderTakes}

@@ -17,12 +17,12 @@ use Rattle.std.specs.Option.{is_some, option_or, option_map, option_map_or}
 use Rattle.zed_types.specs.declared.stamp.Stamp.{Stamp}
 use Rattle.zed_types.specs.declared.names.BoardId.{BoardId}
 use Rattle.zed_types.specs.declared.names.StatId.{StatId}
-use Rattle.zed_types.specs.Names.{board_of, stat_of, same_board, same_stat}
+use Rattle.zed_types.specs.Names.{board_of, stat_of, same_board, same_stat, NamesRise, is_earlier}
 use Rattle.zed_types.specs.Stamp.{stamp_cmp}
 use Rattle.zed_types.proofs.StampOrder.{same_board-true}
 use Rattle.zed_types.proofs.Facts.{is_some-map, all_weaker}
 use Rattle.zed_types.proofs.Orderings.{name_same}
-use Rattle.zed_names.specs.ByName.{put, add, is_earlier}
+use Rattle.zed_names.specs.ByName.{put, add}
 use Rattle.zed_names.proofs.Changed.{change-none}
 use Rattle.zed_names.proofs.Found.{in-change, rise-change, rise-add_all}
 use Rattle.zed_names.proofs.Order.{name_total}
@@ -31,7 +31,6 @@ use Rattle.zed_op.specs.declared.op.Op.TheVariants.{BoardRemove, SetBoard, SetCe
 use Rattle.zed_edit.specs.declared.plain.Board.{Board}
 use Rattle.zed_edit.specs.declared.plain.Stat.{Stat}
 use Rattle.zed_edit.specs.Stat.{new_stat as plain_stat}
-use Rattle.zed_laws.specs.NameOrder.{NamesRise}
 use Rattle.zed_laws.specs.Winners.{changes_stat, find_stat}
 use Rattle.zed_stats.specs.declared.stat.LiveStat.{LiveStat}
 use Rattle.zed_stats.specs.Fields.{write, remove}
@@ -47,9 +46,6 @@ use Rattle.zed_live.proofs.Listed.{is_among, change_each, all_changed, first_fou
 use Rattle.zed_live.proofs.Pairs.{run, stays, is_put, sorted_none, sorted_cons, any_listed, sorted_listed, run_listed}
 
 -- ---- what is listed
-
-pub stay_itself : (a : Homes) → StayListed a a
-stay_itself a = record { each = λ x b h. h }
 
 pub stay_through : (a b c : Homes) → StayListed a b → StayListed b c → StayListed a c
 stay_through a b c h k = record { each = λ x d l. k.each x d (h.each x d l) }

@@ -15,7 +15,8 @@ use Rattle.std.specs.Option.{option_map, option_map_or}
 use Rattle.std.specs.Ordering.{is_eq, ordering_reverse}
 use Rattle.zed_types.specs.declared.names.Name.{Name}
 use Rattle.zed_types.proofs.Orderings.{name_same, less_from}
-use Rattle.zed_names.specs.ByName.{Under, IsOnlyName, NamesRise, name_cmp, key_cmp, same, is_earlier, under, change}
+use Rattle.zed_types.specs.Names.{NamesRise, is_earlier, name_cmp}
+use Rattle.zed_names.specs.ByName.{Under, IsOnlyName, key_cmp, same, under, change}
 use Rattle.zed_names.proofs.Found.{apart, one, rise-change}
 use Rattle.zed_names.proofs.Order.{name_total, is_less}
 use Rattle.zed_live.proofs.Pairs.{sorted_cons}

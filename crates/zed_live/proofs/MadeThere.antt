@@ -4,13 +4,12 @@ use Rattle.std.specs.List.{AllByRecursion, list_any}
 use Rattle.std.specs.Option.{option_map, is_some}
 use Rattle.zed_types.specs.declared.names.BoardId.{BoardId}
 use Rattle.zed_types.specs.declared.names.StatId.{StatId}
-use Rattle.zed_types.specs.Names.{same_board}
+use Rattle.zed_types.specs.Names.{same_board, is_earlier}
 use Rattle.zed_types.proofs.StampOrder.{same_board-true, same_name-itself}
 use Rattle.zed_types.proofs.Facts.{some_is, or_right}
 use Rattle.zed_op.specs.declared.op.Edit.{Edit}
 use Rattle.zed_op.specs.declared.thing.Thing.TheVariants as thing
 use Rattle.zed_op.specs.Set.{IsRising}
-use Rattle.zed_laws.specs.NameOrder.{is_earlier}
 use Rattle.zed_laws.proofs.MadeThings.{find-any}
 use Rattle.zed_laws.specs.Homes.{home}
 use Rattle.zed_laws.specs.Making.{makes}

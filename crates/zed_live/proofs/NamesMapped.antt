@@ -2,7 +2,7 @@
 use Rattle.std.proofs.Common.{◌≡◌, ◌∙◌, true, List, [], ◌∷◌, map, ap, sym, subst}
 use Rattle.std.specs.List.{AllByRecursion}
 use Rattle.zed_types.specs.declared.names.Name.{Name}
-use Rattle.zed_laws.specs.NameOrder.{is_earlier, NamesRise}
+use Rattle.zed_types.specs.Names.{NamesRise, is_earlier}
 
 all-mapped : {X Y : Type 0} (name : X → Name) (other : Y → Name) (f : X → Y) (n : Name) → ((x : X) → other (f x) ≡ name x) → (xs : List X) → AllByRecursion (λ x. is_earlier n (name x) ≡ true) xs → AllByRecursion (λ y. is_earlier n (other y) ≡ true) (map f xs)
 all-mapped name other f n same [] a = tt

@@ -9,9 +9,9 @@ use Rattle.zed_op.specs.declared.op.Edit.{Edit}
 use Rattle.zed_op.specs.Fit.{Fits}
 use Rattle.zed_op.proofs.FitParts.{fit_is_each_part}
 use Rattle.zed_edit.specs.Document.{empty_document}
-use Rattle.zed_edit.specs.Replay.{open_world}
+use Rattle.zed_edit.specs.Replay.{made_by, open_world}
 use Rattle.zed_live.specs.declared.header.LiveHeader.{LiveHeader}
-use Rattle.zed_live.specs.Header.{write_all, made_by, open_header, header_after}
+use Rattle.zed_live.specs.Header.{write_all, open_header, header_after}
 
 rewritten : (bytes : List ℕ) → is_canonical bytes ≡ true → is_rewritten bytes (world_at bytes) ≡ true
 unfolding is_canonical

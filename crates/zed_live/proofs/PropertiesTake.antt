@@ -14,7 +14,7 @@ use Rattle.zed_types.specs.declared.property.BoardSetting.{BoardSetting}
 use Rattle.zed_types.specs.declared.property.BoardSetting.TheVariants as property
 use Rattle.zed_types.specs.Names.{same_board}
 use Rattle.zed_types.specs.Board.{board_byte_index, board_flag_index, side_index, board_text_index}
-use Rattle.zed_types.specs.Register.{keep_later}
+use Rattle.zed_types.specs.Register.{keep_later, written_at}
 use Rattle.zed_types.proofs.StampOrder.{same_name-itself}
 use Rattle.zed_op.specs.declared.op.Op.{Op}
 use Rattle.zed_op.specs.declared.op.Op.TheVariants.{SetBoard, BoardRemove, SetCells}
@@ -26,7 +26,7 @@ use Rattle.zed_laws.specs.Fields.{Field, by_board, board_byte, board_byte_set, b
 use Rattle.zed_laws.specs.Winners.{Register, of_board, find_board, made_boards, changes_board}
 use Rattle.zed_laws.specs.Whole.{IsWholeBoard}
 use Rattle.zed_laws.proofs.BoardFields.{byte-within, flag-within, side-within, text-within}
-use Rattle.zed_cells.specs.Writes.{written_at, register}
+use Rattle.zed_cells.specs.Writes.{register}
 use Rattle.zed_live.specs.declared.properties.LiveProperties.{LiveProperties}
 use Rattle.zed_live.specs.Header.{write_each}
 use Rattle.zed_live.specs.Properties.{write_property, write_properties, PropertiesShow, NoneAreUnwritten, PropertiesTakeSettings, PropertiesTakeMaking, sets_property, PropertiesPassOthers}

@@ -18,7 +18,7 @@ use Rattle.zed_types.specs.Stamp.{before, same_stamp}
 use Rattle.zed_types.specs.Names.{same_stat}
 use Rattle.zed_types.specs.Stat.{stat_byte_index}
 use Rattle.zed_types.specs.Table.{map_from}
-use Rattle.zed_types.specs.Register.{last_value}
+use Rattle.zed_types.specs.Register.{last_value, written_at}
 use Rattle.zed_types.proofs.StampOrder.{same_name-true, same_stamp-true, same_stamp-itself, before_irrefl, before_trans}
 use Rattle.zed_types.proofs.Facts.{all_joined}
 use Rattle.zed_world.specs.Contents.{Contents}
@@ -49,7 +49,6 @@ use Rattle.zed_laws.proofs.Found.{found-holds, unfound}
 use Rattle.zed_laws.proofs.Fresh.{boards-pass, stats-pass}
 use Rattle.zed_laws.proofs.StatFields.{is_byte, is_number, is_third_parameter, is_follower, is_leader, is_text, is_for_player, is_removed, stat-wins}
 use Rattle.zed_laws.proofs.WholeSteps.{replay_whole}
-use Rattle.zed_cells.specs.Writes.{written_at}
 use Rattle.zed_stats.specs.declared.stat.LiveStat.{LiveStat}
 use Rattle.zed_laws.proofs.StatReads.{whole-stats}
 use Rattle.zed_live.specs.Shows.{latest_in}

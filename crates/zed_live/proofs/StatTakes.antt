@@ -1,8 +1,7 @@
 -- A stat takes each edit as if it had come at its place.
-use Rattle.std.proofs.Common.{◌≡◌, ◌∙◌, ◌&&◌, ◌||◌, ℕ, ℤ, Bool, true, false, not, cond, List, [], ◌∷◌, ◌++◌, length, eqb, Option, Some, None, refl, ap, sym, subst, true≢false}
+use Rattle.std.proofs.Common.{◌≡◌, ◌∙◌, ◌&&◌, ◌||◌, Bool, true, false, not, cond, List, [], ◌∷◌, ◌++◌, eqb, Option, Some, None, refl, ap, sym, subst, true≢false}
 use Rattle.std.specs.List.{AllByRecursion, list_any}
 use Rattle.std.specs.Option.{option_or, option_map, is_some}
-use Rattle.std.proofs.lemmas.List.{length-set}
 use Rattle.std.proofs.lemmas.Bool.{or_parts}
 use Rattle.zed_types.specs.declared.stamp.Stamp.{Stamp}
 use Rattle.zed_types.specs.declared.written.Written.{Written}
@@ -12,11 +11,10 @@ use Rattle.zed_types.specs.declared.stat_field.StatByte.TheVariants.{X, Y, P1, P
 use Rattle.zed_types.specs.declared.stat_field.StatNumber.{StatNumber}
 use Rattle.zed_types.specs.declared.stat_field.StatNumber.TheVariants.{StepX, StepY, Cycle, Position}
 use Rattle.zed_types.specs.declared.stat_field.StatSetting.{StatSetting}
-use Rattle.zed_types.specs.declared.stat_field.StatSetting.TheVariants as setting
 use Rattle.zed_types.specs.Stamp.{before}
 use Rattle.zed_types.specs.Names.{same_stat}
-use Rattle.zed_types.specs.Stat.{stat_byte_index, stat_number_index}
-use Rattle.zed_types.specs.Register.{keep_later, latest_of}
+use Rattle.zed_types.specs.Stat.{stat_number_index}
+use Rattle.zed_types.specs.Register.{keep_later, latest_of, written_at}
 use Rattle.zed_types.proofs.Facts.{none_is}
 use Rattle.zed_op.specs.declared.op.Op.{Op}
 use Rattle.zed_op.specs.declared.op.Op.TheVariants.{StatRemove, SetStat}
@@ -26,11 +24,10 @@ use Rattle.zed_edit.specs.declared.plain.Stat.{Stat}
 use Rattle.zed_laws.specs.Registers.{kept_after}
 use Rattle.zed_laws.specs.Fields.{Field, by_stat, stat_byte, stat_byte_set, stat_number, stat_number_set, third_parameter, third_parameter_set, follower, follower_set, leader, leader_set, stat_text, stat_text_set, is_player}
 use Rattle.zed_laws.specs.Winners.{Register, of_stat, find_stat, made_stats, changes_stat}
-use Rattle.zed_cells.specs.Writes.{written_at}
 use Rattle.zed_stats.specs.declared.field.StatField.{StatField}
 use Rattle.zed_stats.specs.declared.field.StatField.TheVariants as field
 use Rattle.zed_stats.specs.declared.stat.LiveStat.{LiveStat}
-use Rattle.zed_stats.specs.Fields.{field_of, field_number, number_at, value_of, with_number, with_setting, stamp_of, overwrite, write, new_stat}
+use Rattle.zed_stats.specs.Fields.{field_of, field_number, number_at, value_of, stamp_of, overwrite, write, new_stat}
 use Rattle.zed_stats.specs.Arrivals.{held, writes_of, IsWhole, FieldsHoldTheLatest}
 use Rattle.zed_stats.proofs.FieldWrites.{whole_write}
 use Rattle.zed_live.specs.Shows.{latest_in}
@@ -147,18 +144,6 @@ removed-kept at w s = go (before (stamp_of (field_of w) s) at)
     go : (b : Bool) → (cond b (overwrite at w s) s).removed ≡ s.removed
     go true = refl
     go false = refl
-
-number-whole : (o : Option ℕ) (n : ℤ) (s : LiveStat) → IsWhole s → (length (with_number o n s.values).fields.bytes ≡ 6) × (length (with_number o n s.values).fields.numbers ≡ 3)
-number-whole (Some i) n s t = (t.bytes, length-set s.values.fields.numbers i n ∙ t.numbers)
-number-whole None n s t = (t.bytes, t.numbers)
-
-setting-whole : (w : StatSetting) (s : LiveStat) → IsWhole s → (length (with_setting w s.values).fields.bytes ≡ 6) × (length (with_setting w s.values).fields.numbers ≡ 3)
-setting-whole (setting.Byte f n) s t = (length-set s.values.fields.bytes (stat_byte_index f) n ∙ t.bytes, t.numbers)
-setting-whole (setting.Number f n) s t = number-whole (stat_number_index f) n s t
-setting-whole (setting.P3 p) s t = (t.bytes, t.numbers)
-setting-whole (setting.Follower o) s t = (t.bytes, t.numbers)
-setting-whole (setting.Leader o) s t = (t.bytes, t.numbers)
-setting-whole (setting.Text o) s t = (t.bytes, t.numbers)
 
 -- ---- edits of the stat
 

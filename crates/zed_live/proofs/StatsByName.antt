@@ -3,10 +3,9 @@ use Rattle.std.proofs.Common.{◌≡◌, ◌∙◌, Bool, true, false, cond, Lis
 use Rattle.std.specs.Option.{option_or, option_map}
 use Rattle.zed_types.specs.declared.names.Name.{Name}
 use Rattle.zed_types.specs.declared.names.StatId.{StatId}
-use Rattle.zed_types.specs.Names.{same_stat}
+use Rattle.zed_types.specs.Names.{same_stat, NamesRise}
 use Rattle.zed_types.proofs.StampOrder.{same_name-true, same_name-apart, same_name-itself}
 use Rattle.zed_edit.specs.declared.plain.Stat.{Stat}
-use Rattle.zed_laws.specs.NameOrder.{NamesRise}
 use Rattle.zed_laws.specs.Winners.{find_stat}
 use Rattle.zed_stats.specs.declared.stat.LiveStat.{LiveStat}
 use Rattle.zed_stats.specs.Fields.{new_stat}

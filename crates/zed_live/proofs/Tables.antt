@@ -3,11 +3,11 @@ use Rattle.std.proofs.Common.{◌≡◌, ℕ, zero, suc, ◌<◌, Bool, true, fa
 use Rattle.std.proofs.lemmas.Bool.{eqb-true}
 use Rattle.zed_types.specs.declared.stamp.Stamp.{Stamp}
 use Rattle.zed_types.specs.declared.written.Written.{Written}
-use Rattle.zed_types.specs.Register.{keep_later}
+use Rattle.zed_types.specs.Register.{keep_later, written_at}
 use Rattle.zed_laws.specs.Registers.{overwritten, kept_after}
 use Rattle.zed_laws.specs.Fields.{if_at}
 use Rattle.zed_laws.proofs.Found.{written-at}
-use Rattle.zed_cells.specs.Writes.{written_at, register, set_register}
+use Rattle.zed_cells.specs.Writes.{register, set_register}
 use Rattle.zed_live.specs.Header.{write_each}
 
 -- one register more

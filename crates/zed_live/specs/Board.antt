@@ -6,7 +6,7 @@ use Rattle.zed_types.specs.declared.tile.TheConstants.{TILES}
 use Rattle.zed_types.specs.declared.names.BoardId.{BoardId}
 use Rattle.zed_types.specs.declared.names.StatId.{StatId}
 use Rattle.zed_types.specs.Names.{same_board}
-use Rattle.zed_types.specs.Register.{keep_later, value_or}
+use Rattle.zed_types.specs.Register.{keep_later, value_or, written_at}
 use Rattle.zed_op.specs.declared.op.Op.{Op}
 use Rattle.zed_op.specs.declared.op.Op.TheVariants.{BoardRemove, SetBoard, SetCells, StatAdd, StatRemove, SetStat}
 use Rattle.zed_op.specs.declared.op.Edit.{Edit}
@@ -19,7 +19,6 @@ use Rattle.zed_laws.specs.Fields.{board_removed, cell}
 use Rattle.zed_laws.specs.Making.{makes}
 use Rattle.zed_laws.specs.Winners.{of_board, find_board, made_boards, changes_board}
 use Rattle.zed_laws.specs.Whole.{IsWholeBoard}
-use Rattle.zed_cells.specs.Writes.{written_at}
 use Rattle.zed_cells.specs.Cells.{set_cells, tiles_of}
 use Rattle.zed_live.specs.declared.board.LiveBoard.{LiveBoard}
 use Rattle.zed_live.specs.Shows.{latest_in}

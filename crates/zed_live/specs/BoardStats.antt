@@ -4,14 +4,13 @@ use Rattle.std.specs.List.{list_any}
 use Rattle.zed_types.specs.declared.stamp.Stamp.{Stamp}
 use Rattle.zed_types.specs.declared.names.BoardId.{BoardId}
 use Rattle.zed_types.specs.declared.names.StatId.{StatId}
-use Rattle.zed_types.specs.Names.{stat_of, same_board}
+use Rattle.zed_types.specs.Names.{stat_of, same_board, NamesRise}
 use Rattle.zed_names.specs.ByName as names
 use Rattle.zed_op.specs.declared.op.Op.{Op}
 use Rattle.zed_op.specs.declared.op.Op.TheVariants.{StatAdd, StatRemove, SetStat}
 use Rattle.zed_op.specs.declared.op.Edit.{Edit}
 use Rattle.zed_edit.specs.declared.plain.Stat.{Stat}
 use Rattle.zed_edit.specs.Stat.{new_stat as plain_stat}
-use Rattle.zed_laws.specs.NameOrder.{NamesRise}
 use Rattle.zed_laws.specs.Homes.{made_home}
 use Rattle.zed_stats.specs.declared.stat.LiveStat.{LiveStat}
 use Rattle.zed_stats.specs.Fields.{new_stat, write, remove}

@@ -6,6 +6,7 @@ use Rattle.zed_types.specs.declared.stamp.Stamp.{Stamp}
 use Rattle.zed_types.specs.declared.names.Name.{Name}
 use Rattle.zed_types.specs.declared.names.BoardId.{BoardId}
 use Rattle.zed_types.specs.declared.names.StatId.{StatId}
+use Rattle.zed_types.specs.Names.{NamesRise}
 use Rattle.zed_names.specs.ByName as names
 use Rattle.zed_op.specs.declared.op.Op.{Op}
 use Rattle.zed_op.specs.declared.op.Op.TheVariants.{BoardRemove, SetBoard, SetCells, StatAdd, StatRemove, SetStat}
@@ -15,7 +16,6 @@ use Rattle.zed_op.specs.Set.{IsRising, AllFit}
 use Rattle.zed_op.specs.Sizes.{HasSizes, HaveSizes}
 use Rattle.zed_edit.specs.declared.plain.Board.{Board}
 use Rattle.zed_edit.specs.Replay.{replay, taken}
-use Rattle.zed_laws.specs.NameOrder.{NamesRise}
 use Rattle.zed_laws.specs.Homes.{home}
 use Rattle.zed_laws.specs.Making.{makes}
 use Rattle.zed_laws.specs.Winners.{latest_or, made_boards, changes_stat}

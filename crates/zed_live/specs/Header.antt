@@ -5,19 +5,15 @@ use Rattle.zed_types.specs.declared.written.Written.{Written}
 use Rattle.zed_types.specs.declared.header.HeaderSetting.{HeaderSetting}
 use Rattle.zed_types.specs.declared.header.HeaderSetting.TheVariants.{Number, Key, Saved, CurrentBoard, WorldName, Flag}
 use Rattle.zed_types.specs.Header.{header_number_index, key_index, flag_index}
-use Rattle.zed_types.specs.Register.{keep_later}
+use Rattle.zed_types.specs.Register.{keep_later, written_at}
 use Rattle.zed_world.specs.Contents.{Contents}
 use Rattle.zed_world.specs.Reading.{world_at}
 use Rattle.zed_world.specs.declared.error.WorldError.{WorldError}
 use Rattle.zed_op.specs.declared.op.Op.{Op}
 use Rattle.zed_op.specs.declared.op.Op.TheVariants.{Genesis, SetHeader}
-use Rattle.zed_op.specs.declared.op.Edit.{Edit}
 use Rattle.zed_edit.specs.declared.plain.Header.{Header}
-use Rattle.zed_edit.specs.declared.plain.Plain.{Plain}
-use Rattle.zed_edit.specs.Document.{empty_document}
 use Rattle.zed_edit.specs.Genesis.{header_of}
-use Rattle.zed_edit.specs.Replay.{step}
-use Rattle.zed_cells.specs.Writes.{written_at, set_register}
+use Rattle.zed_cells.specs.Writes.{set_register}
 use Rattle.zed_live.specs.declared.header.LiveHeader.{LiveHeader}
 
 -- a header that no edit wrote
@@ -56,10 +52,6 @@ write_all s new h = record {
   world_name = keep_later h.world_name (written_at s new.world_name);
   flags = write_each s new.flags h.flags;
 }
-
--- what one author makes by an edit who made none before
-abbrev pub made_by : Edit → Plain
-made_by e = step empty_document e
 
 -- all registers are written by the header of a world file, if it is one
 abbrev pub open_header : Stamp → Result Contents WorldError → LiveHeader → LiveHeader

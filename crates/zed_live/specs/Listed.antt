@@ -8,12 +8,11 @@ use Rattle.std.specs.declared.cmp.Ordering.{Ordering}
 use Rattle.zed_types.specs.declared.stamp.Stamp.{Stamp}
 use Rattle.zed_types.specs.declared.names.BoardId.{BoardId}
 use Rattle.zed_types.specs.declared.names.StatId.{StatId}
-use Rattle.zed_types.specs.Names.{stat_of, same_stat}
+use Rattle.zed_types.specs.Names.{stat_of, same_stat, NamesRise}
 use Rattle.zed_op.specs.declared.op.Op.{Op}
 use Rattle.zed_op.specs.declared.op.Op.TheVariants.{StatAdd}
 use Rattle.zed_edit.specs.declared.plain.Board.{Board}
 use Rattle.zed_edit.specs.declared.plain.Stat.{Stat}
-use Rattle.zed_laws.specs.NameOrder.{NamesRise}
 use Rattle.zed_stats.specs.Stats.{has, stat_cmp}
 use Rattle.zed_live.specs.declared.board.LiveBoard.{LiveBoard}
 use Rattle.zed_live.specs.Boards.{Boards, board_cmp}

@@ -10,7 +10,7 @@ use Rattle.zed_types.specs.declared.property.BoardSetting.{BoardSetting}
 use Rattle.zed_types.specs.declared.property.BoardSetting.TheVariants.{Byte, Flag, TimeLimit, Rank, Exit, Text}
 use Rattle.zed_types.specs.Names.{same_board}
 use Rattle.zed_types.specs.Board.{board_byte_index, board_flag_index, side_index, board_text_index}
-use Rattle.zed_types.specs.Register.{keep_later}
+use Rattle.zed_types.specs.Register.{keep_later, written_at}
 use Rattle.zed_op.specs.declared.op.Op.{Op}
 use Rattle.zed_op.specs.declared.op.Op.TheVariants.{SetBoard}
 use Rattle.zed_op.specs.declared.op.Edit.{Edit}
@@ -20,7 +20,7 @@ use Rattle.zed_edit.specs.declared.plain.Board.{Board}
 use Rattle.zed_laws.specs.Fields.{board_byte, board_flag, time_limit, rank, exit, board_text}
 use Rattle.zed_laws.specs.Winners.{of_board, find_board, made_boards}
 use Rattle.zed_laws.specs.Whole.{IsWholeBoard}
-use Rattle.zed_cells.specs.Writes.{written_at, register, set_register}
+use Rattle.zed_cells.specs.Writes.{register, set_register}
 use Rattle.zed_live.specs.declared.properties.LiveProperties.{LiveProperties}
 use Rattle.zed_live.specs.Header.{write_each}
 use Rattle.zed_live.specs.Shows.{latest_in}

@@ -8,6 +8,7 @@ use Rattle.zed_types.specs.declared.stat_field.StatByte.{StatByte}
 use Rattle.zed_types.specs.declared.stat_field.StatNumber.{StatNumber}
 use Rattle.zed_types.specs.Names.{same_stat}
 use Rattle.zed_types.specs.Stat.{stat_byte_index, stat_number_index}
+use Rattle.zed_types.specs.Register.{written_at}
 use Rattle.zed_op.specs.declared.op.Op.{Op}
 use Rattle.zed_op.specs.declared.op.Op.TheVariants.{StatRemove, SetStat}
 use Rattle.zed_op.specs.declared.op.Edit.{Edit}
@@ -19,7 +20,6 @@ use Rattle.zed_edit.specs.Replay.{replay, taken}
 use Rattle.zed_laws.specs.Fields.{stat_byte, stat_number, third_parameter, follower, leader, stat_text, is_player}
 use Rattle.zed_laws.specs.Winners.{of_stat, find_stat, made_stats, changes_stat}
 use Rattle.zed_laws.specs.Whole.{IsWholeStat}
-use Rattle.zed_cells.specs.Writes.{written_at}
 use Rattle.zed_stats.specs.declared.field.StatField.{StatField}
 use Rattle.zed_stats.specs.declared.field.StatField.TheVariants.{Byte, Number, P3, Follower, Leader, Text}
 use Rattle.zed_stats.specs.declared.stat.StatValues.{StatValues}

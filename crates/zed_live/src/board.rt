@@ -1,16 +1,15 @@
 //! A board, each of whose registers keeps its latest write.
 
-ghost use Rattle.std.specs.Prelude.{◌≡◌, true, false, IfOk, IfErr, OnOk, OnErr};
+ghost use Rattle.std.specs.Prelude.{◌≡◌, true, false, IfOk, OnOk, OnErr};
 ghost use Rattle.zed_types.specs.Register.{value_or};
 ghost use Rattle.zed_op.specs.Fit.{Fits};
 ghost use Rattle.zed_op.specs.Growth.{may_grow};
 ghost use Rattle.zed_live.specs.Board.{as_made, board_after, stat_changed};
 
-use crate::error::LiveError;
 use crate::header::copy_bytes;
 use crate::properties::LiveProperties;
 use crate::stats::{add_new, stats_made};
-use std::alloc::Global;
+use std::alloc::{AllocError, Global};
 use zed_cells::{Cells, keep_in};
 use zed_edit::{Board, Edit, Op, Properties};
 use zed_stats::Stats;
@@ -25,9 +24,8 @@ pub struct LiveBoard {
     pub stats: Stats,
 }
 
-fn copy_properties(properties: &Properties) -> Result<Properties, LiveError>
+fn copy_properties(properties: &Properties) -> Result<Properties, AllocError>
     ensures ok { IfOk result (λ p. p ≡ properties.now) }
-    ensures err { IfErr result (λ e. e ≡ LiveError.Memory) }
 {
     let name = copy_bytes(&properties.texts[0])?;
     let message = copy_bytes(&properties.texts[1])?;
@@ -43,9 +41,8 @@ fn copy_properties(properties: &Properties) -> Result<Properties, LiveError>
 
 impl LiveBoard {
     /// A board as the edit with this stamp makes it.
-    pub fn new(alloc: Global, stamp: Stamp, made: &Board) -> Result<LiveBoard, LiveError>
+    pub fn new(alloc: Global, stamp: Stamp, made: &Board) -> Result<LiveBoard, AllocError>
         ensures ok { IfOk result (λ b. b ≡ as_made stamp made.now) }
-        ensures err { IfErr result (λ e. e ≡ LiveError.Memory) }
     {
         let mut from = copy_properties(&made.properties)?;
         let mut properties = LiveProperties::new();
@@ -64,10 +61,9 @@ impl LiveBoard {
     }
 
     /// Puts an edit of the board in, whenever it comes. Memory leaves the board as it was.
-    pub fn take(&mut self, edit: &Edit) -> Result<(), LiveError>
+    pub fn take(&mut self, edit: &Edit) -> Result<(), AllocError>
         requires { Fits edit.now }
         ensures ok { OnOk result (self.new ≡ board_after edit.now.stamp edit.now.op self.old) }
-        ensures err { IfErr result (λ e. e ≡ LiveError.Memory) }
         ensures kept { OnErr result (self.new ≡ self.old) }
         ensures memory_only_when { OnErr result (may_grow edit.now.op ≡ true) }
     {

@@ -1,22 +1,21 @@
 //! The boards of a live document, found by their names.
 
-ghost use Rattle.std.specs.Prelude.{◌≡◌, ◌<◌, ◌≤◌, ◌+◌, [], true, false, length, slice_get, Some, IfOk, IfErr, OnOk, OnErr, IsSorted, option_copied};
+ghost use Rattle.std.specs.Prelude.{◌≡◌, ◌<◌, ◌≤◌, ◌+◌, [], true, false, length, slice_get, Some, IfOk, OnOk, OnErr, IsSorted, option_copied};
 ghost use Rattle.indexmap.specs.IndexMap.{keys, spare};
 ghost use Rattle.zed_op.specs.Fit.{Fits};
 ghost use Rattle.zed_op.specs.Growth.{may_grow};
 ghost use Rattle.zed_laws.specs.Winners.{changes_stat};
-ghost use Rattle.zed_live.specs.Header.{made_by};
+ghost use Rattle.zed_op.specs.Verdict.{is_genesis};
+ghost use Rattle.zed_edit.specs.Replay.{made_by};
 ghost use Rattle.zed_live.specs.Board.{board_after, stat_changed};
 ghost use Rattle.zed_live.specs.Boards.{board_cmp, board_in, home_in, add as added, add_all as all_added, all_as_made as all_made, change as changed, change_all, boards_after};
 
 use crate::board::LiveBoard;
-use crate::error::LiveError;
 use crate::index::{Homes, hint_on, home_of, list_added, list_made, pass_listed, seek_home};
-use crate::making::made_by;
 use indexmap::IndexMap;
-use std::alloc::Global;
+use std::alloc::{AllocError, Global};
 use std::marker::Model;
-use zed_edit::{Board, Edit, Op};
+use zed_edit::{Board, Edit, Op, made_by};
 use zed_names::{add_each, find, seek};
 use zed_types::{BoardId, Stamp, StatId};
 
@@ -48,11 +47,10 @@ fn change_board(
     last: &mut usize,
     id: BoardId,
     edit: &Edit,
-) -> Result<(), LiveError>
+) -> Result<(), AllocError>
     requires { Fits edit.now }
     ensures ok { OnOk result (entries.new.entries
         ≡ changed id (board_after edit.now.stamp edit.now.op) entries.old.entries) }
-    ensures err { IfErr result (λ e. e ≡ LiveError.Memory) }
     ensures kept { OnErr result (entries.new.entries ≡ entries.old.entries) }
     ensures keys { keys entries.new ≡ keys entries.old }
     ensures memory_only_when { OnErr result (may_grow edit.now.op ≡ true) }
@@ -71,9 +69,8 @@ fn all_as_made(
     alloc: Global,
     stamp: Stamp,
     boards: &[Board],
-) -> Result<Vec<(BoardId, LiveBoard)>, LiveError>
+) -> Result<Vec<(BoardId, LiveBoard)>, AllocError>
     ensures ok { IfOk result (λ made. made.items ≡ all_made stamp boards.now) }
-    ensures err { IfErr result (λ e. e ≡ LiveError.Memory) }
 {
     let mut made = Vec::new(alloc);
     for board in boards {
@@ -156,12 +153,12 @@ impl LiveBoards {
         (*id, board)
     }
 
-    /// Puts an edit in, whenever it comes: changes the board that it is of, if that is there, or adds the boards that it makes.
-    /// Memory leaves the boards as they were.
-    pub fn take(&mut self, alloc: Global, edit: &Edit) -> Result<(), LiveError>
-        requires { Fits edit.now }
+    /// Puts an edit in that doesn't make the world, whenever it comes: changes the board that it is of, if that is there, or adds the
+    /// board that it makes. Memory leaves the boards as they were.
+    pub fn take(&mut self, alloc: Global, edit: &Edit) -> Result<(), AllocError>
+        requires fits { Fits edit.now }
+        requires other { is_genesis edit.now.op ≡ false }
         ensures ok { OnOk result (self.new ≡ boards_after edit.now.stamp edit.now.op self.old) }
-        ensures err { IfErr result (λ e. e ≡ LiveError.Memory) }
         ensures kept { OnErr result (self.new ≡ self.old) }
         ensures memory_only_when { OnErr result (may_grow edit.now.op ≡ true) }
     {
@@ -172,18 +169,16 @@ impl LiveBoards {
             Op::StatAdd(id, _) => self.change(*id, edit),
             Op::StatRemove(stat) => self.pass_stat(*stat, edit),
             Op::SetStat(stat, _) => self.pass_stat(*stat, edit),
-            Op::Genesis(_) => self.make(alloc, edit),
             Op::BoardAdd(_) => self.make(alloc, edit),
             _ => Ok(()),
         }
     }
 
     /// Puts an edit of one board in.
-    fn change(&mut self, id: BoardId, edit: &Edit) -> Result<(), LiveError>
+    fn change(&mut self, id: BoardId, edit: &Edit) -> Result<(), AllocError>
         requires { Fits edit.now }
         ensures ok { OnOk result
             (self.new ≡ changed id (board_after edit.now.stamp edit.now.op) self.old) }
-        ensures err { IfErr result (λ e. e ≡ LiveError.Memory) }
         ensures kept { OnErr result (self.new ≡ self.old) }
         ensures memory_only_when { OnErr result (may_grow edit.now.op ≡ true) }
     {
@@ -192,7 +187,7 @@ impl LiveBoards {
     }
 
     /// Puts an edit of one stat in. It takes no memory.
-    fn pass_stat(&mut self, stat: StatId, edit: &Edit) -> Result<(), LiveError>
+    fn pass_stat(&mut self, stat: StatId, edit: &Edit) -> Result<(), AllocError>
         requires { changes_stat stat edit.now.op ≡ true }
         ensures ok { OnOk result
             (self.new ≡ change_all (stat_changed edit.now.stamp edit.now.op) self.old) }
@@ -202,12 +197,11 @@ impl LiveBoards {
         Ok(())
     }
 
-    /// Adds the boards that an edit makes.
-    fn make(&mut self, alloc: Global, edit: &Edit) -> Result<(), LiveError>
+    /// Adds the board that an edit makes.
+    fn make(&mut self, alloc: Global, edit: &Edit) -> Result<(), AllocError>
         requires { Fits edit.now }
         ensures ok { OnOk result
             (self.new ≡ all_added (all_made edit.now.stamp (made_by edit.now).boards) self.old) }
-        ensures err { IfErr result (λ e. e ≡ LiveError.Memory) }
         ensures kept { OnErr result (self.new ≡ self.old) }
     {
         let made = made_by(alloc, edit)?;
@@ -220,9 +214,8 @@ impl LiveBoards {
         alloc: Global,
         stamp: Stamp,
         boards: &[Board],
-    ) -> Result<(), LiveError>
+    ) -> Result<(), AllocError>
         ensures ok { OnOk result (self.new ≡ all_added (all_made stamp boards.now) self.old) }
-        ensures err { IfErr result (λ e. e ≡ LiveError.Memory) }
         ensures kept { OnErr result (self.new ≡ self.old) }
     {
         list_made(&mut self.homes, boards)?;

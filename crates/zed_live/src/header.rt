@@ -1,17 +1,13 @@
 //! The header, each of whose registers keeps its latest write.
 
-ghost use Rattle.std.specs.Prelude.{◌≡◌, length, true, IfOk, IfErr, OnOk, OnErr};
-ghost use Rattle.zed_op.specs.Fit.{Fits};
+ghost use Rattle.std.specs.Prelude.{◌≡◌, length, true, IfOk, OnOk, OnErr};
 ghost use Rattle.zed_types.specs.Strings.{header_has_string};
-ghost use Rattle.zed_op.specs.Growth.{may_grow};
-ghost use Rattle.zed_live.specs.Header.{unwritten, write_header, write_each as each_written, write_all as all_written, made_by, header_after};
+ghost use Rattle.zed_live.specs.Header.{unwritten, write_header, write_each as each_written, write_all as all_written};
 
-use crate::error::LiveError;
-use crate::making::made_by;
-use std::alloc::Global;
+use std::alloc::{AllocError, Global};
 use std::mem::replace;
 use zed_cells::keep_in;
-use zed_edit::{Edit, Header, Op};
+use zed_edit::Header;
 use zed_types::{BoardId, Bytes, HeaderSetting, Stamp, Written};
 
 /// The header registers, each with its latest write, if it was ever written.
@@ -78,9 +74,8 @@ fn write_flags(
     }
 }
 
-pub(crate) fn copy_bytes(bytes: &Bytes) -> Result<Bytes, LiveError>
+pub(crate) fn copy_bytes(bytes: &Bytes) -> Result<Bytes, AllocError>
     ensures ok { IfOk result (λ b. b ≡ bytes.now) }
-    ensures err { IfErr result (λ e. e ≡ LiveError.Memory) }
 {
     Ok(bytes.copy()?)
 }
@@ -102,9 +97,8 @@ impl LiveHeader {
 
     /// Gives the register of a setting its value, unless it has one with a stamp as late or later. Memory leaves the header as
     /// it was.
-    pub fn write(&mut self, stamp: Stamp, setting: &HeaderSetting) -> Result<(), LiveError>
+    pub fn write(&mut self, stamp: Stamp, setting: &HeaderSetting) -> Result<(), AllocError>
         ensures ok { OnOk result (self.new ≡ write_header stamp setting.now self.old) }
-        ensures err { IfErr result (λ e. e ≡ LiveError.Memory) }
         ensures kept { OnErr result (self.new ≡ self.old) }
         ensures memory_only_when { OnErr result (header_has_string setting.now ≡ true) }
     {
@@ -138,34 +132,6 @@ impl LiveHeader {
                 Written { stamp, value },
             ),
         }
-    }
-
-    /// Puts an edit in, whenever it comes. Memory leaves the header as it was.
-    pub fn take(&mut self, alloc: Global, edit: &Edit) -> Result<(), LiveError>
-        requires { Fits edit.now }
-        ensures ok { OnOk result (self.new ≡ header_after edit.now.stamp edit.now.op self.old) }
-        ensures err { IfErr result (λ e. e ≡ LiveError.Memory) }
-        ensures kept { OnErr result (self.new ≡ self.old) }
-        ensures memory_only_when { OnErr result (may_grow edit.now.op ≡ true) }
-    {
-        match &edit.op {
-            Op::Genesis(_) => self.open(alloc, edit),
-            Op::SetHeader(setting) => self.write(edit.stamp, setting),
-            _ => Ok(()),
-        }
-    }
-
-    /// Gives all registers the values of the world that an edit makes.
-    fn open(&mut self, alloc: Global, edit: &Edit) -> Result<(), LiveError>
-        requires { Fits edit.now }
-        ensures ok { OnOk result
-            (self.new ≡ all_written edit.now.stamp (made_by edit.now).header self.old) }
-        ensures err { IfErr result (λ e. e ≡ LiveError.Memory) }
-        ensures kept { OnErr result (self.new ≡ self.old) }
-    {
-        let mut made = made_by(alloc, edit)?;
-        self.write_all(alloc, edit.stamp, &mut made.header);
-        Ok(())
     }
 
     /// Gives all registers the values of another header, whose strings it takes out, unless they have one with a stamp as late

@@ -2,7 +2,7 @@
 //! one board. Each stat of a board is listed with it; a stat may also stand with a board that hasn't got it, where a growth was
 //! refused after it was listed, so nothing is taken back. The board of the stat that was sought last is known.
 
-ghost use Rattle.std.specs.Prelude.{◌≡◌, ◌∷◌, [], true, false, IfErr, IfSome, OnOk, OnErr, IsSorted};
+ghost use Rattle.std.specs.Prelude.{◌≡◌, ◌∷◌, [], true, false, IfSome, OnOk, OnErr, IsSorted};
 ghost use Rattle.std.specs.Option.{option_map_or};
 ghost use Rattle.std.specs.Map.{keys_of};
 ghost use Rattle.zed_op.specs.Growth.{may_grow};
@@ -13,9 +13,8 @@ ghost use Rattle.zed_live.specs.Boards.{board_cmp, board_in, home_in, change as 
 ghost use Rattle.zed_live.specs.Listed.{is_listed, boards_with, StayListed, AreOn, AreMadeOn, IsAddedOn, AreKept};
 
 use crate::board::LiveBoard;
-use crate::error::LiveError;
 use indexmap::IndexMap;
-use std::alloc::Global;
+use std::alloc::{AllocError, Global};
 use std::collections::BTreeSet;
 use std::marker::Model;
 use zed_edit::{Board, Edit, Op, Stat};
@@ -109,21 +108,17 @@ fn put(
     pairs: &mut BTreeSet<(StatId, BoardId)>,
     stat: StatId,
     board: BoardId,
-) -> Result<(), LiveError>
+) -> Result<(), AllocError>
     ensures ok { OnOk result (is_listed stat board pairs.new.keys ≡ true) }
-    ensures err { IfErr result (λ e. e ≡ LiveError.Memory) }
     ensures kept { StayListed pairs.old.keys pairs.new.keys }
 {
-    match pairs.insert((stat, board)) {
-        Ok(_) => Ok(()),
-        Err(_) => Err(LiveError::Memory),
-    }
+    pairs.insert((stat, board))?;
+    Ok(())
 }
 
 /// Lists a stat with a board. What was listed stays.
-fn list(homes: &mut Homes, stat: StatId, board: BoardId) -> Result<(), LiveError>
+fn list(homes: &mut Homes, stat: StatId, board: BoardId) -> Result<(), AllocError>
     ensures ok { OnOk result (is_listed stat board homes.new ≡ true) }
-    ensures err { IfErr result (λ e. e ≡ LiveError.Memory) }
     ensures kept { StayListed homes.old homes.new }
 {
     homes.only = None;
@@ -131,9 +126,8 @@ fn list(homes: &mut Homes, stat: StatId, board: BoardId) -> Result<(), LiveError
 }
 
 /// Lists the stats that a board is made with. What was listed stays, and with Memory some of them may be.
-fn list_stats(homes: &mut Homes, board: BoardId, stats: &[Stat]) -> Result<(), LiveError>
+fn list_stats(homes: &mut Homes, board: BoardId, stats: &[Stat]) -> Result<(), AllocError>
     ensures ok { OnOk result (AreOn board stats.now homes.new) }
-    ensures err { IfErr result (λ e. e ≡ LiveError.Memory) }
     ensures kept { StayListed homes.old homes.new }
 {
     for stat in stats {
@@ -143,9 +137,8 @@ fn list_stats(homes: &mut Homes, board: BoardId, stats: &[Stat]) -> Result<(), L
 }
 
 /// Lists the stats that boards are made with. What was listed stays, and with Memory some of them may be.
-pub(crate) fn list_made(homes: &mut Homes, boards: &[Board]) -> Result<(), LiveError>
+pub(crate) fn list_made(homes: &mut Homes, boards: &[Board]) -> Result<(), AllocError>
     ensures ok { OnOk result (AreMadeOn boards.now homes.new) }
-    ensures err { IfErr result (λ e. e ≡ LiveError.Memory) }
     ensures kept { StayListed homes.old homes.new }
 {
     for board in boards {
@@ -155,9 +148,8 @@ pub(crate) fn list_made(homes: &mut Homes, boards: &[Board]) -> Result<(), LiveE
 }
 
 /// Lists the stat that an edit of a board adds, if it adds one.
-pub(crate) fn list_added(homes: &mut Homes, board: BoardId, edit: &Edit) -> Result<(), LiveError>
+pub(crate) fn list_added(homes: &mut Homes, board: BoardId, edit: &Edit) -> Result<(), AllocError>
     ensures ok { OnOk result (IsAddedOn board edit.now.stamp edit.now.op homes.new) }
-    ensures err { IfErr result (λ e. e ≡ LiveError.Memory) }
     ensures kept { StayListed homes.old homes.new }
     ensures memory_only_when { OnErr result (may_grow edit.now.op ≡ true) }
 {

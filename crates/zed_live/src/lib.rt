@@ -5,11 +5,9 @@
 mod board;
 mod boards;
 mod document;
-mod error;
 mod header;
 mod index;
 mod laws;
-mod making;
 mod properties;
 mod reading;
 mod stats;
@@ -17,7 +15,6 @@ mod stats;
 pub use board::LiveBoard;
 pub use boards::LiveBoards;
 pub use document::LiveDocument;
-pub use error::LiveError;
 pub use header::LiveHeader;
 pub use laws::{
     board_shows_its_edits, board_shows_the_replay, boards_have_what_is_made,

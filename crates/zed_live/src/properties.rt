@@ -1,13 +1,12 @@
 //! The properties of a board, each of which keeps its latest write.
 
-ghost use Rattle.std.specs.Prelude.{◌≡◌, true, IfOk, IfErr, OnOk, OnErr};
+ghost use Rattle.std.specs.Prelude.{◌≡◌, true, IfOk, OnOk, OnErr};
 ghost use Rattle.zed_types.specs.Strings.{board_has_string};
 ghost use Rattle.zed_live.specs.Header.{write_each as each_written};
 ghost use Rattle.zed_live.specs.Properties.{unwritten, write_property, write_properties};
 
-use crate::error::LiveError;
 use crate::header::{taken_out, write_each};
-use std::alloc::Global;
+use std::alloc::{AllocError, Global};
 use zed_cells::keep_in;
 use zed_edit::Properties;
 use zed_types::{BoardId, BoardSetting, Bytes, Stamp, Written};
@@ -80,9 +79,8 @@ impl LiveProperties {
 
     /// Gives the register of a setting its value, unless it has one with a stamp as late or later. Memory leaves the properties
     /// as they were.
-    pub fn write(&mut self, stamp: Stamp, setting: &BoardSetting) -> Result<(), LiveError>
+    pub fn write(&mut self, stamp: Stamp, setting: &BoardSetting) -> Result<(), AllocError>
         ensures ok { OnOk result (self.new ≡ write_property stamp setting.now self.old) }
-        ensures err { IfErr result (λ e. e ≡ LiveError.Memory) }
         ensures kept { OnErr result (self.new ≡ self.old) }
         ensures memory_only_when { OnErr result (board_has_string setting.now ≡ true) }
     {

@@ -4,7 +4,8 @@ use Rattle.std.specs.List.{AllByRecursion}
 use Rattle.std.specs.Option.{option_or, option_map, is_some}
 use Rattle.zed_types.specs.declared.names.Name.{Name}
 use Rattle.zed_types.proofs.StampOrder.{same_name-true, same_name-apart, same_name-itself}
-use Rattle.zed_names.specs.ByName.{Under, IsOnlyName, NamesRise, same, is_earlier, under, put, add, add_all, change}
+use Rattle.zed_types.specs.Names.{NamesRise, is_earlier}
+use Rattle.zed_names.specs.ByName.{Under, IsOnlyName, same, under, put, add, add_all, change}
 use Rattle.zed_names.proofs.Order.{earlier-through, other-earlier}
 
 pub or-none : {X : Type 0} (o : Option X) → o ≡ option_or o None

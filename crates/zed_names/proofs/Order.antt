@@ -7,9 +7,8 @@ use Rattle.std.specs.Ordering.{is_lt, ordering_reverse, ordering_then, nat_cmp}
 use Rattle.std.specs.declared.cmp.Ordering.{Ordering}
 use Rattle.std.specs.declared.cmp.Ordering.TheVariants.{Less, Equal, Greater}
 use Rattle.zed_types.specs.declared.names.Name.{Name}
-use Rattle.zed_types.specs.Names.{same_name}
+use Rattle.zed_types.specs.Names.{same_name, is_earlier, name_cmp}
 use Rattle.zed_types.proofs.Orderings.{less_from}
-use Rattle.zed_names.specs.ByName.{name_cmp, is_earlier}
 
 pub name_total : IsTotalOrder name_cmp
 name_total =

@@ -14,7 +14,8 @@ use Rattle.std.proofs.lemmas.List.{length-map}
 use Rattle.std.proofs.lemmas.Bool.Decides.{nat_tests}
 use Rattle.std.specs.Cmp.{IsTotalOrder, on_total}
 use Rattle.zed_types.specs.declared.names.Name.{Name}
-use Rattle.zed_names.specs.ByName.{Under, same, key_cmp, is_earlier, under, put, add}
+use Rattle.zed_types.specs.Names.{is_earlier}
+use Rattle.zed_names.specs.ByName.{Under, same, key_cmp, under, put, add}
 use Rattle.zed_names.proofs.Changed.{add-new}
 use Rattle.zed_names.proofs.Order.{name_total, is_less, other-earlier}
 use Rattle.zed_names.proofs.Found.{none-first}

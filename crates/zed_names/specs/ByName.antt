@@ -1,12 +1,9 @@
 -- Values that stand under keys, in the order of the names of the keys. What `name` tells is the name of a key.
-use Rattle.std.specs.Prelude.{◌≡◌, Bool, true, ◌&&◌, ◌||◌, nat_lt, if◌then◌else◌, List, [], ◌∷◌, is_some, Option}
+use Rattle.std.specs.Prelude.{◌≡◌, Bool, if◌then◌else◌, List, [], ◌∷◌, is_some, Option}
 use Rattle.std.specs.declared.cmp.Ordering.{Ordering}
-use Rattle.std.specs.Ordering.{nat_cmp, ordering_then}
-use Rattle.std.specs.List.{AllByRecursion}
 use Rattle.std.specs.Map.{lookup}
 use Rattle.zed_types.specs.declared.names.Name.{Name}
-use Rattle.zed_types.specs.Stamp.{stamp_cmp, before, same_stamp}
-use Rattle.zed_types.specs.Names.{same_name}
+use Rattle.zed_types.specs.Names.{is_earlier, name_cmp, same_name}
 
 -- values, each under its key
 abbrev pub Under : Type 0 → Type 0 → Type 0
@@ -15,14 +12,6 @@ Under K X = List (K × X)
 -- a key is told by its name
 abbrev pub IsOnlyName : {K : Type 0} → (K → Name) → Type 0
 IsOnlyName {K} name = (a b : K) → name a ≡ name b → a ≡ b
-
--- the order of names: by stamp, and then by index
-abbrev pub name_cmp : Name → Name → Ordering
-name_cmp a b = ordering_then (stamp_cmp a.stamp b.stamp) (nat_cmp a.index b.index)
-
--- whether a name comes before another
-abbrev pub is_earlier : Name → Name → Bool
-is_earlier a b = before a.stamp b.stamp || (same_stamp a.stamp b.stamp && nat_lt a.index b.index)
 
 -- keys in the order of their names
 abbrev pub key_cmp : {K : Type 0} → (K → Name) → K → K → Ordering
@@ -54,8 +43,3 @@ add_all name (x ∷ xs) ys = add_all name xs (add name x.0 x.1 ys)
 abbrev pub change : {K X : Type 0} → (K → Name) → K → (X → X) → Under K X → Under K X
 change name k f [] = []
 change name k f (y ∷ ys) = if same name k y.0 then (y.0, f y.1) ∷ ys else y ∷ change name k f ys
-
--- the name of each member comes before those of the members behind it
-abbrev pub NamesRise : {X : Type 0} → (X → Name) → List X → Type 0
-NamesRise name [] = Unit {0}
-NamesRise name (x ∷ xs) = AllByRecursion (λ y. is_earlier (name x) (name y) ≡ true) xs × NamesRise name xs

@@ -2,7 +2,8 @@
 use Rattle.std.specs.Prelude.{◌≡◌, if◌then◌else◌, Some, None, option_map}
 use Rattle.std.specs.Option.{option_or}
 use Rattle.zed_types.specs.declared.names.Name.{Name}
-use Rattle.zed_names.specs.ByName.{Under, IsOnlyName, NamesRise, same, under, add, change}
+use Rattle.zed_types.specs.Names.{NamesRise}
+use Rattle.zed_names.specs.ByName.{Under, IsOnlyName, same, under, add, change}
 
 -- a value that is added is found under its key, unless one stood there, and the others are found as before
 abbrev pub AddedIsFound : Type 0 → Type 0 → Type 0

@@ -10,7 +10,7 @@ use Rattle.zed_types.specs.declared.property.BoardText.{BoardText}
 use Rattle.zed_types.specs.declared.property.BoardText.TheVariants.{Name, Message}
 use Rattle.zed_types.specs.declared.property.BoardSetting.{BoardSetting}
 use Rattle.zed_types.specs.declared.property.BoardSetting.TheVariants.{Text as TextProperty}
-use Rattle.zed_types.specs.Stamp.{before, same_stamp}
+use Rattle.zed_types.specs.Stamp.{before, genesis_stamp, same_stamp}
 use Rattle.zed_types.specs.Names.{same_board}
 use Rattle.zed_world.specs.Canonical.{is_canonical}
 use Rattle.zed_op.specs.declared.cause.Cause.{Cause}
@@ -21,10 +21,6 @@ use Rattle.zed_op.specs.declared.op.Edit.{Edit}
 use Rattle.zed_types.specs.Names.{title}
 use Rattle.zed_types.specs.Table.{is_in_table}
 use Rattle.zed_op.specs.Names.{names_of, stamp_of}
-
--- the stamp of the edit that makes the world
-abbrev pub genesis_stamp : Stamp
-genesis_stamp = record { time = 1; replica = 0 }
 
 -- the stamps that authors give: time 2 to 2^48 - 1, replica 1 and up
 abbrev pub is_author_stamp : Stamp → Bool

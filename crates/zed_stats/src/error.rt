@@ -1,5 +1,6 @@
 //! Why a stat can't be added.
 
+use std::alloc::AllocError;
 use thiserror::Error;
 
 /// Why a stat can't be added.
@@ -8,4 +9,11 @@ pub enum StatsError {
     /// A growth was refused.
     #[error("out of memory")]
     Memory,
+}
+
+/// A growth that was refused is all that can be wrong.
+impl From<StatsError> for AllocError {
+    fn from(_error: StatsError) -> AllocError {
+        AllocError
+    }
 }

@@ -6,9 +6,8 @@ use Rattle.std.specs.Map.{keys_of, values_of}
 use Rattle.indexmap.specs.IndexMap.{set_value_at}
 use Rattle.zed_types.specs.declared.names.TextId.{TextId}
 use Rattle.zed_types.specs.declared.text.TextByte.{TextByte}
-use Rattle.zed_types.specs.Names.{same_text}
+use Rattle.zed_types.specs.Names.{same_text, is_earlier}
 use Rattle.zed_types.proofs.StampOrder.{same_text-true, same_text-itself}
-use Rattle.zed_laws.specs.NameOrder.{is_earlier}
 use Rattle.zed_code.specs.Pieces.{Shown}
 use Rattle.zed_code.specs.Text.{elements}
 use Rattle.zed_texts.specs.ByName.{text_name, text_in, add, add_all, change}

@@ -5,12 +5,11 @@ use Rattle.std.specs.Option.{option_map}
 use Rattle.zed_types.specs.declared.names.Name.{Name}
 use Rattle.zed_types.specs.declared.names.TextId.{TextId}
 use Rattle.zed_types.specs.declared.text.TextByte.{TextByte}
-use Rattle.zed_types.specs.Names.{same_text}
+use Rattle.zed_types.specs.Names.{same_text, NamesRise, is_earlier}
 use Rattle.zed_types.proofs.StampOrder.{same_text-true, same_text-itself}
 use Rattle.zed_edit.specs.declared.plain.Text.{Text}
 use Rattle.zed_edit.specs.Document.{find_text, made_elements}
 use Rattle.zed_edit.specs.Replay.{replay}
-use Rattle.zed_laws.specs.NameOrder.{is_earlier, NamesRise}
 use Rattle.zed_laws.proofs.NamesInOrder.{replay_ordered}
 use Rattle.zed_laws.proofs.TakenAlone.{taken_make_all}
 use Rattle.zed_laws.proofs.OrderedLists.{ordered_are_their_members}

@@ -25,7 +25,7 @@ use Rattle.zed_edit.specs.Genesis.{own_program, programs_of, texts_from as texts
 use Rattle.zed_edit.specs.Replay.{can, do_edit, hold, open_world, step}
 use Rattle.zed_laws.proofs.TakenAlone.{good_own}
 use Rattle.zed_laws.specs.Making.{texts_from, made_texts}
-use Rattle.zed_code.specs.Text.{genesis}
+use Rattle.zed_types.specs.Stamp.{genesis_stamp}
 use Rattle.zed_texts.specs.Texts.{bytes_of, IsOpened}
 
 -- ---- which they are
@@ -77,20 +77,20 @@ boards-short boards [] a = tt
 boards-short boards (b ∷ bs) a =
     all_joined (λ (x : List ℕ). length x < 2 ^ 15) (filter_map own_program b.stats) (programs_of bs) (stats-short boards (length b.stats) b.tiles [] b.stats a.0.stats) (boards-short boards bs a.1)
 
-all-opened : (n : ℕ) (programs : List (List ℕ)) → AreShort programs → AllByRecursion IsOpened (texts_numbered genesis n programs)
+all-opened : (n : ℕ) (programs : List (List ℕ)) → AreShort programs → AllByRecursion IsOpened (texts_numbered genesis_stamp n programs)
 all-opened n [] a = tt
 all-opened n (b ∷ programs) a =
-    let k = run-length genesis 0 b in
+    let k = run-length genesis_stamp 0 b in
     let short : length b < 32768 = a.0 in
-    ((ap (run_from genesis 0) (sym (own-bytes genesis 0 b)), omega arith), all-opened (n + 1) programs a.1)
+    ((ap (run_from genesis_stamp 0) (sym (own-bytes genesis_stamp 0 b)), omega arith), all-opened (n + 1) programs a.1)
 
-from-opened : ReadIsNormal → (bytes : List ℕ) (r : Result Contents WorldError) → world_at bytes ≡ r → AllByRecursion IsOpened (texts_from genesis r)
+from-opened : ReadIsNormal → (bytes : List ℕ) (r : Result Contents WorldError) → world_at bytes ≡ r → AllByRecursion IsOpened (texts_from genesis_stamp r)
 from-opened normal bytes (Ok w) h = all-opened 0 (programs_of w.boards) (boards-short (length w.boards) w.boards (normal bytes w h).boards)
 from-opened normal bytes (Err e) h = tt
 
 op-opened : ReadIsNormal → (s : Stamp) (op : Op) → is_own_stamp op s ≡ true → AllByRecursion IsOpened (made_texts s op)
 op-opened normal s (Genesis bytes) h =
-    subst (λ q. AllByRecursion IsOpened (texts_from q (world_at bytes))) (sym (same_stamp-true s genesis h)) (from-opened normal bytes (world_at bytes) refl)
+    subst (λ q. AllByRecursion IsOpened (texts_from q (world_at bytes))) (sym (same_stamp-true s genesis_stamp h)) (from-opened normal bytes (world_at bytes) refl)
 op-opened normal s TextAdd h = ((refl, omega arith), tt)
 op-opened normal s _ h = tt
 

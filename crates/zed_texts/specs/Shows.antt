@@ -1,12 +1,12 @@
 -- What live texts show of the edits that they took.
 use Rattle.std.specs.Prelude.{◌≡◌, true, List, [], ◌∷◌, ◌++◌, map}
 use Rattle.zed_types.specs.declared.names.TextId.{TextId}
+use Rattle.zed_types.specs.Names.{NamesRise}
 use Rattle.zed_op.specs.declared.op.Edit.{Edit}
 use Rattle.zed_op.specs.Set.{IsRising, AllFit}
 use Rattle.zed_edit.specs.declared.plain.Text.{Text}
 use Rattle.zed_edit.specs.Document.{made_elements}
 use Rattle.zed_edit.specs.Replay.{can, replay, taken, held}
-use Rattle.zed_laws.specs.NameOrder.{NamesRise}
 use Rattle.zed_texts.specs.ByName.{text_in}
 use Rattle.zed_texts.specs.Texts.{Elements, texts_after, IsReady}
 

@@ -11,7 +11,8 @@ use Rattle.zed_op.specs.declared.op.Op.TheVariants.{Genesis, TextAdd, TextInsert
 use Rattle.zed_edit.specs.declared.plain.Text.{Text}
 use Rattle.zed_laws.specs.Making.{made_texts}
 use Rattle.zed_code.specs.Pieces.{Shown}
-use Rattle.zed_code.specs.Text.{elements, genesis, StandsAfter, IsNewStamp, HasMore}
+use Rattle.zed_code.specs.Text.{elements, StandsAfter, IsNewStamp, HasMore}
+use Rattle.zed_types.specs.Stamp.{genesis_stamp}
 use Rattle.zed_code.specs.Visits.{LooksAtSome}
 use Rattle.zed_texts.specs.ByName.{ByName, text_in, add_all, change}
 
@@ -94,4 +95,4 @@ bytes_of xs = map (λ x. x.byte) xs
 -- a text of the world as it is made: its bytes are alive, few enough, and numbered from 0
 abbrev pub IsOpened : Text → Type 0
 IsOpened x =
-    (x.elements ≡ run_from genesis 0 (bytes_of x.elements)) × (length x.elements ≤ READ_BODY_LIMIT)
+    (x.elements ≡ run_from genesis_stamp 0 (bytes_of x.elements)) × (length x.elements ≤ READ_BODY_LIMIT)

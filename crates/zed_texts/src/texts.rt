@@ -1,25 +1,26 @@
 //! The texts of a live document, found by their names.
 
-ghost use Rattle.std.specs.Prelude.{◌≡◌, ◌<◌, ◌≤◌, ◌^◌, [], true, false, length, is_some, slice_get, Some, IfErr, OnOk, OnErr, option_copied};
+ghost use Rattle.std.specs.Prelude.{◌≡◌, ◌<◌, ◌≤◌, ◌^◌, [], true, false, length, is_some, slice_get, Some, OnOk, OnErr, option_copied};
 ghost use Rattle.std.specs.List.{AllByRecursion, list_any};
 ghost use Rattle.zed_types.specs.declared.limits.TheConstants.{READ_BODY_LIMIT};
 ghost use Rattle.zed_types.specs.Names.{same_text, same_element};
 ghost use Rattle.zed_types.specs.Text.{run_from, put_late, kill};
 ghost use Rattle.zed_op.specs.Fit.{Fits};
+ghost use Rattle.zed_op.specs.Verdict.{is_genesis};
+ghost use Rattle.zed_edit.specs.Replay.{made_by};
 ghost use Rattle.zed_laws.specs.Making.{made_texts};
 ghost use Rattle.zed_code.specs.Text.{StandsAfter, IsNewStamp};
-ghost use Rattle.zed_texts.specs.ByName.{text_in, number_of as number_in, add as added, add_all as all_added, change};
+ghost use Rattle.zed_texts.specs.ByName.{text_in, add as added, add_all as all_added, change};
 ghost use Rattle.zed_texts.specs.Texts.{elements_of, named, elements_or_none, texts_after, IsReady, is_of_texts, changes_text, AllGrow, IsOpened};
 ghost use Rattle.zed_texts.specs.Looks.{looks_of};
 
-use crate::error::TextsError;
 use crate::made::all_as_made;
 use crate::worked::{kill_in, put_into};
 use indexmap::IndexMap;
-use std::alloc::Global;
+use std::alloc::{AllocError, Global};
 use std::marker::Model;
 use zed_code::Text;
-use zed_edit::{Edit, Op, Plain, Text as PlainText, step};
+use zed_edit::{Edit, Op, Text as PlainText};
 use zed_names::{add, add_each, find, seek};
 use zed_types::{ByteRange, ElemId, Stamp, TextId};
 use zed_world::read_is_normal;
@@ -124,15 +125,9 @@ impl LiveTexts {
         ensures result { result ≡ looks_of self.now }
         ensures within { length self.now < 2 ^ 64 }
     {
+        // By this their number is known to have the size of a `usize`.
         let _count = self.count();
         self.looks
-    }
-
-    /// The number of a text in the order of names, if it was made.
-    pub fn number_of(&self, id: TextId) -> Option<usize>
-        ensures { result ≡ number_in id self.now }
-    {
-        self.entries.get_index_of(&id)
     }
 
     /// Text j in the order of names, under its name.
@@ -144,21 +139,20 @@ impl LiveTexts {
         (*id, text)
     }
 
-    /// Puts an edit in, whenever it comes: changes the text that it is of, if that is there, or adds the texts that
-    /// it makes. Memory leaves the texts as they were.
-    pub fn take(&mut self, alloc: Global, edit: &Edit) -> Result<(), TextsError>
+    /// Puts an edit in that doesn't make the world, whenever it comes: changes the text that it is of, if that is there, or adds the
+    /// text that it makes. Memory leaves the texts as they were.
+    pub fn take(&mut self, alloc: Global, edit: &Edit) -> Result<(), AllocError>
         requires fits { Fits edit.now }
+        requires other { is_genesis edit.now.op ≡ false }
         requires ready { IsReady edit.now.stamp edit.now.op (elements_of self.old) }
         ensures ok { OnOk result (elements_of self.new
             ≡ texts_after edit.now.stamp edit.now.op (elements_of self.old)) }
-        ensures err { IfErr result (λ e. e ≡ TextsError.Memory) }
         ensures kept { OnErr result (self.new ≡ self.old) }
         ensures memory_only_when { OnErr result (is_of_texts edit.now.op ≡ true) }
         ensures runs { OnOk result
             (AllGrow (λ t. changes_text t edit.now.op) self.old self.new) }
     {
         match &edit.op {
-            Op::Genesis(_) => self.open(alloc, edit),
             Op::TextAdd => self.add_empty(alloc, TextId::new(edit.stamp, 0)),
             Op::TextInsert(id, after, bytes) => {
                 self.insert(*id, *after, edit.stamp, bytes.as_slice())
@@ -175,7 +169,7 @@ impl LiveTexts {
         after: Option<ElemId>,
         stamp: Stamp,
         bytes: &[u8],
-    ) -> Result<(), TextsError>
+    ) -> Result<(), AllocError>
         requires there { StandsAfter after stamp
             (elements_or_none (text_in id (elements_of self.old))) }
         requires new { IsNewStamp stamp (elements_or_none (text_in id (elements_of self.old))) }
@@ -183,7 +177,6 @@ impl LiveTexts {
         ensures ok { OnOk result (elements_of self.new
             ≡ change id (put_late after stamp (run_from stamp 0 bytes.now))
             (elements_of self.old)) }
-        ensures err { IfErr result (λ e. e ≡ TextsError.Memory) }
         ensures kept { OnErr result (self.new ≡ self.old) }
         ensures runs { OnOk result (AllGrow (λ t. same_text id t) self.old self.new) }
     {
@@ -198,10 +191,9 @@ impl LiveTexts {
     }
 
     /// Marks bytes of the text of a name dead, if it is there.
-    fn delete(&mut self, id: TextId, range: ByteRange) -> Result<(), TextsError>
+    fn delete(&mut self, id: TextId, range: ByteRange) -> Result<(), AllocError>
         ensures ok { OnOk result (elements_of self.new
             ≡ change id (kill range) (elements_of self.old)) }
-        ensures err { IfErr result (λ e. e ≡ TextsError.Memory) }
         ensures kept { OnErr result (self.new ≡ self.old) }
         ensures runs { OnOk result (AllGrow (λ t. same_text id t) self.old self.new) }
     {
@@ -216,50 +208,43 @@ impl LiveTexts {
     }
 
     /// Adds a text without a byte.
-    fn add_empty(&mut self, alloc: Global, id: TextId) -> Result<(), TextsError>
+    fn add_empty(&mut self, alloc: Global, id: TextId) -> Result<(), AllocError>
         ensures ok { OnOk result (elements_of self.new ≡ added id [] (elements_of self.old)) }
-        ensures err { IfErr result (λ e. e ≡ TextsError.Memory) }
         ensures kept { OnErr result (self.new ≡ self.old) }
         ensures runs { OnOk result (AllGrow (λ t. false) self.old self.new) }
     {
-        match add(&mut self.entries, id, Text::new(alloc)) {
-            Ok(()) => {}
-            Err(_) => return Err(TextsError::Memory),
-        }
+        add(&mut self.entries, id, Text::new(alloc))?;
         Ok(())
     }
 
-    /// Adds the texts of the world that an edit makes.
-    fn open(&mut self, alloc: Global, edit: &Edit) -> Result<(), TextsError>
-        requires { Fits edit.now }
+    /// Adds the texts of the world that an edit makes, whenever it comes. Memory leaves the texts as they were.
+    pub fn open(
+        &mut self,
+        alloc: Global,
+        edit: &Edit,
+        texts: &[PlainText],
+    ) -> Result<(), AllocError>
+        requires fits { Fits edit.now }
+        requires made { texts.now ≡ (made_by edit.now).texts }
         ensures ok { OnOk result (elements_of self.new
             ≡ all_added (named (made_texts edit.now.stamp edit.now.op)) (elements_of self.old)) }
-        ensures err { IfErr result (λ e. e ≡ TextsError.Memory) }
         ensures kept { OnErr result (self.new ≡ self.old) }
         ensures runs { OnOk result (AllGrow (λ t. false) self.old self.new) }
     {
         read_is_normal();
-        let mut made = Plain::empty(alloc);
-        match step(alloc, &mut made, edit) {
-            Ok(()) => {}
-            Err(_) => return Err(TextsError::Memory),
-        }
-        self.add_made(alloc, made.texts.as_slice())
+        self.add_made(alloc, texts)
     }
 
     /// Adds texts of the world. Memory leaves the texts as they were.
-    pub(crate) fn add_made(&mut self, alloc: Global, texts: &[PlainText]) -> Result<(), TextsError>
+    pub(crate) fn add_made(&mut self, alloc: Global, texts: &[PlainText]) -> Result<(), AllocError>
         requires opened { AllByRecursion IsOpened texts.now }
         ensures ok { OnOk result (elements_of self.new
             ≡ all_added (named texts.now) (elements_of self.old)) }
-        ensures err { IfErr result (λ e. e ≡ TextsError.Memory) }
         ensures kept { OnErr result (self.new ≡ self.old) }
         ensures runs { OnOk result (AllGrow (λ t. false) self.old self.new) }
     {
         let made = all_as_made(alloc, texts)?;
-        if self.entries.reserve(made.len()).is_err() {
-            return Err(TextsError::Memory);
-        }
+        self.entries.reserve(made.len())?;
         add_each(&mut self.entries, made);
         Ok(())
     }

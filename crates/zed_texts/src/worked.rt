@@ -1,12 +1,12 @@
 //! How one text is changed, and by how many its count of runs looked at rises.
 
-ghost use Rattle.std.specs.Prelude.{◌≡◌, ◌≤◌, ◌+◌, length, IfOk, IfErr, OnOk, OnErr};
+ghost use Rattle.std.specs.Prelude.{◌≡◌, ◌≤◌, ◌+◌, length, IfOk, OnOk, OnErr};
 ghost use Rattle.zed_types.specs.declared.limits.TheConstants.{READ_BODY_LIMIT};
 ghost use Rattle.zed_types.specs.Text.{run_from, put_late, kill};
 ghost use Rattle.zed_code.specs.Text.{elements, StandsAfter, IsNewStamp};
 ghost use Rattle.zed_texts.specs.Texts.{IsWorked};
 
-use crate::error::TextsError;
+use std::alloc::AllocError;
 use zed_code::Text;
 use zed_types::{ByteRange, ElemId, Stamp};
 
@@ -16,35 +16,29 @@ pub(crate) fn put_into(
     after: Option<ElemId>,
     stamp: Stamp,
     bytes: &[u8],
-) -> Result<u64, TextsError>
+) -> Result<u64, AllocError>
     requires there { StandsAfter after stamp (elements text.old) }
     requires new { IsNewStamp stamp (elements text.old) }
     requires most { length bytes.now ≤ READ_BODY_LIMIT }
     ensures ok { OnOk result (elements text.new
         ≡ put_late after stamp (run_from stamp 0 bytes.now) (elements text.old)) }
-    ensures err { IfErr result (λ e. e ≡ TextsError.Memory) }
     ensures kept { OnErr result (text.new ≡ text.old) }
     ensures runs { OnOk result (IsWorked text.old text.new) }
     ensures visits { IfOk result (λ n. text.new.visits ≡ text.old.visits + n) }
 {
     let before = text.visits();
-    match text.insert(after, stamp, bytes) {
-        Ok(()) => Ok(text.visits() - before),
-        Err(_) => Err(TextsError::Memory),
-    }
+    text.insert(after, stamp, bytes)?;
+    Ok(text.visits() - before)
 }
 
 /// Marks bytes of a text dead. Answers by how many its count of runs looked at rises.
-pub(crate) fn kill_in(text: &mut Text, range: ByteRange) -> Result<u64, TextsError>
+pub(crate) fn kill_in(text: &mut Text, range: ByteRange) -> Result<u64, AllocError>
     ensures ok { OnOk result (elements text.new ≡ kill range (elements text.old)) }
-    ensures err { IfErr result (λ e. e ≡ TextsError.Memory) }
     ensures kept { OnErr result (text.new ≡ text.old) }
     ensures runs { OnOk result (IsWorked text.old text.new) }
     ensures visits { IfOk result (λ n. text.new.visits ≡ text.old.visits + n) }
 {
     let before = text.visits();
-    match text.delete(range.stamp, range.first, range.last) {
-        Ok(()) => Ok(text.visits() - before),
-        Err(_) => Err(TextsError::Memory),
-    }
+    text.delete(range.stamp, range.first, range.last)?;
+    Ok(text.visits() - before)
 }

@@ -1,12 +1,15 @@
 -- The names of things, when two are of one thing, and the name of the title.
-use Rattle.std.specs.Prelude.{ℕ, Bool, ◌&&◌, ◌==◌}
+use Rattle.std.specs.Prelude.{◌≡◌, ℕ, Bool, true, ◌&&◌, ◌||◌, ◌==◌, nat_lt, List, [], ◌∷◌}
+use Rattle.std.specs.declared.cmp.Ordering.{Ordering}
+use Rattle.std.specs.Ordering.{nat_cmp, ordering_then}
+use Rattle.std.specs.List.{AllByRecursion}
 use Rattle.zed_types.specs.declared.stamp.Stamp.{Stamp}
 use Rattle.zed_types.specs.declared.names.Name.{Name}
 use Rattle.zed_types.specs.declared.names.BoardId.{BoardId}
 use Rattle.zed_types.specs.declared.names.StatId.{StatId}
 use Rattle.zed_types.specs.declared.names.TextId.{TextId}
 use Rattle.zed_types.specs.declared.names.ElemId.{ElemId}
-use Rattle.zed_types.specs.Stamp.{same_stamp}
+use Rattle.zed_types.specs.Stamp.{before, same_stamp, stamp_cmp}
 
 -- thing n of the edit with stamp s
 abbrev pub name_of : Stamp → ℕ → Name
@@ -51,3 +54,16 @@ same_element a b = same_name a.name b.name
 -- the name of the title: the first board of the world that a Genesis makes
 abbrev pub title : BoardId
 title = board_of (record { time = 1; replica = 0 }) 0
+
+-- whether a name comes before another: by stamp, and then by index
+abbrev pub is_earlier : Name → Name → Bool
+is_earlier a b = before a.stamp b.stamp || (same_stamp a.stamp b.stamp && nat_lt a.index b.index)
+
+-- the order of names
+abbrev pub name_cmp : Name → Name → Ordering
+name_cmp a b = ordering_then (stamp_cmp a.stamp b.stamp) (nat_cmp a.index b.index)
+
+-- the name of each member comes before those of the members behind it
+abbrev pub NamesRise : {X : Type 0} → (X → Name) → List X → Type 0
+NamesRise name [] = Unit {0}
+NamesRise name (x ∷ xs) = AllByRecursion (λ y. is_earlier (name x) (name y) ≡ true) xs × NamesRise name xs

@@ -1,7 +1,12 @@
 -- A register that keeps the value of its latest write.
 use Rattle.std.specs.Prelude.{if◌then◌else◌, Option, Some, None, List, [], ◌∷◌}
+use Rattle.zed_types.specs.declared.stamp.Stamp.{Stamp}
 use Rattle.zed_types.specs.declared.written.Written.{Written}
 use Rattle.zed_types.specs.Stamp.{before}
+
+-- a value with the stamp of its write
+abbrev pub written_at : {V : Type 0} → Stamp → V → Written V
+written_at s v = record { stamp = s; value = v }
 
 -- the later of what is kept and a new write
 abbrev pub keep_later : {V : Type 0} → Option (Written V) → Written V → Option (Written V)

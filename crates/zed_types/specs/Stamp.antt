@@ -15,3 +15,7 @@ before a b = nat_lt a.time b.time || (a.time == b.time && nat_lt a.replica b.rep
 -- whether two stamps are one
 abbrev pub same_stamp : Stamp → Stamp → Bool
 same_stamp a b = a.time == b.time && a.replica == b.replica
+
+-- the stamp of the edit that makes the world
+abbrev pub genesis_stamp : Stamp
+genesis_stamp = record { time = 1; replica = 0 }

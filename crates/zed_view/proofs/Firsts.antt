@@ -7,11 +7,11 @@ use Rattle.std.specs.declared.cmp.Ordering.TheVariants.{Less, Equal, Greater}
 use Rattle.std.proofs.lemmas.Bool.{and_parts}
 use Rattle.std.proofs.lemmas.List.MinMax.{ranks_by}
 use Rattle.std.proofs.lemmas.List.Sorted.{length_permutation, IsPermutation-refl, IsPermutation-trans, IsPermutation-append_left, IsPermutation-to_front, IsPermutation-cons}
-use Rattle.zed_types.specs.Names.{same_board}
+use Rattle.zed_types.specs.Names.{same_board, name_cmp}
 use Rattle.zed_types.proofs.Orderings.{less_from, name_same, then_eq}
 use Rattle.zed_edit.specs.declared.numbers.Standing.{Standing}
 use Rattle.zed_edit.specs.declared.plain.Board.{Board}
-use Rattle.zed_edit.specs.Numbers.{AreApart, board_with, by_number, comes_before, name_cmp, standing, standing_cmp, stands_before}
+use Rattle.zed_edit.specs.Numbers.{AreApart, board_with, by_number, comes_before, standing, standing_cmp, stands_before}
 use Rattle.zed_edit.proofs.Numbering.{is_less, one-way, same-itself, total}
 use Rattle.zed_edit.proofs.Ordered.{Rises, count-cons, count-yes, none_some, numbered, same_some, walk}
 use Rattle.zed_view.specs.First.{FirstHaveFirstNumbers, IsInOrder, NextHaveNextNumbers, first_of, is_behind, put}

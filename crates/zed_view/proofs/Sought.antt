@@ -1,5 +1,5 @@
 -- The text of a stat, sought board by board; and the name of a byte.
-use Rattle.std.proofs.Common.{◌≡◌, ◌∙◌, ◌<◌, ◌+◌, ℕ, suc, List, ◌++◌, filter, length, drop, get_or, slice_get, Option, Some, None, refl, ap, sym, drop-cons, add-one}
+use Rattle.std.proofs.Common.{◌≡◌, ◌∙◌, ◌<◌, ◌+◌, ℕ, suc, List, ◌++◌, filter, length, drop, get_or, slice_get, Option, Some, None, refl, ap, drop-cons, add-one}
 use Rattle.std.specs.List.{find, flat_map}
 use Rattle.std.specs.Option.{option_map, option_or}
 use Rattle.std.proofs.lemmas.List.Folds.{find-append}

@@ -1,7 +1,8 @@
 use Rattle.std.proofs.Common.{◌∙◌, ap, slice_index_or, arith}
 use Rattle.zed_types.specs.declared.stamp.Stamp.{Stamp}
 use Rattle.zed_types.specs.declared.tile.Tile.{Tile}
-use Rattle.zed_cells.specs.Writes.{written_at, later}
+use Rattle.zed_types.specs.Register.{written_at}
+use Rattle.zed_cells.specs.Writes.{later}
 use Rattle.zed_cells.proofs.Stamped.{cell_set}
 use Rattle.zed_cells.proofs.cells.set_cell.Goals as goal
 

@@ -1,5 +1,5 @@
 use Rattle.std.proofs.Common.{◌≡◌, ◌∙◌, ap, eqb, arith}
-use Rattle.zed_cells.specs.Writes.{written_at}
+use Rattle.zed_types.specs.Register.{written_at}
 use Rattle.zed_cells.specs.Cells.{with_stamps, keep_where}
 use Rattle.zed_cells.proofs.Rows.{between, row-none, row-more}
 use Rattle.zed_cells.proofs.cells.set_row.Goals as goal

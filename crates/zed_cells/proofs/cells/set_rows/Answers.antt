@@ -1,6 +1,6 @@
 use Rattle.std.proofs.Common.{◌≡◌, ◌+◌, ◌-◌, ◌*◌, ◌∙◌, ap, arith}
 use Rattle.zed_types.proofs.TableRows.{in_table}
-use Rattle.zed_cells.specs.Writes.{written_at}
+use Rattle.zed_types.specs.Register.{written_at}
 use Rattle.zed_cells.specs.Cells.{with_stamps, keep_where}
 use Rattle.zed_cells.proofs.Rows.{between, set_cells-none, set_cells-more}
 use Rattle.zed_cells.proofs.cells.set_rows.Goals as goal

@@ -1,5 +1,5 @@
 use Rattle.std.proofs.Common.{◌≡◌, length}
-use Rattle.zed_cells.specs.Writes.{written_at}
+use Rattle.zed_types.specs.Register.{written_at}
 use Rattle.zed_cells.specs.Cells.{with_stamps, set_cells}
 use Rattle.zed_cells.proofs.cells.set_rows.Given as goal
 

@@ -10,5 +10,5 @@ loop-k-preserved c =
     let from = c.loop-k.invariant.0 in
     let test = c.loop-k-test.true in
     let more = next-stretches c.args.from c.loop-k.k (alive (elements c.args.view.now c.args.text)) c.name_of.result c.loop-k.invariant.0 c.name_of.ensures in
-    let made = c.in_ok-add_name.ensures.ok ∙ ap (λ rs. with_last rs c.name_of.result) c.loop-k.invariant.2 ∙ sym more in
+    let made = c.in_ok-add_name.ensures ∙ ap (λ rs. with_last rs c.name_of.result) c.loop-k.invariant.2 ∙ sym more in
     (omega (arith, from), omega (arith, test), made)

@@ -1,8 +1,7 @@
 -- One flag more is written.
 use Rattle.std.proofs.Common.{◌≡◌, ◌∙◌, ◌+◌, suc, take, set, get_or, ap, arith}
 use Rattle.std.proofs.lemmas.List.{get_or-set_other}
-use Rattle.zed_types.specs.Register.{keep_later}
-use Rattle.zed_cells.specs.Writes.{written_at}
+use Rattle.zed_types.specs.Register.{keep_later, written_at}
 use Rattle.zed_live.specs.Header.{write_each}
 use Rattle.zed_live.proofs.Tables.{write_each-more}
 use Rattle.zed_live.proofs.header.write_flags.Goals as goal

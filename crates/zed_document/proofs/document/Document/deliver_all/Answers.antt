@@ -17,9 +17,9 @@ returns-in_err-clash-clause-memory_only_when c = λ _.
 pub returns-clause-result : goal.returns-clause-result
 returns-clause-result c =
     let sound : c.args.self.now.is_stale ≡ false = sym (ap (λ (r : Replica). r.is_stale) c.self.view_is) ∙ c.if-self.false in
-    let each = joined-each c.args.self.now c.args.edits.items c.in_ok-clash.clash c.join_all.new.self.edits sound c.requires c.in_ok-clash.ensures.joins in
-    let all = subst (λ r. DeliversEach c.args.self.now c.args.edits.items r c.join_all.new.self.edits) (sym c.unless_clash.ensures.result) each in
-    inr (sound-answers c.args.self.now c.args.edits.items c.unless_clash.result c.join_all.new.self.edits sound all)
+    let each = joined-each c.args.self.now c.args.edits.items c.in_ok-clash.clash c.take_batch.new.self.edits sound c.requires c.in_ok-clash.ensures.joins in
+    let all = subst (λ r. DeliversEach c.args.self.now c.args.edits.items r c.take_batch.new.self.edits) (sym c.unless_clash.ensures.result) each in
+    inr (sound-answers c.args.self.now c.args.edits.items c.unless_clash.result c.take_batch.new.self.edits sound all)
 
 pub returns-then-self-clause-visits : goal.returns-then-self-clause-visits
 returns-then-self-clause-visits c = λ _ t. omega arith

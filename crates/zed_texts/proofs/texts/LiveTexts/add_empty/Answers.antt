@@ -15,18 +15,18 @@ pub invariant_of-self-2 : goal.invariant_of-self-2
 invariant_of-self-2 c = (
   c.add.ensures.sorted,
   sym
-      (ap looks_of (c.in-Ok.ensures.ok ∙ ap (λ x. add c.args.id x c.self.inside.entries.entries) c.new.ensures)
+      (ap looks_of (c.in_ok-add.ensures.ok ∙ ap (λ x. add c.args.id x c.self.inside.entries.entries) c.new.ensures)
       ∙ add-looks c.args.id empty c.self.inside.entries.entries refl
       ∙ sym c.self.invariant.1),
 )
 
 pub returns-clause-ok : goal.returns-clause-ok
 returns-clause-ok c =
-    ap elements_of (c.in-Ok.ensures.ok ∙ ap (λ x. add c.args.id x c.self.inside.entries.entries) c.new.ensures ∙ ap (add c.args.id empty) c.self.view_is)
+    ap elements_of (c.in_ok-add.ensures.ok ∙ ap (λ x. add c.args.id x c.self.inside.entries.entries) c.new.ensures ∙ ap (add c.args.id empty) c.self.view_is)
     ∙ add-elements c.args.id empty c.args.self.now
 
 pub returns-clause-runs : goal.returns-clause-runs
 returns-clause-runs c =
     subst (AllGrow (λ t. false) c.args.self.now)
-    (sym (c.in-Ok.ensures.ok ∙ ap (λ x. add c.args.id x c.self.inside.entries.entries) c.new.ensures ∙ ap (add c.args.id empty) c.self.view_is))
+    (sym (c.in_ok-add.ensures.ok ∙ ap (λ x. add c.args.id x c.self.inside.entries.entries) c.new.ensures ∙ ap (add c.args.id empty) c.self.view_is))
     (add-grow c.args.id empty c.args.self.now (omega arith, refl))
