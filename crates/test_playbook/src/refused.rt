@@ -8,7 +8,7 @@ use crate::seen::{Before, put_step, put_turned, turn_on_copy};
 use std::alloc::{AllocError, Global};
 use std::fmt::Write;
 use test_rows::{MOST, Report, Trouble, Turn, refuse, turn_of, was_refused};
-use zed_oop::{Effects, OopError, Scene, turn};
+use zed_oop::{Effects, Scene, SceneError, turn};
 use zed_play::{Ending, Key, Play, PlayError};
 
 /// A call whose growths are refused.
@@ -37,7 +37,7 @@ fn try_turn(
     stat: usize,
     words: &[u16],
     nth: usize,
-) -> (Result<Effects, OopError>, bool) {
+) -> (Result<Effects, SceneError>, bool) {
     refuse(alloc, nth);
     let turned = turn(alloc, scene, stat, words);
     let was_refused = was_refused(alloc);
@@ -54,7 +54,7 @@ fn turn_on(
     let mut scene = board.copy(alloc)?;
     let (turned, was_refused) = try_turn(alloc, &mut scene, stat, words, nth);
     if was_refused {
-        return Ok(refused_turn(matches!(turned, Err(OopError::Memory))));
+        return Ok(refused_turn(matches!(turned, Err(SceneError::Memory))));
     }
     let mut seen = String::new(alloc);
     put_turned(board, &scene, &turned, &mut seen)?;

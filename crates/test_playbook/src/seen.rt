@@ -7,7 +7,7 @@ use crate::text::put_text;
 use std::alloc::{AllocError, Global};
 use std::fmt::Write;
 use test_rows::{Trouble, put_trimmed};
-use zed_oop::{Effects, OopError, Scene, turn};
+use zed_oop::{Effects, Scene, SceneError, turn};
 use zed_play::{Ending, Key, Messages, Play, PlayError};
 use zed_screen::{Frame, ascii, draw_board, draw_play};
 use zed_types::Bytes;
@@ -40,7 +40,7 @@ fn put_effects(effects: &Effects, out: &mut String) -> Result<(), AllocError> {
 pub fn put_turned(
     before: &Scene,
     after: &Scene,
-    turned: &Result<Effects, OopError>,
+    turned: &Result<Effects, SceneError>,
     out: &mut String,
 ) -> Result<(), Trouble> {
     match turned {
@@ -49,8 +49,8 @@ pub fn put_turned(
             put_changes(before, after, out)?;
             Ok(())
         }
-        Err(OopError::NoWords) => Ok(out.push_str("nowords\n")?),
-        Err(OopError::Memory) => Err(Trouble::Memory),
+        Err(SceneError::NoWords) => Ok(out.push_str("nowords\n")?),
+        Err(SceneError::Memory) => Err(Trouble::Memory),
     }
 }
 

@@ -4,7 +4,7 @@ use std::fmt::{Debug, Write};
 use test_rows::{Line, Trouble, put_spelled};
 use zed_script::{
     Program, condition, direction, first_label, kind, label_at, label_place, line_after, line_end,
-    next_command, standing_at, word_at, word_end,
+    next_command, standing_at, word_at,
 };
 
 /// Appends bytes, each as the character of its number.
@@ -16,10 +16,10 @@ fn put_text(bytes: &[u8], out: &mut String) -> Result<(), AllocError> {
 }
 
 fn put_word(alloc: Global, program: &[u8], at: usize, seen: &mut String) -> Result<(), AllocError> {
-    let word = word_at(alloc, program, at)?;
+    let (word, end) = word_at(alloc, program, at)?;
     seen.push('\'')?;
     put_text(word.as_slice(), seen)?;
-    writeln!(seen, "' {}", word_end(program, at))
+    writeln!(seen, "' {end}")
 }
 
 /// Appends what was found, and where it ends.

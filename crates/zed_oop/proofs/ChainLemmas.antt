@@ -1,7 +1,7 @@
 -- Chains of instructions, step by step.
 use Rattle.std.proofs.Common.{◌≡◌, ◌<◌, ℕ, zero, suc, arith, sym, Option, Some, None, Ok, ◌⊎◌, inl, inr, subst}
-use Rattle.zed_scene.specs.declared.error.OopError.{OopError}
-use Rattle.zed_scene.specs.declared.error.OopError.TheVariants.{Memory, NoWords}
+use Rattle.zed_scene.specs.declared.error.SceneError.{SceneError}
+use Rattle.zed_scene.specs.declared.error.SceneError.TheVariants.{Memory, NoWords}
 use Rattle.zed_oop.specs.declared.turning.After.{After}
 use Rattle.zed_oop.specs.declared.turning.After.TheVariants.{Ends, Goes, Counts}
 use Rattle.zed_oop.specs.declared.turning.Reading.{Reading}
@@ -17,12 +17,12 @@ pub step_goes : (r q : Reading) (t u : State) (a : After) (n : ℕ) (e : Option 
 step_goes r q t u a n e d h rest = let P : After → Type 0 = λ x. Does r t (after x u) in went_on n r q t u e (subst P h d) rest
 
 -- a step that lacked a word, at the end of what is known to lead to it
-pub step_lacks : (s r : Reading) (b t : State) (x : OopError) → ((n : ℕ) (e : Option State) → Chain (suc n) r t e → Chain (suc n) s b e) → (x ≡ Memory) ⊎ ((x ≡ NoWords) × Does r t lacks) → (x ≡ Memory) ⊎ ((x ≡ NoWords) × ((n : ℕ) → Chain (suc n) s b None))
+pub step_lacks : (s r : Reading) (b t : State) (x : SceneError) → ((n : ℕ) (e : Option State) → Chain (suc n) r t e → Chain (suc n) s b e) → (x ≡ Memory) ⊎ ((x ≡ NoWords) × Does r t lacks) → (x ≡ Memory) ⊎ ((x ≡ NoWords) × ((n : ℕ) → Chain (suc n) s b None))
 step_lacks s r b t x further (inl memory) = inl memory
 step_lacks s r b t x further (inr w) = inr (w.0, λ n. further n None (lacked n r t w.1))
 
 -- a run to a command word that lacked one, within a turn
-pub run_lacks : (T : Option State → Type 0) (r : Reading) (t : State) (x : OopError) (k : ℕ) → 0 < k → ((e : Option State) → Chain k r t e → T e) → (x ≡ Memory) ⊎ ((x ≡ NoWords) × ((m : ℕ) → Chain (suc m) r t None)) → (x ≡ Memory) ⊎ ((x ≡ NoWords) × T None)
+pub run_lacks : (T : Option State → Type 0) (r : Reading) (t : State) (x : SceneError) (k : ℕ) → 0 < k → ((e : Option State) → Chain k r t e → T e) → (x ≡ Memory) ⊎ ((x ≡ NoWords) × ((m : ℕ) → Chain (suc m) r t None)) → (x ≡ Memory) ⊎ ((x ≡ NoWords) × T None)
 run_lacks T r t x k h further (inl memory) = inl memory
 run_lacks T r t x zero h further (inr w) = absurd (omega arith)
 run_lacks T r t x (suc n) h further (inr w) = inr (w.0, further None (w.1 n))

@@ -2,7 +2,7 @@
 use borrow.Author.Tests.{ltb-false}
 use Rattle.std.proofs.Common.{◌≡◌, ◌∙◌, ◌≤◌, ℕ, zero, suc, arith, Bool, true, false, cond, nat_lt, length, slice_get, List, [], ◌∷◌, Option, Some, None, refl, sym, ap, subst}
 use Rattle.zed_scene.specs.declared.stat.Stat.{Stat}
-use Rattle.zed_scene.specs.Scene.{Scene, own, program_of, stat_of}
+use Rattle.zed_scene.specs.Scene.{Scene, program_of, running_stat, stat_of}
 use Rattle.zed_script.specs.declared.lines.Instruction.TheVariants.{End}
 use Rattle.zed_script.specs.Line.{InstructionAt, begun_at}
 use Rattle.zed_oop.specs.declared.turning.Reading.{Reading}
@@ -21,26 +21,26 @@ get_past [] i h = refl
 get_past (x ∷ xs) zero h = absurd (omega arith)
 get_past (x ∷ xs) (suc i) h = get_past xs i (omega arith)
 
--- the own stat where a turn begins
-own_at_start : (s : Scene) (i : ℕ) (ws : List ℕ) → own (start_of s i ws).scene ≡ slice_get s.stats i
-own_at_start s i ws = by_there (nat_lt i (length s.stats)) refl
+-- the running stat where a turn begins
+running_at_start : (s : Scene) (i : ℕ) (ws : List ℕ) → running_stat (start_of s i ws).scene ≡ slice_get s.stats i
+running_at_start s i ws = by_there (nat_lt i (length s.stats)) refl
   where
     by_there : (b : Bool) → nat_lt i (length s.stats) ≡ b → stat_of s (cond (nat_lt i (length s.stats)) (Some i) None) ≡ slice_get s.stats i
     by_there true e = rw e refl
     by_there false e = rw e (sym (get_past s.stats i (ltb-false i (length s.stats) e)))
 
 -- a stat that stands somewhere has a place
-stands_somewhere : (r : Reading) (t : State) → position_of (own t.scene) ≡ None → ReadingTakes r t → ⊥
-stands_somewhere r t none (a, (at, ((o, p), w))) = let there : position_of (own t.scene) ≡ Some at = ap position_of o ∙ p in absurd (cc)
+stands_somewhere : (r : Reading) (t : State) → position_of (running_stat t.scene) ≡ None → ReadingTakes r t → ⊥
+stands_somewhere r t none (a, (at, ((o, p), w))) = let there : position_of (running_stat t.scene) ≡ Some at = ap position_of o ∙ p in absurd (cc)
 
 pub ended_takes_none : (s : Scene) (i : ℕ) (ws : List ℕ) → position_of (slice_get s.stats i) ≡ None → TurnTakes s i ws → ⊥
 ended_takes_none s i ws ended takes =
     let t = start_of s i ws in
-    let none : position_of (own t.scene) ≡ None = ap position_of (own_at_start s i ws) ∙ ended in
+    let none : position_of (running_stat t.scene) ≡ None = ap position_of (running_at_start s i ws) ∙ ended in
     ends_takes_none 33 Instructing t t (over Instructing t none) (stands_somewhere Instructing t none) takes
 
 -- a stat without a program reads its end
-reads_end : (t : State) (a : Stat) → own t.scene ≡ Some a → a.program ≡ None → ReadingTakes Instructing t → ⊥
+reads_end : (t : State) (a : Stat) → running_stat t.scene ≡ Some a → a.program ≡ None → ReadingTakes Instructing t → ⊥
 reads_end t a is none (b, (at, ((o, p), w))) =
     let both : Some a ≡ Some b = sym is ∙ o in
     let same : b ≡ a = cc in
@@ -49,13 +49,13 @@ reads_end t a is none (b, (at, ((o, p), w))) =
     let copied : false ≡ true = subst Q none (subst P same w) in
     absurd (cc)
 
-none_takes_none_at : (o : Option ℕ) (t : State) (a : Stat) → own t.scene ≡ Some a → a.position ≡ o → a.program ≡ None → ChainTakes 33 Instructing t → ⊥
+none_takes_none_at : (o : Option ℕ) (t : State) (a : Stat) → running_stat t.scene ≡ Some a → a.position ≡ o → a.program ≡ None → ChainTakes 33 Instructing t → ⊥
 none_takes_none_at None t a is place none takes =
-    let ended : position_of (own t.scene) ≡ None = ap position_of is ∙ place in
+    let ended : position_of (running_stat t.scene) ≡ None = ap position_of is ∙ place in
     ends_takes_none 33 Instructing t t (over Instructing t ended) (stands_somewhere Instructing t ended) takes
 none_takes_none_at (Some at) t a is place none takes =
     let P : Option ℕ → Type 0 = λ x. InstructionAt (program_of t.scene x) at End at in
     ends_takes_none 33 Instructing t (to_place None t) (instructs t a at End at (is, place) (subst P (sym none) (refl, refl))) (reads_end t a is none) takes
 
 pub none_takes_none : (s : Scene) (i : ℕ) (ws : List ℕ) (a : Stat) → slice_get s.stats i ≡ Some a → a.program ≡ None → TurnTakes s i ws → ⊥
-none_takes_none s i ws a is none takes = none_takes_none_at a.position (start_of s i ws) a (own_at_start s i ws ∙ is) refl none takes
+none_takes_none s i ws a is none takes = none_takes_none_at a.position (start_of s i ws) a (running_at_start s i ws ∙ is) refl none takes

@@ -1,7 +1,7 @@
 -- A turn comes to one thing.
 use Rattle.std.proofs.Common.{◌≡◌, ◌∙◌, ◌⊎◌, inl, inr, ℕ, zero, suc, List, Option, Some, None, refl, sym, ap, subst}
 use Rattle.zed_scene.specs.declared.stat.Stat.{Stat}
-use Rattle.zed_scene.specs.Scene.{Scene, own, program_of}
+use Rattle.zed_scene.specs.Scene.{Scene, program_of, running_stat}
 use Rattle.zed_script.specs.declared.commands.OopCommand.{OopCommand}
 use Rattle.zed_script.specs.declared.lines.Instruction.{Instruction}
 use Rattle.zed_script.specs.Command.{CommandAt}
@@ -26,9 +26,9 @@ found_one (Commanding start) t a at o q x y =
     let one = command_one (program_of t.scene a.program) at x.0 y.0 x.1.0 y.1.0 x.1.1.0 y.1.1.0 in
     x.1.1.1 ∙ (ap (λ c. commanded c start x.1.0 a t) one.0 ∙ (ap (λ n. commanded y.0 start n a t) one.1 ∙ sym y.1.1.1))
 
--- the turn is over, or something stands where the own stat reads
+-- the turn is over, or something stands where the running stat reads
 Opened : Reading → State → Outcome → Type 0
-Opened r t o = ((position_of (own t.scene) ≡ None) × (o ≡ ends t)) ⊎ ((a : Stat) × ((at : ℕ) × (Stands t.scene a at × Found r t a at o)))
+Opened r t o = ((position_of (running_stat t.scene) ≡ None) × (o ≡ ends t)) ⊎ ((a : Stat) × ((at : ℕ) × (Stands t.scene a at × Found r t a at o)))
 
 opened : (r : Reading) (t : State) (o : Outcome) → Does r t o → Opened r t o
 unfolding Opened Found
@@ -46,9 +46,9 @@ stands_one s a b m n x y =
     (stat, place)
 
 -- and then it is somewhere
-is_somewhere : (s : Scene) (a : Stat) (m : ℕ) → Stands s a m → position_of (own s) ≡ None → ⊥
+is_somewhere : (s : Scene) (a : Stat) (m : ℕ) → Stands s a m → position_of (running_stat s) ≡ None → ⊥
 is_somewhere s a m x none =
-    let is : position_of (own s) ≡ Some m = ap position_of x.0 ∙ x.1 in
+    let is : position_of (running_stat s) ≡ Some m = ap position_of x.0 ∙ x.1 in
     absurd (cc)
 
 opened_one : (r : Reading) (t : State) (o q : Outcome) → Opened r t o → Opened r t q → o ≡ q

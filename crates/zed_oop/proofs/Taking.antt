@@ -1,52 +1,29 @@
 -- Where a turn takes memory.
-use Rattle.std.proofs.Common.{◌≡◌, ◌∙◌, inl, inr, ℕ, zero, suc, ◌<◌, true, Ok, Err, List, Option, Some, None, is_some, sym, ap, subst, arith}
-use Rattle.zed_scene.specs.declared.error.OopError.{OopError}
-use Rattle.zed_scene.specs.declared.error.OopError.TheVariants.{Memory}
+use Rattle.std.proofs.Common.{◌≡◌, ℕ, zero, suc, ◌<◌, true, Ok, Err, List, Option, Some, None, is_some, sym, subst, arith}
+use Rattle.zed_scene.specs.declared.error.SceneError.{SceneError}
+use Rattle.zed_scene.specs.declared.error.SceneError.TheVariants.{Memory}
 use Rattle.zed_scene.specs.declared.stat.Stat.{Stat}
-use Rattle.zed_scene.specs.Scene.{own, program_of}
+use Rattle.zed_scene.specs.Scene.{program_of, running_stat}
 use Rattle.zed_script.specs.declared.commands.OopCommand.{OopCommand}
-use Rattle.zed_script.specs.declared.lines.Instruction.{Instruction}
 use Rattle.zed_script.specs.Command.{CommandAt}
-use Rattle.zed_script.specs.Line.{Copies, InstructionAt, begun_at, line_kind}
-use Rattle.zed_script.specs.Text.{HasWord}
-use Rattle.zed_script.proofs.Ahead.{instruction_begun}
 use Rattle.zed_script.proofs.CommandLemmas.{command_named}
 use Rattle.zed_oop.specs.declared.turning.After.{After}
 use Rattle.zed_oop.specs.declared.turning.After.TheVariants.{Goes, Counts}
 use Rattle.zed_oop.specs.declared.turning.Reading.{Reading}
-use Rattle.zed_oop.specs.declared.turning.Reading.TheVariants.{Instructing, Commanding}
-use Rattle.zed_oop.specs.Turn.{ChainTakes, Does, ReadingTakes, RunTakes, State, Takes, after, is_copied, takes_behind, takes_further}
+use Rattle.zed_oop.specs.declared.turning.Reading.TheVariants.{Commanding}
+use Rattle.zed_oop.specs.Turn.{ChainTakes, Does, ReadingTakes, RunTakes, State, Takes, after, takes_behind, takes_further}
 
--- what is copied of an instruction takes memory in a turn
-copies_takes : (p : List ℕ) (at : ℕ) → Copies p at → is_copied (begun_at p at) ≡ true
-copies_takes p at (inl e) = ap is_copied e
-copies_takes p at (inr (inl e, w)) = ap is_copied e
-copies_takes p at (inr (inr e, w)) = ap is_copied e
-
-takes_at : (r q : Reading) (t : State) (a : Stat) (at : ℕ) (p : List ℕ) → r ≡ q → own t.scene ≡ Some a → a.position ≡ Some at → p ≡ program_of t.scene a.program → Takes q p at → ReadingTakes r t
+takes_at : (r q : Reading) (t : State) (a : Stat) (at : ℕ) (p : List ℕ) → r ≡ q → running_stat t.scene ≡ Some a → a.position ≡ Some at → p ≡ program_of t.scene a.program → Takes q p at → ReadingTakes r t
 takes_at r q t a at p is own place text takes =
     let P : List ℕ → Type 0 = λ x. Takes q x at in
     let R : Reading → Type 0 = λ x. ReadingTakes x t in
     subst R (sym is) (a, (at, ((own, place), subst P text takes)))
 
--- an instruction that couldn't be read
-pub reading_takes : (r : Reading) (t : State) (a : Stat) (at : ℕ) (p : List ℕ) → r ≡ Instructing → own t.scene ≡ Some a → a.position ≡ Some at → p ≡ program_of t.scene a.program → Copies p at → ReadingTakes r t
-reading_takes r t a at p is own place text copies = takes_at r Instructing t a at p is own place text (copies_takes p at copies)
-
--- an instruction that was read
-pub instruction_takes : (r : Reading) (t : State) (a : Stat) (at : ℕ) (p : List ℕ) (i : Instruction) (next : ℕ) → r ≡ Instructing → own t.scene ≡ Some a → a.position ≡ Some at → p ≡ program_of t.scene a.program → InstructionAt p at i next → is_copied (line_kind i) ≡ true → ReadingTakes r t
-instruction_takes r t a at p i next is own place text stands copied =
-    takes_at r Instructing t a at p is own place text (ap is_copied (instruction_begun p at i next stands) ∙ copied)
-
--- a command that couldn't be read
-pub word_takes : (r : Reading) (t : State) (a : Stat) (at start : ℕ) (p : List ℕ) → r ≡ Commanding start → own t.scene ≡ Some a → a.position ≡ Some at → p ≡ program_of t.scene a.program → HasWord p at → ReadingTakes r t
-word_takes r t a at start p is own place text word = takes_at r (Commanding start) t a at p is own place text word
-
 -- a command that was read
-pub command_takes : (r : Reading) (t : State) (a : Stat) (at start : ℕ) (p : List ℕ) (c : Option OopCommand) (next : ℕ) → r ≡ Commanding start → own t.scene ≡ Some a → a.position ≡ Some at → p ≡ program_of t.scene a.program → CommandAt p at c next → is_some c ≡ true → ReadingTakes r t
+pub command_takes : (r : Reading) (t : State) (a : Stat) (at start : ℕ) (p : List ℕ) (c : Option OopCommand) (next : ℕ) → r ≡ Commanding start → running_stat t.scene ≡ Some a → a.position ≡ Some at → p ≡ program_of t.scene a.program → CommandAt p at c next → is_some c ≡ true → ReadingTakes r t
 command_takes r t a at start p None next is own place text stands some = absurd (cc)
 command_takes r t a at start p (Some c) next is own place text stands some =
-    word_takes r t a at start p is own place text (command_named p at c next stands)
+    takes_at r (Commanding start) t a at p is own place text (command_named p at c next stands)
 
 -- ---- in a chain
 
@@ -57,7 +34,7 @@ pub counts_takes : (r q : Reading) (t u : State) (a : After) (n : ℕ) → Does 
 counts_takes r q t u a n d e rest = let P : After → Type 0 = λ x. Does r t (after x u) in takes_behind n r q t u (subst P e d) rest
 
 -- a run in which memory was refused, within a turn
-pub run_takes : (T : Type 0) (r : Reading) (t u : State) (x : OopError) (k : ℕ) → 0 < k → (ChainTakes k r t → T) → RunTakes (Err x) r t u → x ≡ Memory → T
+pub run_takes : (T : Type 0) (r : Reading) (t u : State) (x : SceneError) (k : ℕ) → 0 < k → (ChainTakes k r t → T) → RunTakes (Err x) r t u → x ≡ Memory → T
 run_takes T r t u x zero h further takes e = absurd (omega arith)
 run_takes T r t u x (suc n) h further takes e = further (takes e n)
 

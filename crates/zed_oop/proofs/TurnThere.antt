@@ -1,7 +1,7 @@
 -- A turn comes to something.
 use Rattle.std.proofs.Common.{◌≡◌, ◌∙◌, ℕ, zero, suc, ◌<◌, List, Option, Some, None, refl, ap, arith}
 use Rattle.zed_scene.specs.declared.stat.Stat.{Stat}
-use Rattle.zed_scene.specs.Scene.{Scene, own, program_of}
+use Rattle.zed_scene.specs.Scene.{Scene, program_of, running_stat}
 use Rattle.zed_script.specs.declared.commands.OopCommand.{OopCommand}
 use Rattle.zed_script.specs.Command.{CommandAt}
 use Rattle.zed_script.proofs.Ahead.{instruction_ahead, no_command_after}
@@ -25,11 +25,11 @@ DoesSome r t = (o : Outcome) × (Does r t o × Nearer o r t)
 ended_nearer : (r : Reading) (t : State) → Nearer (ends t) r t
 ended_nearer r t q u e = absurd (cc)
 
-commanded_some : (c : Option OopCommand) (start at next : ℕ) (a : Stat) (t : State) → own t.scene ≡ Some a → a.position ≡ Some at → CommandAt (program_of t.scene a.program) at c next → Nearer (commanded c start next a t) (Commanding start) t
+commanded_some : (c : Option OopCommand) (start at next : ℕ) (a : Stat) (t : State) → running_stat t.scene ≡ Some a → a.position ≡ Some at → CommandAt (program_of t.scene a.program) at c next → Nearer (commanded c start next a t) (Commanding start) t
 commanded_some None start at next a t here place x q u e = commanded_nearer None start at next a t u q here place (no_command_after (program_of t.scene a.program) at next x) e
 commanded_some (Some c) start at next a t here place x q u e = absurd (no_command_goes (effect c start a (with_position (Some next) t.scene) t.left) start t u q e)
 
-reads_some : (r : Reading) (t : State) (a : Stat) (at : ℕ) → own t.scene ≡ Some a → a.position ≡ Some at → DoesSome r t
+reads_some : (r : Reading) (t : State) (a : Stat) (at : ℕ) → running_stat t.scene ≡ Some a → a.position ≡ Some at → DoesSome r t
 reads_some Instructing t a at here place =
     let found = instruction_there (program_of t.scene a.program) at in
     let x = found.1.1.0 in (
@@ -50,15 +50,15 @@ reads_some (Commanding start) t a at here place =
     )
 
 does_there : (r : Reading) (t : State) → DoesSome r t
-does_there r t = by_own (own t.scene) refl
+does_there r t = by_stat (running_stat t.scene) refl
   where
-    by_place : (a : Stat) → own t.scene ≡ Some a → (o : Option ℕ) → a.position ≡ o → DoesSome r t
+    by_place : (a : Stat) → running_stat t.scene ≡ Some a → (o : Option ℕ) → a.position ≡ o → DoesSome r t
     by_place a here None place = (ends t, (over r t (ap position_of here ∙ place), ended_nearer r t))
     by_place a here (Some at) place = reads_some r t a at here place
 
-    by_own : (o : Option Stat) → own t.scene ≡ o → DoesSome r t
-    by_own None here = (ends t, (over r t (ap position_of here), ended_nearer r t))
-    by_own (Some a) here = by_place a here a.position refl
+    by_stat : (o : Option Stat) → running_stat t.scene ≡ o → DoesSome r t
+    by_stat None here = (ends t, (over r t (ap position_of here), ended_nearer r t))
+    by_stat (Some a) here = by_place a here a.position refl
 
 -- a chain up to the next command word, and what comes behind it
 run_there : (n : ℕ) → ((r : Reading) (t : State) → (e : Option State) × Chain n r t e) → (k : ℕ) (r : Reading) (t : State) → room r t.scene < k → (e : Option State) × Chain (suc n) r t e

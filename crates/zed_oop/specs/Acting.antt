@@ -2,35 +2,35 @@
 use Rattle.std.specs.Prelude.{ℕ, List, Option, Some, None}
 use Rattle.zed_scene.specs.declared.stat.Stat.{Stat}
 use Rattle.zed_scene.specs.declared.step.Step.{Step}
-use Rattle.zed_scene.specs.Scene.{Scene, own, program_of, put_own}
+use Rattle.zed_scene.specs.Scene.{Scene, program_of, put_running_stat, running_stat}
 use Rattle.zed_script.specs.Text.{line_after}
 
--- the own stat changes, if it is still there
+-- the running stat changes, if it is still there
 abbrev pub changed : (Stat → Stat) → Option Stat → Scene → Scene
 changed f None s = s
-changed f (Some a) s = put_own (f a) s
+changed f (Some a) s = put_running_stat (f a) s
 
--- the own stat is at this place of its program, or at none: its program has ended
+-- the running stat is at this place of its program, or at none: its program has ended
 abbrev pub with_position : Option ℕ → Scene → Scene
-with_position o s = changed (λ a. record a { position = o }) (own s) s
+with_position o s = changed (λ a. record a { position = o }) (running_stat s) s
 
--- the own stat has this P1, which is how an object looks
+-- the running stat has this P1, which is how an object looks
 abbrev pub with_p1 : ℕ → Scene → Scene
-with_p1 n s = changed (λ a. record a { p1 = n }) (own s) s
+with_p1 n s = changed (λ a. record a { p1 = n }) (running_stat s) s
 
--- the own stat has this P2, which is 0 where it isn't locked
+-- the running stat has this P2, which is 0 where it isn't locked
 abbrev pub with_p2 : ℕ → Scene → Scene
-with_p2 n s = changed (λ a. record a { p2 = n }) (own s) s
+with_p2 n s = changed (λ a. record a { p2 = n }) (running_stat s) s
 
--- the own stat has this cycle
+-- the running stat has this cycle
 abbrev pub with_cycle : ℕ → Scene → Scene
-with_cycle n s = changed (λ a. record a { cycle = n }) (own s) s
+with_cycle n s = changed (λ a. record a { cycle = n }) (running_stat s) s
 
--- the own stat has this step
+-- the running stat has this step
 abbrev pub with_step : Step → Scene → Scene
-with_step d s = changed (λ a. record a { step = d }) (own s) s
+with_step d s = changed (λ a. record a { step = d }) (running_stat s) s
 
--- the own stat goes on behind the line at this place; without a place nothing changes
+-- the running stat goes on behind the line at this place; without a place nothing changes
 abbrev pub skipped_from : List ℕ → Option ℕ → Scene → Scene
 skipped_from p None s = s
 skipped_from p (Some at) s = with_position (Some (line_after p at)) s
@@ -42,4 +42,4 @@ skipped_by (Some a) s = skipped_from (program_of s a.program) a.position s
 
 -- the rest of the line is skipped
 unfoldable pub skip_line : Scene → Scene
-skip_line s = skipped_by (own s) s
+skip_line s = skipped_by (running_stat s) s

@@ -9,8 +9,8 @@ use Rattle.zed_oop.specs.declared.acting.Next.TheVariants.{Skip, Stay, Command a
 use Rattle.zed_scene.specs.declared.stat.Stat.{Stat}
 use Rattle.zed_script.specs.declared.commands.OopCommand.{OopCommand}
 use Rattle.zed_script.specs.declared.commands.OopCommand.TheVariants.{Go, Try, Walk, Shoot, Set, Clear, If, Give, Take, End, EndGame, Idle, Restart, Send, Zap, Restore, Lock, Unlock, Become, Die, Put, Change, Cycle, Char, Bind, Nothing, Other}
-use Rattle.zed_scene.specs.declared.error.OopError.{OopError}
-use Rattle.zed_scene.specs.declared.error.OopError.TheVariants.{Memory, NoWords}
+use Rattle.zed_scene.specs.declared.error.SceneError.{SceneError}
+use Rattle.zed_scene.specs.declared.error.SceneError.TheVariants.{Memory, NoWords}
 use Rattle.zed_script.specs.declared.heading.Heading.{Heading}
 use Rattle.zed_script.specs.declared.kinds.TileKind.{TileKind}
 use Rattle.zed_scene.specs.Scene.{Scene}
@@ -137,6 +137,6 @@ done_along ShootAlong start a d s = (SkipAndEnd, (shot a.place d Creature s).1)
 done_along (PutAlong k) start a d s = put_kind a.place k d s
 
 -- a call did this and left these words, or told that a word is lacking, or that memory was refused
-abbrev pub Performs : {X : Type 0} → Result X OopError → Scene → List ℕ → Drawn (X × Scene) → Type 0
+abbrev pub Performs : {X : Type 0} → Result X SceneError → Scene → List ℕ → Drawn (X × Scene) → Type 0
 Performs result s left drawn =
     MatchResult result (λ x. drawn ≡ Some ((x, s), left)) (λ e. (e ≡ Memory) ⊎ ((e ≡ NoWords) × (drawn ≡ None)))

@@ -4,7 +4,7 @@ use Rattle.zed_types.specs.declared.tile.Place.{Place}
 use Rattle.zed_types.specs.Table.{place_at}
 use Rattle.zed_scene.specs.declared.stat.Stat.{Stat}
 use Rattle.zed_script.specs.declared.kinds.TileKind.{TileKind}
-use Rattle.zed_scene.specs.Scene.{Scene, element_at, own, program_of, put, same_place, tile_at}
+use Rattle.zed_scene.specs.Scene.{Scene, element_at, program_of, put, running_stat, same_place, tile_at}
 use Rattle.zed_scene.specs.declared.step.Step.{Step}
 use Rattle.zed_oop.specs.Acting.{changed}
 use Rattle.zed_scene.specs.Trying.{is_nowhere, way_made}
@@ -15,12 +15,12 @@ use Rattle.zed_scene.specs.Places.{ahead}
 use Rattle.zed_scene.specs.Removing.{remove_stat}
 use Rattle.zed_oop.specs.Sending.{for_each, is_named}
 
--- the own stat is removed, unless it is gone or is the player
+-- the running stat is removed, unless it is gone or is the player
 abbrev pub without_own : Option ℕ → Scene → Scene
 without_own None s = s
 without_own (Some i) s = remove_stat i s
 
--- the own stat is removed, and a kind stands at its place, of the colour that its tile had
+-- the running stat is removed, and a kind stands at its place, of the colour that its tile had
 abbrev pub became : TileKind → Place → Scene → Scene
 became k p s = put p (tile_of k (tile_at s.tiles p).colour) (without_own s.running s)
 
@@ -79,16 +79,16 @@ has_name s name i (Some a) = nat_le 1 i && is_named (program_of s a.program) nam
 unfoldable pub named : List ℕ → Scene → Option ℕ
 named name s = least (λ i. has_name s name i (slice_get s.stats i)) (length s.stats)
 
--- the own stat gets the program of this stat, and begins it
+-- the running stat gets the program of this stat, and begins it
 abbrev pub bound_to : Option Stat → Scene → Scene
 bound_to None s = s
-bound_to (Some a) s = changed (λ b. record b { program = a.program; position = Some 0 }) (own s) s
+bound_to (Some a) s = changed (λ b. record b { program = a.program; position = Some 0 }) (running_stat s) s
 
--- whether a stat of this name was found, and the board where the own stat has its program
+-- whether a stat of this name was found, and the board where the running stat has its program
 abbrev pub bound_as : Option ℕ → Scene → Bool × Scene
 bound_as None s = (false, s)
 bound_as (Some i) s = (true, bound_to (slice_get s.stats i) s)
 
--- whether a stat has this name, and the board where the own stat begins the program of the first
+-- whether a stat has this name, and the board where the running stat begins the program of the first
 abbrev pub bound : List ℕ → Scene → Bool × Scene
 bound name s = bound_as (named name s) s

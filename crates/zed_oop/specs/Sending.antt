@@ -3,7 +3,7 @@ use Rattle.std.specs.Prelude.{ℕ, zero, suc, ◌+◌, Bool, false, not, ◌&&�
 use Rattle.std.specs.List.{list_any}
 use Rattle.std.specs.Str.{bytes_eq}
 use Rattle.zed_scene.specs.declared.stat.Stat.{Stat}
-use Rattle.zed_scene.specs.Scene.{Scene, own, program_of, put_stat}
+use Rattle.zed_scene.specs.Scene.{Scene, program_of, put_stat}
 use Rattle.zed_oop.specs.declared.programs.Relabelling.{Relabelling}
 use Rattle.zed_oop.specs.declared.programs.Relabelling.TheVariants.{Hide, Show}
 use Rattle.zed_script.specs.Label.{byte_is, first_label, is_restart, label_at, label_place}

@@ -1,5 +1,5 @@
 -- Whether conditions hold.
-use Rattle.std.specs.Prelude.{ℕ, ◌+◌, ◌-◌, Bool, false, not, ◌||◌, ◌==◌, nat_lt, if◌then◌else◌, List, slice_get, Option, Some, None}
+use Rattle.std.specs.Prelude.{ℕ, ◌+◌, Bool, false, not, ◌||◌, ◌==◌, List, Option, Some, None}
 use Rattle.std.specs.List.{list_any}
 use Rattle.zed_types.specs.declared.tile.Place.{Place}
 use Rattle.zed_types.specs.declared.tile.Tile.{Tile}
@@ -15,18 +15,14 @@ use Rattle.zed_script.specs.Condition.{flipped}
 use Rattle.zed_script.specs.Kind.{matches}
 use Rattle.zed_oop.specs.Leading.{led}
 use Rattle.zed_scene.specs.Moving.{is_walkable}
-use Rattle.zed_scene.specs.Places.{ahead}
-use Rattle.zed_scene.specs.Seeking.{place_of}
+use Rattle.zed_scene.specs.Places.{ahead, apart}
+use Rattle.zed_scene.specs.Seeking.{player_place}
 use Rattle.zed_scene.specs.Flags.{has_flag}
 use Rattle.zed_scene.specs.Words.{Drawn, ◌>>=◌}
 
 -- whether two places are in one column or in one row
 abbrev pub is_aligned : Place → Place → Bool
 is_aligned a b = a.x == b.x || a.y == b.y
-
--- the size of a difference
-abbrev pub apart : ℕ → ℕ → ℕ
-apart a b = if nat_lt a b then b - a else a - b
 
 -- whether two places are next to each other in a column or a row
 abbrev pub is_in_contact : Place → Place → Bool
@@ -46,10 +42,6 @@ unfoldable pub blocked : Heading → Stat → Scene → List ℕ → Drawn (Opti
 blocked h a s ws = do
   d ← led h.turns h.course a s ws
   Some (is_way_blocked a s d.0, d.1)
-
--- where the player is, or the place given where there is no player
-abbrev pub player_place : Scene → Place → Place
-player_place s p = place_of p (slice_get s.stats 0)
 
 -- whether one of these tiles is of a kind; none where the kind is none
 abbrev pub any_of : List Tile → Option TileKind → Option Bool

@@ -9,13 +9,13 @@ use Rattle.zed_oop.specs.declared.turning.Effects.{Effects}
 use Rattle.zed_script.specs.declared.lines.Instruction.{Instruction}
 use Rattle.zed_script.specs.declared.lines.Instruction.TheVariants.{End, Skipped, Blank, Step, Attempt, Command as CommandLine, Message}
 use Rattle.zed_types.specs.declared.tile.Place.{Place}
-use Rattle.zed_scene.specs.declared.error.OopError.{OopError}
-use Rattle.zed_scene.specs.declared.error.OopError.TheVariants.{Memory, NoWords}
+use Rattle.zed_scene.specs.declared.error.SceneError.{SceneError}
+use Rattle.zed_scene.specs.declared.error.SceneError.TheVariants.{Memory, NoWords}
 use Rattle.zed_oop.specs.declared.turning.After.{After}
 use Rattle.zed_oop.specs.declared.turning.After.TheVariants.{Ends, Goes, Counts}
 use Rattle.zed_oop.specs.declared.turning.Reading.{Reading}
 use Rattle.zed_oop.specs.declared.turning.Reading.TheVariants.{Instructing, Commanding}
-use Rattle.zed_scene.specs.Scene.{Scene, own, program_of, there}
+use Rattle.zed_scene.specs.Scene.{Scene, program_of, running_stat, there}
 use Rattle.zed_scene.specs.declared.step.Step.{Step as Way}
 use Rattle.zed_oop.specs.Acting.{with_position, skip_line}
 use Rattle.zed_scene.specs.Trying.{try_move}
@@ -58,7 +58,7 @@ failed t = with_line (codes "ERR") (with_scene (with_position None t.scene) t)
 
 -- ---- instructions
 
--- the own stat goes on at this place of its program, or at none: its program has ended
+-- the running stat goes on at this place of its program, or at none: its program has ended
 abbrev pub to_place : Option ℕ → State → State
 to_place o t = with_scene (with_position o t.scene) t
 
@@ -113,7 +113,7 @@ commanded (Some c) start next a t =
 
 -- the stat whose program has its turn, and its place in it
 abbrev pub Stands : Scene → Stat → ℕ → Type 0
-Stands s a at = (own s ≡ Some a) × (a.position ≡ Some at)
+Stands s a at = (running_stat s ≡ Some a) × (a.position ≡ Some at)
 
 -- the place of a stat in its program; none where it has ended or the stat is gone
 abbrev pub position_of : Option Stat → Option ℕ
@@ -123,7 +123,7 @@ position_of (Some a) = a.position
 -- one instruction, or one command
 pub data Does : Reading → State → Outcome → Type 0 where
   -- the stat is gone, or its program has ended
-  over : (r : Reading) (t : State) → position_of (own t.scene) ≡ None → Does r t (ends t)
+  over : (r : Reading) (t : State) → position_of (running_stat t.scene) ≡ None → Does r t (ends t)
   instructs : (t : State) (a : Stat) (at : ℕ) (i : Instruction) (next : ℕ) → Stands t.scene a at → InstructionAt (program_of t.scene a.program) at i next → Does Instructing t (instructed i at next a t)
   commands : (start : ℕ) (t : State) (a : Stat) (at : ℕ) (c : Option OopCommand) (next : ℕ) → Stands t.scene a at → CommandAt (program_of t.scene a.program) at c next → Does (Commanding start) t (commanded c start next a t)
 
@@ -162,7 +162,7 @@ abbrev pub Takes : Reading → List ℕ → ℕ → Type 0
 Takes Instructing p at = is_copied (begun_at p at) ≡ true
 Takes (Commanding start) p at = HasWord p at
 
--- what the own stat reads takes memory
+-- what the running stat reads takes memory
 abbrev pub ReadingTakes : Reading → State → Type 0
 ReadingTakes r t = (a : Stat) × ((at : ℕ) × (Stands t.scene a at × Takes r (program_of t.scene a.program) at))
 
@@ -189,30 +189,30 @@ after (Goes r) t = goes r t
 after (Counts r) t = counts r t
 
 -- one instruction or command was done, or a word of chance is lacking, or memory was refused
-abbrev pub StepsTo : Result After OopError → Reading → State → State → Type 0
+abbrev pub StepsTo : Result After SceneError → Reading → State → State → Type 0
 StepsTo result r t u =
     MatchResult result (λ a. Does r t (after a u)) (λ e. (e ≡ Memory) ⊎ ((e ≡ NoWords) × Does r t lacks))
 
 -- this is what came of an instruction, with this state; or a word is lacking, or memory was refused
-abbrev pub Comes : Result After OopError → Outcome → State → Type 0
+abbrev pub Comes : Result After SceneError → Outcome → State → Type 0
 Comes result outcome u =
     MatchResult result (λ a. outcome ≡ after a u) (λ e. (e ≡ Memory) ⊎ ((e ≡ NoWords) × (outcome ≡ lacks)))
 
 -- the step of `/` or `?` was tried, and the turn ends; or a word is lacking, or memory was refused
-abbrev pub DoesStep : {X : Type 0} → Result X OopError → Heading → Stat → ℕ → ℕ → State → State → Type 0
+abbrev pub DoesStep : {X : Type 0} → Result X SceneError → Heading → Stat → ℕ → ℕ → State → State → Type 0
 DoesStep result h a again next t u =
     let outcome = stepped_by (led h.turns h.course a t.scene t.left) a.place again next t in
     MatchResult result (λ _. outcome ≡ ends u) (λ e. (e ≡ Memory) ⊎ ((e ≡ NoWords) × (outcome ≡ lacks)))
 
 -- a turn was had, and told how many words it used; or one is lacking, or memory was refused
-abbrev pub TurnsTo : Result Effects OopError → Scene → ℕ → List ℕ → Scene → Type 0
+abbrev pub TurnsTo : Result Effects SceneError → Scene → ℕ → List ℕ → Scene → Type 0
 TurnsTo result s i ws u =
     MatchResult result
     (λ e. (left : List ℕ) × (Turn s i ws (Some (state u left e.lines)) × (e.used ≡ length ws - length left) × (e.number ≡ u.running)))
     (λ e. (e ≡ Memory) ⊎ ((e ≡ NoWords) × Turn s i ws None))
 
 -- a turn was had, with these messages; or a word is lacking, or memory was refused
-abbrev pub HasTurn : Result (List (List ℕ)) OopError → Scene → ℕ → List ℕ → Scene → List ℕ → Type 0
+abbrev pub HasTurn : Result (List (List ℕ)) SceneError → Scene → ℕ → List ℕ → Scene → List ℕ → Type 0
 HasTurn result s i ws u left =
     MatchResult result
     (λ ls. Turn s i ws (Some (state u left ls)))
@@ -231,7 +231,7 @@ room_of r (Some a) s = room_at r (length (program_of s a.program)) a.position
 
 -- how far a reading is from the end of the program that has its turn
 abbrev pub room : Reading → Scene → ℕ
-room r s = room_of r (own s) s
+room r s = room_of r (running_stat s) s
 
 -- where the turn goes on and no command word was read, the end of the program is nearer
 abbrev pub IsNearer : After → Reading → Scene → Scene → Type 0
@@ -240,14 +240,14 @@ IsNearer (Goes q) r s t = room q t < room r s
 IsNearer (Counts q) r s t = Unit {0}
 
 -- steps up to a command word, or to the end of the turn
-abbrev pub Runs : Result (Option Reading) OopError → Reading → State → State → Type 0
+abbrev pub Runs : Result (Option Reading) SceneError → Reading → State → State → Type 0
 Runs (Ok None) r t u = (n : ℕ) → Chain (suc n) r t (Some u)
 Runs (Ok (Some q)) r t u = (n : ℕ) (e : Option State) → Chain n q u e → Chain (suc n) r t e
 Runs (Err e) r t u = (e ≡ Memory) ⊎ ((e ≡ NoWords) × ((n : ℕ) → Chain (suc n) r t None))
 
 -- what takes memory behind steps up to a command word takes it in the chain that begins with them; and where memory was
 -- refused, something in them took it
-abbrev pub RunTakes : Result (Option Reading) OopError → Reading → State → State → Type 0
+abbrev pub RunTakes : Result (Option Reading) SceneError → Reading → State → State → Type 0
 RunTakes (Ok None) r t u = Unit {0}
 RunTakes (Ok (Some q)) r t u = (n : ℕ) → ChainTakes n q u → ChainTakes (suc n) r t
 RunTakes (Err e) r t u = e ≡ Memory → (n : ℕ) → ChainTakes (suc n) r t

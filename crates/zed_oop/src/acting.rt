@@ -23,53 +23,53 @@ pub enum Next {
 }
 
 /// Sets the position of the stat whose turn it is.
-pub(crate) fn go_to(scene: &mut Scene, position: Option<usize>)
+pub(crate) fn set_position(scene: &mut Scene, position: Option<usize>)
     ensures { scene.new ≡ with_position position scene.old }
 {
-    if let Some(stat) = scene.own() {
+    if let Some(stat) = scene.running_stat() {
         let mut changed = stat;
         changed.position = position;
-        scene.put_own(changed);
+        scene.put_running_stat(changed);
     }
 }
 
 pub(crate) fn set_p1(scene: &mut Scene, p1: u8)
     ensures { scene.new ≡ with_p1 p1 scene.old }
 {
-    if let Some(stat) = scene.own() {
+    if let Some(stat) = scene.running_stat() {
         let mut changed = stat;
         changed.p1 = p1;
-        scene.put_own(changed);
+        scene.put_running_stat(changed);
     }
 }
 
 pub(crate) fn set_p2(scene: &mut Scene, p2: u8)
     ensures { scene.new ≡ with_p2 p2 scene.old }
 {
-    if let Some(stat) = scene.own() {
+    if let Some(stat) = scene.running_stat() {
         let mut changed = stat;
         changed.p2 = p2;
-        scene.put_own(changed);
+        scene.put_running_stat(changed);
     }
 }
 
 pub(crate) fn set_cycle(scene: &mut Scene, cycle: u16)
     ensures { scene.new ≡ with_cycle cycle scene.old }
 {
-    if let Some(stat) = scene.own() {
+    if let Some(stat) = scene.running_stat() {
         let mut changed = stat;
         changed.cycle = cycle;
-        scene.put_own(changed);
+        scene.put_running_stat(changed);
     }
 }
 
 pub(crate) fn set_step(scene: &mut Scene, step: Step)
     ensures { scene.new ≡ with_step step scene.old }
 {
-    if let Some(stat) = scene.own() {
+    if let Some(stat) = scene.running_stat() {
         let mut changed = stat;
         changed.step = step;
-        scene.put_own(changed);
+        scene.put_running_stat(changed);
     }
 }
 
@@ -78,10 +78,10 @@ pub(crate) fn set_step(scene: &mut Scene, step: Step)
 pub(crate) fn skip_line(scene: &mut Scene)
     ensures { scene.new ≡ skip_line scene.old }
 {
-    if let Some(stat) = scene.own() {
+    if let Some(stat) = scene.running_stat() {
         if let Some(at) = stat.position {
             let next = line_after(scene.program(stat.program), at);
-            go_to(scene, Some(next));
+            set_position(scene, Some(next));
         }
     }
 }

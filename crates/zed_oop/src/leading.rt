@@ -1,16 +1,16 @@
-//! Where directions lead, and whether conditions hold.
+//! Where directions lead.
 ghost use Rattle.std.specs.Prelude.{◌≡◌};
 ghost use Rattle.zed_oop.specs.Leading.{course_led, led, north_or_east, turned, turned_all};
 ghost use Rattle.zed_scene.specs.Words.{Draws};
 
 use zed_scene::{
-    OopError, Scene, Stat, Step, Words, clockwise, counter_clockwise, opposite, random_step,
+    Scene, SceneError, Stat, Step, Words, clockwise, counter_clockwise, opposite, random_step,
     up_or_down,
 };
 use zed_script::{Course, Heading, Turning};
 
 /// A step, turned.
-fn turned(turning: Turning, step: Step, words: &mut Words) -> Result<Step, OopError>
+fn turned(turning: Turning, step: Step, words: &mut Words) -> Result<Step, SceneError>
     ensures { Draws result words.new (turned turning step words.old) }
 {
     match turning {
@@ -27,7 +27,7 @@ fn turned(turning: Turning, step: Step, words: &mut Words) -> Result<Step, OopEr
     }
 }
 
-fn north_or_east(words: &mut Words) -> Result<Step, OopError>
+fn north_or_east(words: &mut Words) -> Result<Step, SceneError>
     ensures { Draws result words.new (north_or_east words.old) }
 {
     if words.random(2)? == 0 {
@@ -43,7 +43,7 @@ fn course_led(
     course: Course,
     stat: Stat,
     words: &mut Words,
-) -> Result<Step, OopError>
+) -> Result<Step, SceneError>
     ensures { Draws result words.new (course_led course stat scene.now words.old) }
 {
     match course {
@@ -68,7 +68,7 @@ pub fn led(
     heading: &Heading,
     stat: Stat,
     words: &mut Words,
-) -> Result<Option<Step>, OopError>
+) -> Result<Option<Step>, SceneError>
     ensures result { Draws result words.new
         (led heading.now.turns heading.now.course stat scene.now words.old) }
 {
@@ -83,7 +83,7 @@ pub fn led(
 }
 
 /// A step, turned by all turnings, the last of them first.
-fn turned_all(turns: &[Turning], step: Step, words: &mut Words) -> Result<Step, OopError>
+fn turned_all(turns: &[Turning], step: Step, words: &mut Words) -> Result<Step, SceneError>
     ensures { Draws result words.new (turned_all turns.now step words.old) }
 {
     let mut step = step;

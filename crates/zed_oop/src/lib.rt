@@ -21,8 +21,9 @@ pub use sending::send_alone;
 pub use testing::holds;
 pub use turning::{Effects, have_turn, turn};
 pub use zed_scene::{
-    Counters, OopError, Scene, Shooter, Stat, Step, Words, ahead, clockwise, counter_clockwise,
-    is_destructible, is_on_board, is_walkable, opposite, random_step, sign, tile_in,
+    BREAKABLE, BULLET, Counters, PLAYER, Scene, SceneError, Shooter, Stat, Step, WATER, Words,
+    ahead, apart, clockwise, counter_clockwise, is_destructible, is_on_board, is_walkable,
+    opposite, random_step, sign, tile_in,
 };
 pub use zed_script::{
     Counter, Course, Heading, Instruction, Line, LineKind, OopCommand, Program, Query, Test,

@@ -3,7 +3,7 @@ ghost use Rattle.std.specs.Prelude.{◌≡◌, ◌<◌, ◌≤◌, slice_get};
 ghost use Rattle.zed_oop.specs.Making.{became, bound, bound_to, converted_to, has_name, named, changed_place, changed_tile, cleared_below, cleared_one, converted, is_there, put_ahead, put_if_walkable, without_own};
 ghost use Rattle.zed_types.specs.Table.{place_at};
 
-use crate::acting::go_to;
+use crate::acting::set_position;
 use crate::sending::is_named;
 use zed_scene::{Scene, Stat, Step, ahead, is_walkable};
 use zed_script::TileKind;
@@ -155,11 +155,11 @@ fn bind_to(scene: &mut Scene, other: Option<Stat>)
     ensures { scene.new ≡ bound_to other scene.old }
 {
     if let Some(other) = other {
-        if let Some(stat) = scene.own() {
+        if let Some(stat) = scene.running_stat() {
             let mut changed = stat;
             changed.program = other.program;
             changed.position = Some(0);
-            scene.put_own(changed);
+            scene.put_running_stat(changed);
         }
     }
 }

@@ -10,7 +10,7 @@ ghost use Rattle.zed_oop.specs.Sending.{has_colon, sent};
 ghost use Rattle.zed_oop.specs.declared.acting.Next.TheVariants.{SkipAndEnd};
 ghost use Rattle.zed_script.specs.declared.commands.OopCommand.TheVariants.{If};
 
-use crate::acting::{Next, go_to, set_cycle, set_p1, set_p2, set_step};
+use crate::acting::{Next, set_cycle, set_p1, set_p2, set_position, set_step};
 use crate::holding::{give, take};
 use crate::leading::led;
 use crate::making::{become_kind, bind, convert, put_ahead};
@@ -18,7 +18,7 @@ use crate::programs::{Relabelling, relabel_all};
 use crate::sending::send;
 use crate::testing::holds;
 use std::alloc::{AllocError, Global};
-use zed_scene::{Counters, OopError, Scene, Shooter, Stat, Step, Words};
+use zed_scene::{Counters, Scene, SceneError, Shooter, Stat, Step, Words};
 use zed_script::{Counter, Heading, OopCommand, Query, TileKind};
 use zed_types::Place;
 
@@ -44,7 +44,7 @@ fn finish_go(scene: &mut Scene, start: usize, from: Place, step: Step) -> Next
     if scene.try_move(from, step) {
         Next::SkipAndEnd
     } else {
-        go_to(scene, Some(start));
+        set_position(scene, Some(start));
         Next::End
     }
 }
@@ -105,7 +105,7 @@ fn do_along(
     start: usize,
     stat: Stat,
     words: &mut Words,
-) -> Result<Next, OopError>
+) -> Result<Next, SceneError>
     ensures { Performs result scene.new words.new
         (along heading.now (λ d t. done_along motion start stat d t) stat scene.old words.old) }
 {
@@ -122,7 +122,7 @@ fn do_if(
     start: usize,
     stat: Stat,
     words: &mut Words,
-) -> Result<Next, OopError>
+) -> Result<Next, SceneError>
     ensures { Performs result scene.new words.new
         (effect (If query.now) start stat scene.old words.old) }
 {
@@ -264,7 +264,7 @@ pub(crate) fn perform(
     start: usize,
     stat: Stat,
     words: &mut Words,
-) -> Result<Next, OopError>
+) -> Result<Next, SceneError>
     ensures { Performs result scene.new words.new
         (effect command.now start stat scene.old words.old) }
 {
@@ -299,7 +299,7 @@ pub(crate) fn perform(
         OopCommand::Bind(word) => Ok(do_bind(scene, word.as_slice())),
         OopCommand::Other(word) => Ok(do_other(scene, word.as_slice())),
         OopCommand::End => {
-            go_to(scene, None);
+            set_position(scene, None);
             Ok(Next::End)
         }
         OopCommand::EndGame => {
@@ -308,7 +308,7 @@ pub(crate) fn perform(
         }
         OopCommand::Idle => Ok(Next::SkipAndEnd),
         OopCommand::Restart => {
-            go_to(scene, Some(0));
+            set_position(scene, Some(0));
             Ok(Next::Stay)
         }
         OopCommand::Lock => {

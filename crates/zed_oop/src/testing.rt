@@ -1,10 +1,10 @@
 //! Whether conditions hold.
 ghost use Rattle.std.specs.Prelude.{◌≡◌};
-ghost use Rattle.zed_oop.specs.Testing.{apart, player_place, holds, is_any, is_aligned, is_in_contact, is_way_blocked, tested};
+ghost use Rattle.zed_oop.specs.Testing.{holds, is_any, is_aligned, is_in_contact, is_way_blocked, tested};
 ghost use Rattle.zed_scene.specs.Words.{Draws};
 
 use crate::leading::led;
-use zed_scene::{OopError, Scene, Stat, Step, Words, ahead, has_flag, is_walkable};
+use zed_scene::{Scene, SceneError, Stat, Step, Words, ahead, apart, has_flag, is_walkable};
 use zed_script::{Query, Test, TileKind};
 use zed_types::{Place, Tile};
 
@@ -12,13 +12,6 @@ fn is_aligned(a: Place, b: Place) -> bool
     ensures { result ≡ is_aligned a b }
 {
     a.x == b.x || a.y == b.y
-}
-
-/// How far two numbers are apart.
-fn apart(a: u8, b: u8) -> u8
-    ensures { result ≡ apart a b }
-{
-    if a < b { b - a } else { a - b }
 }
 
 fn is_in_contact(a: Place, b: Place) -> bool
@@ -43,16 +36,6 @@ fn is_way_blocked(scene: &Scene, stat: Stat, step: Option<Step>) -> Option<bool>
     }
 }
 
-/// The player's place, or another without a player.
-fn player_place(scene: &Scene, other: Place) -> Place
-    ensures { result ≡ player_place scene.now other }
-{
-    match scene.stat(0) {
-        Some(player) => player.place,
-        None => other,
-    }
-}
-
 #[tactic(auto, unfolding(crate::specs::Testing::blocked))]
 /// Whether a test holds, any NOT aside; None where it has a direction or a kind that there isn't.
 fn tested(
@@ -60,12 +43,12 @@ fn tested(
     test: &Test,
     stat: Stat,
     words: &mut Words,
-) -> Result<Option<bool>, OopError>
+) -> Result<Option<bool>, SceneError>
     ensures { Draws result words.new (tested test.now stat scene.now words.old) }
 {
     match test {
-        Test::Aligned => Ok(Some(is_aligned(stat.place, player_place(scene, stat.place)))),
-        Test::Contact => Ok(Some(is_in_contact(stat.place, player_place(scene, stat.place)))),
+        Test::Aligned => Ok(Some(is_aligned(stat.place, scene.player_place(stat.place)))),
+        Test::Contact => Ok(Some(is_in_contact(stat.place, scene.player_place(stat.place)))),
         Test::Blocked(heading) => {
             let step = led(scene, heading, stat, words)?;
             Ok(is_way_blocked(scene, stat, step))
@@ -86,7 +69,7 @@ pub fn holds(
     query: &Query,
     stat: Stat,
     words: &mut Words,
-) -> Result<Option<bool>, OopError>
+) -> Result<Option<bool>, SceneError>
     ensures result { Draws result words.new (holds query.now stat scene.now words.old) }
 {
     match tested(scene, &query.test, stat, words)? {

@@ -5,11 +5,11 @@ ghost use Rattle.zed_oop.specs.Acting.{with_position};
 ghost use Rattle.zed_scene.specs.Trying.{try_move};
 ghost use Rattle.zed_script.specs.Line.{line_kind};
 
-use crate::acting::{Next, go_to, skip_line};
+use crate::acting::{Next, set_position, skip_line};
 use crate::leading::led;
 use crate::performing::perform;
 use std::alloc::{AllocError, Global};
-use zed_scene::{OopError, Scene, Stat, Step, Words};
+use zed_scene::{Scene, SceneError, Stat, Step, Words};
 use zed_script::{Heading, Instruction, OopCommand, next_command, standing_at};
 use zed_types::{Bytes, Place, Seq};
 
@@ -49,22 +49,22 @@ fn fail(alloc: Global, scene: &mut Scene, lines: &mut Seq<Bytes>) -> Result<(), 
     ensures stops { OnOk result (scene.new ≡ with_position None scene.old) }
     ensures tells { OnOk result (lines.new ≡ lines.old ++ codes "ERR" ∷ []) }
 {
-    go_to(scene, None);
+    set_position(scene, None);
     let text = Bytes::new(Vec::from_slice(alloc, b"ERR".as_slice())?);
     lines.push(text)?;
     Ok(())
 }
 
-/// Makes a step, which is after_try again at one place and passed at another.
+/// Makes a step: the position is `next` where that was done, and else `again`.
 fn finish_step(scene: &mut Scene, from: Place, step: Step, again: usize, next: usize)
     ensures { (ws : List ℕ) → (ls : List (List ℕ))
         → stepped again next (try_move from step scene.old) (state scene.old ws ls)
         ≡ ends (state scene.new ws ls) }
 {
     if scene.try_move(from, step) {
-        go_to(scene, Some(next));
+        set_position(scene, Some(next));
     } else {
-        go_to(scene, Some(again));
+        set_position(scene, Some(again));
     }
 }
 
@@ -77,7 +77,7 @@ fn do_step(
     next: usize,
     words: &mut Words,
     lines: &mut Seq<Bytes>,
-) -> Result<(), OopError>
+) -> Result<(), SceneError>
     ensures { DoesStep result heading.now stat again next
         (state scene.old words.old lines.old) (state scene.new words.new lines.new) }
 {
@@ -98,33 +98,33 @@ fn instruct(
     next: usize,
     words: &mut Words,
     lines: &mut Seq<Bytes>,
-) -> Result<After, OopError>
+) -> Result<After, SceneError>
     ensures result { Comes result
         (instructed instruction at next stat (state scene.old words.old lines.old))
         (state scene.new words.new lines.new) }
-    ensures memory_only_when { result ≡ Err OopError.Memory
+    ensures memory_only_when { result ≡ Err SceneError.Memory
         → is_copied (line_kind instruction) ≡ true }
 {
     match instruction {
         Instruction::End => {
-            go_to(scene, None);
+            set_position(scene, None);
             Ok(After::Ends)
         }
         Instruction::Skipped => {
-            go_to(scene, Some(next));
+            set_position(scene, Some(next));
             Ok(After::Goes(Reading::Instructing))
         }
         Instruction::Blank => {
-            go_to(scene, Some(next));
+            set_position(scene, Some(next));
             Ok(After::Goes(Reading::Instructing))
         }
         Instruction::Message(text) => {
-            go_to(scene, Some(next));
+            set_position(scene, Some(next));
             lines.push(text)?;
             Ok(After::Goes(Reading::Instructing))
         }
         Instruction::Command => {
-            go_to(scene, Some(next));
+            set_position(scene, Some(next));
             Ok(After::Goes(Reading::Commanding(at)))
         }
         Instruction::Step(heading) => {
@@ -179,13 +179,13 @@ fn command_with(
     next: usize,
     words: &mut Words,
     lines: &mut Seq<Bytes>,
-) -> Result<After, OopError>
+) -> Result<After, SceneError>
     ensures result { Comes result
         (commanded command start next stat (state scene.old words.old lines.old))
         (state scene.new words.new lines.new) }
-    ensures memory_only_when { result ≡ Err OopError.Memory → is_some command ≡ true }
+    ensures memory_only_when { result ≡ Err SceneError.Memory → is_some command ≡ true }
 {
-    go_to(scene, Some(next));
+    set_position(scene, Some(next));
     match command {
         None => Ok(After::Goes(Reading::Instructing)),
         Some(command) => {
@@ -202,14 +202,14 @@ fn one_step(
     reading: Reading,
     words: &mut Words,
     lines: &mut Seq<Bytes>,
-) -> Result<After, OopError>
+) -> Result<After, SceneError>
     ensures steps { StepsTo result reading
         (state scene.old words.old lines.old) (state scene.new words.new lines.new) }
     ensures nearer { IfOk result (λ a. IsNearer a reading scene.old scene.new) }
-    ensures memory_only_when { result ≡ Err OopError.Memory
+    ensures memory_only_when { result ≡ Err SceneError.Memory
         → ReadingTakes reading (state scene.old words.old lines.old) }
 {
-    let stat = match scene.own() {
+    let stat = match scene.running_stat() {
         Some(stat) => stat,
         None => return Ok(After::Ends),
     };
@@ -236,7 +236,7 @@ fn run_on(
     reading: Reading,
     words: &mut Words,
     lines: &mut Seq<Bytes>,
-) -> Result<Option<Reading>, OopError>
+) -> Result<Option<Reading>, SceneError>
     ensures result { Runs result reading
         (state scene.old words.old lines.old) (state scene.new words.new lines.new) }
     ensures takes { RunTakes result reading
@@ -285,9 +285,9 @@ pub fn have_turn(
     scene: &mut Scene,
     stat: usize,
     words: &mut Words,
-) -> Result<Seq<Bytes>, OopError>
+) -> Result<Seq<Bytes>, SceneError>
     ensures result { HasTurn result scene.old stat words.old scene.new words.new }
-    ensures memory_only_when { result ≡ Err OopError.Memory
+    ensures memory_only_when { result ≡ Err SceneError.Memory
         → TurnTakes scene.old stat words.old }
 {
     scene.set_running(stat);
@@ -315,9 +315,9 @@ pub fn turn(
     scene: &mut Scene,
     stat: usize,
     words: &[u16],
-) -> Result<Effects, OopError>
+) -> Result<Effects, SceneError>
     ensures result { TurnsTo result scene.old stat words.now scene.new }
-    ensures memory_only_when { result ≡ Err OopError.Memory
+    ensures memory_only_when { result ≡ Err SceneError.Memory
         → TurnTakes scene.old stat words.now }
 {
     let mut left = Words::new(words);

@@ -1,8 +1,8 @@
 -- Chains of looks, look by look.
 use Rattle.std.proofs.Common.{◌≡◌, ◌<◌, ℕ, zero, suc, arith, sym, List, Some, None, Bool, true, false, Ok, Err, ◌⊎◌, inl, inr, subst}
 use Rattle.zed_scene.specs.declared.stat.Stat.{Stat}
-use Rattle.zed_scene.specs.declared.error.OopError.{OopError}
-use Rattle.zed_scene.specs.declared.error.OopError.TheVariants.{Memory, NoWords}
+use Rattle.zed_scene.specs.declared.error.SceneError.{SceneError}
+use Rattle.zed_scene.specs.declared.error.SceneError.TheVariants.{Memory, NoWords}
 use Rattle.zed_scene.specs.Words.{Drawn}
 use Rattle.zed_play.specs.declared.game.Game.{Game}
 use Rattle.zed_play.specs.declared.key.Asked.{Asked}
@@ -17,7 +17,7 @@ look_goes k i a g h m ws left is here at to =
     let r : LooksOn (Ok true) k g ws (next h) left = λ n e rest. looked k n a g h ws left e is (subst Q here at) rest in
     subst P (sym to) r
 
-pub look_lacks : (k : Asked) (i : ℕ) (a : Stat) (g m : Game) (ws left : List ℕ) (x : OopError) → looked_at g ≡ Some a → i ≡ g.scene.ticking → (x ≡ Memory) ⊎ ((x ≡ NoWords) × LooksAt k i a g ws None) → LooksOn (Err x) k g ws m left
+pub look_lacks : (k : Asked) (i : ℕ) (a : Stat) (g m : Game) (ws left : List ℕ) (x : SceneError) → looked_at g ≡ Some a → i ≡ g.scene.ticking → (x ≡ Memory) ⊎ ((x ≡ NoWords) × LooksAt k i a g ws None) → LooksOn (Err x) k g ws m left
 look_lacks k i a g m ws left x is here (inl memory) = inl memory
 look_lacks k i a g m ws left x is here (inr w) =
     let Q : ℕ → Type 0 = λ y. LooksAt k y a g ws None in
@@ -34,17 +34,10 @@ chain_ends T k b g h ws left (suc n) looks is more further =
     let end : (m : ℕ) → Looks k (suc m) g ws (Some (h, left)) = subst P is looks in
     further (Some (h, left)) (end n)
 
-pub chain_lacks : (T : Drawn Game → Type 0) (k : Asked) (x : OopError) (g h : Game) (ws left : List ℕ) (n : ℕ) → LooksOn (Err x) k g ws h left → 0 < n → ((e : Drawn Game) → Looks k n g ws e → T e) → (x ≡ Memory) ⊎ ((x ≡ NoWords) × T None)
+pub chain_lacks : (T : Drawn Game → Type 0) (k : Asked) (x : SceneError) (g h : Game) (ws left : List ℕ) (n : ℕ) → LooksOn (Err x) k g ws h left → 0 < n → ((e : Drawn Game) → Looks k n g ws e → T e) → (x ≡ Memory) ⊎ ((x ≡ NoWords) × T None)
 chain_lacks T k x g h ws left zero looks more further = absurd (omega arith)
 chain_lacks T k x g h ws left (suc n) (inl memory) more further = inl memory
 chain_lacks T k x g h ws left (suc n) (inr w) more further = inr (w.0, further None (w.1 n))
-
-pub chain_goes : (T : Drawn Game → Type 0) (k : Asked) (b : Bool) (g h : Game) (ws left : List ℕ) (m n : ℕ) → LooksOn (Ok b) k g ws h left → b ≡ true → n ≡ suc m → ((e : Drawn Game) → Looks k n g ws e → T e) → (e : Drawn Game) → Looks k m h left e → T e
-chain_goes T k b g h ws left m n looks is count further e rest =
-    let P : Bool → Type 0 = λ x. LooksOn (Ok x) k g ws h left in
-    let go : (j : ℕ) (d : Drawn Game) → Looks k j h left d → Looks k (suc j) g ws d = subst P is looks in
-    let Q : ℕ → Type 0 = λ j. Looks k j g ws e in
-    further e (subst Q (sym count) (go m e rest))
 
 pub chain_over : (T : Drawn Game → Type 0) (k : Asked) (g : Game) (ws : List ℕ) (n : ℕ) → n ≡ 0 → ((e : Drawn Game) → Looks k n g ws e → T e) → T (Some (g, ws))
 chain_over T k g ws n e further =

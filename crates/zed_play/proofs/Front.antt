@@ -24,8 +24,8 @@ use Rattle.zed_play.specs.Objects.{ObjectDoes, drifted}
 use Rattle.zed_play.specs.Player.{GoesTo, PlayerDoes, step_of, walks}
 use Rattle.zed_play.specs.Playtest.{Playtest}
 use Rattle.zed_play.specs.Step.{Looks, Step, asked, closed_with, from_first, looked_at, looked, lacked, next, over, used_up}
-use Rattle.zed_play.specs.Things.{thing}
-use Rattle.zed_play.specs.Tick.{LookAs, LooksAt, TickAs, in_game, is_due, takes_turn}
+use Rattle.zed_play.specs.Pieces.{piece_of}
+use Rattle.zed_play.specs.Tick.{LookAs, LooksAt, TickAs, in_game, is_due, acted_by}
 use Rattle.zed_play.specs.Touch.{Touches, TouchesAs, closed, opened, scroll_at}
 
 -- ---- creatures
@@ -102,7 +102,7 @@ front_tick Pusher k i a g = front_none _
 front_tick _ k i a g = front_none g
 
 front_look_as : (due : Bool) (k : Asked) (i : ℕ) (a : Stat) (g : Game) → Front (λ ws. LookAs due k i a g ws)
-front_look_as true k i a g = front_tick (thing (element_at g.scene a.place)) k i a (takes_turn i g)
+front_look_as true k i a g = front_tick (piece_of (element_at g.scene a.place)) k i a (acted_by i g)
 front_look_as false k i a g = front_none g
 
 front_look : (k : Asked) (i : ℕ) (a : Stat) (g : Game) → Front (λ ws. LooksAt k i a g ws)

@@ -1,5 +1,5 @@
 -- What comes after a turn of a program.
-use Rattle.std.proofs.Common.{◌≡◌, ℕ, List, Option, Some, None, refl, subst, sym, ap}
+use Rattle.std.proofs.Common.{◌≡◌, ℕ, List, Option, Some, subst, sym, ap}
 use Rattle.zed_types.specs.declared.tile.Place.{Place}
 use Rattle.zed_types.specs.declared.property.Side.{Side}
 use Rattle.zed_scene.specs.declared.step.Step.{Step}
@@ -13,9 +13,6 @@ use Rattle.zed_play.specs.Touch.{Touches, TouchesAs, closed, opened, scroll_at}
 
 then_done : (f : Game → Game) (R : Drawn Game → Type 0) (h k : Game) (left : List ℕ) → R (Some (h, left)) → k ≡ f h → Then f R (Some (k, left))
 then_done f R h k left r is = (Some (h, left), (r, ap (λ x. Some (x, left)) is))
-
-then_lacks : (f : Game → Game) (R : Drawn Game → Type 0) → R None → Then f R None
-then_lacks f R r = (None, (r, refl))
 
 pub object_drifts : (o : Option ℕ) (p i : ℕ) (g h k : Game) (ws left : List ℕ) → o ≡ Some p → TurnOf i g ws (Some (h, left)) → k ≡ drifted h → ObjectDoes o i g ws (Some (k, left))
 object_drifts o p i g h k ws left is turn drift =

@@ -1,5 +1,5 @@
 -- The last lines of a list.
-use Rattle.std.proofs.Common.{◌≡◌, ◌∙◌, ◌≤◌, ◌<◌, ◌++◌, ◌+◌, ◌-◌, ℕ, zero, suc, List, [], ◌∷◌, length, drop, get_or, refl, sym, ap, arith, append_assoc, length-append, length-drop}
+use Rattle.std.proofs.Common.{◌≡◌, ◌∙◌, ◌≤◌, ◌<◌, ◌++◌, ◌+◌, ◌-◌, ℕ, zero, suc, List, [], ◌∷◌, length, drop, get_or, sym, ap, arith, append_assoc, length-append, length-drop}
 use Rattle.std.proofs.Math.Seq.{drop-cons, drop-nil}
 use Rattle.std.proofs.lemmas.List.{drop-append-le}
 use Rattle.zed_play.specs.Game.{kept}
@@ -9,10 +9,6 @@ drop_twice zero i n xs e = let same : i ≡ n = omega arith in ap (λ m. drop m 
 drop_twice (suc k) i n [] e = drop-nil i ∙ sym (drop-nil n)
 drop_twice (suc k) i zero (x ∷ xs) e = absurd (omega arith)
 drop_twice (suc k) i (suc n) (x ∷ xs) e = drop_twice k i n xs (omega arith)
-
--- as many lines as are kept are all kept
-pub kept_whole : (xs : List (List ℕ)) → length xs ≤ 64 → kept xs ≡ xs
-kept_whole xs few = let none : length xs - 64 ≡ 0 = omega arith in rw none refl
 
 kept_of_drop : (k : ℕ) (xs : List (List ℕ)) → k ≤ length xs - 64 → kept (drop k xs) ≡ kept xs
 kept_of_drop k xs few =

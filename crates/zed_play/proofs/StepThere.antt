@@ -15,14 +15,14 @@ use Rattle.zed_play.specs.declared.key.Intent.{Intent}
 use Rattle.zed_play.specs.declared.key.Intent.TheVariants.{Nothing, Goes, Shoots}
 use Rattle.zed_play.specs.declared.key.Key.{Key}
 use Rattle.zed_play.specs.declared.piece.Piece.{Piece}
-use Rattle.zed_play.specs.declared.piece.Piece.TheVariants.{Player, Ammo, Torch, Gem, Key as KeyThing, Door, Scroll, Passage, Energizer, Bullet, Forest, Boulder, Slider, Invisible, Bear, Object, Pusher, Lion, Tiger, Other}
+use Rattle.zed_play.specs.declared.piece.Piece.TheVariants.{Player, Ammo, Torch, Gem, Key as KeyPiece, Door, Scroll, Passage, Energizer, Bullet, Forest, Boulder, Slider, Invisible, Bear, Object, Pusher, Lion, Tiger, Other}
 use Rattle.zed_play.specs.Game.{Then, TurnOf, done, told}
 use Rattle.zed_play.specs.Objects.{ObjectDoes, drifted}
 use Rattle.zed_play.specs.Player.{GoesTo, PlayerDoes, step_of, walks}
 use Rattle.zed_play.specs.Playtest.{Playtest}
 use Rattle.zed_play.specs.Step.{Looks, Step, asked, closed_by, from_first, looked_at, looked, lacked, next, over, used_up}
-use Rattle.zed_play.specs.Things.{thing}
-use Rattle.zed_play.specs.Tick.{LookAs, LooksAt, TickAs, is_due, takes_turn}
+use Rattle.zed_play.specs.Pieces.{piece_of}
+use Rattle.zed_play.specs.Tick.{LookAs, LooksAt, TickAs, is_due, acted_by}
 use Rattle.zed_play.specs.Touch.{Touches, TouchesAs, closed, opened, scroll_at}
 
 -- what has an outcome
@@ -69,7 +69,7 @@ tick_some some Pusher k i s g ws = (_, refl)
 tick_some some Ammo k i s g ws = (_, refl)
 tick_some some Torch k i s g ws = (_, refl)
 tick_some some Gem k i s g ws = (_, refl)
-tick_some some KeyThing k i s g ws = (_, refl)
+tick_some some KeyPiece k i s g ws = (_, refl)
 tick_some some Door k i s g ws = (_, refl)
 tick_some some Scroll k i s g ws = (_, refl)
 tick_some some Passage k i s g ws = (_, refl)
@@ -81,7 +81,7 @@ tick_some some Invisible k i s g ws = (_, refl)
 tick_some some Other k i s g ws = (_, refl)
 
 look_some_as : TurnHasSome → (due : Bool) (k : Asked) (i : ℕ) (s : Stat) (g : Game) (ws : List ℕ) → HasSome (LookAs due k i s g ws)
-look_some_as some true k i s g ws = tick_some some (thing (element_at g.scene s.place)) k i s (takes_turn i g) ws
+look_some_as some true k i s g ws = tick_some some (piece_of (element_at g.scene s.place)) k i s (acted_by i g) ws
 look_some_as some false k i s g ws = (_, refl)
 
 look_some : TurnHasSome → (k : Asked) (i : ℕ) (s : Stat) (g : Game) (ws : List ℕ) → HasSome (LooksAt k i s g ws)

@@ -20,8 +20,8 @@ use Rattle.zed_play.specs.Objects.{ObjectDoes, drifted}
 use Rattle.zed_play.specs.Player.{GoesTo, PlayerDoes, step_of, walks}
 use Rattle.zed_play.specs.Playtest.{Playtest}
 use Rattle.zed_play.specs.Step.{Looks, Step, asked, closed_by, from_first, looked_at, looked, lacked, next, over, used_up}
-use Rattle.zed_play.specs.Things.{thing}
-use Rattle.zed_play.specs.Tick.{LookAs, LooksAt, TickAs, is_due, takes_turn}
+use Rattle.zed_play.specs.Pieces.{piece_of}
+use Rattle.zed_play.specs.Tick.{LookAs, LooksAt, TickAs, is_due, acted_by}
 use Rattle.zed_play.specs.Touch.{Touches, TouchesAs, closed, opened, scroll_at}
 
 -- what has at most one outcome
@@ -69,7 +69,7 @@ tick_one one Pusher k i s g ws a b is also = is ∙ sym also
 tick_one one _ k i s g ws a b is also = is ∙ sym also
 
 look_one_as : TurnIsOne → (due : Bool) (k : Asked) (i : ℕ) (s : Stat) (g : Game) (ws : List ℕ) → IsOne (LookAs due k i s g ws)
-look_one_as one true k i s g ws a b x y = tick_one one (thing (element_at g.scene s.place)) k i s (takes_turn i g) ws a b x y
+look_one_as one true k i s g ws a b x y = tick_one one (piece_of (element_at g.scene s.place)) k i s (acted_by i g) ws a b x y
 look_one_as one false k i s g ws a b is also = is ∙ sym also
 
 look_one : TurnIsOne → (k : Asked) (i : ℕ) (s : Stat) (g : Game) (ws : List ℕ) → IsOne (LooksAt k i s g ws)

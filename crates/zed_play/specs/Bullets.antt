@@ -2,7 +2,7 @@
 use Rattle.std.specs.Prelude.{ℕ, Bool, ◌&&◌, ◌||◌, ◌==◌, if◌then◌else◌, List, codes, Option, Some, None}
 use Rattle.zed_types.specs.declared.tile.Place.{Place}
 use Rattle.zed_scene.specs.declared.stat.Stat.{Stat}
-use Rattle.zed_scene.specs.Scene.{Scene, element_ahead, element_at, put_actor, stat_at}
+use Rattle.zed_scene.specs.Scene.{Scene, element_ahead, element_at, put_acting_stat, stat_at}
 use Rattle.zed_scene.specs.Moving.{is_destructible, is_walkable}
 use Rattle.zed_scene.specs.Places.{ahead, opposite}
 use Rattle.zed_scene.specs.Removing.{remove_stat}
@@ -52,5 +52,5 @@ turned_back a = record a { step = opposite a.step }
 unfoldable pub bullet : Stat → Scene → Scene
 bullet a s =
     if element_ahead s (ahead a.place a.step) == 32
-    then flies a.p1 (ahead a.place (opposite a.step)) (put_actor (turned_back a) s)
+    then flies a.p1 (ahead a.place (opposite a.step)) (put_acting_stat (turned_back a) s)
     else flies a.p1 (ahead a.place a.step) s

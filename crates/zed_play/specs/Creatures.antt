@@ -1,20 +1,16 @@
 -- Lions, tigers and bears.
-use Rattle.std.specs.Prelude.{ℕ, pos, ◌+◌, ◌*◌, ◌%◌, Bool, true, false, ◌&&◌, ◌||◌, not, ◌==◌, nat_le, nat_lt, if◌then◌else◌, List, slice_get, Option, Some, None}
+use Rattle.std.specs.Prelude.{ℕ, pos, ◌+◌, ◌*◌, ◌%◌, Bool, true, false, ◌&&◌, ◌||◌, not, ◌==◌, nat_le, nat_lt, if◌then◌else◌, List, Option, Some, None}
 use Rattle.zed_types.specs.declared.tile.Place.{Place}
 use Rattle.zed_scene.specs.declared.stat.Stat.{Stat}
 use Rattle.zed_scene.specs.Scene.{Scene, element_at}
 use Rattle.zed_scene.specs.declared.shooting.Shooter.TheVariants.{Creature}
 use Rattle.zed_scene.specs.declared.step.Step.{Step}
-use Rattle.zed_scene.specs.Places.{ahead, sign_of}
+use Rattle.zed_scene.specs.Places.{ahead, apart, sign_of}
 use Rattle.zed_scene.specs.Moving.{is_walkable}
-use Rattle.zed_scene.specs.Seeking.{place_of, random_step, sought, still}
+use Rattle.zed_scene.specs.Seeking.{player_place, random_step, sought, still}
 use Rattle.zed_scene.specs.Shooting.{shot}
 use Rattle.zed_scene.specs.Words.{Drawn, draw, ◌>>=◌}
-use Rattle.zed_play.specs.Acts.{apart, attacks, moves}
-
--- where the player is
-abbrev pub player_place : Place → Scene → Place
-player_place from s = place_of from (slice_get s.stats 0)
+use Rattle.zed_play.specs.Acts.{attacks, moves}
 
 -- whether a creature attacks an element: the player, and breakable walls if it breaks them
 abbrev pub is_prey : Bool → ℕ → Bool
@@ -68,7 +64,7 @@ tiger_shots from to s =
 -- it shoots where three times a number below 10 is at most P2 mod 128 and P2 is below 128
 abbrev pub tiger_fires : ℕ → Stat → Scene → Scene
 tiger_fires r a s =
-    if nat_le (r * 3) (a.p2 % 128) && nat_lt a.p2 128 then tiger_shots a.place (player_place a.place s) s else s
+    if nat_le (r * 3) (a.p2 % 128) && nat_lt a.p2 128 then tiger_shots a.place (player_place s a.place) s else s
 
 -- then it does as a lion
 unfoldable pub tiger : Stat → Scene → List ℕ → Drawn Scene
@@ -91,4 +87,4 @@ bear_step to a =
 
 -- a bear's tick: it prowls along its step to the player, and breaks walls
 unfoldable pub bear : Stat → Scene → Scene
-bear a s = prowls true (ahead a.place (bear_step (player_place a.place s) a)) s
+bear a s = prowls true (ahead a.place (bear_step (player_place s a.place) a)) s

@@ -1,7 +1,7 @@
 -- A board in play with what a player carries, and turns of programs in it.
 use Rattle.std.specs.Prelude.{◌≡◌, ◌⊎◌, ℕ, ◌-◌, List, ◌++◌, drop, length, Option, Some, None, MatchResult, Result}
-use Rattle.zed_scene.specs.declared.error.OopError.{OopError}
-use Rattle.zed_scene.specs.declared.error.OopError.TheVariants.{Memory, NoWords}
+use Rattle.zed_scene.specs.declared.error.SceneError.{SceneError}
+use Rattle.zed_scene.specs.declared.error.SceneError.TheVariants.{Memory, NoWords}
 use Rattle.zed_scene.specs.Scene.{Scene}
 use Rattle.zed_oop.specs.Turn.{State, Turn}
 use Rattle.zed_scene.specs.Words.{Drawn}
@@ -43,10 +43,10 @@ abbrev pub Then : (Game → Game) → (Drawn Game → Type 0) → Drawn Game →
 Then f R e = (o : Drawn Game) × (R o × (e ≡ done f o))
 
 -- a call did one of these things and left these words, or it told that a word is lacking, or memory was refused
-abbrev pub Answers : {X : Type 0} → Result X OopError → (Drawn Game → Type 0) → Game → List ℕ → Type 0
+abbrev pub Answers : {X : Type 0} → Result X SceneError → (Drawn Game → Type 0) → Game → List ℕ → Type 0
 Answers result R g left =
     MatchResult result (λ _. R (Some (g, left))) (λ e. (e ≡ Memory) ⊎ ((e ≡ NoWords) × R None))
 
 -- stat i had a turn of its program, and left these words; or one is lacking, or memory was refused
-abbrev pub HasTurn : {X : Type 0} → Result X OopError → ℕ → Game → List ℕ → Game → List ℕ → Type 0
+abbrev pub HasTurn : {X : Type 0} → Result X SceneError → ℕ → Game → List ℕ → Game → List ℕ → Type 0
 HasTurn result i g ws h left = Answers result (TurnOf i g ws) h left

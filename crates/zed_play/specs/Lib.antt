@@ -2,7 +2,7 @@ pub mod Acts
 pub mod Creatures
 pub mod Pushers
 pub mod Bullets
-pub mod Things
+pub mod Pieces
 pub mod Game
 pub mod Touch
 pub mod Player

@@ -2,7 +2,7 @@
 use Rattle.std.specs.Prelude.{◌≡◌, ℕ, not, ◌&&◌, ◌==◌, if◌then◌else◌, List, codes, Option, Some, None}
 use Rattle.zed_types.specs.declared.tile.Place.{Place}
 use Rattle.zed_scene.specs.declared.stat.Stat.{Stat}
-use Rattle.zed_scene.specs.Scene.{Scene, actor, element_at}
+use Rattle.zed_scene.specs.Scene.{Scene, acting_stat, element_at}
 use Rattle.zed_scene.specs.Trying.{is_nowhere}
 use Rattle.zed_scene.specs.Moving.{is_walkable}
 use Rattle.zed_scene.specs.Places.{ahead}
@@ -29,7 +29,7 @@ drifts (Some a) s =
 
 -- after its turn the stat goes along its step, if it is still there as an object
 abbrev pub drifted : Game → Game
-drifted g = with_scene (drifts (actor g.scene) g.scene) g
+drifted g = with_scene (drifts (acting_stat g.scene) g.scene) g
 
 -- stat i: a turn, unless its program has ended
 abbrev pub ObjectDoes : Option ℕ → ℕ → Game → List ℕ → Drawn Game → Type 0

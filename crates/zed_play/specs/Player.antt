@@ -5,7 +5,7 @@ use Rattle.zed_types.specs.declared.property.Side.TheVariants.{North, South, Wes
 use Rattle.zed_types.specs.declared.tile.Place.{Place}
 use Rattle.zed_scene.specs.declared.stat.Stat.{Stat}
 use Rattle.zed_script.specs.declared.commands.Counter.TheVariants.{Ammo}
-use Rattle.zed_scene.specs.Scene.{Scene, actor, element_at, same_place}
+use Rattle.zed_scene.specs.Scene.{Scene, acting_stat, element_at, same_place}
 use Rattle.zed_scene.specs.declared.shooting.Shooter.TheVariants.{Player as PlayerShot}
 use Rattle.zed_scene.specs.declared.step.Step.{Step}
 use Rattle.zed_oop.specs.Holding.{taken_from}
@@ -68,7 +68,7 @@ goes_on from n (Some a) s = if same_place a.place from && is_walkable (element_a
 
 -- the player goes on to a place, if it is where it was and may
 abbrev pub walks : Place → Place → Game → Game
-walks from n g = with_scene (goes_on from n (actor g.scene) g.scene) g
+walks from n g = with_scene (goes_on from n (acting_stat g.scene) g.scene) g
 
 -- a move: past the edge through that side's exit, else a touch of the place and then a step onto it
 abbrev pub GoesTo : Option Place → Side → Bounds → Place → Game → List ℕ → Drawn Game → Type 0

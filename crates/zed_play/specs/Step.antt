@@ -1,8 +1,8 @@
 -- A step: a chain of at most 1,024 looks at stats, and what comes of it.
 use Rattle.std.specs.Prelude.{◌≡◌, ◌⊎◌, ℕ, ℤ, zero, suc, pos, ◌+◌, ◌-◌, int_lt, Bool, true, false, nat_le, nat_lt, if◌then◌else◌, List, length, slice_get, Option, Some, None, is_some, Result, Ok, Err}
 use Rattle.zed_scene.specs.declared.stat.Stat.{Stat}
-use Rattle.zed_scene.specs.declared.error.OopError.{OopError}
-use Rattle.zed_scene.specs.declared.error.OopError.TheVariants.{Memory, NoWords}
+use Rattle.zed_scene.specs.declared.error.SceneError.{SceneError}
+use Rattle.zed_scene.specs.declared.error.SceneError.TheVariants.{Memory, NoWords}
 use Rattle.zed_scene.specs.Scene.{Scene}
 use Rattle.zed_scene.specs.Words.{Drawn}
 use Rattle.zed_play.specs.declared.error.PlayError.{PlayError}
@@ -90,7 +90,7 @@ Step key p ws o = (d : Drawn Game) × (Looks (asked key p) 1024 (from_first p.ga
 -- ---- what calls answer
 
 -- one look: whether there was a stat, and then how the chain goes on
-abbrev pub LooksOn : Result Bool OopError → Asked → Game → List ℕ → Game → List ℕ → Type 0
+abbrev pub LooksOn : Result Bool SceneError → Asked → Game → List ℕ → Game → List ℕ → Type 0
 LooksOn (Ok false) k g ws h left = (n : ℕ) → Looks k (suc n) g ws (Some (h, left))
 LooksOn (Ok true) k g ws h left = (n : ℕ) (e : Drawn Game) → Looks k n h left e → Looks k (suc n) g ws e
 LooksOn (Err x) k g ws h left = (x ≡ Memory) ⊎ ((x ≡ NoWords) × ((n : ℕ) → Looks k (suc n) g ws None))

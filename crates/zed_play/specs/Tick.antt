@@ -13,14 +13,14 @@ use Rattle.zed_play.specs.Game.{with_scene}
 use Rattle.zed_play.specs.Objects.{ObjectDoes}
 use Rattle.zed_play.specs.Player.{PlayerDoes}
 use Rattle.zed_play.specs.Pushers.{pusher}
-use Rattle.zed_play.specs.Things.{thing}
+use Rattle.zed_play.specs.Pieces.{piece_of}
 
 -- what was done to the board and with the words
 abbrev pub in_game : Game → Drawn Scene → Drawn Game
 in_game g None = None
 in_game g (Some x) = Some (with_scene x.0 g, x.1)
 
--- a line for each thing that acts
+-- a line for each piece that acts
 abbrev pub TickAs : Piece → Asked → ℕ → Stat → Game → List ℕ → Drawn Game → Type 0
 TickAs Player k i a g ws e = PlayerDoes k.intent k.bounds a.place g ws e
 TickAs Bullet k i a g ws e = e ≡ Some (with_scene (bullet a g.scene) g, ws)
@@ -32,12 +32,12 @@ TickAs Object k i a g ws e = ObjectDoes a.position i g ws e
 TickAs _ k i a g ws e = e ≡ Some (g, ws)
 
 -- stat i is the one that acts
-abbrev pub takes_turn : ℕ → Game → Game
-takes_turn i g = with_scene (record g.scene { acting = Some i }) g
+abbrev pub acted_by : ℕ → Game → Game
+acted_by i g = with_scene (record g.scene { acting = Some i }) g
 
--- stat i has its tick, as the thing that stands at its place
+-- stat i has its tick, as the piece that stands at its place
 abbrev pub Ticks : Asked → ℕ → Stat → Game → List ℕ → Drawn Game → Type 0
-Ticks k i a g ws e = TickAs (thing (element_at g.scene a.place)) k i a (takes_turn i g) ws e
+Ticks k i a g ws e = TickAs (piece_of (element_at g.scene a.place)) k i a (acted_by i g) ws e
 
 -- stat i ticks where its cycle divides the tick less i
 abbrev pub is_due : ℕ → ℕ → ℕ → Bool

@@ -5,7 +5,7 @@ use Rattle.zed_types.specs.declared.tile.Tile.{Tile}
 use Rattle.zed_scene.specs.declared.stat.Stat.{Stat}
 use Rattle.zed_script.specs.declared.commands.Counter.{Counter}
 use Rattle.zed_script.specs.declared.commands.Counter.TheVariants.{Health, Ammo, Gems, Torches, Score}
-use Rattle.zed_scene.specs.Scene.{Scene, element_at, empty_tile, own, put, put_stat, stat_at, tile_at}
+use Rattle.zed_scene.specs.Scene.{Scene, element_at, empty_tile, put, put_stat, running_stat, stat_at, tile_at}
 use Rattle.zed_scene.specs.declared.step.Step.{Step}
 use Rattle.zed_oop.specs.Holding.{given}
 use Rattle.zed_scene.specs.Moving.{pushed}
@@ -13,10 +13,10 @@ use Rattle.zed_scene.specs.Removing.{attack}
 use Rattle.zed_scene.specs.Words.{Drawn}
 use Rattle.zed_play.specs.declared.game.Game.{Game}
 use Rattle.zed_play.specs.declared.piece.Piece.{Piece}
-use Rattle.zed_play.specs.declared.piece.Piece.TheVariants.{Ammo as AmmoThing, Torch, Gem, Key, Door, Passage, Energizer, Bullet, Forest, Boulder, Slider, Invisible, Bear, Object, Lion, Tiger}
+use Rattle.zed_play.specs.declared.piece.Piece.TheVariants.{Ammo as AmmoPiece, Torch, Gem, Key, Door, Passage, Energizer, Bullet, Forest, Boulder, Slider, Invisible, Bear, Object, Lion, Tiger}
 use Rattle.zed_play.specs.Bullets.{taken_away, tells}
 use Rattle.zed_play.specs.Game.{Then, TurnOf, leaves, with_scene}
-use Rattle.zed_play.specs.Things.{thing}
+use Rattle.zed_play.specs.Pieces.{piece_of}
 
 -- a counter of the player's rises by so much, and stops at 32,767
 abbrev pub gives : Counter → ℕ → Game → Game
@@ -60,11 +60,11 @@ abbrev pub passed_by : Option ℕ → Game → Game
 passed_by None g = g
 passed_by (Some i) g = passed_to (slice_get g.scene.stats i) g
 
--- ---- a line for each thing that is touched at a place, along a step
+-- ---- a line for each piece that is touched at a place, along a step
 
--- what comes of a touch along a step of a thing at a place, any but a scroll that has a stat
+-- what comes of a touch along a step of a piece at a place, any but a scroll that has a stat
 unfoldable pub touched : Piece → Tile → Place → Step → Game → Game
-touched AmmoThing t n d g = takes n (gives Ammo 5 g)
+touched AmmoPiece t n d g = takes n (gives Ammo 5 g)
 touched Gem t n d g = takes n (gives Score 10 (gives Health 1 (gives Gems 1 g)))
 touched Torch t n d g = takes n (gives Torches 1 g)
 touched Energizer t n d g = takes n g
@@ -104,13 +104,13 @@ rolled (Some a) s = if element_at s a.place == 10 then taken_away s.running s el
 
 -- the scroll that had its turn is removed, if it still is one
 abbrev pub closed : Game → Game
-closed g = with_scene (rolled (own g.scene) g.scene) g
+closed g = with_scene (rolled (running_stat g.scene) g.scene) g
 
 -- ---- the touch
 
--- a touch of a place: the scroll there, of this number, has one turn; else the thing is touched
+-- a touch of a place: the scroll there, of this number, has one turn; else the piece is touched
 abbrev pub TouchesAs : Option ℕ → Place → Step → Game → List ℕ → Drawn Game → Type 0
-TouchesAs None n d g ws e = e ≡ Some (touched (thing (element_at g.scene n)) (tile_at g.scene.tiles n) n d g, ws)
+TouchesAs None n d g ws e = e ≡ Some (touched (piece_of (element_at g.scene n)) (tile_at g.scene.tiles n) n d g, ws)
 TouchesAs (Some i) n d g ws e = Then closed (TurnOf i (opened i g) ws) e
 
 -- the player touches what is at a place, coming along a step

@@ -1,21 +1,9 @@
 //! What the stat that ticks does.
 ghost use Rattle.std.specs.Prelude.{◌≡◌};
-ghost use Rattle.zed_play.specs.Acts.{apart, attacks, moves};
+ghost use Rattle.zed_play.specs.Acts.{attacks, moves};
 
 use zed_oop::Scene;
 use zed_types::Place;
-
-/// The player's element.
-pub(crate) const PLAYER: u8 = 4;
-
-pub(crate) const BREAKABLE: u8 = 23;
-
-/// How far apart two columns are, or two rows.
-pub(crate) fn apart(a: u8, b: u8) -> u8
-    ensures { result ≡ apart a b }
-{
-    if a < b { b - a } else { a - b }
-}
 
 /// Moves the stat that acts, if it is still there.
 pub(crate) fn moves(scene: &mut Scene, to: Place)

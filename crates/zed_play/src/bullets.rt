@@ -2,11 +2,12 @@
 ghost use Rattle.std.specs.Prelude.{◌≡◌};
 ghost use Rattle.zed_play.specs.Bullets.{bullet, flies, is_struck, meets, taken_away, tells, turned_back, vanishes};
 
-use crate::acts::{BREAKABLE, PLAYER, attacks, moves};
-use zed_oop::{Scene, Stat, ahead, is_destructible, is_walkable, opposite, send_alone};
+use crate::acts::{attacks, moves};
+use zed_oop::{
+    BREAKABLE, PLAYER, Scene, Stat, WATER, ahead, is_destructible, is_walkable, opposite,
+    send_alone,
+};
 use zed_types::Place;
-
-const WATER: u8 = 19;
 
 const RICOCHET: u8 = 32;
 
@@ -85,7 +86,7 @@ pub(crate) fn fly(scene: &mut Scene, stat: Stat)
 {
     let to = ahead(stat.place, stat.step);
     if scene.element(to) == RICOCHET {
-        scene.put_actor(turned_back(stat));
+        scene.put_acting_stat(turned_back(stat));
         fly_to(scene, stat.p1, ahead(stat.place, opposite(stat.step)));
     } else {
         fly_to(scene, stat.p1, to);

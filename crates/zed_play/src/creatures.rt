@@ -2,24 +2,17 @@
 ghost use Rattle.std.specs.Prelude.{◌≡◌, IfOk, OnOk};
 ghost use Rattle.zed_scene.specs.Words.{Draws};
 ghost use Rattle.zed_play.specs.Acts.{Acts, Grows};
-ghost use Rattle.zed_play.specs.Creatures.{bear, bear_step, is_felt, is_prey, lion, lion_step, player_place, prowls, shot_in_column, shot_in_row, tiger, tiger_fires, tiger_shots, up_to_two};
+ghost use Rattle.zed_play.specs.Creatures.{bear, bear_step, is_felt, is_prey, lion, lion_step, prowls, shot_in_column, shot_in_row, tiger, tiger_fires, tiger_shots, up_to_two};
 
-use crate::acts::{BREAKABLE, PLAYER, apart, attacks, moves};
+use crate::acts::{attacks, moves};
 use std::alloc::AllocError;
-use zed_oop::{OopError, Scene, Shooter, Stat, Step, Words, ahead, is_walkable, random_step, sign};
+use zed_oop::{
+    BREAKABLE, PLAYER, Scene, SceneError, Shooter, Stat, Step, Words, ahead, apart, is_walkable,
+    random_step, sign,
+};
 use zed_types::Place;
 
-/// Where the player is.
-fn player_place(scene: &Scene, from: Place) -> Place
-    ensures { result ≡ player_place from scene.now }
-{
-    match scene.stat(0) {
-        Some(player) => player.place,
-        None => from,
-    }
-}
-
-fn lion_step(scene: &Scene, stat: Stat, words: &mut Words) -> Result<Step, OopError>
+fn lion_step(scene: &Scene, stat: Stat, words: &mut Words) -> Result<Step, SceneError>
     ensures { Draws result words.new (lion_step stat scene.now words.old) }
 {
     let chance = words.random(10)?;
@@ -53,7 +46,11 @@ fn prowl(scene: &mut Scene, breaks: bool, to: Option<Place>)
 
 /// A lion goes towards the player or by chance, and attacks the player.
 #[tactic(auto, unfolding(crate::specs::Creatures::lion))]
-pub(crate) fn act_as_lion(scene: &mut Scene, stat: Stat, words: &mut Words) -> Result<(), OopError>
+pub(crate) fn act_as_lion(
+    scene: &mut Scene,
+    stat: Stat,
+    words: &mut Words,
+) -> Result<(), SceneError>
     ensures { Acts result scene.new words.new (lion stat scene.old words.old) }
 {
     let step = lion_step(scene, stat, words)?;
@@ -108,7 +105,7 @@ fn tiger_fires(scene: &mut Scene, chance: u16, stat: Stat) -> Result<(), AllocEr
     ensures { OnOk result (scene.new ≡ tiger_fires chance stat scene.old) }
 {
     if u32::from(chance) * 3 <= u32::from(stat.p2 % 128) && stat.p2 < 128 {
-        let to = player_place(scene, stat.place);
+        let to = scene.player_place(stat.place);
         tiger_shots(scene, stat.place, to)
     } else {
         Ok(())
@@ -117,7 +114,11 @@ fn tiger_fires(scene: &mut Scene, chance: u16, stat: Stat) -> Result<(), AllocEr
 
 /// A tiger may shoot at the player, and then does as a lion.
 #[tactic(auto, unfolding(crate::specs::Creatures::tiger))]
-pub(crate) fn act_as_tiger(scene: &mut Scene, stat: Stat, words: &mut Words) -> Result<(), OopError>
+pub(crate) fn act_as_tiger(
+    scene: &mut Scene,
+    stat: Stat,
+    words: &mut Words,
+) -> Result<(), SceneError>
     ensures { Grows result scene.new words.new (tiger stat scene.old words.old) }
 {
     let chance = words.random(10)?;
@@ -155,6 +156,6 @@ fn bear_step(to: Place, stat: Stat) -> Step
 pub(crate) fn act_as_bear(scene: &mut Scene, stat: Stat)
     ensures { scene.new ≡ bear stat scene.old }
 {
-    let to = player_place(scene, stat.place);
+    let to = scene.player_place(stat.place);
     prowl(scene, true, ahead(stat.place, bear_step(to, stat)));
 }

@@ -4,7 +4,7 @@ ghost use Rattle.zed_play.specs.Game.{HasTurn, leaves};
 
 use crate::messages::Messages;
 use std::alloc::{AllocError, Global};
-use zed_oop::{OopError, Scene, Words, have_turn};
+use zed_oop::{Scene, SceneError, Words, have_turn};
 use zed_types::{Bytes, Seq};
 
 /// A board in play, with what the player carries and was told.
@@ -59,7 +59,7 @@ impl Game {
         alloc: Global,
         i: usize,
         words: &mut Words,
-    ) -> Result<(), OopError>
+    ) -> Result<(), SceneError>
         ensures { HasTurn result i self.old words.old self.new words.new }
     {
         let lines = have_turn(alloc, &mut self.scene, i, words)?;

@@ -6,7 +6,7 @@ ghost use Rattle.zed_play.specs.Step.{Looks, LooksOn, looked_at, next};
 use crate::game::Game;
 use crate::key::Asked;
 use std::alloc::Global;
-use zed_oop::{OopError, Stat, Words};
+use zed_oop::{SceneError, Stat, Words};
 
 /// Looks at stats in a step at most.
 const LOOKS: u16 = 1024;
@@ -30,7 +30,7 @@ impl Game {
     }
 
     /// Looks at one stat, and tells whether there is one.
-    fn look(&mut self, alloc: Global, asked: Asked, words: &mut Words) -> Result<bool, OopError>
+    fn look(&mut self, alloc: Global, asked: Asked, words: &mut Words) -> Result<bool, SceneError>
         ensures { LooksOn result asked self.old words.old self.new words.new }
     {
         let i = self.scene.ticking();
@@ -54,7 +54,7 @@ impl Game {
         alloc: Global,
         asked: Asked,
         words: &mut Words,
-    ) -> Result<(), OopError>
+    ) -> Result<(), SceneError>
         ensures { Answers result (Looks asked 1024 self.old words.old) self.new words.new }
     {
         let mut looks = LOOKS;

@@ -64,6 +64,7 @@ impl Messages {
         for line in lines {
             self.push(line.copy()?);
         }
+        // For the proof, which learns here that no more than 64 are kept.
         let _at_most_as_many = self.len();
         Ok(())
     }
@@ -72,6 +73,7 @@ impl Messages {
     pub(crate) fn copy(&self, alloc: Global) -> Result<Messages, AllocError>
         ensures result { IfOk result (λ m. m ≡ self.now) }
     {
+        // For the proof, as above.
         let _at_most_as_many = self.len();
         let (older, newer) = self.lines.as_slices();
         let mut out = Messages::new(alloc)?;

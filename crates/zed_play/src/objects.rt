@@ -1,15 +1,14 @@
 //! Objects.
 ghost use Rattle.std.specs.Prelude.{◌≡◌};
-ghost use Rattle.zed_scene.specs.Scene.{actor};
 ghost use Rattle.zed_scene.specs.Trying.{is_nowhere};
 ghost use Rattle.zed_play.specs.Game.{Answers};
-ghost use Rattle.zed_play.specs.Objects.{ObjectDoes, bumps, drifted, drifts, thuds};
+ghost use Rattle.zed_play.specs.Objects.{ObjectDoes, bumps, drifted, thuds};
 
 use crate::acts::moves;
 use crate::bullets::OBJECT;
 use crate::game::Game;
 use std::alloc::Global;
-use zed_oop::{OopError, Scene, Step, Words, ahead, is_walkable, send_alone};
+use zed_oop::{Scene, SceneError, Step, Words, ahead, is_walkable, send_alone};
 use zed_types::Place;
 
 /// Tells the stat that acts that it bumped into something.
@@ -42,21 +41,17 @@ fn is_nowhere(step: Step) -> bool
     step.x == 0 && step.y == 0
 }
 
-fn drift(scene: &mut Scene)
-    ensures { scene.new ≡ drifts (actor scene.old) scene.old }
-{
-    if let Some(stat) = scene.actor() {
-        if scene.tile(stat.place).element == OBJECT && !is_nowhere(stat.step) {
-            bump(scene, ahead(stat.place, stat.step));
-        }
-    }
-}
-
 impl Game {
+    /// The stat that acts goes along its step, if it still is an object.
     fn drift(&mut self)
         ensures { self.new ≡ drifted self.old }
     {
-        drift(&mut self.scene);
+        let scene = &mut self.scene;
+        if let Some(stat) = scene.acting_stat() {
+            if scene.tile(stat.place).element == OBJECT && !is_nowhere(stat.step) {
+                bump(scene, ahead(stat.place, stat.step));
+            }
+        }
     }
 
     /// An object has a turn of its program, unless that has ended, and goes along its step.
@@ -66,7 +61,7 @@ impl Game {
         position: Option<usize>,
         i: usize,
         words: &mut Words,
-    ) -> Result<(), OopError>
+    ) -> Result<(), SceneError>
         ensures { Answers result (ObjectDoes position i self.old words.old) self.new words.new }
     {
         match position {

@@ -1,11 +1,11 @@
 //! What acts, and what can be touched.
 ghost use Rattle.std.specs.Prelude.{◌≡◌};
-ghost use Rattle.zed_play.specs.Things.{thing};
+ghost use Rattle.zed_play.specs.Pieces.{piece_of};
 
 /// What an element is.
-#[tactic(auto, unfolding(crate::specs::Things::thing))]
+#[tactic(auto, unfolding(crate::specs::Pieces::piece_of))]
 pub(crate) fn piece_of(element: u8) -> Piece
-    ensures { result ≡ thing element }
+    ensures { result ≡ piece_of element }
 {
     match element {
         4 => Piece::Player,

@@ -1,6 +1,6 @@
 //! A playtest.
 ghost use Rattle.std.specs.Prelude.{◌≡◌, ◌⊎◌, Err, Some, None, MatchResult};
-ghost use Rattle.zed_scene.specs.declared.error.OopError.TheVariants.{Memory, NoWords};
+ghost use Rattle.zed_scene.specs.declared.error.SceneError.TheVariants.{Memory, NoWords};
 ghost use Rattle.zed_play.specs.Playtest.{IsTick};
 ghost use Rattle.zed_play.specs.Step.{Looks, Steps, asked, closed_with, from_first, next_tick};
 
@@ -10,7 +10,7 @@ use crate::game::Game;
 use crate::key::{Asked, Bounds, Key};
 use std::alloc::Global;
 use std::marker::Model;
-use zed_oop::{OopError, Words};
+use zed_oop::{SceneError, Words};
 
 /// A playtest of one board. Contracts see the board in play, what bounds the player there, the tick of the next step, and how the
 /// playtest ended, if it did.
@@ -63,7 +63,7 @@ impl Play {
     }
 
     /// The board after the looks of a step.
-    fn stepped(&self, key: Key, words: &mut Words) -> Result<Game, OopError>
+    fn stepped(&self, key: Key, words: &mut Words) -> Result<Game, SceneError>
         ensures result { MatchResult result
             (λ g. Looks (asked key self.now) 1024 (from_first self.now.game) words.old
             (Some (g, words.new)))
@@ -101,8 +101,8 @@ impl Play {
                 self.close(game);
                 Ok(words.len().saturating_sub(left.left()))
             }
-            Err(OopError::NoWords) => Err(PlayError::NoWords),
-            Err(OopError::Memory) => {
+            Err(SceneError::NoWords) => Err(PlayError::NoWords),
+            Err(SceneError::Memory) => {
                 self.ending = Some(Ending::Failed);
                 Err(PlayError::Memory)
             }

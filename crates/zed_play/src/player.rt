@@ -1,17 +1,14 @@
 //! The player.
 ghost use Rattle.std.specs.Prelude.{◌≡◌, OnOk};
-ghost use Rattle.zed_scene.specs.Scene.{actor};
 ghost use Rattle.zed_play.specs.Game.{Answers};
-ghost use Rattle.zed_play.specs.Player.{GoesTo, PlayerDoes, fires, flying, goes_on, goes_out, spent, walks};
+ghost use Rattle.zed_play.specs.Player.{GoesTo, PlayerDoes, fires, flying, goes_out, spent, walks};
 
 use crate::acts::moves;
 use crate::game::Game;
 use crate::key::{Bounds, Intent, step_to};
 use std::alloc::{AllocError, Global};
-use zed_oop::{Counter, OopError, Scene, Shooter, Step, Words, ahead, is_walkable, take};
+use zed_oop::{BULLET, Counter, Scene, SceneError, Shooter, Step, Words, ahead, is_walkable, take};
 use zed_types::{Place, Side};
-
-const BULLET: u8 = 18;
 
 /// How many bullets of the player fly.
 fn flying(scene: &Scene) -> usize
@@ -44,17 +41,6 @@ fn fire(scene: &mut Scene, max_shots: u8, from: Place, step: Step) -> Result<(),
     Ok(())
 }
 
-/// The stat that acts goes on to a place, if it is where it was and may.
-fn go_on(scene: &mut Scene, from: Place, to: Place)
-    ensures { scene.new ≡ goes_on from to (actor scene.old) scene.old }
-{
-    if let Some(stat) = scene.actor() {
-        if stat.place.x == from.x && stat.place.y == from.y && is_walkable(scene.tile(to).element) {
-            moves(scene, to);
-        }
-    }
-}
-
 impl Game {
     fn go_out(&mut self, exit: u8)
         ensures { self.new ≡ goes_out exit self.old }
@@ -64,10 +50,19 @@ impl Game {
         }
     }
 
+    /// The player goes on to a place, if it is where it was and may.
     fn walk(&mut self, from: Place, to: Place)
         ensures { self.new ≡ walks from to self.old }
     {
-        go_on(&mut self.scene, from, to);
+        let scene = &mut self.scene;
+        if let Some(stat) = scene.acting_stat() {
+            if stat.place.x == from.x
+                && stat.place.y == from.y
+                && is_walkable(scene.tile(to).element)
+            {
+                moves(scene, to);
+            }
+        }
     }
 
     fn go_to(
@@ -78,7 +73,7 @@ impl Game {
         bounds: Bounds,
         from: Place,
         words: &mut Words,
-    ) -> Result<(), OopError>
+    ) -> Result<(), SceneError>
         ensures { Answers result
             (GoesTo to side bounds from self.old words.old) self.new words.new }
     {
@@ -103,7 +98,7 @@ impl Game {
         bounds: Bounds,
         from: Place,
         words: &mut Words,
-    ) -> Result<(), OopError>
+    ) -> Result<(), SceneError>
         ensures { Answers result
             (PlayerDoes intent bounds from self.old words.old) self.new words.new }
     {

@@ -1,7 +1,7 @@
 //! A tick of one stat.
 ghost use Rattle.std.specs.Prelude.{◌≡◌};
 ghost use Rattle.zed_play.specs.Game.{Answers};
-ghost use Rattle.zed_play.specs.Tick.{LooksAt, TickAs, is_due, takes_turn};
+ghost use Rattle.zed_play.specs.Tick.{LooksAt, TickAs, is_due};
 
 use crate::bullets::fly;
 use crate::creatures::{act_as_bear, act_as_lion, act_as_tiger};
@@ -10,7 +10,7 @@ use crate::key::Asked;
 use crate::piece::{Piece, piece_of};
 use crate::pushers::press;
 use std::alloc::Global;
-use zed_oop::{OopError, Stat, Words};
+use zed_oop::{SceneError, Stat, Words};
 
 /// Whether a stat of this number and cycle ticks.
 fn is_due(tick: u16, i: usize, cycle: u16) -> bool
@@ -23,15 +23,15 @@ impl Game {
     fn tick_as(
         &mut self,
         alloc: Global,
-        thing: Piece,
+        piece: Piece,
         asked: Asked,
         i: usize,
         stat: Stat,
         words: &mut Words,
-    ) -> Result<(), OopError>
-        ensures { Answers result (TickAs thing asked i stat self.old words.old) self.new words.new }
+    ) -> Result<(), SceneError>
+        ensures { Answers result (TickAs piece asked i stat self.old words.old) self.new words.new }
     {
-        match thing {
+        match piece {
             Piece::Player => self.act_as_player(
                 alloc,
                 asked.intent,
@@ -58,12 +58,6 @@ impl Game {
         }
     }
 
-    fn take_turn(&mut self, i: usize)
-        ensures { self.new ≡ takes_turn i self.old }
-    {
-        self.scene.set_acting(Some(i));
-    }
-
     /// Looks at a stat, which acts where it ticks.
     pub(crate) fn look_at(
         &mut self,
@@ -72,14 +66,14 @@ impl Game {
         i: usize,
         stat: Stat,
         words: &mut Words,
-    ) -> Result<(), OopError>
+    ) -> Result<(), SceneError>
         ensures { Answers result (LooksAt asked i stat self.old words.old) self.new words.new }
     {
         if !is_due(asked.tick, i, stat.cycle) {
             return Ok(());
         }
-        let thing = piece_of(self.scene.tile(stat.place).element);
-        self.take_turn(i);
-        self.tick_as(alloc, thing, asked, i, stat, words)
+        let piece = piece_of(self.scene.tile(stat.place).element);
+        self.scene.set_acting(Some(i));
+        self.tick_as(alloc, piece, asked, i, stat, words)
     }
 }

@@ -1,14 +1,13 @@
 //! What comes of the player's touch.
 ghost use Rattle.std.specs.Prelude.{◌≡◌, ◌<◌};
-ghost use Rattle.zed_scene.specs.Scene.{own};
 ghost use Rattle.zed_play.specs.Game.{Answers};
-ghost use Rattle.zed_play.specs.Touch.{Touches, closed, door_opened, key_found, opened, passed_by, rolled, scroll_at, takes, touched};
+ghost use Rattle.zed_play.specs.Touch.{Touches, closed, door_opened, key_found, opened, passed_by, scroll_at, takes, touched};
 
 use crate::bullets::{take_away, tell};
 use crate::game::Game;
 use crate::piece::{Piece, piece_of};
 use std::alloc::Global;
-use zed_oop::{Counter, OopError, Scene, Step, Words, give};
+use zed_oop::{Counter, Scene, SceneError, Step, Words, give};
 use zed_types::{Place, Tile};
 
 const SCROLL: u8 = 10;
@@ -23,17 +22,6 @@ fn scroll_at(scene: &Scene, place: Place) -> Option<usize>
         scene.stat_at(place)
     } else {
         None
-    }
-}
-
-/// Removes the stat whose turn it was, if it still is a scroll.
-fn roll(scene: &mut Scene)
-    ensures { scene.new ≡ rolled (own scene.old) scene.old }
-{
-    if let Some(stat) = scene.own() {
-        if scene.tile(stat.place).element == SCROLL {
-            take_away(scene, scene.running());
-        }
     }
 }
 
@@ -78,10 +66,10 @@ impl Game {
     }
 
     #[tactic(auto, unfolding(crate::specs::Touch::touched))]
-    fn touch_thing(&mut self, thing: Piece, tile: Tile, place: Place, step: Step)
-        ensures { self.new ≡ touched thing tile place step self.old }
+    fn touch_piece(&mut self, piece: Piece, tile: Tile, place: Place, step: Step)
+        ensures { self.new ≡ touched piece tile place step self.old }
     {
-        match thing {
+        match piece {
             Piece::Ammo => {
                 give(&mut self.scene, Counter::Ammo, 5);
                 self.take_at(place);
@@ -136,10 +124,16 @@ impl Game {
         }
     }
 
+    /// Removes the stat whose turn it was, if it still is a scroll.
     fn close(&mut self)
         ensures { self.new ≡ closed self.old }
     {
-        roll(&mut self.scene);
+        let scene = &mut self.scene;
+        if let Some(stat) = scene.running_stat() {
+            if scene.tile(stat.place).element == SCROLL {
+                take_away(scene, scene.running());
+            }
+        }
     }
 
     /// The player touches what is at a place, along a step.
@@ -149,7 +143,7 @@ impl Game {
         place: Place,
         step: Step,
         words: &mut Words,
-    ) -> Result<(), OopError>
+    ) -> Result<(), SceneError>
         ensures { Answers result (Touches place step self.old words.old) self.new words.new }
     {
         match scroll_at(&self.scene, place) {
@@ -161,7 +155,7 @@ impl Game {
             }
             None => {
                 let tile = self.scene.tile(place);
-                self.touch_thing(piece_of(tile.element), tile, place, step);
+                self.touch_piece(piece_of(tile.element), tile, place, step);
                 Ok(())
             }
         }

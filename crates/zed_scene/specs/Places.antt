@@ -1,5 +1,5 @@
 -- Places, and where steps lead.
-use Rattle.std.specs.Prelude.{ℕ, ℤ, pos, negsuc, ◌+ℤ◌, suc, zero, Bool, ◌&&◌, nat_le, nat_lt, ◌==◌, if◌then◌else◌, Option, Some, None, option_and_then}
+use Rattle.std.specs.Prelude.{ℕ, ℤ, pos, negsuc, ◌+ℤ◌, ◌-◌, suc, zero, Bool, ◌&&◌, nat_le, nat_lt, ◌==◌, if◌then◌else◌, Option, Some, None, option_and_then}
 use Rattle.zed_types.specs.declared.tile.Place.{Place}
 use Rattle.zed_scene.specs.declared.step.Step.{Step}
 
@@ -49,3 +49,7 @@ opposite d = record { x = negated d.x; y = negated d.y }
 -- the sign of `to` less `from`
 abbrev pub sign_of : ℕ → ℕ → ℤ
 sign_of to from = if nat_lt from to then pos 1 else if nat_lt to from then negsuc 0 else pos 0
+
+-- how far apart two columns are, or two rows
+abbrev pub apart : ℕ → ℕ → ℕ
+apart a b = if nat_lt a b then b - a else a - b

@@ -74,20 +74,20 @@ put_at None a s = s
 put_at (Some i) a s = put_stat i a s
 
 -- the stat that acts
-abbrev pub actor : Scene → Option Stat
-actor s = stat_of s s.acting
+abbrev pub acting_stat : Scene → Option Stat
+acting_stat s = stat_of s s.acting
 
 -- the stat that acts becomes this one, unless it is gone
-abbrev pub put_actor : Stat → Scene → Scene
-put_actor a s = put_at s.acting a s
+abbrev pub put_acting_stat : Stat → Scene → Scene
+put_acting_stat a s = put_at s.acting a s
 
 -- the stat whose program has its turn
-abbrev pub own : Scene → Option Stat
-own s = stat_of s s.running
+abbrev pub running_stat : Scene → Option Stat
+running_stat s = stat_of s s.running
 
 -- the stat whose program has its turn becomes this one, unless it is gone
-abbrev pub put_own : Stat → Scene → Scene
-put_own a s = put_at s.running a s
+abbrev pub put_running_stat : Stat → Scene → Scene
+put_running_stat a s = put_at s.running a s
 
 -- the bytes of a program, no bytes where there is none
 abbrev pub or_empty : Option (List ℕ) → List ℕ

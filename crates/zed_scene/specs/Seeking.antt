@@ -39,11 +39,15 @@ abbrev pub place_of : Place → Option Stat → Place
 place_of p None = p
 place_of p (Some a) = a.place
 
+-- where the player is, or the place given where there is no player
+abbrev pub player_place : Scene → Place → Place
+player_place s p = place_of p (slice_get s.stats 0)
+
 -- the step towards the player: a word is always taken, and 0 stands for the columns
 abbrev pub sought : Place → Scene → List ℕ → Drawn Step
 sought from s ws = do
   r ← draw 2 ws
-  Some (towards from (place_of from (slice_get s.stats 0)) (r.0 == 0), r.1)
+  Some (towards from (player_place s from) (r.0 == 0), r.1)
 
 -- 0 is north, 1 south
 abbrev pub up_or_down : List ℕ → Drawn Step

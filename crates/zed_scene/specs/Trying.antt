@@ -12,7 +12,7 @@ abbrev pub shift_at : Option ℕ → Place → Scene → Scene
 shift_at None to s = s
 shift_at (Some i) to s = shift i to s
 
--- the own stat moves to the next place if it may
+-- the running stat moves to the next place if it may
 abbrev pub walk_on : Place → Scene → Bool × Scene
 walk_on to s = if is_walkable (element_at s to) then (true, shift_at s.running to s) else (false, s)
 
@@ -20,7 +20,7 @@ walk_on to s = if is_walkable (element_at s to) then (true, shift_at s.running t
 abbrev pub way_made : Place → Step → Scene → Scene
 way_made to d s = if is_walkable (element_at s to) then s else pushed to d s
 
--- whether the own stat gets to the place ahead, pushing what is there; off the table it doesn't
+-- whether the running stat gets to the place ahead, pushing what is there; off the table it doesn't
 abbrev pub moved_to : Step → Option Place → Scene → Bool × Scene
 moved_to d None s = (false, s)
 moved_to d (Some to) s = walk_on to (way_made to d s)

@@ -1,7 +1,7 @@
 -- Numbers of chance, by words that a caller hands in.
 use Rattle.std.specs.Prelude.{◌≡◌, ℕ, ◌%◌, List, [], ◌∷◌, Option, Some, None, MatchResult, Result}
-use Rattle.zed_scene.specs.declared.error.OopError.{OopError}
-use Rattle.zed_scene.specs.declared.error.OopError.TheVariants.{NoWords}
+use Rattle.zed_scene.specs.declared.error.SceneError.{SceneError}
+use Rattle.zed_scene.specs.declared.error.SceneError.TheVariants.{NoWords}
 
 -- what is drawn, with the words that are left; none where a word is lacking
 abbrev pub Drawn : Type 0 → Type 0
@@ -19,5 +19,5 @@ draw n [] = None
 draw n (w ∷ ws) = Some (w % n, ws)
 
 -- a call drew this and left these words, or it told that one is lacking
-abbrev pub Draws : {X : Type 0} → Result X OopError → List ℕ → Drawn X → Type 0
+abbrev pub Draws : {X : Type 0} → Result X SceneError → List ℕ → Drawn X → Type 0
 Draws result left drawn = MatchResult result (λ x. drawn ≡ Some (x, left)) (λ e. (e ≡ NoWords) × (drawn ≡ None))

@@ -6,10 +6,10 @@ use crate::stat::Stat;
 use std::alloc::{AllocError, Global};
 use zed_types::{Bytes, Seq};
 
-fn copy_actors(alloc: Global, actors: &[Stat]) -> Result<Seq<Stat>, AllocError>
-    ensures { IfOk result (λ c. c ≡ actors.now) }
+fn copy_stats(alloc: Global, stats: &[Stat]) -> Result<Seq<Stat>, AllocError>
+    ensures { IfOk result (λ c. c ≡ stats.now) }
 {
-    Ok(Seq::from_vec(Vec::from_slice(alloc, actors)?))
+    Ok(Seq::from_vec(Vec::from_slice(alloc, stats)?))
 }
 
 fn copy_all(alloc: Global, strings: &[Bytes]) -> Result<Seq<Bytes>, AllocError>
@@ -27,7 +27,7 @@ impl Scene {
     pub fn copy(&self, alloc: Global) -> Result<Scene, AllocError>
         ensures result { IfOk result (λ c. c ≡ self.now) }
     {
-        let stats = copy_actors(alloc, self.stats.as_slice())?;
+        let stats = copy_stats(alloc, self.stats.as_slice())?;
         let programs = copy_all(alloc, self.programs.as_slice())?;
         let flags = copy_all(alloc, self.flags.as_slice())?;
         Ok(Scene {

@@ -1,13 +1,13 @@
-//! Why something is not done on a board in play.
+//! What is lacking where something isn't done on a board in play.
 ghost use Rattle.std.specs.Prelude.{◌≡◌};
-ghost use Rattle.zed_scene.specs.declared.error.OopError.TheVariants.{Memory};
+ghost use Rattle.zed_scene.specs.declared.error.SceneError.TheVariants.{Memory};
 
 use std::alloc::{AllocError, AllocFailed};
 use thiserror::Error;
 
-/// Why a program can't be read or can't have its turn. Its texts are for whoever debugs; the program prints none of them.
+/// What is lacking where something isn't done on a board in play. Its texts are for whoever debugs; the program prints none of them.
 #[derive(Clone, Copy, Debug, PartialEq, Eq, Error)]
-pub enum OopError {
+pub enum SceneError {
     /// A growth was refused.
     #[error("out of memory")]
     Memory,
@@ -16,18 +16,18 @@ pub enum OopError {
     NoWords,
 }
 
-impl From<AllocError> for OopError {
+impl From<AllocError> for SceneError {
     ghost from_gives = { λ _ e. e ≡ Memory };
 
-    fn from(_e: AllocError) -> OopError {
-        OopError::Memory
+    fn from(_e: AllocError) -> SceneError {
+        SceneError::Memory
     }
 }
 
-impl<T: Drop> From<AllocFailed<T>> for OopError {
+impl<T: Drop> From<AllocFailed<T>> for SceneError {
     ghost from_gives = { λ _ e. e ≡ Memory };
 
-    fn from(_e: AllocFailed<T>) -> OopError {
-        OopError::Memory
+    fn from(_e: AllocFailed<T>) -> SceneError {
+        SceneError::Memory
     }
 }

@@ -4,6 +4,7 @@
 
 mod copying;
 mod counters;
+mod elements;
 mod error;
 mod flags;
 mod laws;
@@ -19,7 +20,8 @@ mod trying;
 mod words;
 
 pub use counters::Counters;
-pub use error::OopError;
+pub use elements::{BREAKABLE, BULLET, PLAYER, WATER};
+pub use error::SceneError;
 pub use flags::has_flag;
 pub use laws::reach_suffices;
 pub use moving::{is_destructible, is_walkable};
@@ -27,5 +29,5 @@ pub use scene::{Scene, tile_in};
 pub use seeking::{random_step, up_or_down};
 pub use shooting::Shooter;
 pub use stat::Stat;
-pub use step::{Step, ahead, clockwise, counter_clockwise, is_on_board, opposite, sign};
+pub use step::{Step, ahead, apart, clockwise, counter_clockwise, is_on_board, opposite, sign};
 pub use words::Words;

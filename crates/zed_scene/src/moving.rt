@@ -2,12 +2,10 @@
 ghost use Rattle.std.specs.Prelude.{◌≡◌};
 ghost use Rattle.zed_scene.specs.Moving.{carried, cleared, is_crushable, is_destructible, is_pushable, pushed, pushed_by, pushed_onto, shift, is_walkable};
 
+use crate::elements::PLAYER;
 use crate::scene::Scene;
 use crate::step::{Step, ahead};
 use zed_types::{Place, Push, Tile, element};
-
-/// The player's element.
-pub(crate) const PLAYER: u8 = 4;
 
 /// More steps than lead from any place of the table to its border.
 const REACH: u8 = 60;
@@ -53,13 +51,13 @@ impl Scene {
     pub fn shift(&mut self, i: usize, to: Place)
         ensures result { self.new ≡ shift i to self.old }
     {
-        if let Some(actor) = self.stat(i) {
-            let own = self.tile(actor.place);
-            let mut moved = actor;
+        if let Some(stat) = self.stat(i) {
+            let tile = self.tile(stat.place);
+            let mut moved = stat;
             moved.place = to;
             moved.under = self.tile(to);
-            self.put(to, own);
-            self.put(actor.place, actor.under);
+            self.put(to, tile);
+            self.put(stat.place, stat.under);
             self.put_stat(i, moved);
         }
     }

@@ -1,6 +1,6 @@
 //! A board in play: what stands where.
 ghost use Rattle.std.specs.Prelude.{◌≡◌, [], ◌<◌, length, slice_get, None, Some};
-ghost use Rattle.zed_scene.specs.Scene.{element_ahead, actor, own, program_of, put, put_actor, put_own, put_program, put_stat, stat_at, there, tile_at, with_tile};
+ghost use Rattle.zed_scene.specs.Scene.{acting_stat, element_ahead, program_of, put, put_acting_stat, put_program, put_running_stat, put_stat, running_stat, stat_at, there, tile_at, with_tile};
 
 use crate::counters::Counters;
 use crate::stat::Stat;
@@ -225,8 +225,8 @@ impl Scene {
     }
 
     /// The stat that acts.
-    pub fn actor(&self) -> Option<Stat>
-        ensures result { result ≡ actor self.now }
+    pub fn acting_stat(&self) -> Option<Stat>
+        ensures result { result ≡ acting_stat self.now }
     {
         match self.acting {
             Some(i) => self.stat(i),
@@ -235,8 +235,8 @@ impl Scene {
     }
 
     /// Changes the stat that acts.
-    pub fn put_actor(&mut self, stat: Stat)
-        ensures result { self.new ≡ put_actor stat self.old }
+    pub fn put_acting_stat(&mut self, stat: Stat)
+        ensures result { self.new ≡ put_acting_stat stat self.old }
     {
         if let Some(i) = self.acting {
             self.put_stat(i, stat);
@@ -244,8 +244,8 @@ impl Scene {
     }
 
     /// The stat whose program has its turn.
-    pub fn own(&self) -> Option<Stat>
-        ensures result { result ≡ own self.now }
+    pub fn running_stat(&self) -> Option<Stat>
+        ensures result { result ≡ running_stat self.now }
     {
         match self.running {
             Some(i) => self.stat(i),
@@ -254,8 +254,8 @@ impl Scene {
     }
 
     /// Changes the stat whose program has its turn.
-    pub fn put_own(&mut self, stat: Stat)
-        ensures result { self.new ≡ put_own stat self.old }
+    pub fn put_running_stat(&mut self, stat: Stat)
+        ensures result { self.new ≡ put_running_stat stat self.old }
     {
         if let Some(i) = self.running {
             self.put_stat(i, stat);

@@ -1,9 +1,9 @@
 //! Steps towards the player, and steps by chance.
-ghost use Rattle.zed_scene.specs.Seeking.{random_step, sought, towards, up_or_down};
+ghost use Rattle.zed_scene.specs.Seeking.{player_place, random_step, sought, towards, up_or_down};
 ghost use Rattle.std.specs.Prelude.{◌≡◌};
 ghost use Rattle.zed_scene.specs.Words.{Draws};
 
-use crate::error::OopError;
+use crate::error::SceneError;
 use crate::scene::Scene;
 use crate::step::{Step, sign};
 use crate::words::Words;
@@ -29,21 +29,27 @@ fn towards(from: Place, to: Place, columns: bool) -> Step
 }
 
 impl Scene {
+    /// Where the player is, or another place without a player.
+    pub fn player_place(&self, other: Place) -> Place
+        ensures result { result ≡ player_place self.now other }
+    {
+        match self.stat(0) {
+            Some(player) => player.place,
+            None => other,
+        }
+    }
+
     /// The step towards the player, which takes a word.
-    pub fn seek(&self, from: Place, words: &mut Words) -> Result<Step, OopError>
+    pub fn seek(&self, from: Place, words: &mut Words) -> Result<Step, SceneError>
         ensures result { Draws result words.new (sought from self.now words.old) }
     {
         let r = words.random(2)?;
-        let to = match self.stat(0) {
-            Some(player) => player.place,
-            None => from,
-        };
-        Ok(towards(from, to, r == 0))
+        Ok(towards(from, self.player_place(from), r == 0))
     }
 }
 
 /// A step in any direction, which takes one word or two.
-pub fn random_step(words: &mut Words) -> Result<Step, OopError>
+pub fn random_step(words: &mut Words) -> Result<Step, SceneError>
     ensures result { Draws result words.new (random_step words.old) }
 {
     match words.random(3)? {
@@ -54,7 +60,7 @@ pub fn random_step(words: &mut Words) -> Result<Step, OopError>
 }
 
 /// A step to the north or the south, which takes a word.
-pub fn up_or_down(words: &mut Words) -> Result<Step, OopError>
+pub fn up_or_down(words: &mut Words) -> Result<Step, SceneError>
     ensures result { Draws result words.new (up_or_down words.old) }
 {
     if words.random(2)? == 0 {

@@ -3,7 +3,8 @@ ghost use Rattle.std.specs.Prelude.{◌≡◌, OnErr, IfOk, true};
 ghost use Rattle.zed_scene.specs.Places.{ahead};
 ghost use Rattle.zed_scene.specs.Shooting.{bullet, is_hit, lets_fly, p1_of, shot};
 
-use crate::moving::{PLAYER, is_destructible, is_walkable};
+use crate::elements::{BREAKABLE, BULLET, PLAYER, WATER};
+use crate::moving::{is_destructible, is_walkable};
 use crate::scene::Scene;
 use crate::stat::Stat;
 use crate::step::{Step, ahead};
@@ -18,14 +19,10 @@ pub enum Shooter {
 }
 
 /// A bullet that flies.
-const BULLET: Tile = Tile {
-    element: 18,
+const FLYING: Tile = Tile {
+    element: BULLET,
     colour: 0x0F,
 };
-
-const WATER: u8 = 19;
-
-const BREAKABLE: u8 = 23;
 
 /// Stats of a board at most, the player among them.
 const STATS: usize = 151;
@@ -92,7 +89,7 @@ impl Scene {
                 return Ok(false);
             }
             self.stats.push(bullet(to, step, shooter, there))?;
-            self.put(to, BULLET);
+            self.put(to, FLYING);
             return Ok(true);
         }
         if is_hit(there.element, shooter) {

@@ -1,6 +1,6 @@
 //! Steps, and the places that they lead to.
 ghost use Rattle.std.specs.Prelude.{◌≡◌, ℤ};
-ghost use Rattle.zed_scene.specs.Places.{ahead, moved, clockwise, counter_clockwise, negated, opposite, sign_of, is_on_board};
+ghost use Rattle.zed_scene.specs.Places.{ahead, apart, moved, clockwise, counter_clockwise, negated, opposite, sign_of, is_on_board};
 
 use zed_types::Place;
 
@@ -99,4 +99,11 @@ pub fn sign(to: u8, from: u8) -> i16
     } else {
         0
     }
+}
+
+/// How far apart two columns are, or two rows.
+pub fn apart(a: u8, b: u8) -> u8
+    ensures result { result ≡ apart a b }
+{
+    if a < b { b - a } else { a - b }
 }

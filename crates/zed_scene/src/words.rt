@@ -1,9 +1,9 @@
 //! Words of chance.
 ghost use Rattle.std.specs.Prelude.{◌≡◌, ◌<◌, length, drop};
-ghost use Rattle.zed_scene.specs.declared.error.OopError.TheVariants.{NoWords};
+ghost use Rattle.zed_scene.specs.declared.error.SceneError.TheVariants.{NoWords};
 ghost use Rattle.zed_scene.specs.Words.{Draws, draw};
 
-use crate::error::OopError;
+use crate::error::SceneError;
 use std::marker::Model;
 
 /// The words of chance that are left.
@@ -35,7 +35,7 @@ impl<'a> Words<'a> {
     }
 
     /// A number below n: the next word, mod n.
-    pub fn random(&mut self, n: u16) -> Result<u16, OopError>
+    pub fn random(&mut self, n: u16) -> Result<u16, SceneError>
         requires { 0 < n }
         ensures result { Draws result self.new (draw n self.old) }
     {
@@ -45,7 +45,7 @@ impl<'a> Words<'a> {
                 self.left = rest;
                 Ok(number)
             }
-            None => Err(OopError::NoWords),
+            None => Err(SceneError::NoWords),
         }
     }
 }

@@ -1,5 +1,5 @@
 -- Frames, place by place, and their lines of text.
-use Rattle.std.specs.Prelude.{◌≡◌, ℕ, zero, suc, ◌+◌, ◌*◌, ◌<◌, ◌&&◌, nat_le, if◌then◌else◌, List, slice_get, slice_set, slice_index_or, Some, None, Result, MatchResult}
+use Rattle.std.specs.Prelude.{◌≡◌, ℕ, ◌+◌, ◌*◌, ◌<◌, ◌&&◌, nat_le, if◌then◌else◌, List, slice_get, slice_index_or, Some, None, Result, MatchResult}
 use Rattle.zed_screen.specs.declared.frame.Cell.{Cell}
 use Rattle.zed_screen.specs.declared.frame.Frame.{Frame}
 use Rattle.zed_screen.specs.Picture.{data_cell, side}
@@ -7,11 +7,6 @@ use Rattle.zed_screen.specs.declared.error.ScreenError.{ScreenError}
 use Rattle.zed_screen.specs.declared.error.ScreenError.TheVariants.{NoBoard}
 use Rattle.zed_world.specs.declared.board.BoardData.{BoardData}
 use Rattle.zed_world.specs.Contents.{Contents}
-
--- the places below n are as f tells
-unfoldable pub painted : {X : Type 0} → (ℕ → X) → ℕ → List X → List X
-painted f zero xs = xs
-painted f (suc n) xs = slice_set (painted f n xs) n (f n)
 
 -- each of the 2,000 places is as f tells
 abbrev pub Shows : Frame → (ℕ → Cell) → Type 0

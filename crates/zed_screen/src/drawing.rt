@@ -1,6 +1,6 @@
 //! Pictures of boards, place by place.
 ghost use Rattle.std.specs.Prelude.{◌≡◌, ◌<◌, slice_set};
-ghost use Rattle.zed_screen.specs.Frames.{DrawsBoard, Shows, painted, printable};
+ghost use Rattle.zed_screen.specs.Frames.{DrawsBoard, Shows};
 ghost use Rattle.zed_screen.specs.Panel.{play_cell};
 ghost use Rattle.zed_screen.specs.Picture.{data_cell};
 

@@ -100,11 +100,11 @@ pub(crate) fn data_cell(board: &BoardData, k: u16) -> Cell
 {
     let place = place_of(k % 80, k / 80);
     let tile = tile_in(&board.tiles, place);
-    shown_in(k % 80, tile, p1_in(board.stats.as_slice(), place))
+    shown_in(k % 80, tile, data_p1_at(board.stats.as_slice(), place))
 }
 
 /// The first parameter of the lowest stat at a place.
-fn p1_in(stats: &[StatData], place: Place) -> Option<u8>
+fn data_p1_at(stats: &[StatData], place: Place) -> Option<u8>
     ensures { result ≡ data_p1 (find (stands_at place) stats.now) }
 {
     match stats.iter().find(|s| s.x == place.x && s.y == place.y) {

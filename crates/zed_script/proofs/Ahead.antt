@@ -63,16 +63,6 @@ instruction_ahead p at (Message m) next x =
     let after = moves.0 in let within = moves.1 in
     (omega arith, omega arith)
 
--- an instruction is of the kind that its first byte begins
-pub instruction_begun : (p : List ℕ) (at : ℕ) (i : Instruction) (next : ℕ) → InstructionAt p at i next → begun_at p at ≡ line_kind i
-instruction_begun p at End next x = x.0
-instruction_begun p at Skipped next x = x.0
-instruction_begun p at Blank next x = x.0
-instruction_begun p at (Step h) next x = x.0
-instruction_begun p at (Attempt h) next x = x.0
-instruction_begun p at Command next x = x.0
-instruction_begun p at (Message m) next x = x.0
-
 -- behind THEN the program doesn't go back
 then_after : (p : List ℕ) (at from : ℕ) → BehindThen p at from → at ≤ from
 then_after p at from (there a e) = omega arith

@@ -93,7 +93,7 @@ then_there zero p at h = by_then (is_then p at) refl
     by_then : (b : Bool) → is_then p at ≡ b → (from : ℕ) × BehindThen p at from
     by_then false e = (at, there at e)
     by_then true e =
-        let moves = then_moves p at (word_end p at) (e, refl) in
+        let moves = then_moves p at e in
         let within = word_end_within p at in
         absurd (omega arith)
 then_there (suc k) p at h = by_then (is_then p at) refl (then_there k p (word_end p at))
@@ -101,7 +101,7 @@ then_there (suc k) p at h = by_then (is_then p at) refl (then_there k p (word_en
     by_then : (b : Bool) → is_then p at ≡ b → (length p ≤ word_end p at + k → (from : ℕ) × BehindThen p (word_end p at) from) → (from : ℕ) × BehindThen p at from
     by_then false e further = (at, there at e)
     by_then true e further =
-        let moves = then_moves p at (word_end p at) (e, refl) in
+        let moves = then_moves p at e in
         let rest = further (omega arith) in
         (rest.0, passed at rest.0 e rest.1)
 

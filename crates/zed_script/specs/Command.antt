@@ -103,11 +103,6 @@ CommandBehind p w at (Other n) end = (is_command w ≡ false) × (n ≡ w) × (e
 abbrev pub is_then : List ℕ → ℕ → Bool
 is_then p at = bytes_eq (word_at p at) (codes "THEN")
 
--- where THEN ends, if it stands at a place
-abbrev pub ThenAt : List ℕ → ℕ → Option ℕ → Type 0
-ThenAt p at None = is_then p at ≡ false
-ThenAt p at (Some end) = (is_then p at ≡ true) × (end ≡ word_end p at)
-
 -- behind the words THEN from a place on another word begins, or none
 pub data BehindThen (p : List ℕ) : ℕ → ℕ → Type 0 where
   there : (at : ℕ) → is_then p at ≡ false → BehindThen p at at

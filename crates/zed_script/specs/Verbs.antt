@@ -13,7 +13,8 @@ use Rattle.zed_script.specs.declared.commands.Naming.TheVariants.{Set, Clear, Se
 use Rattle.zed_script.specs.Heading.{DirectionAt}
 use Rattle.zed_script.specs.Kind.{kind_at}
 use Rattle.zed_script.specs.Condition.{is_question}
-use Rattle.zed_script.specs.Command.{is_bare, is_deed, is_naming}
+use Rattle.zed_script.specs.Command.{BehindThen, is_bare, is_deed, is_naming}
+use Rattle.zed_script.specs.Text.{word_at, word_end}
 
 -- the word of a question
 abbrev pub question_word : Question → List ℕ
@@ -89,3 +90,7 @@ bare_word ThrowStar = codes "THROWSTAR"
 abbrev pub IsBare : List ℕ → Option Bare → Type 0
 IsBare w None = is_bare w ≡ false
 IsBare w (Some v) = w ≡ bare_word v
+
+-- a word, the first from a place on that isn't THEN, and where it ends
+abbrev pub NextWord : List ℕ → ℕ → List ℕ → ℕ → Type 0
+NextWord p at w end = (from : ℕ) × (BehindThen p at from × (w ≡ word_at p from) × (end ≡ word_end p from))

@@ -1,13 +1,13 @@
 //! Commands as a program writes them.
-ghost use Rattle.std.specs.Prelude.{◌≡◌, ◌≤◌, IfOk, IfSome, OnErr, Some, length, max};
-ghost use Rattle.zed_script.specs.Command.{AimAt, AmountAt, BehindThen, CommandAt, CommandBehind, ThenAt, ExchangeAt, NameAt, counter_of};
+ghost use Rattle.std.specs.Prelude.{◌≡◌, ◌≤◌, IfOk, OnErr, Some, length, max};
+ghost use Rattle.zed_script.specs.Command.{AimAt, AmountAt, CommandAt, CommandBehind, ExchangeAt, counter_of};
 ghost use Rattle.zed_script.specs.Text.{HasWord, upper};
-ghost use Rattle.zed_script.specs.Verbs.{IsBare, IsDoing, IsNaming, bare_word, doing_word, naming_word};
+ghost use Rattle.zed_script.specs.Verbs.{IsBare, IsDoing, IsNaming, NextWord, bare_word, doing_word, naming_word};
 
 use crate::conditions::{Query, condition};
 use crate::heading::{Heading, direction};
 use crate::kinds::{TileKind, kind};
-use crate::text::{is_word_at, says, upper, value_at, value_end, word_at, word_end, written_at};
+use crate::text::{says, upper, value_at, value_end, word_at, written_at};
 use std::alloc::{AllocError, Global};
 use zed_types::Bytes;
 
@@ -210,8 +210,7 @@ fn amount_at(program: &[u8], at: usize) -> ((Option<Counter>, u16), usize)
     ensures within { result.1 ≤ max at (length program.now) }
     ensures ends { at ≤ result.1 }
 {
-    let name = written_at(program, at);
-    let end = word_end(program, at);
+    let (name, end) = written_at(program, at);
     let value = value_at(program, end);
     ((counter_of(name), value), value_end(program, end))
 }
@@ -244,17 +243,6 @@ fn exchange_at(
     let (first, end) = kind(alloc, program, at, false)?;
     let (second, last) = kind(alloc, program, end, false)?;
     Ok(((first, second), last))
-}
-
-/// A word.
-fn name_at(alloc: Global, program: &[u8], at: usize) -> Result<(Bytes, usize), AllocError>
-    ensures result { IfOk result (λ r. NameAt program.now at r.0 r.1) }
-    ensures within { IfOk result (λ r. r.1 ≤ max at (length program.now)) }
-    ensures ends { IfOk result (λ r. at ≤ r.1) }
-{
-    let word = word_at(alloc, program, at)?;
-    let end = word_end(program, at);
-    Ok((word, end))
 }
 
 /// The command of such a word, which ends at a place.
@@ -329,27 +317,27 @@ fn naming_behind(
 {
     match verb {
         Naming::Set => {
-            let (name, end) = name_at(alloc, program, at)?;
+            let (name, end) = word_at(alloc, program, at)?;
             Ok((OopCommand::Set(name), end))
         }
         Naming::Clear => {
-            let (name, end) = name_at(alloc, program, at)?;
+            let (name, end) = word_at(alloc, program, at)?;
             Ok((OopCommand::Clear(name), end))
         }
         Naming::Send => {
-            let (name, end) = name_at(alloc, program, at)?;
+            let (name, end) = word_at(alloc, program, at)?;
             Ok((OopCommand::Send(name), end))
         }
         Naming::Zap => {
-            let (name, end) = name_at(alloc, program, at)?;
+            let (name, end) = word_at(alloc, program, at)?;
             Ok((OopCommand::Zap(name), end))
         }
         Naming::Restore => {
-            let (name, end) = name_at(alloc, program, at)?;
+            let (name, end) = word_at(alloc, program, at)?;
             Ok((OopCommand::Restore(name), end))
         }
         Naming::Bind => {
-            let (name, end) = name_at(alloc, program, at)?;
+            let (name, end) = word_at(alloc, program, at)?;
             Ok((OopCommand::Bind(name), end))
         }
         Naming::Become => {
@@ -404,31 +392,19 @@ fn command_behind(
     }
 }
 
-/// Where THEN ends, if it stands at a place.
-fn then_end(program: &[u8], at: usize) -> Option<usize>
-    ensures result { ThenAt program.now at result }
-    ensures within { IfSome result (λ end. end ≤ max at (length program.now)) }
-    ensures ends { IfSome result (λ end. at ≤ end) }
-{
-    if is_word_at(program, at, b"THEN") {
-        Some(word_end(program, at))
-    } else {
-        None
-    }
-}
-
-/// Where the words THEN end that stand at a place.
-fn behind_then(program: &[u8], at: usize) -> usize
-    ensures result { BehindThen program.now at result }
-    ensures within { result ≤ max at (length program.now) }
-    ensures ends { at ≤ result }
+/// The first word from a place on that isn't THEN, with its letters as they are written, and where it ends.
+fn next_word(program: &[u8], at: usize) -> (&[u8], usize)
+    ensures result { NextWord program.now at (upper result.0.now) result.1 }
+    ensures within { result.1 ≤ max at (length program.now) }
+    ensures ends { at ≤ result.1 }
 {
     let mut from = at;
     loop {
-        match then_end(program, from) {
-            Some(end) => from = end,
-            None => return from,
+        let (word, end) = written_at(program, from);
+        if !says(word, "THEN") {
+            return (word, end);
         }
+        from = end;
     }
 }
 
@@ -444,9 +420,7 @@ pub fn next_command(
     ensures ends { IfOk result (λ r. at ≤ r.1) }
     ensures memory_only_when { OnErr result (HasWord program.now at) }
 {
-    let from = behind_then(program, at);
-    let word = written_at(program, from);
-    let end = word_end(program, from);
+    let (word, end) = next_word(program, at);
     if word.is_empty() {
         return Ok((None, end));
     }

@@ -6,7 +6,7 @@ ghost use Rattle.zed_script.specs.Verbs.{AnyAt, BlockedAt, IsQuestion, question_
 
 use crate::heading::{Heading, direction};
 use crate::kinds::{TileKind, kind};
-use crate::text::{says, upper, word_end, written_at};
+use crate::text::{says, upper, written_at};
 use std::alloc::{AllocError, Global};
 use zed_types::Bytes;
 
@@ -135,8 +135,7 @@ fn test_at(alloc: Global, program: &[u8], at: usize) -> Result<(Option<Test>, us
     ensures ends { IfOk result (λ r. at ≤ r.1) }
     ensures memory_only_when { OnErr result (HasWord program.now at) }
 {
-    let word = written_at(program, at);
-    let end = word_end(program, at);
+    let (word, end) = written_at(program, at);
     test_behind(alloc, program, word, end)
 }
 

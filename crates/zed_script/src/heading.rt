@@ -3,7 +3,7 @@ ghost use Rattle.std.specs.Prelude.{◌≡◌, ◌≤◌, IfOk, OnErr, Some, len
 ghost use Rattle.zed_script.specs.Heading.{DirectionAt, IsPiece, chosen_of, course_of, turning_of};
 ghost use Rattle.zed_script.specs.Text.{HasWord, upper};
 
-use crate::text::{says, word_end, written_at};
+use crate::text::{says, written_at};
 use std::alloc::{AllocError, Global};
 use zed_types::Seq;
 
@@ -112,11 +112,11 @@ fn piece_at(program: &[u8], at: usize) -> Piece
     ensures within { result.end ≤ max at (length program.now) }
     ensures ends { at ≤ result.end }
 {
-    let word = written_at(program, at);
+    let (word, end) = written_at(program, at);
     Piece {
         turning: turning_of(word),
         course: course_of(word),
-        end: word_end(program, at),
+        end,
     }
 }
 

@@ -3,7 +3,7 @@ ghost use Rattle.std.specs.Prelude.{◌≡◌, ◌≤◌, IfOk, OnErr, length, m
 ghost use Rattle.zed_script.specs.Kind.{allowed, colour_of, element_below, element_of, is_element, kind_at, kind_of, matches, tile_of};
 ghost use Rattle.zed_script.specs.Text.{HasWord};
 
-use crate::text::{is_word, word_at, word_end};
+use crate::text::{is_word, word_at};
 use std::alloc::{AllocError, Global};
 use zed_types::{Tile, element};
 
@@ -135,12 +135,10 @@ pub fn kind(
     ensures ends { IfOk result (λ r. at ≤ r.1) }
     ensures memory_only_when { OnErr result (HasWord program.now at) }
 {
-    let first = word_at(alloc, program, at)?;
-    let end = word_end(program, at);
+    let (first, end) = word_at(alloc, program, at)?;
     match colour_of(first.as_slice()) {
         Some(colour) => {
-            let second = word_at(alloc, program, end)?;
-            let last = word_end(program, end);
+            let (second, last) = word_at(alloc, program, end)?;
             Ok((kind_of(Some(colour), second.as_slice(), player), last))
         }
         None => Ok((kind_of(None, first.as_slice(), player), end)),

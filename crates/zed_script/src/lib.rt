@@ -18,4 +18,4 @@ pub use kinds::{TileKind, kind};
 pub use labels::{byte_is, first_label, is_restart, label_at, label_place};
 pub use laws::{one_command, one_condition, one_direction, one_instruction};
 pub use lines::{Instruction, Line, LineKind, Program, standing_at};
-pub use text::{is_word, is_word_at, line_after, line_end, word_at, word_end};
+pub use text::{is_word, is_word_at, line_after, line_end, word_at};

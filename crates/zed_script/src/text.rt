@@ -80,17 +80,6 @@ fn end_of_word(program: &[u8], from: usize) -> usize
     }
 }
 
-#[tactic(auto, unfolding(crate::specs::Text::word_end))]
-/// Where the word ends that stands at a place.
-pub fn word_end(program: &[u8], at: usize) -> usize
-    ensures result { result ≡ word_end program.now at }
-    ensures within { result ≤ max at (length program.now) }
-    ensures ends { at ≤ result }
-{
-    let from = word_start(program, at);
-    end_of_word(program, from)
-}
-
 /// Bytes in upper case.
 pub(crate) fn upper(alloc: Global, bytes: &[u8]) -> Result<Bytes, AllocError>
     ensures result { IfOk result (λ b. b ≡ upper bytes.now) }
@@ -107,22 +96,27 @@ pub(crate) fn upper(alloc: Global, bytes: &[u8]) -> Result<Bytes, AllocError>
 }
 
 #[tactic(auto, unfolding(crate::specs::Text::word_at, crate::specs::Text::word_end))]
-/// The word that stands at a place, with its letters as they are written.
-pub(crate) fn written_at(program: &[u8], at: usize) -> &[u8]
-    ensures result { upper result.now ≡ word_at program.now at }
-    ensures within { length result.now ≡ length (word_at program.now at) }
+/// The word that stands at a place, with its letters as they are written, and where it ends.
+pub(crate) fn written_at(program: &[u8], at: usize) -> (&[u8], usize)
+    ensures result { upper result.0.now ≡ word_at program.now at }
+    ensures within { (length result.0.now ≡ length (word_at program.now at))
+        × (result.1 ≤ max at (length program.now)) }
+    ensures ends { (result.1 ≡ word_end program.now at) × (at ≤ result.1) }
 {
     let from = word_start(program, at);
     let end = end_of_word(program, from);
-    part(program, from, end)
+    (part(program, from, end), end)
 }
 
-/// The word that stands at a place, in upper case.
-pub fn word_at(alloc: Global, program: &[u8], at: usize) -> Result<Bytes, AllocError>
-    ensures result { IfOk result (λ w. w ≡ word_at program.now at) }
+/// The word that stands at a place, in upper case, and where it ends.
+pub fn word_at(alloc: Global, program: &[u8], at: usize) -> Result<(Bytes, usize), AllocError>
+    ensures result { IfOk result (λ r. r.0 ≡ word_at program.now at) }
+    ensures within { IfOk result (λ r. r.1 ≤ max at (length program.now)) }
+    ensures ends { IfOk result (λ r. (r.1 ≡ word_end program.now at) × (at ≤ r.1)) }
     ensures memory_only_when { OnErr result (HasWord program.now at) }
 {
-    upper(alloc, written_at(program, at))
+    let (word, end) = written_at(program, at);
+    Ok((upper(alloc, word)?, end))
 }
 
 /// Whether bytes are a word but for the case of their letters, which the word has in upper case.
@@ -146,7 +140,8 @@ fn is_upper_of(bytes: &[u8], word: &[u8]) -> bool
 pub fn is_word_at(program: &[u8], at: usize, word: &[u8]) -> bool
     ensures result { result ≡ bytes_eq (word_at program.now at) word.now }
 {
-    is_upper_of(written_at(program, at), word)
+    let (written, _) = written_at(program, at);
+    is_upper_of(written, word)
 }
 
 /// Whether a word that is written in letters of any case is this one.
