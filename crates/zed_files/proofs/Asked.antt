@@ -49,11 +49,6 @@ refused_at called reads last e old new asks = (
   ],
 )
 
--- the refusal that is known to be told
-pub told_so : {H : Type 0} (called : H → Call → H → Type 0) (reads : List Ask) (told answer : Option Refusal) (old new : H) → told ≡ answer
-    → Asks called reads [] told old new → Asks called reads [] answer old new
-told_so called reads told answer old new same asks = subst (λ o. Asks called reads [] o old new) same asks
-
 -- another refusal in place of one, or of none
 pub refused_instead : {H : Type 0} (called : H → Call → H → Type 0) (reads : List Ask) (told : Option Refusal) (e : Refusal) (old new : H) → (e ≡ File → ⊥)
     → Asks called reads [] told old new → Asks called reads [] (Some e) old new

@@ -10,13 +10,10 @@ use Rattle.zed_editfile.specs.declared.error.EditFileError.{EditFileError}
 use Rattle.zed_session.specs.declared.error.SessionError.{SessionError}
 use Rattle.zed_world.specs.declared.error.WorldError.{WorldError}
 use Rattle.zed_files.specs.declared.refusal.Refusal.{Refusal}
-use Rattle.zed_files.specs.declared.refusal.Refusal.TheVariants.{Clash, File, Memory}
-use Rattle.zed_op.specs.declared.op.Edit.{Edit}
-use Rattle.zed_types.specs.declared.stamp.Stamp.{Stamp}
-use Rattle.std.proofs.Common.{◌≡◌, ◌≤◌, ◌∙◌, ℕ, List, arith, Option, Some, None, Result, Ok, Err, MatchResult, is_err, refl, sym, inl, inr}
+use Rattle.zed_files.specs.declared.refusal.Refusal.TheVariants.{File, Memory}
+use Rattle.std.proofs.Common.{◌≡◌, ◌∙◌, ℕ, arith, Option, Some, None, Result, Ok, Err, MatchResult, is_err, refl, sym, inl, inr}
 use Rattle.std.specs.Prelude.{IsErrAnd}
 use mathlib.Core.Logic.{◌⊎◌}
-use Rattle.zed_document.specs.Delivery.{IsFirstClash}
 use Rattle.zed_host.specs.Counting.{Counts, Rose}
 use Rattle.zed_host.proofs.Counts.{rose_later}
 use Rattle.zed_files.specs.Faults.{NoneForgotten, TellsFailures}
@@ -89,10 +86,6 @@ session_is_other session.NoLink is = cc
 -- a refusal of memory, or of what isn't `File`
 pub is_other : (P : Type 0) (e : Refusal) → (e ≡ Memory) ⊎ P → (P → e ≡ File → ⊥) → e ≡ File → ⊥
 is_other P e why other is = elim why [ inl memory ↦ memory_is_other e memory is | inr p ↦ other p is ]
-
--- edits that were not delivered
-pub undelivered_is_other : (es : List Edit) (e : Refusal) → (e ≡ Memory) ⊎ ((s : Stamp) × IsFirstClash es s × (e ≡ Clash s)) → e ≡ File → ⊥
-undelivered_is_other es e why is = elim why [ inl memory ↦ memory_is_other e memory is | inr clash ↦ (let no = clash.2 in cc) ]
 
 -- ---- no failed call is forgotten
 

@@ -3,4 +3,5 @@ pub mod Deliveries
 pub mod Endings
 pub mod Failures
 pub mod FileEnds
+pub mod OffStage
 pub mod Streams

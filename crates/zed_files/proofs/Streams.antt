@@ -1,14 +1,12 @@
 -- How files come to a stream of edits.
-use Rattle.std.proofs.Common.{◌≡◌, ◌∙◌, ℕ, List, [], ◌∷◌, ◌++◌, Option, Some, None, Result, Ok, Err, refl, ap, sym, subst, append_assoc, append-nil, add-one, drop, drop-cons, drop_of_length-le, get_or, length, map, ◌+◌, ◌<◌, ◌≤◌}
+use Rattle.std.proofs.Common.{◌≡◌, ◌∙◌, ℕ, List, [], ◌∷◌, ◌++◌, Option, Some, None, Result, Ok, Err, refl, ap, sym, subst, append_assoc, append-nil, add-one, drop, drop-cons, drop_of_length-le, get_or, length, ◌+◌, ◌<◌, ◌≤◌}
 use Rattle.std.specs.Borrow.{Bor}
 use Rattle.zed_files.specs.declared.refusal.Refusal.{Refusal}
 use Rattle.zed_files.specs.Collected.{Collects, IsStreamIn, set_unless}
 use Rattle.zed_files.specs.Texts.{texts_of}
-use Rattle.zed_host.specs.HostContents.{AreRead, HostContents, IsRead, file_in}
-use Rattle.zed_types.specs.declared.stamp.Stamp.{Stamp}
-use Rattle.zed_document.specs.Delivery.{IsFirstClash}
-use Rattle.zed_files.specs.declared.refusal.Refusal.TheVariants.{Memory, Clash, File}
-use mathlib.Core.Logic.{◌⊎◌, inl, inr}
+use Rattle.zed_host.specs.HostContents.{AreRead, HostContents, IsRead}
+use Rattle.zed_files.specs.declared.refusal.Refusal.TheVariants.{File}
+use mathlib.Core.Logic.{inl, inr}
 use Rattle.zed_op.specs.declared.op.Edit.{Edit}
 use Rattle.zed_op.specs.Set.{Agrees, AllFit, set_of}
 use Rattle.zed_editfile.specs.declared.error.EditFileError.{EditFileError}
@@ -32,6 +30,11 @@ pub last_file : (P : Stream → Type 0) (asked : Option ℕ) (bytes : List ℕ) 
 last_file P asked bytes files all es more e first read file =
     let here : IsStream asked (Some bytes ∷ files) (edits_then more (Some (file_refusal e))) = inl (e, file, refl) in
     read (edits_then more (Some (file_refusal e))) (subst (λ files. IsStream asked files (edits_then more (Some (file_refusal e)))) (sym first) here)
+
+-- the edits of a file that were put into an empty list
+pub file_alone : (asked : Option ℕ) (bytes : List ℕ) (old new es : List Edit) (end : Result ℕ EditFileError) → old ≡ [] → new ≡ old ++ es → IsFile asked bytes es end
+    → IsFile asked bytes new end
+file_alone asked bytes old new es end none made file = subst (λ es. IsFile asked bytes es end) (sym (made ∙ ap (λ old. old ++ es) none)) file
 
 -- the edits of a file fit
 pub file_fits : (asked : Option ℕ) (bytes : List ℕ) (es : List Edit) (end : Result ℕ EditFileError) → IsFile asked bytes es end → AllFit es
@@ -70,15 +73,6 @@ pub all_read : (P : Stream → Type 0) (asked : Option ℕ) (all : List (Option 
 all_read P asked all es refusal none read end =
     let here : IsStream asked all (edits_then [] refusal) = subst (λ files. IsStream asked files (edits_then [] refusal)) (sym none) (ap (edits_then []) end) in
     subst (λ all. P (edits_then all refusal)) (append-nil es) (read (edits_then [] refusal) here)
-
--- what comes first is a clash
-pub clash_first : (failed : Type 0) (t : HostContents) (names : List (List ℕ)) (s : Stream) (e : Refusal) → IsStreamIn failed t names s
-    → (e ≡ Memory) ⊎ ((c : Stamp) × IsFirstClash s.edits c × (e ≡ Clash c)) → (e ≡ Memory) ⊎ Collects failed t names (Err e)
-clash_first failed t names s e reads why =
-    elim why [
-      | inl memory ↦ inl memory
-      | inr clash ↦ inr (s, reads, inl (clash.0, clash.1, ap (λ r. Err r) clash.2))
-    ]
 
 -- what comes first is the refusal of a file
 pub file_first : (failed : Type 0) (t : HostContents) (names : List (List ℕ)) (es : List Edit) (refusal : Option Refusal) (e : Refusal) → IsStreamIn failed t names (edits_then es refusal) → Agrees es

@@ -3,9 +3,11 @@ use Rattle.zed_types.specs.declared.stamp.Stamp.{Stamp}
 use Rattle.zed_op.specs.declared.op.Edit.{Edit}
 use Rattle.zed_files.specs.declared.refusal.Refusal.{Refusal}
 use Rattle.zed_files.specs.declared.refusal.Refusal.TheVariants.{Clash}
-use Rattle.std.specs.Prelude.{◌≡◌, ◌⊎◌, List, Option, Some, None, Result, Ok, Err, ℕ}
+use Rattle.std.specs.Prelude.{◌≡◌, ◌⊎◌, false, List, [], Option, Some, None, Result, Ok, Err, ℕ}
 use Rattle.zed_op.specs.Set.{Agrees, set_of}
-use Rattle.zed_document.specs.Delivery.{IsFirstClash}
+use Rattle.zed_document.specs.Delivery.{DeliversEach, IsFirstClash}
+use Rattle.zed_document.specs.Laws.{document_of}
+use Rattle.zed_document.specs.Replica.{Replica}
 use Rattle.zed_files.specs.Files.{Stream, IsStream}
 use Rattle.zed_host.specs.HostContents.{AreRead, HostContents}
 
@@ -28,3 +30,12 @@ IsStreamIn failed t names s =
 -- the set of edits that the files of these names come to, or the first refusal
 abbrev pub Collects : Type 0 → HostContents → List (List ℕ) → Result (List Edit) Refusal → Type 0
 Collects failed t names set = (s : Stream) × IsStreamIn failed t names s × IsCollected s set
+
+-- a document without edits took these, one after the other, and is this one now
+abbrev pub HasTaken : List Edit → Replica → Type 0
+HasTaken es d = (d.is_stale ≡ false) × DeliversEach (document_of d.world [] []) es (Ok tt) d.edits
+
+-- what the edits of some files came to: a document that took them all, or the first clash of two
+abbrev pub CameTo : List Edit → Replica → Option Stamp → Type 0
+CameTo es d None = HasTaken es d
+CameTo es d (Some s) = IsFirstClash es s

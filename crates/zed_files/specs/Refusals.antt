@@ -1,5 +1,5 @@
 -- Refusals of the layers below as those of a command.
-use Rattle.std.specs.Prelude.{Bool, true, false, Result, Ok, Err}
+use Rattle.std.specs.Prelude.{◌≡◌, Bool, true, false, Result, Ok, Err}
 use Rattle.zed_editfile.specs.declared.error.EditFileError.{EditFileError}
 use Rattle.zed_editfile.specs.declared.error.EditFileError.TheVariants as file
 use Rattle.zed_world.specs.declared.error.WorldError.{WorldError}
@@ -92,3 +92,27 @@ abbrev pub is_file_refusal : {X : Type 0} → Result X Refusal → Bool
 is_file_refusal (Err File) = true
 is_file_refusal (Err _) = false
 is_file_refusal (Ok x) = false
+
+-- whether a refusal tells of a screen that failed
+abbrev pub is_of_screen : Refusal → Bool
+is_of_screen ScreenFault = true
+is_of_screen _ = false
+
+-- whether it tells of a source of keys that failed
+abbrev pub is_of_keys : Refusal → Bool
+is_of_keys KeyFault = true
+is_of_keys _ = false
+
+-- the refusal is neither of a screen nor of a source of keys
+abbrev pub IsOffStage : Refusal → Type 0
+IsOffStage e = (is_of_screen e ≡ false) × (is_of_keys e ≡ false)
+
+-- whether an answer tells of a screen that failed
+abbrev pub is_screen_fault : {X : Type 0} → Result X Refusal → Bool
+is_screen_fault (Err e) = is_of_screen e
+is_screen_fault (Ok x) = false
+
+-- whether it tells of a source of keys that failed
+abbrev pub is_key_fault : {X : Type 0} → Result X Refusal → Bool
+is_key_fault (Err e) = is_of_keys e
+is_key_fault (Ok x) = false

@@ -2,9 +2,11 @@
 #![tactic(auto)]
 
 mod collect;
+mod gathering;
 mod output;
 mod refusal;
 
-pub use collect::{deliver_all, load, read_file, read_one};
+pub use collect::{load, read_file, read_one};
+pub use gathering::deliver_all;
 pub use output::{print_out, write_out};
 pub use refusal::{Refusal, bytes_told, edits_told, joined_told, line_of, plain_line};

@@ -10,12 +10,6 @@ falls_more a b c first next t =
     let two : count_of t b ≤ count_of t c = next t in
     omega arith
 
--- a document that stays as it was
-pub falls_not : (a b : Replica) → b ≡ a → NoCountFalls a.counts b.counts
-falls_not a b same t =
-    let here : count_of t a.counts ≤ count_of t a.counts = omega arith in
-    subst (λ (r : Replica). count_of t a.counts ≤ count_of t r.counts) (sym same) here
-
 -- a document that is handed on before and behind a call
 pub falls_between : (a b c d : Replica) → b ≡ a → d ≡ c → NoCountFalls b.counts c.counts → NoCountFalls a.counts d.counts
 falls_between a b c d before after falls t =

@@ -125,25 +125,6 @@ read_failed d old mid now a b c n p m counts within going none more = record {
   document = (going.calm, going.all);
 }
 
--- there were too many reads
-pub read_too_often : (d : Replica) (old now : Option LinkEnds) (a b n : ℕ) (p : Progress) (m : Replica) (counts : Pulled) → n ≡ most_reads
-    → Going d old now a b n p m counts → Pull d old now a b (Err TooManyTurns) m.edits
-read_too_often d old now a b n p m counts all going = record {
-  handed = going.handed;
-  pieces = n;
-  reads = n;
-  edits = going.found;
-  reader = p;
-  asks = going.asks;
-  spells = going.spells;
-  size = going.size;
-  made = refl;
-  counted = going.made;
-  link = (going.link, all);
-  memory_only_when = λ bad. absurd (let it : refused TooManyTurns ≡ refused Memory = bad in cc);
-  document = (going.calm, going.all);
-}
-
 -- the end came where a file may end
 pub ends_well : (d : Replica) (old mid now : Option LinkEnds) (a b c n : ℕ) (p : Progress) (m : Replica) (counts : Pulled) → n < most_reads
     → Going d old mid a b n p m counts → Changed (HandedAll []) mid now → Counted 1 b c

@@ -1,4 +1,5 @@
 pub mod Endings
+pub mod OffStage
 pub mod Opened
 pub mod Others
 pub mod Pulls

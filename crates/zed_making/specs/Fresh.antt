@@ -1,6 +1,7 @@
 -- The world of a new edit file.
 use Rattle.zed_types.specs.declared.limits.TheConstants.{READ_BODY_LIMIT}
 use Rattle.zed_types.specs.declared.tile.Tile.{Tile}
+use Rattle.zed_types.specs.Stamp.{genesis_stamp}
 use Rattle.zed_op.specs.declared.op.Op.TheVariants.{Genesis}
 use Rattle.zed_op.specs.declared.op.Edit.{Edit}
 use Rattle.zed_world.specs.declared.error.WorldError.{WorldError}
@@ -12,7 +13,6 @@ use Rattle.zed_files.specs.declared.refusal.Refusal.{Refusal}
 use Rattle.zed_files.specs.declared.refusal.Refusal.TheVariants.{File}
 use Rattle.std.specs.Prelude.{ℕ, pos, false, List, [], ◌∷◌, codes, replicate, take, Option, Some, None, Result, Ok, Err, ◌≡◌}
 use Rattle.zed_edit.specs.Board.{new_table}
-use Rattle.zed_op.specs.Fit.{genesis_stamp}
 use Rattle.zed_world.specs.Contents.{Contents, standing}
 use Rattle.zed_world.specs.Reading.{world_at}
 use Rattle.zed_world.specs.Writing.{written}

@@ -9,6 +9,7 @@ ghost use Rattle.zed_files.specs.Effects.{Ends};
 ghost use Rattle.zed_files.specs.Texts.{texts_of};
 ghost use Rattle.zed_host.specs.Counting.{Rose};
 ghost use Rattle.zed_files.specs.Faults.{TellsFailures};
+ghost use Rattle.zed_files.specs.Refusals.{IsOffStage};
 ghost use Rattle.zed_host.specs.HostContents.{HostContents};
 
 use std::alloc::Global;
@@ -57,6 +58,7 @@ fn open<H: Host>(alloc: Global, host: &mut H, file: &str) -> Result<Document, Re
         (λ d. OpensAs failed t file.now (Ok (d.world, d.edits)))
         (λ e. (e ≡ Refusal.Memory) ⊎ OpensAs failed t file.now (Err e)) }
     ensures sound { IfOk result (λ d. d.is_stale ≡ false) }
+    ensures err { IfErr result IsOffStage }
     ensures kept { H.contents host.new ≡ H.contents host.old }
     ensures asked { Asks H.called (reading (file.now ∷ [])) []
         (refusal_in result) host.old host.new }
@@ -79,6 +81,7 @@ fn edited<H: Host>(
         (λ d. IsEdited failed t file.now replica (texts_of words.now) (Ok (d.world, d.edits)))
         (λ e. (e ≡ Refusal.Memory)
         ⊎ IsEdited failed t file.now replica (texts_of words.now) (Err e)) }
+    ensures err { IfErr result IsOffStage }
     ensures kept { H.contents host.new ≡ H.contents host.old }
     ensures asked { Asks H.called (reading (file.now ∷ [])) []
         (refusal_in result) host.old host.new }
@@ -104,6 +107,7 @@ pub fn edit<H: Host>(
         → let failed = Rose (H.faults host.old) (H.faults host.new) in
         Ends failed (ComesToEdit failed t file.now replica (texts_of words.now)) t
         result (H.contents host.new) }
+    ensures err { IfErr result IsOffStage }
     ensures asked { Asks H.called (reading (file.now ∷ [])) (writing file.now)
         (refusal_in result) host.old host.new }
     ensures failures { TellsFailures H.faults H.failed result host.old host.new }

@@ -12,6 +12,7 @@ ghost use Rattle.zed_files.specs.Effects.{Ends};
 ghost use Rattle.zed_files.specs.Texts.{text_in};
 ghost use Rattle.zed_host.specs.Counting.{Rose};
 ghost use Rattle.zed_files.specs.Faults.{TellsFailures};
+ghost use Rattle.zed_files.specs.Refusals.{IsOffStage};
 ghost use Rattle.zed_host.specs.HostContents.{HostContents};
 
 use std::alloc::{AllocError, Global};
@@ -165,6 +166,7 @@ fn first<H: Host>(
         (λ e. (e ≡ Refusal.Memory)
         ⊎ IsFirstWorld failed t (text_in from.entry) (text_in name.entry) (Err e)) }
     ensures canonical { IfOk result (λ bytes. IsCanonical bytes.items) }
+    ensures err { IfErr result IsOffStage }
     ensures kept { H.contents host.new ≡ H.contents host.old }
     ensures asked { Asks H.called (reading (named (text_in from.entry))) []
         (refusal_in result) host.old host.new }
@@ -208,6 +210,7 @@ pub fn make_new<H: Host>(
         → let failed = Rose (H.faults host.old) (H.faults host.new) in
         Ends failed (ComesToNew failed t out.now world (text_in from.entry) (text_in name.entry)) t
         result (H.contents host.new) }
+    ensures err { IfErr result IsOffStage }
     ensures asked { Asks H.called (reading (named (text_in from.entry))) (writing out.now)
         (refusal_in result) host.old host.new }
     ensures failures { TellsFailures H.faults H.failed result host.old host.new }

@@ -1,5 +1,5 @@
 //! Edit files joined to one.
-ghost use Rattle.std.specs.Prelude.{[], ◌≡◌, ◌<◌, Err, IfOk, List, MatchResult, Ok, OnOk, Result, Some, false, length, map};
+ghost use Rattle.std.specs.Prelude.{[], ◌≡◌, ◌<◌, Err, IfErr, IfOk, List, MatchResult, Ok, OnOk, Result, Some, false, length, map};
 ghost use Rattle.zed_op.specs.declared.op.Edit.{Edit as TheEdit};
 ghost use Rattle.zed_document.specs.Counts.{NoCountFalls};
 ghost use Rattle.zed_session.specs.Links.{PullsOver, seen};
@@ -9,7 +9,7 @@ ghost use Rattle.zed_host.specs.HostContents.{HostContents};
 ghost use Rattle.zed_making.specs.Merged.{ComesToMerge, IsMerged};
 ghost use Rattle.zed_files.specs.Asked.{Asks, refusal_in, writing};
 ghost use Rattle.zed_files.specs.Effects.{Ends};
-ghost use Rattle.zed_files.specs.Refusals.{link_refusal};
+ghost use Rattle.zed_files.specs.Refusals.{IsOffStage, link_refusal};
 
 use std::alloc::Global;
 use zed_document::Document;
@@ -76,6 +76,7 @@ pub(crate) fn merge<H: Host>(
         Ends failed (ComesToMerge (map (λ link. seen (ends link) (reads link)) links.old.items)
         (map (λ link. seen (ends link) (reads link)) links.new.items)
         out.now world (length files.now)) t result (H.contents host.new) }
+    ensures err { IfErr result IsOffStage }
     ensures links { (r : Result (List TheEdit) Refusal) × IsMerged world (length files.now)
         (map (λ link. seen (ends link) (reads link)) links.old.items)
         (map (λ link. seen (ends link) (reads link)) links.new.items) r }

@@ -9,10 +9,12 @@ ghost use Rattle.zed_files.specs.Asked.{Asks, refusal_in};
 ghost use Rattle.zed_program.specs.Asked.{Complains, RunAsks, last_of, reads_of};
 ghost use Rattle.zed_program.specs.Called.{CallsDevices, PullsLinks};
 ghost use Rattle.zed_program.specs.Devices.{devices};
+ghost use Rattle.zed_program.specs.Faults.{TellsFault};
 ghost use Rattle.zed_program.specs.Outcome.{EndsCalmly, EndsCommand, EndsRun, IsTold, status_of};
 ghost use Rattle.zed_program.specs.Saving.{AsksToSave, SavedReadsBack, SavesSet};
-ghost use Rattle.zed_host.specs.Counting.{NothingFailed, Rose};
+ghost use Rattle.zed_host.specs.Counting.{Counts, NothingFailed, Rose};
 ghost use Rattle.zed_files.specs.Faults.{NoneForgotten, TellsFailures};
+ghost use Rattle.zed_files.specs.Refusals.{is_key_fault, is_of_keys, is_of_screen, is_screen_fault};
 ghost use Rattle.zed_host.specs.HostContents.{HostContents};
 ghost use Rattle.zed_words.specs.declared.profile.Profile.{Profile as TheProfile};
 ghost use Rattle.zed_words.specs.Laws.{with_option};
@@ -76,6 +78,10 @@ fn act<H: Host>(
     ensures pulls { PullsLinks (Some (meaning_of command.now))
         (map (λ link. seen (ends link) (reads link)) links.old.items)
         (map (λ link. seen (ends link) (reads link)) links.new.items) }
+    ensures screen_faults { Counts (is_screen_fault result)
+        (screen_failures screen.old) (screen_failures screen.new) }
+    ensures key_faults { Counts (is_key_fault result)
+        (key_failures keys.old) (key_failures keys.new) }
     ensures failures { TellsFailures H.faults H.failed result host.old host.new }
 {
     match command {
@@ -163,6 +169,10 @@ fn run_words<H: Host>(
         (map (λ link. seen (ends link) (reads link)) links.new.items)
         (screen_foretells screen.old) (screen_foretells screen.new)
         (links.new ≡ links.old) (screen.new ≡ screen.old) (keys.new ≡ keys.old) }
+    ensures screen_faults { TellsFault H.called is_of_screen result host.new
+        (screen_failures screen.old) (screen_failures screen.new) }
+    ensures key_faults { TellsFault H.called is_of_keys result host.new
+        (key_failures keys.old) (key_failures keys.new) }
     ensures accepted { IsSome (command_of (map string_bytes words.now))
         → (result ≡ 0) ⊎ (result ≡ 1) }
     ensures refused { command_of (map string_bytes words.now) ≡ None
@@ -228,6 +238,12 @@ pub fn run<H: Host>(
         (map (λ link. seen (ends link) (reads link)) links.new.items)
         (screen_foretells screen.old) (screen_foretells screen.new)
         (links.new ≡ links.old) (screen.new ≡ screen.old) (keys.new ≡ keys.old) }
+
+    // A fault of the screen, or of the source of keys, is told exactly where a call of it failed.
+    ensures screen_faults { TellsFault H.called is_of_screen result host.new
+        (screen_failures screen.old) (screen_failures screen.new) }
+    ensures key_faults { TellsFault H.called is_of_keys result host.new
+        (key_failures keys.old) (key_failures keys.new) }
 
     // Where its `failures()` stay as they were, nothing failed.
     ensures calm { H.faults host.old ≤ H.failed host.old

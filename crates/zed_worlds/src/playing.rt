@@ -3,13 +3,14 @@ ghost use Rattle.std.specs.Prelude.{[], ◌∷◌, ◌≡◌, ◌≤◌, ◌<◌
 ghost use Rattle.std.specs.List.{flat_map};
 ghost use Rattle.zed_types.specs.declared.limits.TheConstants.{READ_BODY_LIMIT};
 ghost use Rattle.zed_host.specs.Calls.{Printing};
-ghost use Rattle.zed_host.specs.Counting.{Rose};
+ghost use Rattle.zed_host.specs.Counting.{Counts, Rose};
 ghost use Rattle.zed_files.specs.Faults.{TellsFailures};
 ghost use Rattle.zed_host.specs.HostContents.{HostContents};
 ghost use Rattle.zed_worlds.specs.Told.{message_line, standing_line, told_of};
 ghost use Rattle.zed_files.specs.Asked.{Asks, reading, refusal_in};
 ghost use Rattle.zed_worlds.specs.Shown.{EndsPlaying, IsPlayedOf, PlaysOn, words_in};
 ghost use Rattle.zed_worlds.specs.Stage.{stage};
+ghost use Rattle.zed_files.specs.Refusals.{is_key_fault, is_screen_fault};
 ghost use Rattle.zed_files.specs.Texts.{texts_of};
 
 use std::alloc::{AllocError, Global};
@@ -101,7 +102,7 @@ fn play_board(
 ) -> Result<Vec<u8>, Refusal>
     requires sound { document.now.is_stale ≡ false }
     requires limit { limit ≤ READ_BODY_LIMIT }
-    ensures { let before = stage (shown screen.old) (screen_foretells screen.old)
+    ensures plays { let before = stage (shown screen.old) (screen_foretells screen.old)
         (left keys.old) (keys_foretell keys.old) in
         let after = stage (shown screen.new) (screen_foretells screen.new)
         (left keys.new) (keys_foretell keys.new) in
@@ -109,6 +110,10 @@ fn play_board(
         (λ text. PlaysOn before after limit (Ok document.now.edits) board words.now (Ok text.items))
         (λ e. ((e ≡ Refusal.Memory) × (after ≡ before))
         ⊎ PlaysOn before after limit (Ok document.now.edits) board words.now (Err e)) }
+    ensures key_faults { Counts (is_key_fault result)
+        (key_failures keys.old) (key_failures keys.new) }
+    ensures screen_faults { Counts (is_screen_fault result)
+        (screen_failures screen.old) (screen_failures screen.new) }
 {
     let mut playing = Playing::nothing();
     playing.start(alloc, document, board, limit)?;
@@ -153,6 +158,10 @@ fn played<H: Host>(
         (λ e. ((e ≡ Refusal.Memory) × (after ≡ before))
         ⊎ IsPlayedOf failed before after t limit board chance.now
         (texts_of files.now) (Err e)) }
+    ensures key_faults { Counts (is_key_fault result)
+        (key_failures keys.old) (key_failures keys.new) }
+    ensures screen_faults { Counts (is_screen_fault result)
+        (screen_failures screen.old) (screen_failures screen.new) }
     ensures kept { H.contents host.new ≡ H.contents host.old }
     ensures asked { Asks H.called (reading (chance.now ∷ texts_of files.now)) []
         (refusal_in result) host.old host.new }
@@ -192,6 +201,10 @@ pub fn play<H: Host>(
         (left keys.new) (keys_foretell keys.new) in
         EndsPlaying failed before after t limit board chance.now
         (texts_of files.now) result (H.contents host.new) }
+    ensures key_faults { Counts (is_key_fault result)
+        (key_failures keys.old) (key_failures keys.new) }
+    ensures screen_faults { Counts (is_screen_fault result)
+        (screen_failures screen.old) (screen_failures screen.new) }
     ensures asked { Asks H.called (reading (chance.now ∷ texts_of files.now)) (Printing ∷ [])
         (refusal_in result) host.old host.new }
     ensures failures { TellsFailures H.faults H.failed result host.old host.new }

@@ -1,5 +1,5 @@
 //! Worlds saved, and reported on.
-ghost use Rattle.std.specs.Prelude.{[], ◌∷◌, ◌≡◌, ◌≤◌, ◌⊎◌, false, MatchResult, Ok, Err, Some};
+ghost use Rattle.std.specs.Prelude.{[], ◌∷◌, ◌≡◌, ◌≤◌, ◌⊎◌, false, IfErr, MatchResult, Ok, Err, Some};
 ghost use Rattle.zed_types.specs.declared.limits.TheConstants.{READ_BODY_LIMIT};
 ghost use Rattle.zed_host.specs.Calls.{Printing};
 ghost use Rattle.zed_host.specs.Counting.{Rose};
@@ -7,6 +7,7 @@ ghost use Rattle.zed_host.specs.HostContents.{HostContents};
 ghost use Rattle.zed_files.specs.Asked.{Asks, reading, refusal_in, writing};
 ghost use Rattle.zed_files.specs.Effects.{Ends};
 ghost use Rattle.zed_files.specs.Faults.{TellsFailures};
+ghost use Rattle.zed_files.specs.Refusals.{IsOffStage};
 ghost use Rattle.zed_files.specs.Texts.{texts_of};
 ghost use Rattle.zed_worlds.specs.Made.{ComesToCheck, ComesToSave, IsMade, product_of};
 
@@ -58,6 +59,7 @@ fn made_from<H: Host>(
         (Ok bytes.items))
         (λ e. (e ≡ Refusal.Memory)
         ⊎ IsMade failed t (texts_of files.now) (product_of product limit) (Err e)) }
+    ensures err { IfErr result IsOffStage }
     ensures kept { H.contents host.new ≡ H.contents host.old }
     ensures asked { Asks H.called (reading (texts_of files.now)) [] (refusal_in result) host.old host.new }
     ensures failures { TellsFailures H.faults H.failed result host.old host.new }
@@ -79,6 +81,7 @@ pub fn save<H: Host>(
         → let failed = Rose (H.faults host.old) (H.faults host.new) in
         Ends failed (ComesToSave failed t limit out.now (texts_of files.now)) t
         result (H.contents host.new) }
+    ensures err { IfErr result IsOffStage }
     ensures asked { Asks H.called (reading (texts_of files.now)) (writing out.now)
         (refusal_in result) host.old host.new }
     ensures failures { TellsFailures H.faults H.failed result host.old host.new }
@@ -99,6 +102,7 @@ pub fn check<H: Host>(
     ensures ends { (t : HostContents) → H.contents host.old ≡ Some t
         → let failed = Rose (H.faults host.old) (H.faults host.new) in
         Ends failed (ComesToCheck failed t limit (texts_of files.now)) t result (H.contents host.new) }
+    ensures err { IfErr result IsOffStage }
     ensures asked { Asks H.called (reading (texts_of files.now)) (Printing ∷ [])
         (refusal_in result) host.old host.new }
     ensures failures { TellsFailures H.faults H.failed result host.old host.new }

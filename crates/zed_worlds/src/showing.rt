@@ -1,11 +1,12 @@
 //! Boards shown.
 ghost use Rattle.std.specs.Prelude.{[], ◌≡◌, ◌≤◌, ◌⊎◌, Bool, Err, List, MatchResult, Ok, Option, Some, false};
 ghost use Rattle.zed_types.specs.declared.limits.TheConstants.{READ_BODY_LIMIT};
-ghost use Rattle.zed_host.specs.Counting.{Rose};
+ghost use Rattle.zed_host.specs.Counting.{Counts, Rose};
 ghost use Rattle.zed_files.specs.Faults.{TellsFailures};
 ghost use Rattle.zed_host.specs.HostContents.{HostContents};
 ghost use Rattle.zed_files.specs.Asked.{Asks, reading, refusal_in};
 ghost use Rattle.zed_files.specs.Effects.{Ends};
+ghost use Rattle.zed_files.specs.Refusals.{is_key_fault, is_screen_fault};
 ghost use Rattle.zed_files.specs.Texts.{texts_of};
 ghost use Rattle.zed_play.specs.declared.key.Key.{Key};
 ghost use Rattle.zed_worlds.specs.Shown.{CallsOnce, ComesToShow, ShowsOn};
@@ -36,6 +37,9 @@ fn show_on(
         ⊎ ShowsOn before after limit (Ok document.now.edits) board (Err e)) }
     ensures once { CallsOnce result
         (screen_foretells screen.old) (screen_foretells screen.new) (screen.new ≡ screen.old) }
+    ensures err { is_key_fault result ≡ false }
+    ensures screen_faults { Counts (is_screen_fault result)
+        (screen_failures screen.old) (screen_failures screen.new) }
 {
     show_board(alloc, screen, document, board, limit)?;
     Ok(())
@@ -61,6 +65,9 @@ pub fn show<H: Host>(
         result (H.contents host.new) }
     ensures once { CallsOnce result
         (screen_foretells screen.old) (screen_foretells screen.new) (screen.new ≡ screen.old) }
+    ensures err { is_key_fault result ≡ false }
+    ensures screen_faults { Counts (is_screen_fault result)
+        (screen_failures screen.old) (screen_failures screen.new) }
     ensures asked { Asks H.called (reading (texts_of files.now)) [] (refusal_in result) host.old host.new }
     ensures failures { TellsFailures H.faults H.failed result host.old host.new }
 {

@@ -80,23 +80,17 @@ fn read_named(
 /// What comes first: a clash of two edits, or the refusal of a file.
 pub fn document_of(rt: &HostRuntime, names: &[String]) -> Result<Document, Refusal> {
     let alloc = rt.alloc();
-    let mut edits = Vec::new(alloc);
+    let mut document = Document::new(alloc, 0);
     let mut world = None;
-    let mut refusal = None;
     for name in names {
-        match read_named(rt, world, name.as_str(), &mut edits) {
-            Ok(number) => world = Some(number),
-            Err(Refusal::Memory) => return Err(Refusal::Memory),
-            Err(other) => {
-                refusal = Some(other);
-                break;
-            }
+        let mut edits = Vec::new(alloc);
+        let end = read_named(rt, world, name.as_str(), &mut edits);
+        if let (None, Ok(number)) = (world, end) {
+            document = Document::new(alloc, number);
         }
+        // a clash comes before what is wrong with the file
+        document.deliver_all(edits)?;
+        world = Some(end?);
     }
-    let mut document = Document::new(alloc, world.unwrap_or(0));
-    document.deliver_all(edits)?;
-    match refusal {
-        Some(refusal) => Err(refusal),
-        None => Ok(document),
-    }
+    Ok(document)
 }

@@ -11,6 +11,8 @@ use Rattle.zed_making.proofs.Endings.{edit_so}
 use Rattle.zed_making.proofs.Opened.{not_edited}
 use Rattle.std.proofs.lemmas.Result.{err_from_is_err_and}
 use Rattle.zed_files.proofs.Failures.{file_is_other, handed_on, memory_is_other, memory_on, other_on, write_tells}
+use Rattle.zed_files.specs.declared.refusal.Refusal.TheVariants.{Memory}
+use Rattle.zed_files.proofs.OffStage.{file_off, off_on, written_off}
 use Rattle.std.proofs.Common.{[], ◌∷◌}
 use Rattle.zed_files.specs.Asked.{reading, refusal_in, writing}
 use Rattle.zed_files.proofs.Asked.{refused_after, refused_at, then_last}
@@ -80,3 +82,19 @@ returns-in_err-line-clause-asked g c =
 pub returns-clause-asked : goal.returns-clause-asked
 returns-clause-asked g c =
     then_last g.H.Host.called (reading (c.args.file.now ∷ [])) (writing c.args.file.now) (refusal_in c.write_out.result) _ _ _ c.in_ok-document.ensures.asked c.write_out.ensures.asked
+
+-- no screen is told of, and no source of keys
+pub returns-in_err-document-clause-err : goal.returns-in_err-document-clause-err
+returns-in_err-document-clause-err g c =
+    off_on c.from_residual.result c.in_err-document.field-0.0 c.from_residual.ensures.1 c.in_err-document.ensures.err
+
+pub returns-in_err-text-clause-err : goal.returns-in_err-text-clause-err
+returns-in_err-text-clause-err g c =
+    off_on c.from_residual-in_err-text.result (file_refusal c.in_err-text.field-0.0) c.from_residual-in_err-text.ensures.1 (file_off c.in_err-text.field-0.0)
+
+pub returns-in_err-line-clause-err : goal.returns-in_err-line-clause-err
+returns-in_err-line-clause-err g c =
+    off_on c.from_residual-in_err-line.result Memory c.from_residual-in_err-line.ensures.1 (refl, refl)
+
+pub returns-clause-err : goal.returns-clause-err
+returns-clause-err g c = written_off c.write_out.result c.write_out.ensures.err

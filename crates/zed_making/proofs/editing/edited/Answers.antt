@@ -4,6 +4,7 @@ use Rattle.zed_files.specs.Texts.{texts_of}
 use Rattle.zed_making.proofs.Opened.{edited_done, edited_not_opened, edited_refused}
 use Rattle.zed_files.specs.Refusals.{action_refusal}
 use Rattle.zed_files.proofs.Failures.{action_is_other, handed_on, other_on}
+use Rattle.zed_files.proofs.OffStage.{action_off, off_on}
 use Rattle.std.proofs.Common.{[], ◌∷◌}
 use Rattle.zed_files.specs.Asked.{reading}
 use Rattle.zed_files.proofs.Asked.{refused_after}
@@ -45,3 +46,12 @@ pub returns-in_err-act-clause-asked : goal.returns-in_err-act-clause-asked
 returns-in_err-act-clause-asked g c =
     let p = err_from_is_err_and c.from_residual-in_err-act.result c.from_residual-in_err-act.ensures.1 in
     rw p.1 (refused_after g.H.Host.called (reading (c.args.file.now ∷ [])) [] p.0 _ _ (λ is. action_is_other c.in_err-act.field-0.0 (sym p.2 ∙ is)) c.in_ok-document.ensures.asked)
+
+-- no screen is told of, and no source of keys
+pub returns-in_err-document-clause-err : goal.returns-in_err-document-clause-err
+returns-in_err-document-clause-err g c =
+    off_on c.from_residual.result c.in_err-document.field-0.0 c.from_residual.ensures.1 c.in_err-document.ensures.err
+
+pub returns-in_err-act-clause-err : goal.returns-in_err-act-clause-err
+returns-in_err-act-clause-err g c =
+    off_on c.from_residual-in_err-act.result (action_refusal c.in_err-act.field-0.0) c.from_residual-in_err-act.ensures.1 (action_off c.in_err-act.field-0.0)

@@ -3,6 +3,8 @@ use Rattle.std.proofs.lemmas.Result.{err_from_is_err_and}
 use Rattle.zed_making.proofs.Opened.{read_opens, unread_opens}
 use Rattle.zed_making.proofs.Others.{opened_is_other}
 use Rattle.zed_files.proofs.Failures.{handed_on, other_tells}
+use Rattle.zed_files.proofs.OffStage.{made_off, off_on, unread_off}
+use Rattle.zed_making.proofs.OffStage.{opened_off}
 use Rattle.std.proofs.Common.{[], ◌∷◌}
 use Rattle.zed_files.specs.Asked.{reading}
 use Rattle.zed_files.proofs.Asked.{answer_after, read_passed, read_refused}
@@ -35,3 +37,11 @@ returns-in_err-bytes-clause-asked g c =
 pub returns-clause-asked : goal.returns-clause-asked
 returns-clause-asked g c =
     answer_after _ _ g.H.Host.called (reading (c.args.file.now ∷ [])) c.opened.result _ _ (read_passed g.H.Host.called c.args.file.now _ _ c.in_ok-bytes.ensures.asked) c.opened.ensures.opened (opened_is_other c.as_slice.result.now)
+
+-- no screen is told of, and no source of keys
+pub returns-in_err-bytes-clause-err : goal.returns-in_err-bytes-clause-err
+returns-in_err-bytes-clause-err g c =
+    off_on c.from_residual.result c.in_err-bytes.field-0.0 c.from_residual.ensures.1 (unread_off c.in_err-bytes.field-0.0 c.in_err-bytes.ensures.err)
+
+pub returns-clause-err : goal.returns-clause-err
+returns-clause-err g c = made_off _ _ c.opened.result c.opened.ensures.opened (opened_off c.as_slice.result.now)

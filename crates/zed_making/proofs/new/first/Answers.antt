@@ -3,6 +3,8 @@ use Rattle.std.proofs.lemmas.Result.{err_from_is_err_and}
 use Rattle.zed_files.specs.Texts.{text_in}
 use Rattle.zed_making.proofs.Endings.{read_made}
 use Rattle.zed_files.proofs.Failures.{handed_on, none_yet, other_tells}
+use Rattle.zed_files.proofs.OffStage.{made_off, off_on, unread_off}
+use Rattle.zed_making.proofs.OffStage.{world_taken_off}
 use Rattle.zed_making.proofs.Others.{world_taken_is_other}
 use Rattle.std.proofs.Common.{[], ◌∷◌, refl}
 use Rattle.zed_files.specs.Asked.{reading}
@@ -39,3 +41,14 @@ returns-in_ok-bytes-in-Some-clause-asked g c =
 pub returns-in-None-clause-asked : goal.returns-in-None-clause-asked
 returns-in-None-clause-asked g c =
     rw c.in-None.is (answer_after _ _ g.H.Host.called [] c.made.result _ _ ([], refl, refl) c.made.ensures.result (world_taken_is_other _))
+
+-- no screen is told of, and no source of keys
+pub returns-in_err-bytes-in-Some-clause-err : goal.returns-in_err-bytes-in-Some-clause-err
+returns-in_err-bytes-in-Some-clause-err g c =
+    off_on c.from_residual.result c.in_err-bytes-in-Some.field-0.0 c.from_residual.ensures.1 (unread_off c.in_err-bytes-in-Some.field-0.0 c.in_err-bytes-in-Some.ensures.err)
+
+pub returns-in_ok-bytes-in-Some-clause-err : goal.returns-in_ok-bytes-in-Some-clause-err
+returns-in_ok-bytes-in-Some-clause-err g c = made_off _ _ c.written_again.result c.written_again.ensures.result (world_taken_off _)
+
+pub returns-in-None-clause-err : goal.returns-in-None-clause-err
+returns-in-None-clause-err g c = made_off _ _ c.made.result c.made.ensures.result (world_taken_off _)

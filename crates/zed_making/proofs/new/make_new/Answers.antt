@@ -9,6 +9,8 @@ use Rattle.zed_host.proofs.Counts.{counted_up}
 use Rattle.zed_files.proofs.Endings.{effect_ends, refused_ends}
 use Rattle.zed_making.proofs.Endings.{create_so, not_begun}
 use Rattle.zed_files.proofs.Failures.{handed_on, memory_is_other, memory_on, other_on, write_tells}
+use Rattle.zed_files.specs.declared.refusal.Refusal.TheVariants.{Memory}
+use Rattle.zed_files.proofs.OffStage.{memory_off, off_on, written_off}
 use Rattle.zed_files.specs.Asked.{named, reading, refusal_in, writing}
 use Rattle.zed_files.proofs.Asked.{refused_after, refused_at, then_last}
 use Rattle.zed_making.proofs.new.make_new.Goals as goal
@@ -76,3 +78,19 @@ returns-in_err-line-clause-asked g c =
 pub returns-clause-asked : goal.returns-clause-asked
 returns-clause-asked g c =
     then_last g.H.Host.called (reading (named (text_in c.args.from))) (writing c.args.out.now) (refusal_in c.write_out.result) _ _ _ c.in_ok-bytes.ensures.asked c.write_out.ensures.asked
+
+-- no screen is told of, and no source of keys
+pub returns-in_err-bytes-clause-err : goal.returns-in_err-bytes-clause-err
+returns-in_err-bytes-clause-err g c =
+    off_on c.from_residual.result c.in_err-bytes.field-0.0 c.from_residual.ensures.1 c.in_err-bytes.ensures.err
+
+pub returns-in_err-file-clause-err : goal.returns-in_err-file-clause-err
+returns-in_err-file-clause-err g c =
+    off_on c.from_residual-in_err-file.result c.in_err-file.field-0.0 c.from_residual-in_err-file.ensures.1 (memory_off c.in_err-file.field-0.0 c.in_err-file.ensures.err)
+
+pub returns-in_err-line-clause-err : goal.returns-in_err-line-clause-err
+returns-in_err-line-clause-err g c =
+    off_on c.from_residual-in_err-line.result Memory c.from_residual-in_err-line.ensures.1 (refl, refl)
+
+pub returns-clause-err : goal.returns-clause-err
+returns-clause-err g c = written_off c.write_out.result c.write_out.ensures.err

@@ -10,8 +10,11 @@ use Rattle.zed_host.proofs.Counts.{counted_up}
 use Rattle.zed_files.proofs.Endings.{effect_ends, refused_ends}
 use Rattle.zed_making.proofs.Pulls.{each_of, merge_comes, merge_so, not_merged}
 use Rattle.zed_files.proofs.Failures.{file_is_other, memory_is_other, memory_on, none_yet, other_on, write_tells}
+use Rattle.zed_files.proofs.OffStage.{file_off, off_on, written_off}
+use Rattle.zed_files.specs.declared.refusal.Refusal.TheVariants.{Memory}
+use Rattle.zed_making.proofs.OffStage.{merged_off}
 use Rattle.zed_making.proofs.Others.{merged_is_other}
-use Rattle.std.proofs.Common.{[]}
+use Rattle.std.proofs.Common.{[], refl}
 use Rattle.zed_files.specs.Asked.{writing}
 use Rattle.zed_files.proofs.Asked.{asks_nothing}
 use Rattle.zed_program.proofs.merging.merge.Goals as goal
@@ -87,3 +90,20 @@ pub returns-in_err-line-clause-asked : goal.returns-in_err-line-clause-asked
 returns-in_err-line-clause-asked g c =
     let p = err_from_is_err_and c.from_residual-in_err-line.result c.from_residual-in_err-line.ensures.1 in
     rw p.1 (asks_nothing g.H.Host.called [] (writing c.args.out.now) p.0 _ (memory_is_other p.0 p.2))
+
+-- no screen is told of, and no source of keys
+pub returns-in_err-document-clause-err : goal.returns-in_err-document-clause-err
+returns-in_err-document-clause-err g c =
+    off_on c.from_residual.result c.in_err-document.field-0.0 c.from_residual.ensures.1
+    (merged_off c.args.world _ _ _ c.in_err-document.field-0.0 c.in_err-document.ensures.pulled)
+
+pub returns-in_err-text-clause-err : goal.returns-in_err-text-clause-err
+returns-in_err-text-clause-err g c =
+    off_on c.from_residual-in_err-text.result (file_refusal c.in_err-text.field-0.0) c.from_residual-in_err-text.ensures.1 (file_off c.in_err-text.field-0.0)
+
+pub returns-in_err-line-clause-err : goal.returns-in_err-line-clause-err
+returns-in_err-line-clause-err g c =
+    off_on c.from_residual-in_err-line.result Memory c.from_residual-in_err-line.ensures.1 (refl, refl)
+
+pub returns-clause-err : goal.returns-clause-err
+returns-clause-err g c = written_off c.write_out.result c.write_out.ensures.err

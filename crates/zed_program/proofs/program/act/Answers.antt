@@ -3,6 +3,7 @@ use Rattle.zed_files.specs.Texts.{texts_of}
 use Rattle.zed_making.proofs.Pulls.{as_many}
 use Rattle.zed_worlds.specs.Stage.{Stage, stage}
 use Rattle.zed_words.specs.Commands.{meaning_of}
+use Rattle.zed_files.proofs.OffStage.{keys_uncounted, screen_uncounted, uncounted}
 use Rattle.zed_program.proofs.Called.{none_called, shown_once}
 use Rattle.zed_program.proofs.Endings.{merge_as, play_as, pulls_as, show_as, show_lacks}
 use Rattle.zed_program.proofs.program.act.Goals as goal
@@ -118,3 +119,37 @@ returns-in-Play-clause-devices g c =
       screen = λ dark. absurd (let bad : true ≡ false = dark in cc);
       keys = λ off. absurd (let bad : true ≡ false = off in cc);
     })
+
+-- whose faults a command tells
+pub returns-in-Save-clause-screen_faults : goal.returns-in-Save-clause-screen_faults
+returns-in-Save-clause-screen_faults g c = screen_uncounted c.save.result _ _ c.save.ensures.err refl
+
+pub returns-in-Save-clause-key_faults : goal.returns-in-Save-clause-key_faults
+returns-in-Save-clause-key_faults g c = keys_uncounted c.save.result _ _ c.save.ensures.err refl
+
+pub returns-in-Check-clause-screen_faults : goal.returns-in-Check-clause-screen_faults
+returns-in-Check-clause-screen_faults g c = screen_uncounted c.check.result _ _ c.check.ensures.err refl
+
+pub returns-in-Check-clause-key_faults : goal.returns-in-Check-clause-key_faults
+returns-in-Check-clause-key_faults g c = keys_uncounted c.check.result _ _ c.check.ensures.err refl
+
+pub returns-in-New-clause-screen_faults : goal.returns-in-New-clause-screen_faults
+returns-in-New-clause-screen_faults g c = screen_uncounted c.make_new.result _ _ c.make_new.ensures.err refl
+
+pub returns-in-New-clause-key_faults : goal.returns-in-New-clause-key_faults
+returns-in-New-clause-key_faults g c = keys_uncounted c.make_new.result _ _ c.make_new.ensures.err refl
+
+pub returns-in-Edit-clause-screen_faults : goal.returns-in-Edit-clause-screen_faults
+returns-in-Edit-clause-screen_faults g c = screen_uncounted c.edit.result _ _ c.edit.ensures.err refl
+
+pub returns-in-Edit-clause-key_faults : goal.returns-in-Edit-clause-key_faults
+returns-in-Edit-clause-key_faults g c = keys_uncounted c.edit.result _ _ c.edit.ensures.err refl
+
+pub returns-in-Merge-clause-screen_faults : goal.returns-in-Merge-clause-screen_faults
+returns-in-Merge-clause-screen_faults g c = screen_uncounted c.merge.result _ _ c.merge.ensures.err refl
+
+pub returns-in-Merge-clause-key_faults : goal.returns-in-Merge-clause-key_faults
+returns-in-Merge-clause-key_faults g c = keys_uncounted c.merge.result _ _ c.merge.ensures.err refl
+
+pub returns-in-Show-clause-key_faults : goal.returns-in-Show-clause-key_faults
+returns-in-Show-clause-key_faults g c = uncounted _ _ _ c.show.ensures.err refl

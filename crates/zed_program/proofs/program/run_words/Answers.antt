@@ -1,10 +1,12 @@
 use Rattle.std.proofs.Common.{map, string_bytes}
+use Rattle.zed_files.specs.Refusals.{is_of_keys, is_of_screen}
 use Rattle.zed_words.specs.Commands.{meaning_of, command_of}
 use Rattle.zed_host.proofs.Counts.{counted_up, rose_before}
 use Rattle.zed_program.proofs.Endings.{complained, memory_run, refused_run}
-use Rattle.std.proofs.Common.{Err, ap, inl, inr, refl, is_err}
+use Rattle.std.proofs.Common.{◌≡◌, Err, ap, inl, inr, refl, is_err}
 use Rattle.zed_program.proofs.Asked.{memory_asks}
 use Rattle.zed_program.proofs.Called.{none_called_yet}
+use Rattle.zed_program.proofs.Faults.{memory_told}
 use Rattle.zed_program.proofs.program.run_words.Goals as goal
 
 pub returns-in-Ok-clause-ends : goal.returns-in-Ok-clause-ends
@@ -40,3 +42,28 @@ returns-in-Ok-clause-devices g c = rw c.in-Ok.ensures c.in-Err.ensures.devices
 
 pub returns-in-Err-Memory-clause-devices : goal.returns-in-Err-Memory-clause-devices
 returns-in-Err-Memory-clause-devices g c = none_called_yet (command_of (map string_bytes c.args.words.now)) _ _ _ _ _ refl refl refl
+
+-- whose faults are told
+pub returns-in-Ok-act-clause-screen_faults : goal.returns-in-Ok-act-clause-screen_faults
+returns-in-Ok-act-clause-screen_faults g c = inl (λ is. (let no : 0 ≡ 1 = is in cc), c.in-Ok-act.ensures.screen_faults)
+
+pub returns-in-Ok-clause-screen_faults : goal.returns-in-Ok-clause-screen_faults
+returns-in-Ok-clause-screen_faults g c = inr (refl, (c.in-Err.refusal, _, c.complain_of.ensures.asked, c.in-Err.ensures.screen_faults))
+
+pub returns-in-Err-Memory-clause-screen_faults : goal.returns-in-Err-Memory-clause-screen_faults
+returns-in-Err-Memory-clause-screen_faults g c = memory_told g.H.Host.called is_of_screen _ _ _ refl (is_err c.complain.result, c.complain.ensures.asked)
+
+pub returns-clause-screen_faults : goal.returns-clause-screen_faults
+returns-clause-screen_faults g c = inl (λ is. (let no : 2 ≡ 1 = is in cc), refl)
+
+pub returns-in-Ok-act-clause-key_faults : goal.returns-in-Ok-act-clause-key_faults
+returns-in-Ok-act-clause-key_faults g c = inl (λ is. (let no : 0 ≡ 1 = is in cc), c.in-Ok-act.ensures.key_faults)
+
+pub returns-in-Ok-clause-key_faults : goal.returns-in-Ok-clause-key_faults
+returns-in-Ok-clause-key_faults g c = inr (refl, (c.in-Err.refusal, _, c.complain_of.ensures.asked, c.in-Err.ensures.key_faults))
+
+pub returns-in-Err-Memory-clause-key_faults : goal.returns-in-Err-Memory-clause-key_faults
+returns-in-Err-Memory-clause-key_faults g c = memory_told g.H.Host.called is_of_keys _ _ _ refl (is_err c.complain.result, c.complain.ensures.asked)
+
+pub returns-clause-key_faults : goal.returns-clause-key_faults
+returns-clause-key_faults g c = inl (λ is. (let no : 2 ≡ 1 = is in cc), refl)

@@ -8,6 +8,8 @@ use Rattle.zed_host.proofs.Counts.{counted_up}
 use Rattle.zed_files.proofs.Endings.{effect_ends, refused_ends}
 use Rattle.zed_worlds.proofs.Endings.{lacks_for_play, no_memory, not_played, play_so}
 use Rattle.zed_files.proofs.Failures.{handed_on, write_tells}
+use Rattle.zed_files.proofs.OffStage.{keys_uncounted, screen_uncounted, written_off}
+use Rattle.zed_worlds.proofs.OffStage.{keys_told, screen_told}
 use Rattle.std.proofs.Common.{[], ◌∷◌}
 use Rattle.zed_host.specs.Calls.{Printing}
 use Rattle.zed_files.specs.Asked.{reading, refusal_in}
@@ -73,3 +75,18 @@ returns-in_err-text-clause-asked g c =
 pub returns-clause-asked : goal.returns-clause-asked
 returns-clause-asked g c =
     then_last g.H.Host.called (reading (c.args.chance.now ∷ texts_of c.args.files.now)) (Printing ∷ []) (refusal_in c.print_out.result) _ _ _ c.in_ok-text.ensures.asked c.print_out.ensures.asked
+
+-- faults of screen and keys are told as they were
+pub returns-in_err-text-clause-key_faults : goal.returns-in_err-text-clause-key_faults
+returns-in_err-text-clause-key_faults g c =
+    keys_told c.from_residual.result c.in_err-text.field-0.0 _ _ c.from_residual.ensures.1 c.in_err-text.ensures.key_faults
+
+pub returns-in_err-text-clause-screen_faults : goal.returns-in_err-text-clause-screen_faults
+returns-in_err-text-clause-screen_faults g c =
+    screen_told c.from_residual.result c.in_err-text.field-0.0 _ _ c.from_residual.ensures.1 c.in_err-text.ensures.screen_faults
+
+pub returns-clause-key_faults : goal.returns-clause-key_faults
+returns-clause-key_faults g c = keys_uncounted c.print_out.result _ _ (written_off c.print_out.result c.print_out.ensures.err) c.in_ok-text.ensures.key_faults
+
+pub returns-clause-screen_faults : goal.returns-clause-screen_faults
+returns-clause-screen_faults g c = screen_uncounted c.print_out.result _ _ (written_off c.print_out.result c.print_out.ensures.err) c.in_ok-text.ensures.screen_faults

@@ -1,4 +1,4 @@
-use Rattle.std.proofs.Common.{◌≡◌, ◌+◌, ◌≤◌, ◌∙◌, ap, arith, Err, Ok, [], inl, inr, refl, sym}
+use Rattle.std.proofs.Common.{◌≡◌, ◌+◌, ◌≤◌, ◌∙◌, ℕ, Option, ap, arith, Err, Ok, [], inl, inr, refl, sym}
 use Rattle.std.proofs.lemmas.Result.{err_from_is_err_and}
 use Rattle.std.specs.Prelude.{is_some}
 use Rattle.zed_types.proofs.Facts.{none_is}
@@ -10,12 +10,14 @@ use Rattle.zed_worlds.specs.Shown.{Course, EndsPlay, course, most_keys}
 use Rattle.zed_files.specs.Refusals.{session_refusal}
 use Rattle.zed_session.specs.declared.playing.Playing.{Playing}
 use Rattle.zed_worlds.proofs.Played.{key_refused, key_steps, lent_is, no_key, play_begins, shown_of, still_lent}
+use Rattle.zed_files.proofs.OffStage.{keys_uncounted, off_on, screen_uncounted}
+use Rattle.zed_worlds.proofs.OffStage.{keys_on, screen_on, unbegun_off}
 use Rattle.zed_worlds.proofs.Stepping.{at_start, none_more, one_more}
 use Rattle.zed_worlds.proofs.playing.play_board.Goals as goal
 
 -- it doesn't begin
-pub returns-in_err-start : goal.returns-in_err-start
-returns-in_err-start g c =
+pub returns-in_err-start-clause-plays : goal.returns-in_err-start-clause-plays
+returns-in_err-start-clause-plays g c =
     let before : Stage =
     stage ((goal.Screen-dyn g c.args.screen.now).shown c.args.screen.now.1)
     ((goal.Screen-dyn g c.args.screen.now).screen_foretells c.args.screen.now.1)
@@ -49,11 +51,13 @@ loop-init g c =
       few = omega arith;
       leads = at_start first;
       comes = begins.3;
+      screen_calm = refl;
+      keys_calm = refl;
     }
 
 -- a key is refused
-pub returns-in_err-used : goal.returns-in_err-used
-returns-in_err-used g c =
+pub returns-in_err-used-clause-plays : goal.returns-in_err-used-clause-plays
+returns-in_err-used-clause-plays g c =
     let after : Stage =
     stage ((goal.Screen-dyn g c.loop.screen.now).shown c.play_key.new.screen)
     ((goal.Screen-dyn g c.loop.screen.now).screen_foretells c.play_key.new.screen)
@@ -68,8 +72,8 @@ returns-in_err-used g c =
     rw (p.1, same) (inr (old.comes after (Err (session_refusal e)) (c.loop.counter, old.now, old.few, none_more c.loop.counter old.first old.now old.leads, how)))
 
 -- no key is left
-pub returns-in_default-used : goal.returns-in_default-used
-returns-in_default-used g c =
+pub returns-in_default-used-clause-plays : goal.returns-in_default-used-clause-plays
+returns-in_default-used-clause-plays g c =
     let after : Stage =
     stage ((goal.Screen-dyn g c.loop.screen.now).shown c.play_key.new.screen)
     ((goal.Screen-dyn g c.loop.screen.now).screen_foretells c.play_key.new.screen)
@@ -84,8 +88,8 @@ returns-in_default-used g c =
     (c.loop.counter, old.now, old.few, none_more c.loop.counter old.first old.now old.leads, inl (ap (λ t. Ok t) text, stays.1))
 
 -- the playtest has ended
-pub returns-then-is_some : goal.returns-then-is_some
-returns-then-is_some g c =
+pub returns-then-is_some-clause-plays : goal.returns-then-is_some-clause-plays
+returns-then-is_some-clause-plays g c =
     let after : Stage =
     stage ((goal.Screen-dyn g c.loop.screen.now).shown c.play_key.new.screen)
     ((goal.Screen-dyn g c.loop.screen.now).screen_foretells c.play_key.new.screen)
@@ -133,11 +137,13 @@ loop-preserved g c =
       few = omega (arith, below);
       leads = one_more c.loop.counter old.first old.now now old.leads step.1;
       comes = old.comes;
+      screen_calm = c.in_ok-used.ensures.screen_faults ∙ old.screen_calm;
+      keys_calm = c.in_ok-used.ensures.key_faults ∙ old.keys_calm;
     }
 
 -- all keys were used that may be
-pub returns : goal.returns
-returns g c =
+pub returns-clause-plays : goal.returns-clause-plays
+returns-clause-plays g c =
     let old = c.loop.invariant in
     let few = old.few in
     let past = c.loop-test.false in
@@ -151,8 +157,8 @@ returns-in_default g c =
     absurd (still_lent (λ p. p.now) c.playtest.result c.in_ok-used.used c.loop.left.now _ _ _ _ old.now.play old.at.0 c.in_ok-used.ensures.result c.playtest.ensures.result c.in_default.is)
 
 -- memory is lacking for what is told where no key is left
-pub returns-in_err-told : goal.returns-in_err-told
-returns-in_err-told g c =
+pub returns-in_err-told-clause-plays : goal.returns-in_err-told-clause-plays
+returns-in_err-told-clause-plays g c =
     let after : Stage =
     stage ((goal.Screen-dyn g c.loop.screen.now).shown c.play_key.new.screen)
     ((goal.Screen-dyn g c.loop.screen.now).screen_foretells c.play_key.new.screen)
@@ -167,8 +173,8 @@ returns-in_err-told g c =
     rw (p.1, same) (inr (old.comes after (Err Memory) (c.loop.counter, old.now, old.few, none_more c.loop.counter old.first old.now old.leads, lacks)))
 
 -- or where the playtest has ended
-pub returns-in_err-told-2 : goal.returns-in_err-told-2
-returns-in_err-told-2 g c =
+pub returns-in_err-told-2-clause-plays : goal.returns-in_err-told-2-clause-plays
+returns-in_err-told-2-clause-plays g c =
     let after : Stage =
     stage ((goal.Screen-dyn g c.loop.screen.now).shown c.play_key.new.screen)
     ((goal.Screen-dyn g c.loop.screen.now).screen_foretells c.play_key.new.screen)
@@ -188,3 +194,40 @@ returns-in_err-told-2 g c =
     let lacks : EndsPlay (c.loop.counter + 1) now after (Err Memory) =
     inr (inr (inr (inr (inr (refl, inl (inl (ap is_some (sym ending) ∙ sym c.is_some.ensures ∙ c.if-is_some.true, step.2.1))))))) in
     rw (p.1, same) (inr (old.comes after (Err Memory) (c.loop.counter + 1, now, few, none_more (c.loop.counter + 1) old.first now leads, lacks)))
+
+-- ---- faults of screen and keys
+
+-- it doesn't begin
+pub returns-in_err-start-clause-key_faults : goal.returns-in_err-start-clause-key_faults
+returns-in_err-start-clause-key_faults g c =
+    keys_uncounted c.from_residual.result _ _ (off_on c.from_residual.result (session_refusal c.in_err-start.field-0.0) c.from_residual.ensures.1 (unbegun_off _ c.args.board c.start.new.self c.in_err-start.field-0.0 c.in_err-start.ensures.result)) refl
+
+pub returns-in_err-start-clause-screen_faults : goal.returns-in_err-start-clause-screen_faults
+returns-in_err-start-clause-screen_faults g c =
+    screen_uncounted c.from_residual.result _ _ (off_on c.from_residual.result (session_refusal c.in_err-start.field-0.0) c.from_residual.ensures.1 (unbegun_off _ c.args.board c.start.new.self c.in_err-start.field-0.0 c.in_err-start.ensures.result)) refl
+
+-- a key is refused
+pub returns-in_err-used-clause-key_faults : goal.returns-in_err-used-clause-key_faults
+returns-in_err-used-clause-key_faults g c =
+    keys_on (Option ℕ) c.from_residual-in_err-used.result c.in_err-used.field-0.0 _ _ _ c.from_residual-in_err-used.ensures.1 c.loop.invariant.keys_calm c.in_err-used.ensures.key_faults
+
+pub returns-in_err-used-clause-screen_faults : goal.returns-in_err-used-clause-screen_faults
+returns-in_err-used-clause-screen_faults g c =
+    screen_on (Option ℕ) c.from_residual-in_err-used.result c.in_err-used.field-0.0 _ _ _ c.from_residual-in_err-used.ensures.1 c.loop.invariant.screen_calm c.in_err-used.ensures.screen_faults
+
+-- memory is lacking for what is told
+pub returns-in_err-told-clause-key_faults : goal.returns-in_err-told-clause-key_faults
+returns-in_err-told-clause-key_faults g c =
+    keys_uncounted c.from_residual-in_err-told.result _ _ (off_on c.from_residual-in_err-told.result Memory c.from_residual-in_err-told.ensures.1 (refl, refl)) (c.in_ok-used.ensures.key_faults ∙ c.loop.invariant.keys_calm)
+
+pub returns-in_err-told-clause-screen_faults : goal.returns-in_err-told-clause-screen_faults
+returns-in_err-told-clause-screen_faults g c =
+    screen_uncounted c.from_residual-in_err-told.result _ _ (off_on c.from_residual-in_err-told.result Memory c.from_residual-in_err-told.ensures.1 (refl, refl)) (c.in_ok-used.ensures.screen_faults ∙ c.loop.invariant.screen_calm)
+
+pub returns-in_err-told-2-clause-key_faults : goal.returns-in_err-told-2-clause-key_faults
+returns-in_err-told-2-clause-key_faults g c =
+    keys_uncounted c.from_residual-in_err-told-2.result _ _ (off_on c.from_residual-in_err-told-2.result Memory c.from_residual-in_err-told-2.ensures.1 (refl, refl)) (c.in_ok-used.ensures.key_faults ∙ c.loop.invariant.keys_calm)
+
+pub returns-in_err-told-2-clause-screen_faults : goal.returns-in_err-told-2-clause-screen_faults
+returns-in_err-told-2-clause-screen_faults g c =
+    screen_uncounted c.from_residual-in_err-told-2.result _ _ (off_on c.from_residual-in_err-told-2.result Memory c.from_residual-in_err-told-2.ensures.1 (refl, refl)) (c.in_ok-used.ensures.screen_faults ∙ c.loop.invariant.screen_calm)

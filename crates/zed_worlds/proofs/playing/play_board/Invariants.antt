@@ -6,7 +6,7 @@ use Rattle.zed_worlds.proofs.Played.{IsAt}
 use Rattle.zed_worlds.proofs.Stepping.{Leads}
 use Rattle.zed_worlds.proofs.playing.play_board.Given as goal
 
--- the playtest goes on: its steps follow on those from the first
+-- the playtest goes on: its steps follow on those from the first, and no call of screen or keys failed
 abbrev pub invariant-loop : goal.invariant-loop
 invariant-loop g l = record {
   first : Course;
@@ -24,4 +24,6 @@ invariant-loop g l = record {
       ((goal.Screen-dyn g l.fn.screen.now).screen_foretells l.fn.screen.now.1)
       ((goal.Keys-dyn g l.fn.keys.now).left l.fn.keys.now.1)
       ((goal.Keys-dyn g l.fn.keys.now).keys_foretell l.fn.keys.now.1)) last l.fn.limit (Ok l.document.edits) l.fn.board l.words r;
+  screen_calm : (goal.Screen-dyn g l.screen.now).screen_failures l.screen.now.1 ≡ (goal.Screen-dyn g l.fn.screen.now).screen_failures l.fn.screen.now.1;
+  keys_calm : (goal.Keys-dyn g l.keys.now).key_failures l.keys.now.1 ≡ (goal.Keys-dyn g l.fn.keys.now).key_failures l.fn.keys.now.1;
 }

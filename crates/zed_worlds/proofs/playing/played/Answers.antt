@@ -7,7 +7,9 @@ use Rattle.zed_worlds.proofs.Endings.{not_collected, not_read, played_result}
 use Rattle.zed_host.proofs.Counts.{rose_later}
 use Rattle.zed_files.proofs.Failures.{handed_later, handed_on, memory_is_other, memory_on, none_later, other_tells}
 use Rattle.zed_worlds.proofs.Others.{or_memory, played_is_other}
-use Rattle.std.proofs.Common.{◌∷◌, None, Some}
+use Rattle.zed_files.specs.declared.refusal.Refusal.TheVariants.{Memory}
+use Rattle.zed_files.proofs.OffStage.{keys_uncounted, off_on, screen_uncounted, unread_off}
+use Rattle.std.proofs.Common.{◌∷◌, None, Some, refl}
 use Rattle.zed_host.specs.Calls.{Reading}
 use Rattle.zed_files.specs.Asked.{reading}
 use Rattle.zed_files.proofs.Asked.{answer_after, read_before, read_refused, read_then_stopped}
@@ -53,7 +55,7 @@ returns-clause-played g c = λ t at.
     let here = c.in_ok-bytes.ensures.kept ∙ at in
     let words : c.as_slice-2.result.now ≡ words_in c.in_ok-bytes.bytes.items = c.as_slice-2.ensures.value ∙ rw c.as_slice.ensures.value at c.in_ok-words.ensures in
     played_result _ old new c.args.limit c.play_board.result t c.from.result c.args.board c.args.chance.now c.in_ok-bytes.bytes.items c.as_slice-2.result.now (texts_of c.args.files.now)
-    c.in_ok-document.document.edits c.from.ensures words (c.in_ok-bytes.ensures.bytes t at) (rw c.in_ok-bytes.ensures.calm at (c.in_ok-document.ensures.collected t here)) c.play_board.ensures
+    c.in_ok-document.document.edits c.from.ensures words (c.in_ok-bytes.ensures.bytes t at) (rw c.in_ok-bytes.ensures.calm at (c.in_ok-document.ensures.collected t here)) c.play_board.ensures.plays
 
 pub returns-in_err-bytes-clause-failures : goal.returns-in_err-bytes-clause-failures
 returns-in_err-bytes-clause-failures g c =
@@ -81,7 +83,7 @@ returns-clause-failures g c =
     ((goal.Keys-dyn g c.args.keys.now).left c.play_board.new.keys)
     ((goal.Keys-dyn g c.args.keys.now).keys_foretell c.play_board.new.keys) in
     let none = none_later g.H.Host.faults g.H.Host.failed _ _ _ c.in_ok-bytes.ensures.failures.0 c.in_ok-document.ensures.failures.0 in
-    other_tells g.H.Host.faults g.H.Host.failed _ _ c.play_board.result _ _ none (or_memory _ _ _ c.play_board.result c.play_board.ensures)
+    other_tells g.H.Host.faults g.H.Host.failed _ _ c.play_board.result _ _ none (or_memory _ _ _ c.play_board.result c.play_board.ensures.plays)
     (played_is_other c.args.limit c.in_ok-document.document.edits c.from.result old new c.as_slice-2.result.now)
 
 pub returns-in_err-bytes-clause-asked : goal.returns-in_err-bytes-clause-asked
@@ -115,4 +117,29 @@ returns-clause-asked g c =
     ((goal.Keys-dyn g c.args.keys.now).keys_foretell c.play_board.new.keys) in
     answer_after _ _ g.H.Host.called (reading (c.args.chance.now ∷ texts_of c.args.files.now)) c.play_board.result _ _
     (read_before g.H.Host.called (Reading c.args.chance.now) (reading (texts_of c.args.files.now)) None _ _ _ c.in_ok-bytes.ensures.asked c.in_ok-document.ensures.asked)
-    (or_memory _ _ _ c.play_board.result c.play_board.ensures) (played_is_other c.args.limit c.in_ok-document.document.edits c.from.result old new c.as_slice-2.result.now)
+    (or_memory _ _ _ c.play_board.result c.play_board.ensures.plays) (played_is_other c.args.limit c.in_ok-document.document.edits c.from.result old new c.as_slice-2.result.now)
+
+-- files tell of no screen, and of no source of keys
+pub returns-in_err-bytes-clause-key_faults : goal.returns-in_err-bytes-clause-key_faults
+returns-in_err-bytes-clause-key_faults g c =
+    keys_uncounted c.from_residual.result _ _ (off_on c.from_residual.result c.in_err-bytes.field-0.0 c.from_residual.ensures.1 (unread_off c.in_err-bytes.field-0.0 c.in_err-bytes.ensures.err)) refl
+
+pub returns-in_err-bytes-clause-screen_faults : goal.returns-in_err-bytes-clause-screen_faults
+returns-in_err-bytes-clause-screen_faults g c =
+    screen_uncounted c.from_residual.result _ _ (off_on c.from_residual.result c.in_err-bytes.field-0.0 c.from_residual.ensures.1 (unread_off c.in_err-bytes.field-0.0 c.in_err-bytes.ensures.err)) refl
+
+pub returns-in_err-words-clause-key_faults : goal.returns-in_err-words-clause-key_faults
+returns-in_err-words-clause-key_faults g c =
+    keys_uncounted c.from_residual-in_err-words.result _ _ (off_on c.from_residual-in_err-words.result Memory c.from_residual-in_err-words.ensures.1 (refl, refl)) refl
+
+pub returns-in_err-words-clause-screen_faults : goal.returns-in_err-words-clause-screen_faults
+returns-in_err-words-clause-screen_faults g c =
+    screen_uncounted c.from_residual-in_err-words.result _ _ (off_on c.from_residual-in_err-words.result Memory c.from_residual-in_err-words.ensures.1 (refl, refl)) refl
+
+pub returns-in_err-document-clause-key_faults : goal.returns-in_err-document-clause-key_faults
+returns-in_err-document-clause-key_faults g c =
+    keys_uncounted c.from_residual-in_err-document.result _ _ (off_on c.from_residual-in_err-document.result c.in_err-document.field-0.0 c.from_residual-in_err-document.ensures.1 c.in_err-document.ensures.err) refl
+
+pub returns-in_err-document-clause-screen_faults : goal.returns-in_err-document-clause-screen_faults
+returns-in_err-document-clause-screen_faults g c =
+    screen_uncounted c.from_residual-in_err-document.result _ _ (off_on c.from_residual-in_err-document.result c.in_err-document.field-0.0 c.from_residual-in_err-document.ensures.1 c.in_err-document.ensures.err) refl

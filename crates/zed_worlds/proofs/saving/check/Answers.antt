@@ -7,6 +7,7 @@ use Rattle.zed_host.proofs.Counts.{counted_up}
 use Rattle.zed_files.proofs.Endings.{effect_ends, refused_ends}
 use Rattle.zed_worlds.proofs.Endings.{check_so, not_reported}
 use Rattle.zed_files.proofs.Failures.{handed_on, write_tells}
+use Rattle.zed_files.proofs.OffStage.{off_on, written_off}
 use Rattle.std.proofs.Common.{[], ◌∷◌}
 use Rattle.zed_host.specs.Calls.{Printing}
 use Rattle.zed_files.specs.Asked.{reading, refusal_in}
@@ -46,3 +47,11 @@ returns-in_err-text-clause-asked g c =
 pub returns-clause-asked : goal.returns-clause-asked
 returns-clause-asked g c =
     then_last g.H.Host.called (reading (texts_of c.args.files.now)) (Printing ∷ []) (refusal_in c.print_out.result) _ _ _ c.in_ok-text.ensures.asked c.print_out.ensures.asked
+
+-- no screen is told of, and no source of keys
+pub returns-in_err-text-clause-err : goal.returns-in_err-text-clause-err
+returns-in_err-text-clause-err g c =
+    off_on c.from_residual.result c.in_err-text.field-0.0 c.from_residual.ensures.1 c.in_err-text.ensures.err
+
+pub returns-clause-err : goal.returns-clause-err
+returns-clause-err g c = written_off c.print_out.result c.print_out.ensures.err

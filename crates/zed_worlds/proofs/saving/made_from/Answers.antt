@@ -4,6 +4,8 @@ use Rattle.zed_worlds.specs.Made.{product_of}
 use Rattle.zed_files.specs.Texts.{texts_of}
 use Rattle.zed_worlds.proofs.Endings.{made_result, not_made}
 use Rattle.zed_files.proofs.Failures.{handed_on, other_tells}
+use Rattle.zed_files.proofs.OffStage.{made_off, off_on}
+use Rattle.zed_worlds.proofs.OffStage.{product_off}
 use Rattle.zed_worlds.proofs.Others.{product_is_other}
 use Rattle.zed_files.specs.Asked.{reading}
 use Rattle.zed_files.proofs.Asked.{answer_after}
@@ -37,3 +39,11 @@ returns-in_err-document-clause-asked g c =
 pub returns-clause-asked : goal.returns-clause-asked
 returns-clause-asked g c =
     answer_after _ _ g.H.Host.called (reading (texts_of c.args.files.now)) c.product_of.result _ _ c.in_ok-document.ensures.asked c.product_of.ensures (product_is_other c.args.product c.args.limit c.in_ok-document.document.edits)
+
+-- no screen is told of, and no source of keys
+pub returns-in_err-document-clause-err : goal.returns-in_err-document-clause-err
+returns-in_err-document-clause-err g c =
+    off_on c.from_residual.result c.in_err-document.field-0.0 c.from_residual.ensures.1 c.in_err-document.ensures.err
+
+pub returns-clause-err : goal.returns-clause-err
+returns-clause-err g c = made_off _ _ c.product_of.result c.product_of.ensures (product_off c.args.product c.args.limit c.in_ok-document.document.edits)

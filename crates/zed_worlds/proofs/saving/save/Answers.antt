@@ -8,6 +8,8 @@ use Rattle.zed_host.proofs.Counts.{counted_up}
 use Rattle.zed_files.proofs.Endings.{effect_ends, refused_ends}
 use Rattle.zed_worlds.proofs.Endings.{not_saved, save_so}
 use Rattle.zed_files.proofs.Failures.{handed_on, memory_is_other, memory_on, write_tells}
+use Rattle.zed_files.specs.declared.refusal.Refusal.TheVariants.{Memory}
+use Rattle.zed_files.proofs.OffStage.{off_on, written_off}
 use Rattle.zed_files.specs.Asked.{reading, refusal_in, writing}
 use Rattle.zed_files.proofs.Asked.{refused_after, refused_at, then_last}
 use Rattle.zed_worlds.proofs.saving.save.Goals as goal
@@ -61,3 +63,15 @@ returns-in_err-line-clause-asked g c =
 pub returns-clause-asked : goal.returns-clause-asked
 returns-clause-asked g c =
     then_last g.H.Host.called (reading (texts_of c.args.files.now)) (writing c.args.out.now) (refusal_in c.write_out.result) _ _ _ c.in_ok-bytes.ensures.asked c.write_out.ensures.asked
+
+-- no screen is told of, and no source of keys
+pub returns-in_err-bytes-clause-err : goal.returns-in_err-bytes-clause-err
+returns-in_err-bytes-clause-err g c =
+    off_on c.from_residual.result c.in_err-bytes.field-0.0 c.from_residual.ensures.1 c.in_err-bytes.ensures.err
+
+pub returns-in_err-line-clause-err : goal.returns-in_err-line-clause-err
+returns-in_err-line-clause-err g c =
+    off_on c.from_residual-in_err-line.result Memory c.from_residual-in_err-line.ensures.1 (refl, refl)
+
+pub returns-clause-err : goal.returns-clause-err
+returns-clause-err g c = written_off c.write_out.result c.write_out.ensures.err

@@ -6,6 +6,8 @@ use Rattle.zed_worlds.specs.Shown.{ComesToShow}
 use Rattle.zed_worlds.proofs.Endings.{not_shown, show_ends}
 use Rattle.zed_files.proofs.Endings.{refused_ends}
 use Rattle.zed_files.proofs.Failures.{handed_on, other_tells}
+use Rattle.zed_files.proofs.OffStage.{off_on, screen_uncounted}
+use Rattle.zed_worlds.proofs.OffStage.{keys_off_on}
 use Rattle.zed_worlds.proofs.Others.{shown_is_other}
 use Rattle.zed_files.specs.Asked.{reading}
 use Rattle.zed_files.proofs.Asked.{answer_after}
@@ -59,3 +61,13 @@ pub returns-in_err-document-clause-once : goal.returns-in_err-document-clause-on
 returns-in_err-document-clause-once g c =
     let p = err_from_is_err_and c.from_residual.result c.from_residual.ensures.1 in
     rw p.1 (inr refl)
+
+-- files tell of no screen
+pub returns-in_err-document-clause-screen_faults : goal.returns-in_err-document-clause-screen_faults
+returns-in_err-document-clause-screen_faults g c =
+    screen_uncounted c.from_residual.result _ _ (off_on c.from_residual.result c.in_err-document.field-0.0 c.from_residual.ensures.1 c.in_err-document.ensures.err) refl
+
+-- nor of a source of keys
+pub returns-in_err-document-clause-err : goal.returns-in_err-document-clause-err
+returns-in_err-document-clause-err g c =
+    keys_off_on c.from_residual.result c.in_err-document.field-0.0 c.from_residual.ensures.1 c.in_err-document.ensures.err.1

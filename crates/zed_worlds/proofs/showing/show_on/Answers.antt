@@ -1,7 +1,8 @@
-use Rattle.std.proofs.Common.{◌≡◌, ◌∙◌, ap, inl, inr}
+use Rattle.std.proofs.Common.{◌≡◌, ◌∙◌, ap, inl, inr, refl}
 use Rattle.std.proofs.lemmas.Result.{err_from_is_err_and}
 use Rattle.zed_files.specs.Refusals.{session_refusal}
 use Rattle.zed_worlds.specs.Stage.{Stage, stage}
+use Rattle.zed_worlds.proofs.OffStage.{keys_off_on, screen_on, unshown_off}
 use Rattle.zed_worlds.proofs.Played.{not_on_screen, on_screen, shown_of}
 use Rattle.zed_worlds.proofs.showing.show_on.Goals as goal
 
@@ -40,3 +41,14 @@ returns-in_err-show_board-clause-once g c =
       | inl fault ↦ inl (same ∙ ap session_refusal fault, rw fault at c.in_err-show_board.ensures.foretold)
       | inr stays ↦ inr stays
     ])
+
+-- its fault is told where it failed
+pub returns-in_err-show_board-clause-screen_faults : goal.returns-in_err-show_board-clause-screen_faults
+returns-in_err-show_board-clause-screen_faults g c =
+    screen_on (Unit {0}) c.from_residual.result c.in_err-show_board.field-0.0 _ _ _ c.from_residual.ensures.1 refl c.in_err-show_board.ensures.screen_faults
+
+-- no source of keys is told of
+pub returns-in_err-show_board-clause-err : goal.returns-in_err-show_board-clause-err
+returns-in_err-show_board-clause-err g c =
+    keys_off_on c.from_residual.result (session_refusal c.in_err-show_board.field-0.0) c.from_residual.ensures.1
+    (unshown_off _ c.args.board _ _ c.in_err-show_board.field-0.0 c.in_err-show_board.ensures.result)

@@ -1,6 +1,6 @@
 use Rattle.std.proofs.lemmas.Result.{err_from_is_err_and}
 use Rattle.zed_files.proofs.Deliveries.{all_delivered, one_refused}
-use Rattle.zed_files.proofs.collect.deliver_all.Goals as goal
+use Rattle.zed_files.proofs.gathering.deliver_all.Goals as goal
 
 pub returns-clause-agree : goal.returns-clause-agree
 returns-clause-agree c =

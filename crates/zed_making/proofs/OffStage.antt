@@ -1,0 +1,50 @@
+-- Refusals that are neither of a screen nor of a source of keys.
+use Rattle.zed_editfile.specs.declared.error.EditFileError.{EditFileError}
+use Rattle.zed_op.specs.declared.op.Edit.{Edit}
+use Rattle.zed_world.specs.declared.error.WorldError.{WorldError}
+use Rattle.zed_files.specs.declared.refusal.Refusal.{Refusal}
+use Rattle.zed_files.specs.declared.refusal.Refusal.TheVariants.{Clash, NoLink}
+use Rattle.std.proofs.Common.{◌≡◌, ◌∷◌, [], ℕ, zero, suc, Bool, true, false, List, Some, Result, Ok, Err, length, refl, subst, nat_lt, inl, inr}
+use Rattle.std.specs.Prelude.{MatchBool}
+use Rattle.zed_document.specs.Replica.{Replica}
+use Rattle.zed_session.specs.Links.{LinkSeen}
+use Rattle.zed_making.specs.Edited.{IsOpened, IsSettled}
+use Rattle.zed_making.specs.Fresh.{refused_as}
+use Rattle.zed_making.specs.Merged.{IsMerged, PullsEach, empty_document, with_edits}
+use Rattle.zed_files.specs.Refusals.{IsOffStage, file_refusal, link_refusal, world_refusal}
+use Rattle.zed_files.proofs.OffStage.{file_off, is_off, link_off, world_off}
+
+-- the document of a file that was read
+pub opened_off : (bytes : List ℕ) (e : Refusal) → IsOpened (Some bytes) (Err e) → IsOffStage e
+opened_off bytes e opened = settled opened.0 opened.1 opened.3
+  where
+    settled : (es : List Edit) (end : Result ℕ EditFileError) → IsSettled es end (Err e) → IsOffStage e
+    settled es (Ok world) how = elim how [
+      | inl clash ↦ is_off e (Clash clash.0) (let why = clash.2 in cc) (refl, refl)
+      | inr whole ↦ absurd (let no = whole.1 in cc)
+    ]
+    settled es (Err x) how = elim how [
+      | inl clash ↦ is_off e (Clash clash.0) (let why = clash.2 in cc) (refl, refl)
+      | inr fault ↦ is_off e (file_refusal x) (let why = fault.1 in cc) (file_off x)
+    ]
+
+-- a world file as it is written again
+pub world_taken_off : (written : Result (List ℕ) WorldError) (e : Refusal) → refused_as written ≡ Err e → IsOffStage e
+world_taken_off (Ok bytes) e made = absurd (cc)
+world_taken_off (Err x) e made = is_off e (world_refusal x) (cc) (world_off x)
+
+-- what is pulled over links
+pulls_off : (d : Replica) (n : ℕ) (links news : List LinkSeen) (e : Refusal) → PullsEach d n links news (Err e) → IsOffStage e
+pulls_off d zero links news e pulls = absurd (let no = pulls.0 in cc)
+pulls_off d (suc n) [] news e pulls = absurd pulls
+pulls_off d (suc n) (link ∷ links) news e pulls = elim pulls [
+  | inl more ↦ pulls_off (with_edits more.2 d) n links more.3 e more.6
+  | inr last ↦ is_off e (link_refusal last.0) (let why = last.5 in cc) (link_off last.0)
+]
+
+pub merged_off : (world count : ℕ) (links news : List LinkSeen) (e : Refusal) → IsMerged world count links news (Err e) → IsOffStage e
+merged_off world count links news e merged = go (nat_lt (length links) count) (Err e) refl merged
+  where
+    go : (few : Bool) (r : Result (List Edit) Refusal) → r ≡ Err e → MatchBool few ((r ≡ Err NoLink) × (news ≡ links)) (PullsEach (empty_document world) count links news r) → IsOffStage e
+    go true r same bad = is_off e NoLink (let no = bad.0 in cc) (refl, refl)
+    go false r same pulls = pulls_off (empty_document world) count links news e (subst (λ x. PullsEach (empty_document world) count links news x) same pulls)
