@@ -134,54 +134,8 @@ fn next_of(links: &mut Vec<Box<dyn Link>>) -> Option<Box<dyn Link>> {
     }
 }
 
-/// Makes the call of an act. So many links had ended before.
-fn answer_of(
-    room: &Room,
-    ends: u64,
-    session: &mut Session,
-    links: &mut Vec<Box<dyn Link>>,
-    call: &Call,
-) -> Told {
-    match call {
-        Call::Show(i) => Told::Done(session.show(*i, BODY_LIMIT)),
-        Call::Play(i) => Told::Done(session.play(*i, BODY_LIMIT)),
-        Call::Push(i) => Told::Number(session.push(*i)),
-        Call::Pull(i) => Told::Pulled(session.pull(*i)),
-        Call::Detach(i) => Told::Done(session.detach(*i)),
-        Call::Press(words) => Told::Used(session.play_key(words.as_slice())),
-        Call::Attach => match next_of(links) {
-            Some(link) => match session.attach(link) {
-                Ok(place) => Told::Number(Ok(place)),
-                Err(back) => handed_back(room.traces, ends, back),
-            },
-            None => Told::Well(false),
-        },
-        Call::Repair => repaired(session.document_mut()),
-    }
-}
-
-/// Does a row.
-fn do_row(
-    room: &Room,
-    session: &mut Session,
-    links: &mut Vec<Box<dyn Link>>,
-    row: &Row,
-    sight: &mut Sight,
-) {
-    let Some(act) = act_of(room, session, row, sight) else {
-        return;
-    };
-    if act.is_idle(is_stale(session.document())) {
-        take_told(room, row, Asked::Answer, Told::Well(true), sight);
-        return;
-    }
-    let ends = room.traces.ended_links();
-    refuse(room.alloc, room.turn.growth_of(row));
-    let answer = answer_of(room, ends, session, links, &act.call);
-    take_told(room, row, act.asked, answer, sight);
-}
-
-// Who makes a boxed link or device can't hand it out. So they are boxed here, and as little else is done as can be.
+// Who makes a boxed link or device can't hand it out, nor can who lends a session to a call of another crate that lets one out. So all of
+// that is here, and as little else as can be.
 fn have_session(room: &Room, document: Document, parts: Parts, rows: &[Row], sight: &mut Sight) {
     let mut links: Vec<Box<dyn Link>> = Vec::new(room.alloc);
     for wire in parts.wires {
@@ -192,7 +146,32 @@ fn have_session(room: &Room, document: Document, parts: Parts, rows: &[Row], sig
     }
     let mut session = Session::new(room.alloc, document, parts.screen, parts.keys);
     for row in rows {
-        do_row(room, &mut session, &mut links, row, sight);
+        let Some(act) = act_of(room, &session, row, sight) else {
+            continue;
+        };
+        if act.is_idle(is_stale(session.document())) {
+            take_told(room, row, Asked::Answer, Told::Well(true), sight);
+            continue;
+        }
+        let ends = room.traces.ended_links();
+        refuse(room.alloc, room.turn.growth_of(row));
+        let answer = match &act.call {
+            Call::Show(i) => Told::Done(session.show(*i, BODY_LIMIT)),
+            Call::Play(i) => Told::Done(session.play(*i, BODY_LIMIT)),
+            Call::Push(i) => Told::Number(session.push(*i)),
+            Call::Pull(i) => Told::Pulled(session.pull(*i)),
+            Call::Detach(i) => Told::Done(session.detach(*i)),
+            Call::Press(words) => Told::Used(session.play_key(words.as_slice())),
+            Call::Attach => match next_of(&mut links) {
+                Some(link) => match session.attach(link) {
+                    Ok(place) => Told::Number(Ok(place)),
+                    Err(back) => handed_back(room.traces, ends, back),
+                },
+                None => Told::Well(false),
+            },
+            Call::Repair => repaired(session.document_mut()),
+        };
+        take_told(room, row, act.asked, answer, sight);
     }
 }
 
