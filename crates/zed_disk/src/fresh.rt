@@ -2,7 +2,7 @@
 ghost use Rattle.std.specs.Prelude.{◌≡◌, ◌||◌, None, is_err};
 
 use crate::folder::{Folder, replace};
-use crate::place::{FoundFile, is_at};
+use crate::named::{FoundFile, is_at};
 use std::fs::{self, File, Metadata, OpenOptions, Permissions};
 use std::io::{self, ErrorKind, Write};
 use std::os::unix::fs::{MetadataExt, OpenOptionsExt, PermissionsExt, fchown};
@@ -26,7 +26,7 @@ const COMMON: u32 = 0o666;
 #[derive(Drop)]
 struct RealFolder<'a> {
     rt: &'a HostRuntime,
-    spot: &'a FoundFile,
+    found: &'a FoundFile,
     old: Option<Metadata>,
     folder: File,
     fresh: Option<File>,
@@ -131,7 +131,7 @@ impl Folder for RealFolder<'_> {
 
     fn create(&mut self) -> io::Result<()> {
         let mode = if self.old.is_some() { OWN } else { COMMON };
-        match make_fresh(self.rt, self.spot.fresh(), mode) {
+        match make_fresh(self.rt, self.found.fresh(), mode) {
             Ok(file) => {
                 self.fresh = Some(file);
                 Ok(())
@@ -156,14 +156,14 @@ impl Folder for RealFolder<'_> {
     }
 
     fn rename(&mut self) -> io::Result<()> {
-        let renamed = fs::rename(self.rt, self.spot.fresh(), self.spot.path());
+        let renamed = fs::rename(self.rt, self.found.fresh(), self.found.path());
         note(&mut self.has_failed, &renamed);
         renamed
     }
 
     fn remove(&mut self) {
         if self.fresh.is_some() {
-            let _ = fs::remove_file(self.rt, self.spot.fresh());
+            let _ = fs::remove_file(self.rt, self.found.fresh());
         }
     }
 
@@ -184,11 +184,11 @@ fn opened(rt: &HostRuntime, name: &str) -> io::Result<Option<File>> {
 }
 
 // Puts a file with these bytes into a place.
-fn put(rt: &HostRuntime, spot: &FoundFile, old: Option<Metadata>, bytes: &[u8]) -> io::Result<()> {
-    let folder = fs::open(rt, spot.folder())?;
+fn put(rt: &HostRuntime, found: &FoundFile, old: Option<Metadata>, bytes: &[u8]) -> io::Result<()> {
+    let folder = fs::open(rt, found.folder())?;
     let mut folder = RealFolder {
         rt,
-        spot,
+        found,
         old,
         folder,
         fresh: None,
@@ -205,18 +205,18 @@ fn put(rt: &HostRuntime, spot: &FoundFile, old: Option<Metadata>, bytes: &[u8]) 
 pub fn write(
     rt: &HostRuntime,
     name: &str,
-    spot: io::Result<&FoundFile>,
+    found: io::Result<&FoundFile>,
     bytes: &[u8],
 ) -> io::Result<()> {
     let Some(mut file) = opened(rt, name)? else {
-        return put(rt, spot?, None, bytes);
+        return put(rt, found?, None, bytes);
     };
     let old = file.metadata()?;
     if !old.is_file() {
         return file.write_all(bytes);
     }
-    let spot = spot?;
+    let found = found?;
     // A file that has no name any more can't be replaced.
-    fs::symlink_metadata(rt, spot.path())?;
-    put(rt, spot, Some(old), bytes)
+    fs::symlink_metadata(rt, found.path())?;
+    put(rt, found, Some(old), bytes)
 }

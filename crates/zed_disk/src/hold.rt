@@ -1,6 +1,6 @@
 //! Reading a file that is to be replaced, so that no other command replaces it in between.
 
-use crate::place::{FoundFile, is_at};
+use crate::named::{FoundFile, is_at};
 use std::fs::{self, File, OpenOptions};
 use std::io::{self, ErrorKind};
 use std::os::fd::AsRawFd;
@@ -24,13 +24,13 @@ fn open_file(rt: &HostRuntime, name: &str) -> io::Result<File> {
 }
 
 // Opens a file and waits for its lock. Nothing where it was replaced in the meantime: then the lock is of a file that is gone.
-fn open_held(rt: &HostRuntime, name: &str, spot: &FoundFile) -> io::Result<Option<File>> {
+fn open_held(rt: &HostRuntime, name: &str, found: &FoundFile) -> io::Result<Option<File>> {
     if !fs::metadata(rt, name)?.is_file() {
         return Ok(Some(fs::open(rt, name)?));
     }
     let file = open_file(rt, name)?;
     file.lock()?;
-    if is_at(rt, &file, spot.path())? {
+    if is_at(rt, &file, found.path())? {
         Ok(Some(file))
     } else {
         Ok(None)
@@ -41,9 +41,9 @@ fn open_held(rt: &HostRuntime, name: &str, spot: &FoundFile) -> io::Result<Optio
 ///
 /// # Errors
 /// A device failed, there is no such file, or it can't be read or locked.
-pub fn held(rt: &HostRuntime, name: &str, spot: &FoundFile) -> io::Result<File> {
+pub fn held(rt: &HostRuntime, name: &str, found: &FoundFile) -> io::Result<File> {
     for _ in 0..LOOKS {
-        if let Some(file) = open_held(rt, name, spot)? {
+        if let Some(file) = open_held(rt, name, found)? {
             return Ok(file);
         }
     }
@@ -54,8 +54,8 @@ pub fn held(rt: &HostRuntime, name: &str, spot: &FoundFile) -> io::Result<File> 
 ///
 /// # Errors
 /// Another file stands there, or a device failed.
-pub fn stands(rt: &HostRuntime, file: &File, spot: &FoundFile) -> io::Result<()> {
-    if !file.metadata()?.is_file() || is_at(rt, file, spot.path())? {
+pub fn stands(rt: &HostRuntime, file: &File, found: &FoundFile) -> io::Result<()> {
+    if !file.metadata()?.is_file() || is_at(rt, file, found.path())? {
         return Ok(());
     }
     Err(io::Error::from(ErrorKind::NotFound))

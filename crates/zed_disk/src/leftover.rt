@@ -3,7 +3,7 @@ ghost use Rattle.std.specs.Prelude.{◌≡◌};
 ghost use Rattle.std.specs.List.{list_all};
 ghost use Rattle.zed_disk.specs.Names.{is_new_name, is_numeral};
 
-use crate::place::is_at;
+use crate::named::is_at;
 use std::fs::{self, OpenOptions};
 use std::io::{self, ErrorKind};
 

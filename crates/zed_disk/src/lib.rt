@@ -5,9 +5,9 @@ mod folder;
 mod fresh;
 mod hold;
 mod leftover;
-mod place;
+mod named;
 
 pub use folder::{Folder, replace};
 pub use fresh::write;
 pub use hold::{held, stands};
-pub use place::{FoundFile, NamedFile};
+pub use named::{FoundFile, NamedFile};

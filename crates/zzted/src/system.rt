@@ -96,8 +96,8 @@ impl SystemHost {
         let Access::Edit(place) = &self.access else {
             return;
         };
-        let file = match place.spot() {
-            Ok(spot) => held(&self.rt, spot.path(), spot),
+        let file = match place.found() {
+            Ok(found) => held(&self.rt, found.path(), found),
             Err(error) => Err(error),
         };
         self.hold = match file {
@@ -118,7 +118,7 @@ impl SystemHost {
         let Some(place) = self.access.edited(name) else {
             return read_whole(alloc, &mut fs::open(&self.rt, name)?);
         };
-        let mut file = held(&self.rt, name, place.spot()?)?;
+        let mut file = held(&self.rt, name, place.found()?)?;
         let bytes = read_whole(alloc, &mut file)?;
         self.hold = Hold::Of(file);
         Ok(bytes)
@@ -132,13 +132,13 @@ impl SystemHost {
         let Some(place) = self.access.written(name) else {
             return Err(io::Error::from(ErrorKind::Unsupported));
         };
-        let spot = place.spot();
-        match (&self.hold, &spot) {
-            (Hold::Of(file), Ok(spot)) => stands(&self.rt, file, spot)?,
+        let found = place.found();
+        match (&self.hold, &found) {
+            (Hold::Of(file), Ok(found)) => stands(&self.rt, file, found)?,
             (Hold::Refused, _) => return Err(io::Error::from(ErrorKind::ResourceBusy)),
             _ => {}
         }
-        write(&self.rt, name, spot, bytes)
+        write(&self.rt, name, found, bytes)
     }
 }
 

@@ -16,7 +16,7 @@ const LINKS: u32 = 40;
 #[derive(Drop)]
 pub struct NamedFile {
     name: String,
-    spot: Option<FoundFile>,
+    found: Option<FoundFile>,
 }
 
 /// Where the file of a name stands, which is no symbolic link.
@@ -126,13 +126,13 @@ impl NamedFile {
     /// # Errors
     /// `OutOfMemory` alone. Where a device fails the place is unknown, and nothing but a device can be written there.
     pub fn of(rt: &HostRuntime, name: &str) -> io::Result<NamedFile> {
-        let spot = match find(rt, name) {
-            Ok(spot) => Some(spot),
+        let found = match find(rt, name) {
+            Ok(found) => Some(found),
             Err(error) if error.kind() == ErrorKind::OutOfMemory => return Err(error),
             Err(_) => None,
         };
         let name = String::from_str(rt.alloc(), name)?;
-        Ok(NamedFile { name, spot })
+        Ok(NamedFile { name, found })
     }
 
     /// Whether it is the place of this name.
@@ -145,10 +145,10 @@ impl NamedFile {
     /// # Errors
     /// A device failed, or memory is lacking.
     pub fn is_led_to(&self, rt: &HostRuntime, names: &[&str]) -> io::Result<bool> {
-        let Some(spot) = &self.spot else {
+        let Some(found) = &self.found else {
             return Ok(false);
         };
-        let Some(here) = unless_missing(fs::symlink_metadata(rt, spot.path()))? else {
+        let Some(here) = unless_missing(fs::symlink_metadata(rt, found.path()))? else {
             return Ok(false);
         };
         for name in names {
@@ -166,17 +166,17 @@ impl NamedFile {
 
     /// A place of the same name that is unknown.
     pub fn lost(self) -> NamedFile {
-        let NamedFile { name, spot: _ } = self;
-        NamedFile { name, spot: None }
+        let NamedFile { name, found: _ } = self;
+        NamedFile { name, found: None }
     }
 
     /// Where the file stands.
     ///
     /// # Errors
     /// That this is unknown.
-    pub fn spot(&self) -> io::Result<&FoundFile> {
-        match &self.spot {
-            Some(spot) => Ok(spot),
+    pub fn found(&self) -> io::Result<&FoundFile> {
+        match &self.found {
+            Some(found) => Ok(found),
             None => Err(io::Error::from(ErrorKind::NotFound)),
         }
     }
