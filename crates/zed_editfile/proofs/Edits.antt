@@ -12,7 +12,7 @@ use Rattle.zed_editfile.specs.declared.error.EditFileError.{EditFileError}
 use Rattle.zed_editfile.specs.declared.error.EditFileError.TheVariants.{BadEdit}
 use Rattle.zed_editfile.specs.Spelling.{stamp, op_text, spelling, IsOf}
 use Rattle.zed_types.specs.Steps.{◌>>=◌}
-use Rattle.zed_editfile.specs.Reading.{Field, byte_at, stamp_at, op_at, fields_at, unless_faulty, edit_at}
+use Rattle.zed_editfile.specs.Reading.{Field, byte_at, stamp_at, op_at, unchecked_edit_at, unless_faulty, edit_at}
 use Rattle.zed_op.specs.Sizes.{HasSizes}
 use Rattle.zed_editfile.proofs.Numbers.{IsBytes}
 use Rattle.zed_types.proofs.Steps.{bind_ok, ok_is}
@@ -26,8 +26,8 @@ choice_ok false r d y h = absurd cc
 abbrev ended : Stamp → Op × List ℕ → Result Edit EditFileError
 ended made op = cond (eqb (length op.1) 0) (Ok (record { stamp = made; op = op.0 })) (Err (BadEdit Long))
 
-fields_take : (v : ℕ) (bytes : List ℕ) (e : Edit) → IsBytes bytes → fields_at v bytes ≡ Ok e → (bytes ≡ spelling e) × HasSizes e × IsOf v e
-unfolding fields_at spelling
+fields_take : (v : ℕ) (bytes : List ℕ) (e : Edit) → IsBytes bytes → unchecked_edit_at v bytes ≡ Ok e → (bytes ≡ spelling e) × HasSizes e × IsOf v e
+unfolding unchecked_edit_at spelling
 fields_take v bytes e fits h =
     let a = bind_ok (stamp_at bytes) (λ made. byte_at made.1 >>= λ n. op_at v n.0 n.1 >>= λ op. ended made.0 op) e h in
     let made = a.0 in
@@ -53,7 +53,7 @@ unfaulty (Some c) x e h = absurd cc
 pub edit_takes : (v : ℕ) (bytes : List ℕ) (e : Edit) → IsBytes bytes → edit_at v bytes ≡ Ok e → (bytes ≡ spelling e) × HasSizes e × Fits e × IsOf v e
 unfolding edit_at
 edit_takes v bytes e fits h =
-    let a = bind_ok (fields_at v bytes) (λ x. unless_faulty (fault x) x) e h in
+    let a = bind_ok (unchecked_edit_at v bytes) (λ x. unless_faulty (fault x) x) e h in
     let u = unfaulty (fault a.0) a.0 e a.2 in
     let t = fields_take v bytes a.0 fits a.1 in
     let P : Edit → Type 0 = λ x. (bytes ≡ spelling x) × HasSizes x × Fits x × IsOf v x in
@@ -63,8 +63,8 @@ bind_bind : {A B C : Type 0} (r : Result A EditFileError) (f : A → Result B Ed
 bind_bind (Ok x) f k = refl
 bind_bind (Err d) f k = refl
 
-fields_again : (v : ℕ) (e : Edit) → HasSizes e → IsOf v e → fields_at v (spelling e) ≡ Ok e
-unfolding fields_at spelling
+fields_again : (v : ℕ) (e : Edit) → HasSizes e → IsOf v e → unchecked_edit_at v (spelling e) ≡ Ok e
+unfolding unchecked_edit_at spelling
 fields_again v e room of =
     let k : Op × List ℕ → Result Edit EditFileError = λ op. ended e.stamp op in
     let second : (byte_at (op_text e.op) >>= λ n. op_at v n.0 n.1 >>= k) ≡ Ok e = bind_bind (byte_at (op_text e.op)) (λ n. op_at v n.0 n.1) k ∙ ap (λ (x : Field Op). x >>= k) (op_again v e.op (room.1, of)) in

@@ -18,7 +18,7 @@ use Rattle.zed_types.specs.Steps.{◌>>=◌}
 use Rattle.zed_editfile.specs.declared.error.EditFileError.{EditFileError}
 use Rattle.zed_editfile.specs.declared.error.EditFileError.TheVariants.{Memory, Magic, NewVersion, OtherWorld, RecordLength, BadEdit, CutShort}
 use Rattle.zed_editfile.specs.Laws.{CutIsToldAtTheEnd}
-use Rattle.zed_editfile.specs.Reading.{Field, mapped, by_kind, pair_at, unless_faulty, byte_at, number_at, integer_at, boolean_at, string_at, stamp_at, name_at, board_with, stat_with, text_with, element_with, board_name_at, stat_name_at, text_name_at, element_name_at, optional_at, tile_at, rectangle_at, third_parameter_at, key_of, flag_of, header_value_at, header_setting_at, board_value_at, board_setting_at, stat_value_at, stat_setting_at, stat_fields_at, set_board_at, set_cells_at, stat_add_at, set_stat_at, text_insert_at, range_at, text_delete_at, op_at, fields_at, edit_at}
+use Rattle.zed_editfile.specs.Reading.{Field, mapped, by_kind, pair_at, unless_faulty, byte_at, number_at, integer_at, boolean_at, string_at, stamp_at, name_at, board_with, stat_with, text_with, element_with, board_name_at, stat_name_at, text_name_at, element_name_at, optional_at, tile_at, rectangle_at, third_parameter_at, key_of, flag_of, header_value_at, header_setting_at, board_value_at, board_setting_at, stat_value_at, stat_setting_at, stat_fields_at, set_board_at, set_cells_at, stat_add_at, set_stat_at, text_insert_at, range_at, text_delete_at, op_at, unchecked_edit_at, edit_at}
 use Rattle.zed_editfile.specs.Stream.{Stop, fails, waits, fault_of, has_letters, is_length, is_other, is_version, body_at, head_stop, record_stop, Progress, stop_of, Stops}
 
 -- ---- what is read may be bad, but never cut short
@@ -202,8 +202,8 @@ op v n bytes =
     (either (eqb n 9) _ _ (pair SetStat stat_name_at stat_setting_at stat_name stat_setting bytes)
     (either (eqb n 10) _ _ (fine _) (either (eqb n 11) _ _ (text_insert bytes) (either (eqb n 12) _ _ (pair TextDelete text_name_at range_at text_name range bytes) (bad BadOp))))))))))))
 
-fields : (v : ℕ) (bytes : List ℕ) → NotCut (fields_at v bytes)
-unfolding fields_at
+fields : (v : ℕ) (bytes : List ℕ) → NotCut (unchecked_edit_at v bytes)
+unfolding unchecked_edit_at
 fields v bytes =
     steps (stamp_at bytes) _ (stamp bytes) (λ made. steps (byte_at made.1) _ (byte made.1) (λ number. steps (op_at v number.0 number.1) _ (op v number.0 number.1) (λ op. either (eqb (length op.1) 0) _ _ (fine _) (bad Long))))
 
@@ -213,7 +213,7 @@ unfaulty (Some c) e = bad c
 
 edit : (v : ℕ) (bytes : List ℕ) → NotCut (edit_at v bytes)
 unfolding edit_at
-edit v bytes = steps (fields_at v bytes) _ (fields v bytes) (λ e. unfaulty (fault e) e)
+edit v bytes = steps (unchecked_edit_at v bytes) _ (fields v bytes) (λ e. unfaulty (fault e) e)
 
 -- ---- where reading stops
 

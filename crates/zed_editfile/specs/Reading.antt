@@ -304,9 +304,9 @@ op_at version n bytes =
 
 -- ---- edits
 
--- a stamp, and an op of which nothing is left
-unfoldable pub fields_at : ℕ → List ℕ → Result Edit EditFileError
-fields_at version bytes = do
+-- an edit as it is spelt, whatever is wrong with it: a stamp, and an op of which nothing is left
+unfoldable pub unchecked_edit_at : ℕ → List ℕ → Result Edit EditFileError
+unchecked_edit_at version bytes = do
   made ← stamp_at bytes
   number ← byte_at made.1
   op ← op_at version number.0 number.1
@@ -320,5 +320,5 @@ unless_faulty (Some c) e = Err (BadEdit c)
 -- the edit that the body of a record of a version spells, if it fits
 unfoldable pub edit_at : ℕ → List ℕ → Result Edit EditFileError
 edit_at version bytes = do
-  e ← fields_at version bytes
+  e ← unchecked_edit_at version bytes
   unless_faulty (fault e) e

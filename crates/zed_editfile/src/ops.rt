@@ -1,6 +1,6 @@
 //! Reading ops.
 ghost use Rattle.std.specs.Prelude.{◌≡◌};
-ghost use Rattle.zed_editfile.specs.Reading.{Gives, set_board_at, set_cells_at, stat_add_at, set_stat_at, text_insert_at, text_delete_at, op_at, fields_at};
+ghost use Rattle.zed_editfile.specs.Reading.{Gives, set_board_at, set_cells_at, stat_add_at, set_stat_at, text_insert_at, text_delete_at, op_at, unchecked_edit_at};
 
 use crate::error::EditFileError;
 use crate::fields::{
@@ -103,10 +103,14 @@ fn op_of(alloc: Global, version: u8, number: u8, bytes: &[u8]) -> Result<(Op, &[
     }
 }
 
-/// A stamp, and an op of which nothing is left. The edit isn't checked.
-#[tactic(auto, unfolding(crate::specs::Reading::fields_at))]
-pub(crate) fn fields_of(alloc: Global, version: u8, bytes: &[u8]) -> Result<Edit, EditFileError>
-    ensures { Gives (λ e. e) result (fields_at version bytes.now) }
+/// The edit that these bytes spell, whatever is wrong with it: a stamp, and an op of which nothing is left.
+#[tactic(auto, unfolding(crate::specs::Reading::unchecked_edit_at))]
+pub(crate) fn unchecked_edit_of(
+    alloc: Global,
+    version: u8,
+    bytes: &[u8],
+) -> Result<Edit, EditFileError>
+    ensures { Gives (λ e. e) result (unchecked_edit_at version bytes.now) }
 {
     let (stamp, rest) = stamp_of(bytes)?;
     let (number, rest) = byte_of(rest)?;

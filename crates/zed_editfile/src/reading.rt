@@ -6,7 +6,7 @@ ghost use Rattle.zed_editfile.specs.Reading.{Gives, edit_at, unless_faulty};
 ghost use Rattle.zed_editfile.specs.Stream.{Frames, Gains, waits, fails, is_length, record_stop};
 
 use crate::error::EditFileError;
-use crate::ops::fields_of;
+use crate::ops::unchecked_edit_of;
 use byteorder::{ByteOrder, LittleEndian};
 use std::alloc::Global;
 use zed_op::{Edit, check};
@@ -30,7 +30,7 @@ fn fitting(alloc: Global, edit: Edit) -> Result<Edit, EditFileError>
 fn edit_of(alloc: Global, version: u8, body: &[u8]) -> Result<Edit, EditFileError>
     ensures { Gives (λ e. e) result (edit_at version body.now) }
 {
-    let edit = fields_of(alloc, version, body)?;
+    let edit = unchecked_edit_of(alloc, version, body)?;
     fitting(alloc, edit)
 }
 
