@@ -174,6 +174,13 @@ impl Desk {
         outcome_of(self.alloc, end)
     }
 
+    fn try_nothing(&mut self, nth: usize) -> Outcome {
+        let none = Vec::new(self.alloc);
+        refuse(self.alloc, nth);
+        let end = end_of(self.document.deliver_all(none).err());
+        outcome_of(self.alloc, end)
+    }
+
     fn try_merge(&mut self, other: &Desk, nth: usize) -> Outcome {
         refuse(self.alloc, nth);
         let end = end_of(self.document.merge(&other.document).err());
@@ -247,7 +254,7 @@ impl Desk {
         }
     }
 
-    /// Makes a call that an author makes, if it is one.
+    /// Makes a call that changes the document otherwise than by the delivery of an edit, if it is one.
     fn try_authored(
         &mut self,
         stage: &Stage,
@@ -263,6 +270,7 @@ impl Desk {
             "types" => Ok(Some(self.try_types(line, nth)?)),
             "deletes" => Ok(Some(self.try_deletes(line, nth)?)),
             "repairs" => Ok(Some(self.try_repair(nth))),
+            "gives_nothing" => Ok(Some(self.try_nothing(nth))),
             _ => Ok(None),
         }
     }
