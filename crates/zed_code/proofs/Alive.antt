@@ -6,7 +6,7 @@ use Rattle.zed_types.specs.Names.{byte_of}
 use Rattle.zed_types.specs.declared.stamp.Stamp.{Stamp}
 use Rattle.zed_types.specs.declared.names.ElemId.{ElemId}
 use Rattle.zed_types.specs.declared.text.TextByte.{TextByte}
-use Rattle.zed_types.specs.Text.{alive_bytes}
+use Rattle.zed_types.specs.Text.{alive, alive_bytes}
 use Rattle.zed_code.specs.declared.run.Run.{Run}
 use Rattle.zed_code.specs.Pieces.{run_of}
 use Rattle.zed_code.specs.Cutting.{bytes_in, spelled}
@@ -14,9 +14,6 @@ use Rattle.zed_code.specs.Reading.{live, live_at}
 use Rattle.zed_code.specs.Kept.{IsRun, total}
 use Rattle.zed_code.specs.Text.{alive_names}
 use Rattle.zed_code.proofs.Spelling.{bytes-count}
-
-abbrev alive : List TextByte → List TextByte
-alive xs = filter (λ x. x.alive) xs
 
 alive-run : (s : Stamp) (n : ℕ) (bs : List ℕ) (rest : List TextByte) → alive (run_of s true n bs ++ rest) ≡ run_of s true n bs ++ alive rest
 alive-run s n [] rest = refl

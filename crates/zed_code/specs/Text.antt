@@ -1,12 +1,13 @@
 -- What contracts say of a text.
 use Rattle.std.specs.Prelude.{◌≡◌, ◌≤◌, ℕ, ◌+◌, true, false, List, map, length, Option, Some, None}
-use Rattle.std.specs.List.{AllByRecursion, list_any, filter}
+use Rattle.std.specs.List.{AllByRecursion, list_any}
 use Rattle.zed_types.specs.declared.stamp.Stamp.{Stamp}
 use Rattle.zed_types.specs.declared.names.ElemId.{ElemId}
 use Rattle.zed_types.specs.declared.text.TextByte.{TextByte}
 use Rattle.zed_types.specs.declared.text.ByteRange.{ByteRange}
 use Rattle.zed_types.specs.Stamp.{before, same_stamp}
 use Rattle.zed_types.specs.Names.{same_element}
+use Rattle.zed_types.specs.Text.{alive}
 use Rattle.zed_code.specs.Pieces.{Shown, written_out}
 
 -- the elements of a text, dead ones included
@@ -32,4 +33,4 @@ HasMore n old new = length new.cutting ≤ length old.cutting + n
 
 -- the names of the bytes that are alive
 abbrev pub alive_names : List TextByte → List ElemId
-alive_names xs = map (λ x. x.id) (filter (λ x. x.alive) xs)
+alive_names xs = map (λ x. x.id) (alive xs)

@@ -7,9 +7,9 @@ use Rattle.zed_types.specs.declared.text.TextByte.{TextByte}
 use Rattle.zed_types.specs.declared.text.ByteRange.{ByteRange}
 use Rattle.zed_types.specs.Stamp.{same_stamp}
 use Rattle.zed_types.specs.Names.{same_element}
-use Rattle.zed_types.specs.Text.{is_within, kill, alive_bytes}
+use Rattle.zed_types.specs.Text.{alive, is_within, kill, alive_bytes}
 use Rattle.zed_laws.specs.TextNames.{HaveOwnNames}
-use Rattle.zed_document.specs.Authoring.{alive, alone, goes_before, with_byte, stretches, part, without}
+use Rattle.zed_document.specs.Authoring.{alone, goes_before, with_byte, stretches, part, without}
 use Rattle.zed_types.proofs.StampOrder.{same_stamp-true, same_stamp-sym}
 use Rattle.zed_document.proofs.TypedTexts.{same_element-itself}
 

@@ -11,7 +11,7 @@ use Rattle.zed_types.specs.declared.text.TextByte.{TextByte}
 use Rattle.zed_types.specs.declared.text.ByteRange.{ByteRange}
 use Rattle.zed_types.specs.Stamp.{before, same_stamp}
 use Rattle.zed_types.specs.Names.{byte_of, same_element}
-use Rattle.zed_types.specs.Text.{kill, alive_bytes}
+use Rattle.zed_types.specs.Text.{alive, kill, alive_bytes}
 use Rattle.zed_op.specs.declared.op.Op.TheVariants.{TextDelete}
 use Rattle.zed_op.specs.declared.op.Edit.{Edit}
 use Rattle.zed_edit.specs.declared.plain.Plain.{Plain}
@@ -26,7 +26,7 @@ use Rattle.zed_op.specs.Verdict.{FitIsEachPart}
 use Rattle.zed_laws.specs.TextNames.{ElementsHaveOwnNames, ElementsAreOfEdits, TextsAreOfEdits, StampsPass}
 use Rattle.zed_history.specs.Clock.{greatest_time, is_spent, next_time}
 use Rattle.zed_history.specs.Finding.{AllBelow}
-use Rattle.zed_document.specs.Authoring.{alive, goes_before, with_byte, stretches, stretches_of, deletions, deletions_of, part, is_part, without}
+use Rattle.zed_document.specs.Authoring.{goes_before, with_byte, stretches, stretches_of, deletions, deletions_of, part, is_part, without}
 use Rattle.zed_document.specs.Stretches.{CanFollow}
 use Rattle.zed_document.proofs.Deleted.{kills, left-text, All-alive, All-take, All-drop}
 use Rattle.zed_types.proofs.StampOrder.{same_stamp-true, before_later}

@@ -9,7 +9,7 @@ use Rattle.zed_types.specs.declared.names.ElemId.{ElemId}
 use Rattle.zed_types.specs.declared.names.TextId.{TextId}
 use Rattle.zed_types.specs.declared.text.TextByte.{TextByte}
 use Rattle.zed_types.specs.Names.{same_element, same_text}
-use Rattle.zed_types.specs.Text.{run_from, behind, put_after, alive_bytes}
+use Rattle.zed_types.specs.Text.{alive, run_from, behind, put_after, alive_bytes}
 use Rattle.zed_op.specs.declared.cause.Cause.{Cause}
 use Rattle.zed_op.specs.declared.op.Op.TheVariants.{TextInsert}
 use Rattle.zed_op.specs.declared.op.Edit.{Edit}
@@ -26,7 +26,7 @@ use Rattle.zed_history.specs.Clock.{is_spent, next_time}
 use Rattle.zed_history.specs.Finding.{AllBelow, edit_with}
 use Rattle.zed_document.specs.declared.error.DocumentError.{DocumentError}
 use Rattle.zed_document.specs.declared.error.DocumentError.TheVariants.{Memory, Stale, NoSuch, OutOfRange}
-use Rattle.zed_document.specs.Authoring.{alive, byte_before, insertion_at, authored, with_bytes, AnswersMade, AnswersToDo, AnswersFault, AnswersInsertion, MayTakeMemory}
+use Rattle.zed_document.specs.Authoring.{byte_before, insertion_at, authored, with_bytes, AnswersMade, AnswersToDo, AnswersFault, AnswersInsertion, MayTakeMemory}
 use Rattle.zed_document.specs.Reading.{has_text}
 use Rattle.zed_document.specs.Replica.{Replica}
 use Rattle.zed_document.proofs.Authored.{authored-late, last-edit}

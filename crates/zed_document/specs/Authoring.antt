@@ -1,11 +1,11 @@
 -- What an author makes: edits later than all that a document has.
 use Rattle.std.specs.Prelude.{◌≡◌, ◌≢◌, ◌⊎◌, ℕ, zero, suc, ◌+◌, ◌≤◌, ◌==◌, nat_lt, nat_le, Bool, true, false, not, ◌&&◌, if◌then◌else◌, List, [], ◌∷◌, ◌++◌, length, take, drop, slice_get, Option, Some, None, option_map, Result, Ok, Err, MatchBool}
-use Rattle.std.specs.List.{filter}
 use Rattle.zed_types.specs.declared.names.ElemId.{ElemId}
 use Rattle.zed_types.specs.declared.names.TextId.{TextId}
 use Rattle.zed_types.specs.declared.text.ByteRange.{ByteRange}
 use Rattle.zed_types.specs.declared.text.TextByte.{TextByte}
 use Rattle.zed_types.specs.Stamp.{same_stamp}
+use Rattle.zed_types.specs.Text.{alive}
 use Rattle.zed_op.specs.declared.cause.Cause.{Cause}
 use Rattle.zed_op.specs.declared.op.Op.{Op}
 use Rattle.zed_op.specs.declared.op.Op.TheVariants.{TextInsert, TextDelete}
@@ -57,10 +57,6 @@ IsLate es e = is_genesis e.op ≡ false → AllBelow e.stamp es
 -- making an edit takes memory where it has no fault, can be done and its stamp is new; of the world its bytes may take memory before
 abbrev pub MayTakeMemory : List Edit → Edit → Type 0
 MayTakeMemory es e = HangsOnItsWorld e ⊎ (Fits e × (can (replay es) e ≡ true) × (edit_with e.stamp es ≡ None))
-
--- the alive elements of a text
-abbrev pub alive : List TextByte → List TextByte
-alive xs = filter (λ x. x.alive) xs
 
 -- the name of the alive byte before a position, none at the head
 abbrev pub byte_before : List TextByte → ℕ → Option ElemId

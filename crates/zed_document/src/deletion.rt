@@ -8,7 +8,8 @@ ghost use Rattle.zed_op.specs.declared.thing.Thing.TheVariants.{Text as the_text
 ghost use Rattle.zed_op.specs.Set.{AllFit, IsRising};
 ghost use Rattle.zed_edit.specs.Replay.{replay};
 ghost use Rattle.zed_history.specs.Clock.{is_spent};
-ghost use Rattle.zed_document.specs.Authoring.{AnswersDeletion, MayTakeMemoryToDelete, deletions, deletions_of, is_part, part, alive, stretches, stretches_of, without, alone as one_byte};
+ghost use Rattle.zed_types.specs.Text.{alive};
+ghost use Rattle.zed_document.specs.Authoring.{AnswersDeletion, MayTakeMemoryToDelete, deletions, deletions_of, is_part, part, stretches, stretches_of, without, alone as one_byte};
 ghost use Rattle.zed_document.specs.Stretches.{IsNext, CanFollow, ends_before as goes_behind, stretched, with_last, begun as begun_by};
 ghost use Rattle.zed_document.specs.Counts.{NoCountFalls};
 ghost use Rattle.zed_document.specs.Reading.{has_text};

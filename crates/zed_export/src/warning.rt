@@ -5,11 +5,8 @@ ghost use Rattle.zed_export.specs.Warnings.{is_in_table, is_player_at, has_place
 
 use crate::error::ExportError;
 use std::alloc::{AllocError, Global};
-use zed_types::{TILES, Tile};
+use zed_types::{PLAYER, TILES, Tile};
 use zed_world::{BoardData, StatData, World};
-
-/// The element of a player.
-const PLAYER: u8 = 4;
 
 /// What is odd about a world, though it can be saved.
 #[derive(Clone, Copy, Debug, PartialEq, Eq)]

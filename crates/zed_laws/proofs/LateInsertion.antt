@@ -10,7 +10,7 @@ use Rattle.zed_types.specs.declared.text.ByteRange.{ByteRange}
 use Rattle.zed_types.specs.Stamp.{before, same_stamp}
 use Rattle.zed_types.specs.Names.{text_of, byte_of, same_text, same_element}
 use Rattle.zed_types.specs.Table.{map_from}
-use Rattle.zed_types.specs.Text.{run_from, behind, put_after, put_late, kill}
+use Rattle.zed_types.specs.Text.{NoneLater, run_from, behind, put_after, put_late, kill}
 use Rattle.zed_world.specs.Contents.{Contents}
 use Rattle.zed_world.specs.Reading.{world_at}
 use Rattle.zed_world.specs.declared.error.WorldError.{WorldError}
@@ -28,7 +28,6 @@ use Rattle.zed_op.specs.Set.{IsRising}
 use Rattle.zed_edit.specs.Replay.{has_all, do_edit, replay, held}
 use Rattle.zed_laws.specs.Laws.{insertion}
 use Rattle.zed_types.proofs.StampOrder.{same_stamp-true, same_text-itself, before_differs, before_asym}
-use Rattle.zed_laws.proofs.SkipRule.{NoneLater}
 use Rattle.zed_laws.proofs.MadeThings.{list_any-first}
 use Rattle.zed_laws.proofs.ChangedTexts.{map_option, opened_step, text_step, find_text-do_op}
 use Rattle.zed_laws.proofs.TextSteps.{elements_step, elements_steps, PlaceBelow, NamesNoByteOf, LaterEdits, put_late-sorted}

@@ -5,7 +5,7 @@ use Rattle.zed_types.specs.declared.stamp.Stamp.{Stamp}
 use Rattle.zed_types.specs.declared.names.ElemId.{ElemId}
 use Rattle.zed_types.specs.Stamp.{before}
 use Rattle.zed_types.specs.Names.{same_element}
-use Rattle.zed_types.specs.Text.{behind, put_after, pass_later, put_late}
+use Rattle.zed_types.specs.Text.{NoneLater, behind, put_after, pass_later, put_late}
 use Rattle.zed_types.specs.declared.text.TextByte.{TextByte}
 
 -- no element of a run has this name
@@ -15,10 +15,6 @@ NotNamed a xs = AllByRecursion (λ x. same_element x.id a ≡ false) xs
 -- every element of a run is of a later edit
 abbrev pub Later : Stamp → List TextByte → Type 0
 Later s xs = AllByRecursion (λ x. before s x.id.name.stamp ≡ true) xs
-
--- no element is of a later edit
-abbrev pub NoneLater : Stamp → List TextByte → Type 0
-NoneLater s xs = AllByRecursion (λ x. before s x.id.name.stamp ≡ false) xs
 
 pub behind-run : (a : ElemId) (f : List TextByte → List TextByte) (run xs : List TextByte) → NotNamed a run → behind a f (run ++ xs) ≡ run ++ behind a f xs
 behind-run a f [] xs n = refl

@@ -10,8 +10,8 @@ use Rattle.zed_op.specs.declared.op.Op.TheVariants.{TextInsert, TextDelete}
 use Rattle.zed_op.specs.declared.op.Edit.{Edit}
 use Rattle.zed_types.specs.Stamp.{before, same_stamp}
 use Rattle.zed_types.specs.Names.{same_text, same_element}
-use Rattle.zed_types.specs.Text.{run_from, behind, put_after, pass_later, put_late, kill, kill_within}
-use Rattle.zed_laws.proofs.SkipRule.{NotNamed, Later, NoneLater, PlaceNotIn, put_late-put_after}
+use Rattle.zed_types.specs.Text.{NoneLater, run_from, behind, put_after, pass_later, put_late, kill, kill_within}
+use Rattle.zed_laws.proofs.SkipRule.{NotNamed, Later, PlaceNotIn, put_late-put_after}
 use Rattle.zed_types.specs.declared.text.TextByte.{TextByte}
 use Rattle.zed_types.proofs.Passing.{put_late-none_later, kill-append}
 

@@ -10,24 +10,15 @@ use crate::header::LiveHeader;
 use crate::properties::LiveProperties;
 use zed_types::{
     BoardByte, BoardFlag, BoardId, BoardText, Bytes, FlagSlot, HeaderNumber, KeyColour, Side,
-    Written,
+    Written, string_or_empty, value_or,
 };
-
-fn value_of<V: Copy>(slot: &Option<Written<V>>, unwritten: V) -> V
-    ensures { result ≡ value_or unwritten slot.now }
-{
-    match slot {
-        Some(write) => write.value,
-        None => unwritten,
-    }
-}
 
 #[tactic(auto, using(crate::proofs::Places::read_at))]
 fn number_at(slots: &[Option<Written<i16>>; 9], i: u8) -> i16
     requires { i < 9 }
     ensures { result ≡ slice_index_or (values_or (pos 0) slots.now) i (pos 0) }
 {
-    value_of(&slots[usize::from(i)], 0)
+    value_or(&slots[usize::from(i)], 0)
 }
 
 #[tactic(auto, using(crate::proofs::Places::read_at))]
@@ -35,7 +26,7 @@ fn key_at(slots: &[Option<Written<bool>>; 7], i: u8) -> bool
     requires { i < 7 }
     ensures { result ≡ slice_index_or (values_or false slots.now) i false }
 {
-    value_of(&slots[usize::from(i)], false)
+    value_or(&slots[usize::from(i)], false)
 }
 
 #[tactic(auto, using(crate::proofs::Places::read_at))]
@@ -43,16 +34,7 @@ fn flag_at(slots: &[Option<Written<Bytes>>; 10], i: u8) -> &[u8]
     requires { i < 10 }
     ensures { result.now ≡ slice_index_or (values_or [] slots.now) i [] }
 {
-    string_of(&slots[usize::from(i)])
-}
-
-fn string_of(slot: &Option<Written<Bytes>>) -> &[u8]
-    ensures { result.now ≡ value_or [] slot.now }
-{
-    match slot {
-        Some(write) => write.value.as_slice(),
-        None => &[],
-    }
+    string_or_empty(&slots[usize::from(i)])
 }
 
 impl LiveHeader {
@@ -74,21 +56,21 @@ impl LiveHeader {
     pub fn saved(&self) -> bool
         ensures { result ≡ (shown self.now).saved }
     {
-        value_of(&self.saved, false)
+        value_or(&self.saved, false)
     }
 
     /// The board that the player is on.
     pub fn current_board(&self) -> BoardId
         ensures { result ≡ (shown self.now).current_board }
     {
-        value_of(&self.current_board, BoardId::TITLE)
+        value_or(&self.current_board, BoardId::TITLE)
     }
 
     /// The name of the world.
     pub fn world_name(&self) -> &[u8]
         ensures { result.now ≡ (shown self.now).world_name }
     {
-        string_of(&self.world_name)
+        string_or_empty(&self.world_name)
     }
 
     /// A flag of the header.
@@ -104,7 +86,7 @@ fn byte_at(slots: &[Option<Written<u8>>; 3], i: u8) -> u8
     requires { i < 3 }
     ensures { result ≡ slice_index_or (values_or 0 slots.now) i 0 }
 {
-    value_of(&slots[usize::from(i)], 0)
+    value_or(&slots[usize::from(i)], 0)
 }
 
 #[tactic(auto, using(crate::proofs::Places::read_at))]
@@ -112,7 +94,7 @@ fn mark_at(slots: &[Option<Written<bool>>; 2], i: u8) -> bool
     requires { i < 2 }
     ensures { result ≡ slice_index_or (values_or false slots.now) i false }
 {
-    value_of(&slots[usize::from(i)], false)
+    value_or(&slots[usize::from(i)], false)
 }
 
 #[tactic(auto, using(crate::proofs::Places::read_at))]
@@ -120,7 +102,7 @@ fn exit_at(slots: &[Option<Written<Option<BoardId>>>; 4], i: u8) -> Option<Board
     requires { i < 4 }
     ensures { result ≡ slice_index_or (values_or Nothing slots.now) i Nothing }
 {
-    value_of(&slots[usize::from(i)], None)
+    value_or(&slots[usize::from(i)], None)
 }
 
 #[tactic(auto, using(crate::proofs::Places::read_at))]
@@ -128,7 +110,7 @@ fn text_at(slots: &[Option<Written<Bytes>>; 2], i: u8) -> &[u8]
     requires { i < 2 }
     ensures { result.now ≡ slice_index_or (values_or [] slots.now) i [] }
 {
-    string_of(&slots[usize::from(i)])
+    string_or_empty(&slots[usize::from(i)])
 }
 
 impl LiveProperties {
@@ -151,14 +133,14 @@ impl LiveProperties {
     pub fn time_limit(&self) -> i16
         ensures { result ≡ (shown_properties self.now).time_limit }
     {
-        value_of(&self.time_limit, 0)
+        value_or(&self.time_limit, 0)
     }
 
     /// The rank of the board.
     pub fn rank(&self) -> u16
         ensures { result ≡ (shown_properties self.now).rank }
     {
-        value_of(&self.rank, 0)
+        value_or(&self.rank, 0)
     }
 
     /// Where a side of the board leads.

@@ -1,6 +1,6 @@
 //! Numbers of elements that have rules of their own in play.
 
-pub const PLAYER: u8 = 4;
+pub use zed_types::PLAYER;
 
 pub const BULLET: u8 = 18;
 

@@ -5,10 +5,7 @@ ghost use Rattle.zed_script.specs.Text.{HasWord};
 
 use crate::text::{is_word, word_at};
 use std::alloc::{AllocError, Global};
-use zed_types::{Tile, element};
-
-/// The number of the player's element.
-const PLAYER: u8 = 4;
+use zed_types::{PLAYER, Tile, element};
 
 /// A kind of tiles: an element, of one colour or of any.
 #[derive(Clone, Copy, Debug, PartialEq, Eq)]

@@ -6,10 +6,7 @@ use Rattle.zed_types.specs.declared.names.ElemId.{ElemId}
 use Rattle.zed_types.specs.declared.text.ByteRange.{ByteRange}
 use Rattle.zed_types.specs.declared.text.TextByte.{TextByte}
 use Rattle.zed_types.specs.Stamp.{before}
-use Rattle.zed_types.specs.Text.{behind, kill, kill_within, pass_later, put_after, put_late}
-
-abbrev NoneLater : Stamp → List TextByte → Type 0
-NoneLater s xs = AllByRecursion (λ x. before s x.id.name.stamp ≡ false) xs
+use Rattle.zed_types.specs.Text.{NoneLater, behind, kill, kill_within, pass_later, put_after, put_late}
 
 pub pass_later-none : (s : Stamp) (e xs : List TextByte) → NoneLater s xs → pass_later s e xs ≡ e ++ xs
 pass_later-none s e [] n = sym (append-nil e)

@@ -1,6 +1,6 @@
 -- A text: its bytes in order, dead ones included, each under its name.
-use Rattle.std.specs.Prelude.{ℕ, ◌+◌, Bool, true, ◌&&◌, not, if◌then◌else◌, nat_le, List, [], ◌∷◌, ◌++◌, map, Option, Some, None}
-use Rattle.std.specs.List.{filter}
+use Rattle.std.specs.Prelude.{◌≡◌, ℕ, ◌+◌, Bool, true, false, ◌&&◌, not, if◌then◌else◌, nat_le, List, [], ◌∷◌, ◌++◌, map, Option, Some, None}
+use Rattle.std.specs.List.{AllByRecursion, filter}
 use Rattle.zed_types.specs.declared.stamp.Stamp.{Stamp}
 use Rattle.zed_types.specs.declared.names.ElemId.{ElemId}
 use Rattle.zed_types.specs.Stamp.{before, same_stamp}
@@ -40,9 +40,17 @@ kill_within r x = record x { alive = x.alive && not (is_within r x.id) }
 abbrev pub kill : ByteRange → List TextByte → List TextByte
 kill r xs = map (kill_within r) xs
 
+-- the alive elements
+abbrev pub alive : List TextByte → List TextByte
+alive xs = filter (λ x. x.alive) xs
+
 -- the alive bytes
 abbrev pub alive_bytes : List TextByte → List ℕ
-alive_bytes xs = map (λ x. x.byte) (filter (λ x. x.alive) xs)
+alive_bytes xs = map (λ x. x.byte) (alive xs)
+
+-- no element is of a later edit
+abbrev pub NoneLater : Stamp → List TextByte → Type 0
+NoneLater s xs = AllByRecursion (λ x. before s x.id.name.stamp ≡ false) xs
 
 -- `run` behind every element at the front that a later edit than `s` put in
 abbrev pub pass_later : Stamp → List TextByte → List TextByte → List TextByte

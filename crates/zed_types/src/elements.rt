@@ -4,6 +4,9 @@ ghost use Rattle.zed_types.specs.Elements.{AreRows, IsRow, row_of, rows};
 
 use crate::kind::{Element, Look, Push};
 
+/// The number of the player's element.
+pub const PLAYER: u8 = 4;
+
 /// A row of the table: the word, what is shown, whether it is walkable, which way it is pushed, whether it is destructible.
 macro_rules! kind {
     ($word:literal, $look:expr, $walkable:literal, $push:ident, $destructible:literal) => {

@@ -17,7 +17,7 @@ mod tile;
 mod written;
 
 pub use bytes::Bytes;
-pub use elements::element;
+pub use elements::{PLAYER, element};
 pub use header::{FlagSlot, HeaderNumber, HeaderSetting, KeyColour};
 pub use kind::{Element, Look, Push};
 pub use limits::{BOARDS_LIMIT, BODY_LIMIT, READ_BODY_LIMIT, STATS_LIMIT};
@@ -28,4 +28,4 @@ pub use stamp::{Stamp, one_order};
 pub use stat_field::{StatByte, StatFields, StatNumber, StatSetting, ThirdParameter};
 pub use text::{ByteRange, TextByte};
 pub use tile::{COLUMNS, Place, ROWS, Rectangle, TILES, Tile};
-pub use written::Written;
+pub use written::{Written, string_or_empty, value_or};

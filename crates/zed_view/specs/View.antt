@@ -1,5 +1,5 @@
 -- What a view shows, by the numbers of things in the order in which they were made.
-use Rattle.std.specs.Prelude.{ℕ, ℤ, pos, nat_le, Bool, true, false, ◌&&◌, List, [], slice_index_or, Option, Some, None}
+use Rattle.std.specs.Prelude.{ℕ, ℤ, nat_le, Bool, true, false, ◌&&◌, List, [], slice_index_or, Option, Some, None}
 use Rattle.zed_types.specs.declared.names.BoardId.{BoardId}
 use Rattle.zed_types.specs.declared.tile.Tile.{Tile}
 use Rattle.zed_types.specs.declared.tile.Place.{Place}
@@ -18,6 +18,7 @@ use Rattle.zed_edit.specs.declared.plain.Stat.{Stat}
 use Rattle.zed_edit.specs.declared.plain.Plain.{Plain}
 use Rattle.zed_types.specs.Names.{title, stat_of}
 use Rattle.zed_edit.specs.Stat.{new_stat, player_fields}
+use Rattle.zed_laws.specs.Fields.{number_at}
 use Rattle.zed_edit.specs.Board.{new_board, empty_tile}
 
 -- a stat to speak of where a number is past the end
@@ -63,11 +64,6 @@ board_text f p = slice_index_or p.texts (board_text_index f) []
 -- a field that is one byte
 abbrev pub stat_byte : StatByte → Stat → ℕ
 stat_byte f s = slice_index_or s.fields.bytes (stat_byte_index f) 0
-
--- a number of a stat by its place: one that a new stat is given, or its position
-abbrev pub number_at : Option ℕ → Stat → ℤ
-number_at (Some i) s = slice_index_or s.fields.numbers i (pos 0)
-number_at None s = s.position
 
 -- a field that is a signed number
 abbrev pub stat_number : StatNumber → Stat → ℤ

@@ -3,7 +3,7 @@
 ghost use Rattle.std.specs.Prelude.{◌≡◌, ◌↔◌, IsTrue, [], pos, false, None as Nothing, map};
 ghost use Rattle.zed_types.specs.Register.{value_or};
 
-use zed_types::{BoardId, Bytes, Written};
+use zed_types::{BoardId, Bytes, Written, string_or_empty, value_or};
 
 /// A register as it is kept, with its latest write if it was ever written. What it shows is compared.
 pub(crate) trait Slot {
@@ -33,33 +33,13 @@ pub(crate) fn tables_same<R: Slot>(a: &[R], b: &[R]) -> bool
     true
 }
 
-/// The value that a register shows.
-fn value_of<V: Copy>(slot: &Option<Written<V>>, unwritten: V) -> V
-    ensures { result ≡ value_or unwritten slot.now }
-{
-    match slot {
-        Some(write) => write.value,
-        None => unwritten,
-    }
-}
-
-/// The string that a register shows, lent.
-fn string_of(slot: &Option<Written<Bytes>>) -> &[u8]
-    ensures { result.now ≡ value_or [] slot.now }
-{
-    match slot {
-        Some(write) => write.value.as_slice(),
-        None => &[],
-    }
-}
-
 impl Slot for Option<Written<i16>> {
     type Value = i16;
 
     ghost shown = { λ slot. value_or (pos 0) slot };
 
     fn shows_same(&self, other: &Option<Written<i16>>) -> bool {
-        value_of(self, 0) == value_of(other, 0)
+        value_or(self, 0) == value_or(other, 0)
     }
 }
 
@@ -69,7 +49,7 @@ impl Slot for Option<Written<u16>> {
     ghost shown = { λ slot. value_or 0 slot };
 
     fn shows_same(&self, other: &Option<Written<u16>>) -> bool {
-        value_of(self, 0) == value_of(other, 0)
+        value_or(self, 0) == value_or(other, 0)
     }
 }
 
@@ -79,7 +59,7 @@ impl Slot for Option<Written<u8>> {
     ghost shown = { λ slot. value_or 0 slot };
 
     fn shows_same(&self, other: &Option<Written<u8>>) -> bool {
-        value_of(self, 0) == value_of(other, 0)
+        value_or(self, 0) == value_or(other, 0)
     }
 }
 
@@ -89,7 +69,7 @@ impl Slot for Option<Written<bool>> {
     ghost shown = { λ slot. value_or false slot };
 
     fn shows_same(&self, other: &Option<Written<bool>>) -> bool {
-        value_of(self, false) == value_of(other, false)
+        value_or(self, false) == value_or(other, false)
     }
 }
 
@@ -99,7 +79,7 @@ impl Slot for Option<Written<Option<BoardId>>> {
     ghost shown = { λ slot. value_or Nothing slot };
 
     fn shows_same(&self, other: &Option<Written<Option<BoardId>>>) -> bool {
-        value_of(self, None) == value_of(other, None)
+        value_or(self, None) == value_or(other, None)
     }
 }
 
@@ -109,6 +89,6 @@ impl Slot for Option<Written<Bytes>> {
     ghost shown = { λ slot. value_or [] slot };
 
     fn shows_same(&self, other: &Option<Written<Bytes>>) -> bool {
-        string_of(self) == string_of(other)
+        string_or_empty(self) == string_or_empty(other)
     }
 }

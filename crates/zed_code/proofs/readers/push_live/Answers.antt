@@ -7,6 +7,7 @@ use Rattle.zed_code.specs.Cutting.{spelled, bytes_in}
 use Rattle.zed_code.specs.Kept.{IsRun}
 use Rattle.zed_code.specs.Reading.{live}
 use Rattle.zed_code.proofs.Alive.{alive-next, dead-next}
+use Rattle.zed_code.proofs.Rests.{none}
 use Rattle.zed_code.proofs.Spelling.{bytes-count}
 use Rattle.zed_code.proofs.readers.push_live.Goals as goal
 use Rattle.zed_code.proofs.readers.push_live.Goals.{then-run, else-run}
@@ -19,7 +20,6 @@ loop-run-preserved c =
     let store = c.args.store.now in
     let runs = c.args.runs.now in
     let out = c.loop-run.out in
-    let none : Run = record { stamp = record { time = 0; replica = 0 }; first = 0; start = 0; len = 0; alive = false } in
     let r : Run = get_or runs c.loop-run.run-index none in
     let rest = drop (c.loop-run.run-index + 1) runs in
     let at : drop c.loop-run.run-index runs ≡ r ∷ rest = drop_more runs c.loop-run.run-index none c.loop-run-test.true in

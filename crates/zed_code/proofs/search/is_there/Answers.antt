@@ -1,15 +1,14 @@
 use Rattle.std.proofs.Common.{◌≡◌, ◌+◌, false, length, drop, get_or, sym, ap, ◌∙◌, arith}
-use Rattle.zed_code.specs.declared.run.Run.{Run}
 use Rattle.zed_code.specs.Blocks.{lists, joined, list_at}
 use Rattle.zed_code.specs.Runs.{sought}
 use Rattle.zed_code.proofs.Hinting.{any-sought, any-none, spot-read}
+use Rattle.zed_code.proofs.Rests.{none}
 use Rattle.zed_code.proofs.search.is_there.Goals as goal
 
 pub returns : goal.returns
 returns c =
     let ls = lists c.args.blocks.now in
     let at = c.find_asked.result.at in
-    let none : Run = record { stamp = record { time = 0; replica = 0 }; first = 0; start = 0; len = 0; alive = false } in
     let inside = c.find_asked.ensures.inside (omega (arith, c.if-at-blocks.false)) in
     let there = spot-read at ls c.runs_at.result.now none inside c.runs_at.ensures in
     let rest = drop (at.place + 1) (list_at at.block ls) in

@@ -1,6 +1,6 @@
 use Rattle.std.proofs.Common.{arith}
 use Rattle.zed_edit.specs.Document.{elements}
-use Rattle.zed_document.specs.Authoring.{alive}
+use Rattle.zed_types.specs.Text.{alive}
 use Rattle.zed_document.proofs.Parts.{next-counts, next-fits}
 use Rattle.zed_document.proofs.deletion.count_stretches.Goals as goal
 

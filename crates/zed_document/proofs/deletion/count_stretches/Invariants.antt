@@ -1,6 +1,7 @@
 use Rattle.std.proofs.Common.{◌≤◌}
 use Rattle.zed_edit.specs.Document.{elements}
-use Rattle.zed_document.specs.Authoring.{alive, part}
+use Rattle.zed_types.specs.Text.{alive}
+use Rattle.zed_document.specs.Authoring.{part}
 use Rattle.zed_document.proofs.Counted.{Counts}
 use Rattle.zed_document.proofs.deletion.count_stretches.Given as goal
 

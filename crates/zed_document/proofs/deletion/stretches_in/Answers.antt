@@ -1,6 +1,6 @@
 use Rattle.std.proofs.Common.{◌∙◌, ap, arith, sym}
 use Rattle.zed_edit.specs.Document.{elements}
-use Rattle.zed_document.specs.Authoring.{alive}
+use Rattle.zed_types.specs.Text.{alive}
 use Rattle.zed_document.specs.Stretches.{with_last}
 use Rattle.zed_document.proofs.Parts.{next-stretches}
 use Rattle.zed_document.proofs.deletion.stretches_in.Goals as goal

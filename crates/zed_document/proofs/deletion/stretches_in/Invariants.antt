@@ -1,6 +1,7 @@
 use Rattle.std.proofs.Common.{◌≡◌, ◌≤◌}
 use Rattle.zed_edit.specs.Document.{elements}
-use Rattle.zed_document.specs.Authoring.{alive, part, stretches}
+use Rattle.zed_types.specs.Text.{alive}
+use Rattle.zed_document.specs.Authoring.{part, stretches}
 use Rattle.zed_document.proofs.deletion.stretches_in.Given as goal
 
 -- the stretches of the bytes so far

@@ -2,7 +2,8 @@ use Rattle.std.proofs.Common.{◌≡◌, ◌<◌, false, length, ap, sym, ◌∙
 use Rattle.zed_edit.specs.declared.plain.Plain.{Plain}
 use Rattle.zed_edit.specs.Document.{elements}
 use Rattle.zed_history.specs.Clock.{is_spent}
-use Rattle.zed_document.specs.Authoring.{part, alive, stretches, stretches_of}
+use Rattle.zed_types.specs.Text.{alive}
+use Rattle.zed_document.specs.Authoring.{part, stretches, stretches_of}
 use Rattle.zed_document.proofs.DeletedParts.{some-stretch, spent-one}
 use Rattle.zed_document.proofs.document.Document.deletions_in.Goals as goal
 
