@@ -10,15 +10,15 @@ use Rattle.zed_session.specs.Refusals as told
 use Rattle.zed_world.specs.declared.board.BoardData.{BoardData}
 use Rattle.zed_world.specs.declared.header.Header.{Header}
 use Rattle.zed_world.specs.Contents.{Contents}
-use Rattle.zed_worlds.specs.declared.saving.Product.{Product}
-use Rattle.zed_worlds.specs.declared.saving.Product.TheVariants.{WorldFile, Report}
+use Rattle.zed_worlds.specs.declared.saving.Form.{Form}
+use Rattle.zed_worlds.specs.declared.saving.Form.TheVariants.{WorldFile, Report}
 use Rattle.zed_files.specs.declared.refusal.Refusal.{Refusal}
 use Rattle.std.proofs.Common.{◌≡◌, ◌∙◌, ℕ, List, Bool, false, Option, Some, None, Result, Ok, Err, ap, refl, subst, sym, inl, inr}
 use Rattle.std.specs.Prelude.{IsErrAnd, slice_get}
 use Rattle.zed_edit.specs.Replay.{replay}
 use Rattle.zed_export.specs.Limits.{refusal_of}
 use Rattle.zed_host.specs.Counting.{Counts}
-use Rattle.zed_worlds.specs.Made.{product_of, unless_over}
+use Rattle.zed_worlds.specs.Made.{export_as, unless_over}
 use Rattle.zed_files.specs.Refusals.{IsOffStage, export_refusal, is_key_fault, is_of_keys, is_of_screen, is_screen_fault, session_refusal}
 use Rattle.zed_files.proofs.OffStage.{export_off, is_off}
 
@@ -27,9 +27,9 @@ over_off None bytes e over = absurd (cc)
 over_off (Some x) bytes e over = is_off e (export_refusal x) (cc) (export_off x)
 
 -- what is made of a set of edits
-pub product_off : (product : Product) (limit : ℕ) (es : List Edit) (e : Refusal) → product_of product limit es ≡ Err e → IsOffStage e
-product_off WorldFile limit es e made = over_off (refusal_of limit (replay es)) _ e made
-product_off Report limit es e made = over_off (refusal_of limit (replay es)) _ e made
+pub exported_off : (form : Form) (limit : ℕ) (es : List Edit) (e : Refusal) → export_as form limit es ≡ Err e → IsOffStage e
+exported_off WorldFile limit es e made = over_off (refusal_of limit (replay es)) _ e made
+exported_off Report limit es e made = over_off (refusal_of limit (replay es)) _ e made
 
 -- a command tells a fault of a screen or of a source of keys where a session does
 session_tells : (X : Type 0) (e : SessionError)

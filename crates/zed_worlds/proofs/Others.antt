@@ -4,8 +4,8 @@ use Rattle.zed_export.specs.declared.error.ExportError.{ExportError}
 use Rattle.zed_op.specs.declared.op.Edit.{Edit}
 use Rattle.zed_world.specs.declared.board.BoardData.{BoardData}
 use Rattle.zed_world.specs.declared.header.Header.{Header}
-use Rattle.zed_worlds.specs.declared.saving.Product.{Product}
-use Rattle.zed_worlds.specs.declared.saving.Product.TheVariants.{WorldFile, Report}
+use Rattle.zed_worlds.specs.declared.saving.Form.{Form}
+use Rattle.zed_worlds.specs.declared.saving.Form.TheVariants.{WorldFile, Report}
 use Rattle.zed_files.specs.declared.refusal.Refusal.{Refusal}
 use Rattle.zed_files.specs.declared.refusal.Refusal.TheVariants.{File, Memory}
 use Rattle.zed_session.specs.Refusals as told
@@ -14,7 +14,7 @@ use Rattle.std.specs.Prelude.{◌⊎◌, MatchResult, slice_get}
 use Rattle.zed_export.specs.Limits.{exported, refusal_of}
 use Rattle.zed_edit.specs.Replay.{replay}
 use Rattle.zed_world.specs.Contents.{Contents}
-use Rattle.zed_worlds.specs.Made.{product_of, unless_over}
+use Rattle.zed_worlds.specs.Made.{export_as, unless_over}
 use Rattle.zed_files.specs.Refusals.{export_refusal}
 use Rattle.zed_worlds.specs.Shown.{Course, EndsPlay, IsPlayed, IsShown, OfBoard, OfWorld, OnBoard, PlaysOn, ShowsOn}
 use Rattle.zed_files.proofs.Failures.{session_is_other}
@@ -25,9 +25,9 @@ limit_is_other None bytes e over is = cc
 limit_is_other (Some x) bytes e over is = session_is_other (told.export_refusal x) (let same : export_refusal x ≡ e = cc in same ∙ is)
 
 -- what is made of a set of edits
-pub product_is_other : (product : Product) (limit : ℕ) (es : List Edit) (e : Refusal) → product_of product limit es ≡ Err e → e ≡ File → ⊥
-product_is_other WorldFile limit es e made is = limit_is_other (refusal_of limit (replay es)) _ e made is
-product_is_other Report limit es e made is = limit_is_other (refusal_of limit (replay es)) _ e made is
+pub exported_is_other : (form : Form) (limit : ℕ) (es : List Edit) (e : Refusal) → export_as form limit es ≡ Err e → e ≡ File → ⊥
+exported_is_other WorldFile limit es e made is = limit_is_other (refusal_of limit (replay es)) _ e made is
+exported_is_other Report limit es e made is = limit_is_other (refusal_of limit (replay es)) _ e made is
 
 -- what is done with a board
 board_is_other : {X : Type 0} (Idle : Type 0) (world : Result Contents ExportError) (n : ℕ) (Does : OnBoard X) (e : Refusal)

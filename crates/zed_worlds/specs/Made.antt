@@ -1,8 +1,8 @@
 -- What is made of the world of a set of edits.
 use Rattle.zed_op.specs.declared.op.Edit.{Edit}
 use Rattle.zed_export.specs.declared.error.ExportError.{ExportError}
-use Rattle.zed_worlds.specs.declared.saving.Product.{Product}
-use Rattle.zed_worlds.specs.declared.saving.Product.TheVariants.{WorldFile, Report}
+use Rattle.zed_worlds.specs.declared.saving.Form.{Form}
+use Rattle.zed_worlds.specs.declared.saving.Form.TheVariants.{WorldFile, Report}
 use Rattle.zed_files.specs.declared.refusal.Refusal.{Refusal}
 use Rattle.std.specs.Prelude.{◌≡◌, ℕ, List, Option, Some, None, Result, Ok, Err, length}
 use Rattle.zed_world.specs.Writing.{world_text}
@@ -16,7 +16,7 @@ use Rattle.zed_host.specs.HostContents.{HostContents}
 use Rattle.zed_files.specs.Collected.{Collects}
 use Rattle.zed_files.specs.Effects.{Effect, Writes, Prints}
 
--- what is made of a set of edits, or the first limit
+-- what is made of an exported world, or the first limit that it is over
 abbrev pub unless_over : Option ExportError → List ℕ → Result (List ℕ) Refusal
 unless_over None bytes = Ok bytes
 unless_over (Some e) bytes = Err (export_refusal e)
@@ -29,10 +29,10 @@ file_of limit es = unless_over (refusal_of limit (replay es)) (world_text (world
 abbrev pub report_on : ℕ → List Edit → Result (List ℕ) Refusal
 report_on limit es = unless_over (refusal_of limit (replay es)) (report_of (world_of (replay es)) es)
 
--- the one or the other
-abbrev pub product_of : Product → ℕ → List Edit → Result (List ℕ) Refusal
-product_of WorldFile = file_of
-product_of Report = report_on
+-- the exported world of a set of edits in either form
+abbrev pub export_as : Form → ℕ → List Edit → Result (List ℕ) Refusal
+export_as WorldFile = file_of
+export_as Report = report_on
 
 -- what is made of a set of edits, unless there is none
 abbrev pub made_of : (List Edit → Result (List ℕ) Refusal) → Result (List Edit) Refusal

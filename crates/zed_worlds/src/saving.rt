@@ -9,7 +9,7 @@ ghost use Rattle.zed_files.specs.Effects.{Ends};
 ghost use Rattle.zed_files.specs.Faults.{TellsFailures};
 ghost use Rattle.zed_files.specs.Refusals.{IsOffStage};
 ghost use Rattle.zed_files.specs.Texts.{texts_of};
-ghost use Rattle.zed_worlds.specs.Made.{ComesToCheck, ComesToSave, IsMade, product_of};
+ghost use Rattle.zed_worlds.specs.Made.{ComesToCheck, ComesToSave, IsMade, export_as};
 
 use crate::report::{report, world_file};
 use std::alloc::Global;
@@ -17,55 +17,57 @@ use zed_document::Document;
 use zed_files::{Refusal, bytes_told, load, print_out, write_out};
 use zed_host::Host;
 
-// What is made of the edits that a command reads.
+// The form in which a command hands out the exported world of its edit files.
 #[derive(Clone, Copy)]
-enum Product {
-    // Their world file.
+enum Form {
+    // The world file, which `save` writes.
     WorldFile,
-    // What looks wrong in their world, and its counts.
+    // The warnings of the world, and its counts, which `check` prints.
     Report,
 }
 
-fn product_of(
+// The exported world of a document in this form.
+fn export_as(
     alloc: Global,
-    product: Product,
+    form: Form,
     document: &Document,
     limit: usize,
 ) -> Result<Vec<u8>, Refusal>
     requires sound { document.now.is_stale ≡ false }
     requires limit { limit ≤ READ_BODY_LIMIT }
     ensures { MatchResult result
-        (λ bytes. product_of product limit document.now.edits ≡ Ok bytes.items)
-        (λ e. (e ≡ Refusal.Memory) ⊎ (product_of product limit document.now.edits ≡ Err e)) }
+        (λ bytes. export_as form limit document.now.edits ≡ Ok bytes.items)
+        (λ e. (e ≡ Refusal.Memory) ⊎ (export_as form limit document.now.edits ≡ Err e)) }
 {
-    match product {
-        Product::WorldFile => world_file(alloc, document, limit),
-        Product::Report => report(alloc, document, limit),
+    match form {
+        Form::WorldFile => world_file(alloc, document, limit),
+        Form::Report => report(alloc, document, limit),
     }
 }
 
-// What is made of edit files at a limit.
-fn made_from<H: Host>(
+// The exported world of edit files in this form. Up to here `save` and `check` differ in that form alone: what they read, how they are refused
+// and what they leave in their host is proved of both here, once.
+fn export_files_as<H: Host>(
     alloc: Global,
     host: &mut H,
-    product: Product,
+    form: Form,
     limit: usize,
     files: &[&str],
 ) -> Result<Vec<u8>, Refusal>
     requires { limit ≤ READ_BODY_LIMIT }
     ensures made { (t : HostContents) → H.contents host.old ≡ Some t
         → let failed = Rose (H.faults host.old) (H.faults host.new) in MatchResult result
-        (λ bytes. IsMade failed t (texts_of files.now) (product_of product limit)
+        (λ bytes. IsMade failed t (texts_of files.now) (export_as form limit)
         (Ok bytes.items))
         (λ e. (e ≡ Refusal.Memory)
-        ⊎ IsMade failed t (texts_of files.now) (product_of product limit) (Err e)) }
+        ⊎ IsMade failed t (texts_of files.now) (export_as form limit) (Err e)) }
     ensures err { IfErr result IsOffStage }
     ensures kept { H.contents host.new ≡ H.contents host.old }
     ensures asked { Asks H.called (reading (texts_of files.now)) [] (refusal_in result) host.old host.new }
     ensures failures { TellsFailures H.faults H.failed result host.old host.new }
 {
     let document = load(alloc, host, files)?;
-    product_of(alloc, product, &document, limit)
+    export_as(alloc, form, &document, limit)
 }
 
 /// Writes the world file of edit files, of at most so many bytes a body.
@@ -86,7 +88,7 @@ pub fn save<H: Host>(
         (refusal_in result) host.old host.new }
     ensures failures { TellsFailures H.faults H.failed result host.old host.new }
 {
-    let bytes = made_from(alloc, host, Product::WorldFile, limit, files)?;
+    let bytes = export_files_as(alloc, host, Form::WorldFile, limit, files)?;
     let line = bytes_told(alloc, bytes.len())?;
     write_out(host, out, bytes.as_slice(), line.as_str())
 }
@@ -107,6 +109,6 @@ pub fn check<H: Host>(
         (refusal_in result) host.old host.new }
     ensures failures { TellsFailures H.faults H.failed result host.old host.new }
 {
-    let text = made_from(alloc, host, Product::Report, limit, files)?;
+    let text = export_files_as(alloc, host, Form::Report, limit, files)?;
     print_out(host, text.as_slice())
 }
