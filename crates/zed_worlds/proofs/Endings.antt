@@ -6,7 +6,7 @@ use Rattle.std.proofs.Common.{◌≡◌, ℕ, List, Option, Some, None, Result, 
 use Rattle.std.specs.Global.{Vec}
 use Rattle.std.specs.Prelude.{⊤}
 use mathlib.Core.Logic.{◌⊎◌}
-use Rattle.zed_worlds.specs.Shown.{PlaysFile, PlaysOn, ShowsOn, words_in, IsPlayedOf, ComesToShow, ComesToPlay, LacksForPlay}
+use Rattle.zed_worlds.specs.Shown.{PlaysFile, PlaysOn, ShowsOn, chances_in, IsPlayedOf, ComesToShow, ComesToPlay, LacksForPlay}
 use Rattle.zed_host.specs.HostContents.{HostContents, IsRead, file_in}
 use Rattle.zed_host.proofs.ReadFiles.{read_so}
 use Rattle.zed_files.specs.Collected.{Collects}
@@ -104,7 +104,7 @@ show_ends failed old after limit (Err e) asked board names t es new at same all 
 
 -- what is told of a playtest by the words of a file that was read
 pub played_result : (failed : Type 0) (old new : Stage) (limit : ℕ) (result : Result (Vec ℕ) Refusal) (t : HostContents) (asked board : ℕ) (chance bytes words : List ℕ) (names : List (List ℕ)) (es : List Edit)
-    → asked ≡ board → words ≡ words_in bytes → file_in t chance ≡ Some bytes → Collects failed t names (Ok es)
+    → asked ≡ board → words ≡ chances_in bytes → file_in t chance ≡ Some bytes → Collects failed t names (Ok es)
     → MatchResult result (λ text. PlaysOn old new limit (Ok es) asked words (Ok text.items))
     (λ e. ((e ≡ Memory) × (new ≡ old)) ⊎ PlaysOn old new limit (Ok es) asked words (Err e))
     → MatchResult result (λ text. IsPlayedOf failed old new t limit board chance names (Ok text.items))
@@ -115,7 +115,7 @@ played_result failed old new limit (Ok text) t asked board chance bytes words na
   (
     Ok es,
     all,
-    subst (λ n. PlaysOn old new limit (Ok es) n (words_in bytes) (Ok text.items)) same
+    subst (λ n. PlaysOn old new limit (Ok es) n (chances_in bytes) (Ok text.items)) same
         (subst (λ ws. PlaysOn old new limit (Ok es) asked ws (Ok text.items)) are is),
   ),
 )
@@ -128,7 +128,7 @@ played_result failed old new limit (Err e) t asked board chance bytes words name
         (
           Ok es,
           all,
-          subst (λ n. PlaysOn old new limit (Ok es) n (words_in bytes) (Err e)) same
+          subst (λ n. PlaysOn old new limit (Ok es) n (chances_in bytes) (Err e)) same
               (subst (λ ws. PlaysOn old new limit (Ok es) asked ws (Err e)) are is),
         ),
       )

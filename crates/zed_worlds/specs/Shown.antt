@@ -63,11 +63,11 @@ abbrev pub CallsOnce : Result (Unit {0}) Refusal → Option (List Bool) → Opti
 CallsOnce result old new kept =
     MatchResult result (λ _. Foretold false old new) (λ e. ((e ≡ ScreenFault) × Foretold true old new) ⊎ kept)
 
--- numbers of two bytes each, the low one first; an odd last byte is dropped
-abbrev pub words_in : List ℕ → List ℕ
-words_in [] = []
-words_in (low ∷ []) = []
-words_in (low ∷ high ∷ bytes) = (low + 256 * high) ∷ words_in bytes
+-- the words of chance of a file: numbers of two bytes each, the low one first; an odd last byte is dropped
+abbrev pub chances_in : List ℕ → List ℕ
+chances_in [] = []
+chances_in (low ∷ []) = []
+chances_in (low ∷ high ∷ bytes) = (low + 256 * high) ∷ chances_in bytes
 
 -- how many keys are played at most
 abbrev pub most_keys : ℕ
@@ -160,7 +160,7 @@ PlaysOn old new limit set board words r = OfSet (new ≡ old) limit set board (I
 abbrev pub PlaysFile : Stage → Stage → Option (List ℕ) → ℕ → ℕ → (Result (List Edit) Refusal → Type 0) → Result (List ℕ) Refusal → Type 0
 PlaysFile old new None limit board Collected r = (r ≡ Err File) × (new ≡ old)
 PlaysFile old new (Some bytes) limit board Collected r =
-    (set : Result (List Edit) Refusal) × Collected set × PlaysOn old new limit set board (words_in bytes) r
+    (set : Result (List Edit) Refusal) × Collected set × PlaysOn old new limit set board (chances_in bytes) r
 
 -- a board was shown, which leaves the host as it is
 abbrev pub leaves_all : Result (Unit {0}) Refusal → Result Effect Refusal

@@ -8,7 +8,7 @@ ghost use Rattle.zed_files.specs.Faults.{TellsFailures};
 ghost use Rattle.zed_host.specs.HostContents.{HostContents};
 ghost use Rattle.zed_worlds.specs.Told.{message_line, standing_line, told_of};
 ghost use Rattle.zed_files.specs.Asked.{Asks, reading, refusal_in};
-ghost use Rattle.zed_worlds.specs.Shown.{EndsPlaying, IsPlayedOf, PlaysOn, words_in};
+ghost use Rattle.zed_worlds.specs.Shown.{EndsPlaying, IsPlayedOf, PlaysOn, chances_in};
 ghost use Rattle.zed_worlds.specs.Stage.{stage};
 ghost use Rattle.zed_files.specs.Refusals.{is_key_fault, is_screen_fault};
 ghost use Rattle.zed_files.specs.Texts.{texts_of};
@@ -23,9 +23,9 @@ use zed_session::{Keys, Playing, Screen};
 /// The most keys of one playtest.
 const MOST_KEYS: u32 = 1_048_576;
 
-// Numbers of two bytes each, the low one first; an odd last byte is dropped.
-fn words_of(alloc: Global, bytes: &[u8]) -> Result<Vec<u16>, AllocError>
-    ensures { IfOk result (λ words. words.items ≡ words_in bytes.now) }
+// The words of chance of a file: numbers of two bytes each, the low one first; an odd last byte is dropped.
+fn chances_of(alloc: Global, bytes: &[u8]) -> Result<Vec<u16>, AllocError>
+    ensures { IfOk result (λ words. words.items ≡ chances_in bytes.now) }
 {
     let mut words = Vec::new(alloc);
     let mut rest = bytes;
@@ -168,7 +168,7 @@ fn played<H: Host>(
     ensures failures { TellsFailures H.faults H.failed result host.old host.new }
 {
     let bytes = read_one(host, chance)?;
-    let words = words_of(alloc, bytes.as_slice())?;
+    let words = chances_of(alloc, bytes.as_slice())?;
     let document = load(alloc, host, files)?;
     play_board(
         alloc,
