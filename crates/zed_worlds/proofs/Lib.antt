@@ -1,5 +1,6 @@
 pub mod Chances
 pub mod Endings
+pub mod Idle
 pub mod OffStage
 pub mod Others
 pub mod Played

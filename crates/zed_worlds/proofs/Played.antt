@@ -152,7 +152,7 @@ kept_none : (old : Playing) (p : Playtest) → old ≡ record { playtest = Some 
 kept_none old p is = ap (λ (o : Playing). o.kept) is
 
 -- a playtest that hasn't ended goes on
-is_on : (o : Option Playtest) (p : Playtest) → o ≡ Some p → p.ending ≡ None → goes_on o ≡ true
+pub is_on : (o : Option Playtest) (p : Playtest) → o ≡ Some p → p.ending ≡ None → goes_on o ≡ true
 is_on o p is going = rw (is, going) refl
 
 -- a key is asked for

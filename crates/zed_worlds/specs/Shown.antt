@@ -21,6 +21,7 @@ use Rattle.zed_session.specs.Devices.{Foretold, showing}
 use Rattle.zed_session.specs.Play.{ShowsPlay, Takes}
 use Rattle.zed_worlds.specs.Told.{told_of}
 use Rattle.zed_files.specs.Refusals.{export_refusal}
+use Rattle.zed_host.specs.Calls.{Call, Printing, call}
 use Rattle.zed_host.specs.HostContents.{HostContents, IsRead}
 use Rattle.zed_files.specs.Collected.{Collects}
 use Rattle.zed_files.specs.Effects.{Effect, Ends, Leaves}
@@ -182,6 +183,20 @@ ComesToShow failed old new t limit board files r =
 abbrev pub ComesToPlay : Type 0 → Stage → Stage → HostContents → ℕ → ℕ → List ℕ → List (List ℕ) → Result Effect Refusal → Type 0
 ComesToPlay failed old new t limit board chance files r =
     (told : Result (List ℕ) Refusal) × IsPlayedOf failed old new t limit board chance files told × (r ≡ prints_report told)
+
+-- whether a refusal may come of a playtest that was begun
+abbrev pub is_of_playing : Refusal → Bool
+is_of_playing Memory = true
+is_of_playing NoWords = true
+is_of_playing ScreenFault = true
+is_of_playing KeyFault = true
+is_of_playing TooManyTurns = true
+is_of_playing _ = false
+
+-- it may, or what is told of the playtest couldn't be printed, at the last call of a host
+abbrev pub IsOfPlay : {H : Type 0} → (H → Call → H → Type 0) → Refusal → H → Type 0
+IsOfPlay called e host =
+    (is_of_playing e ≡ true) ⊎ ((e ≡ File) × ((before : _) × called before (call Printing true) host))
 
 -- what is so where `play` lacks memory: the stage is as it was, or a playtest came to that
 abbrev pub LacksForPlay : Type 0 → Stage → Stage → HostContents → ℕ → ℕ → List ℕ → List (List ℕ) → Type 0

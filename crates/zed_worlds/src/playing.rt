@@ -1,5 +1,5 @@
 //! Boards played.
-ghost use Rattle.std.specs.Prelude.{[], ◌∷◌, ◌≡◌, ◌≤◌, ◌<◌, ◌⊎◌, ◌++◌, Err, IfOk, MatchResult, Ok, OnOk, Some, false, length, slice_get, string_bytes};
+ghost use Rattle.std.specs.Prelude.{[], ◌∷◌, ◌≡◌, ◌≤◌, ◌<◌, ◌⊎◌, ◌++◌, Err, IfErr, IfOk, MatchResult, Ok, OnOk, Some, false, length, slice_get, string_bytes, true};
 ghost use Rattle.std.specs.List.{flat_map};
 ghost use Rattle.zed_types.specs.declared.limits.TheConstants.{READ_BODY_LIMIT};
 ghost use Rattle.zed_host.specs.Calls.{Printing};
@@ -8,7 +8,7 @@ ghost use Rattle.zed_files.specs.Faults.{TellsFailures};
 ghost use Rattle.zed_host.specs.HostContents.{HostContents};
 ghost use Rattle.zed_worlds.specs.Told.{message_line, standing_line, told_of};
 ghost use Rattle.zed_files.specs.Asked.{Asks, reading, refusal_in};
-ghost use Rattle.zed_worlds.specs.Shown.{EndsPlaying, IsPlayedOf, PlaysOn, chances_in};
+ghost use Rattle.zed_worlds.specs.Shown.{EndsPlaying, IsOfPlay, IsPlayedOf, PlaysOn, chances_in, is_of_playing};
 ghost use Rattle.zed_worlds.specs.Stage.{stage};
 ghost use Rattle.zed_files.specs.Refusals.{is_key_fault, is_screen_fault};
 ghost use Rattle.zed_files.specs.Texts.{texts_of};
@@ -110,6 +110,8 @@ fn play_board(
         (λ text. PlaysOn before after limit (Ok document.now.edits) board words.now (Ok text.items))
         (λ e. ((e ≡ Refusal.Memory) × (after ≡ before))
         ⊎ PlaysOn before after limit (Ok document.now.edits) board words.now (Err e)) }
+    ensures idle { IfErr result (λ e. (is_of_playing e ≡ true)
+        ⊎ ((screen.new ≡ screen.old) × (keys.new ≡ keys.old))) }
     ensures key_faults { Counts (is_key_fault result)
         (key_failures keys.old) (key_failures keys.new) }
     ensures screen_faults { Counts (is_screen_fault result)
@@ -158,6 +160,8 @@ fn played<H: Host>(
         (λ e. ((e ≡ Refusal.Memory) × (after ≡ before))
         ⊎ IsPlayedOf failed before after t limit board chance.now
         (texts_of files.now) (Err e)) }
+    ensures idle { IfErr result (λ e. (is_of_playing e ≡ true)
+        ⊎ ((screen.new ≡ screen.old) × (keys.new ≡ keys.old))) }
     ensures key_faults { Counts (is_key_fault result)
         (key_failures keys.old) (key_failures keys.new) }
     ensures screen_faults { Counts (is_screen_fault result)
@@ -182,6 +186,7 @@ fn played<H: Host>(
 }
 
 /// Plays a board of the world of edit files, of at most so many bytes a body, by the words of chance of a file, and prints what is told of the playtest.
+/// Where the command is refused before that is begun, neither the screen nor the source of keys is called.
 pub fn play<H: Host>(
     alloc: Global,
     host: &mut H,
@@ -201,6 +206,8 @@ pub fn play<H: Host>(
         (left keys.new) (keys_foretell keys.new) in
         EndsPlaying failed before after t limit board chance.now
         (texts_of files.now) result (H.contents host.new) }
+    ensures idle { IfErr result (λ e. IsOfPlay H.called e host.new
+        ⊎ ((screen.new ≡ screen.old) × (keys.new ≡ keys.old))) }
     ensures key_faults { Counts (is_key_fault result)
         (key_failures keys.old) (key_failures keys.new) }
     ensures screen_faults { Counts (is_screen_fault result)

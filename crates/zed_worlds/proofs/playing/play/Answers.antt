@@ -9,6 +9,7 @@ use Rattle.zed_files.proofs.Endings.{effect_ends, refused_ends}
 use Rattle.zed_worlds.proofs.Endings.{lacks_for_play, no_memory, not_played, play_so}
 use Rattle.zed_files.proofs.Failures.{handed_on, write_tells}
 use Rattle.zed_files.proofs.OffStage.{keys_uncounted, screen_uncounted, written_off}
+use Rattle.zed_worlds.proofs.Idle.{unprinted, untold}
 use Rattle.zed_worlds.proofs.OffStage.{keys_told, screen_told}
 use Rattle.std.proofs.Common.{[], ◌∷◌}
 use Rattle.zed_host.specs.Calls.{Printing}
@@ -75,6 +76,14 @@ returns-in_err-text-clause-asked g c =
 pub returns-clause-asked : goal.returns-clause-asked
 returns-clause-asked g c =
     then_last g.H.Host.called (reading (c.args.chance.now ∷ texts_of c.args.files.now)) (Printing ∷ []) (refusal_in c.print_out.result) _ _ _ c.in_ok-text.ensures.asked c.print_out.ensures.asked
+
+-- nothing was asked of screen and keys where no playtest was begun
+pub returns-in_err-text-clause-idle : goal.returns-in_err-text-clause-idle
+returns-in_err-text-clause-idle g c =
+    untold g.H.Host.called _ c.from_residual.result c.in_err-text.field-0.0 _ c.from_residual.ensures.1 c.in_err-text.ensures.idle
+
+pub returns-clause-idle : goal.returns-clause-idle
+returns-clause-idle g c = unprinted g.H.Host.called _ _ c.print_out.result _ c.print_out.ensures.err c.print_out.ensures.asked
 
 -- faults of screen and keys are told as they were
 pub returns-in_err-text-clause-key_faults : goal.returns-in_err-text-clause-key_faults

@@ -9,8 +9,9 @@ use Rattle.zed_worlds.specs.Told.{told_of}
 use Rattle.zed_worlds.specs.Shown.{Course, EndsPlay, course, most_keys}
 use Rattle.zed_files.specs.Refusals.{session_refusal}
 use Rattle.zed_session.specs.declared.playing.Playing.{Playing}
-use Rattle.zed_worlds.proofs.Played.{key_refused, key_steps, lent_is, no_key, play_begins, shown_of, still_lent}
+use Rattle.zed_worlds.proofs.Played.{is_on, key_refused, key_steps, lent_is, no_key, play_begins, shown_of, still_lent}
 use Rattle.zed_files.proofs.OffStage.{keys_uncounted, off_on, screen_uncounted}
+use Rattle.zed_worlds.proofs.Idle.{key_of_playing, of_playing, unbegun}
 use Rattle.zed_worlds.proofs.OffStage.{keys_on, screen_on, unbegun_off}
 use Rattle.zed_worlds.proofs.Stepping.{at_start, none_more, one_more}
 use Rattle.zed_worlds.proofs.playing.play_board.Goals as goal
@@ -194,6 +195,24 @@ returns-in_err-told-2-clause-plays g c =
     let lacks : EndsPlay (c.loop.counter + 1) now after (Err Memory) =
     inr (inr (inr (inr (inr (refl, inl (inl (ap is_some (sym ending) ∙ sym c.is_some.ensures ∙ c.if-is_some.true, step.2.1))))))) in
     rw (p.1, same) (inr (old.comes after (Err Memory) (c.loop.counter + 1, now, few, none_more (c.loop.counter + 1) old.first now leads, lacks)))
+
+-- ---- what was asked of screen and keys
+
+-- nothing, where it doesn't begin
+pub returns-in_err-start-clause-idle : goal.returns-in_err-start-clause-idle
+returns-in_err-start-clause-idle g c = unbegun c.from_residual.result _ (refl, refl)
+
+pub returns-in_err-used-clause-idle : goal.returns-in_err-used-clause-idle
+returns-in_err-used-clause-idle g c =
+    let old = c.loop.invariant in
+    of_playing c.from_residual-in_err-used.result (session_refusal c.in_err-used.field-0.0) _ c.from_residual-in_err-used.ensures.1
+    (key_of_playing c.in_err-used.field-0.0 c.loop.left.now _ _ _ _ (is_on _ old.now.play (ap (λ (p : Playing). p.playtest) old.at.0) old.going) c.in_err-used.ensures.result)
+
+pub returns-in_err-told-clause-idle : goal.returns-in_err-told-clause-idle
+returns-in_err-told-clause-idle g c = of_playing c.from_residual-in_err-told.result Memory _ c.from_residual-in_err-told.ensures.1 refl
+
+pub returns-in_err-told-2-clause-idle : goal.returns-in_err-told-2-clause-idle
+returns-in_err-told-2-clause-idle g c = of_playing c.from_residual-in_err-told-2.result Memory _ c.from_residual-in_err-told-2.ensures.1 refl
 
 -- ---- faults of screen and keys
 

@@ -6,6 +6,7 @@ use Rattle.zed_worlds.specs.Shown.{chances_in}
 use Rattle.zed_worlds.proofs.Endings.{not_collected, not_read, played_result}
 use Rattle.zed_host.proofs.Counts.{rose_later}
 use Rattle.zed_files.proofs.Failures.{handed_later, handed_on, memory_is_other, memory_on, none_later, other_tells}
+use Rattle.zed_worlds.proofs.Idle.{unbegun}
 use Rattle.zed_worlds.proofs.Others.{or_memory, played_is_other}
 use Rattle.zed_files.specs.declared.refusal.Refusal.TheVariants.{Memory}
 use Rattle.zed_files.proofs.OffStage.{keys_uncounted, off_on, screen_uncounted, unread_off}
@@ -118,6 +119,16 @@ returns-clause-asked g c =
     answer_after _ _ g.H.Host.called (reading (c.args.chance.now ∷ texts_of c.args.files.now)) c.play_board.result _ _
     (read_before g.H.Host.called (Reading c.args.chance.now) (reading (texts_of c.args.files.now)) None _ _ _ c.in_ok-bytes.ensures.asked c.in_ok-document.ensures.asked)
     (or_memory _ _ _ c.play_board.result c.play_board.ensures.plays) (played_is_other c.args.limit c.in_ok-document.document.edits c.from.result old new c.as_slice-2.result.now)
+
+-- nothing was asked of screen and keys before a playtest was begun
+pub returns-in_err-bytes-clause-idle : goal.returns-in_err-bytes-clause-idle
+returns-in_err-bytes-clause-idle g c = unbegun c.from_residual.result _ (refl, refl)
+
+pub returns-in_err-words-clause-idle : goal.returns-in_err-words-clause-idle
+returns-in_err-words-clause-idle g c = unbegun c.from_residual-in_err-words.result _ (refl, refl)
+
+pub returns-in_err-document-clause-idle : goal.returns-in_err-document-clause-idle
+returns-in_err-document-clause-idle g c = unbegun c.from_residual-in_err-document.result _ (refl, refl)
 
 -- files tell of no screen, and of no source of keys
 pub returns-in_err-bytes-clause-key_faults : goal.returns-in_err-bytes-clause-key_faults
