@@ -1,13 +1,14 @@
 -- Which devices a run called.
 use Rattle.zed_files.specs.declared.refusal.Refusal.{Refusal}
-use Rattle.std.proofs.Common.{◌≡◌, Bool, true, false, ℕ, List, Option, Some, None, Result, Ok, Err, refl, inl, inr}
-use Rattle.std.specs.Prelude.{⊤, ◌⊎◌}
+use Rattle.std.proofs.Common.{◌≡◌, Bool, true, false, ℕ, List, Option, Some, None, Result, Ok, Err, ap, refl, inl, inr}
+use Rattle.std.specs.Prelude.{⊤, ◌⊎◌, IfErr}
 use Rattle.zed_session.specs.Devices.{Foretold}
 use Rattle.zed_session.specs.Links.{LinkSeen}
 use Rattle.zed_program.specs.Called.{CallsDevices, ShowsOnce, calls_keys, calls_links, calls_screen}
 use Rattle.zed_program.specs.Outcome.{status_of}
 use Rattle.zed_words.specs.Commands.{Command, Save, Check, New, Edit as EditFile, Merge, Show, Play}
-use Rattle.zed_worlds.specs.Shown.{CallsOnce}
+use Rattle.zed_host.specs.Calls.{Call}
+use Rattle.zed_worlds.specs.Shown.{CallsOnce, IsOfPlay, is_of_playing}
 
 -- no device was called by words that need none
 pub none_called : (command : Option Command) (status : ℕ) (links : List LinkSeen) (foretold : Option (List Bool)) (L S K : Type 0) → L → S → K
@@ -46,3 +47,14 @@ pub shown_once : (result : Result ⊤ Refusal) (old new : Option (List Bool)) (k
     → ((status_of result ≡ 0) × Foretold false old new) ⊎ ((status_of result ≡ 1) × (Foretold true old new ⊎ kept))
 shown_once (Ok u) old new kept once = inl (refl, once)
 shown_once (Err e) old new kept why = inr (refl, elim why [ inl fault ↦ inl fault.1 | inr stays ↦ inr stays ])
+
+-- neither screen nor keys were asked for anything
+pub kept_idle : {H : Type 0} (called : H → Call → H → Type 0) (host : H) (result : Result ⊤ Refusal) (kept : Type 0) → kept → IfErr result (λ e. IsOfPlay called e host ⊎ kept)
+kept_idle called host (Ok u) kept is = tt
+kept_idle called host (Err e) kept is = inr is
+
+-- nor was the screen, where a board wasn't shown, unless it failed
+pub shown_idle : {H : Type 0} (called : H → Call → H → Type 0) (host : H) (result : Result ⊤ Refusal) (old new : Option (List Bool)) (S K : Type 0) → K → CallsOnce result old new S
+    → IfErr result (λ e. IsOfPlay called e host ⊎ (S × K))
+shown_idle called host (Ok u) old new S K k once = tt
+shown_idle called host (Err e) old new S K k once = elim once [ inl fault ↦ inl (inl (ap is_of_playing fault.0)) | inr s ↦ inr (s, k) ]

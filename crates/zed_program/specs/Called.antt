@@ -5,6 +5,9 @@ use Rattle.std.specs.Prelude.{◌≡◌, ◌⊎◌, ℕ, Bool, true, false, List
 use Rattle.zed_session.specs.Devices.{Foretold}
 use Rattle.zed_session.specs.Links.{LinkSeen}
 use Rattle.zed_making.specs.Merged.{IsMerged}
+use Rattle.zed_host.specs.Calls.{Call}
+use Rattle.zed_program.specs.Asked.{Complains}
+use Rattle.zed_worlds.specs.Shown.{IsOfPlay}
 use Rattle.zed_words.specs.Commands.{Command, Save, Check, New, Edit as EditFile, Merge, Show, Play}
 
 -- whether words ask for a command that calls links: to merge
@@ -43,3 +46,11 @@ pub record CallsDevices (command : Option Command) (status : ℕ) (before after 
   pub shows : ShowsOnce command status old new screen_kept
   pub screen : calls_screen command ≡ false → screen_kept
   pub keys : calls_keys command ≡ false → keys_kept
+
+-- nothing was asked of the screen and of the source of keys, if this is what is so then; or with status 0 a command was carried out; or with status 1
+-- a refusal is told that may come of a playtest that was begun
+abbrev pub IdleUnlessPlayed : {H : Type 0} → (H → Call → H → Type 0) → ℕ → H → Type 0 → Type 0
+IdleUnlessPlayed called status host kept =
+    kept
+    ⊎ (status ≡ 0)
+    ⊎ ((status ≡ 1) × ((e : Refusal) × (mid : _) × Complains called e mid host × IsOfPlay called e mid))

@@ -1,5 +1,5 @@
 //! The program, over any host.
-ghost use Rattle.std.specs.Prelude.{[], ◌≡◌, ◌≤◌, ◌⊎◌, false, IsSome, MatchResult, List, Ok, Err, None, Some, ◌∷◌, ℕ, codes, length, map, true, string_bytes};
+ghost use Rattle.std.specs.Prelude.{[], ◌≡◌, ◌≤◌, ◌⊎◌, false, IfErr, IsSome, MatchResult, List, Ok, Err, None, Some, ◌∷◌, ℕ, codes, length, map, true, string_bytes};
 ghost use Rattle.std.specs.List.{list_all};
 ghost use Rattle.zed_op.specs.declared.op.Edit.{Edit as TheEdit};
 ghost use Rattle.zed_session.specs.Links.{seen};
@@ -7,7 +7,7 @@ ghost use Rattle.zed_files.specs.Files.{joined};
 ghost use Rattle.zed_program.specs.Joining.{AsksToMerge, MergesSet};
 ghost use Rattle.zed_files.specs.Asked.{Asks, refusal_in};
 ghost use Rattle.zed_program.specs.Asked.{Complains, RunAsks, last_of, reads_of};
-ghost use Rattle.zed_program.specs.Called.{CallsDevices, PullsLinks};
+ghost use Rattle.zed_program.specs.Called.{CallsDevices, IdleUnlessPlayed, PullsLinks};
 ghost use Rattle.zed_program.specs.Devices.{devices};
 ghost use Rattle.zed_program.specs.Faults.{TellsFault};
 ghost use Rattle.zed_program.specs.Outcome.{EndsCalmly, EndsCommand, EndsRun, IsTold, status_of};
@@ -16,6 +16,7 @@ ghost use Rattle.zed_host.specs.Counting.{Counts, NothingFailed, Rose};
 ghost use Rattle.zed_files.specs.Faults.{NoneForgotten, TellsFailures};
 ghost use Rattle.zed_files.specs.Refusals.{is_key_fault, is_of_keys, is_of_screen, is_screen_fault};
 ghost use Rattle.zed_host.specs.HostContents.{HostContents};
+ghost use Rattle.zed_worlds.specs.Shown.{IsOfPlay};
 ghost use Rattle.zed_words.specs.declared.profile.Profile.{Profile as TheProfile};
 ghost use Rattle.zed_words.specs.Laws.{with_option};
 ghost use Rattle.zed_words.specs.Commands.{Command as Asked, Save, command_of, is_plain, meaning_of};
@@ -78,6 +79,8 @@ fn act<H: Host>(
     ensures pulls { PullsLinks (Some (meaning_of command.now))
         (map (λ link. seen (ends link) (reads link)) links.old.items)
         (map (λ link. seen (ends link) (reads link)) links.new.items) }
+    ensures idle { IfErr result (λ e. IsOfPlay H.called e host.new
+        ⊎ ((screen.new ≡ screen.old) × (keys.new ≡ keys.old))) }
     ensures screen_faults { Counts (is_screen_fault result)
         (screen_failures screen.old) (screen_failures screen.new) }
     ensures key_faults { Counts (is_key_fault result)
@@ -169,6 +172,8 @@ fn run_words<H: Host>(
         (map (λ link. seen (ends link) (reads link)) links.new.items)
         (screen_foretells screen.old) (screen_foretells screen.new)
         (links.new ≡ links.old) (screen.new ≡ screen.old) (keys.new ≡ keys.old) }
+    ensures idle { IdleUnlessPlayed H.called result host.new
+        ((screen.new ≡ screen.old) × (keys.new ≡ keys.old)) }
     ensures screen_faults { TellsFault H.called is_of_screen result host.new
         (screen_failures screen.old) (screen_failures screen.new) }
     ensures key_faults { TellsFault H.called is_of_keys result host.new
@@ -238,6 +243,10 @@ pub fn run<H: Host>(
         (map (λ link. seen (ends link) (reads link)) links.new.items)
         (screen_foretells screen.old) (screen_foretells screen.new)
         (links.new ≡ links.old) (screen.new ≡ screen.old) (keys.new ≡ keys.old) }
+
+    // Where no playtest is begun, nothing was asked of the screen and of the source of keys, whatever these tell.
+    ensures idle { IdleUnlessPlayed H.called result host.new
+        ((screen.new ≡ screen.old) × (keys.new ≡ keys.old)) }
 
     // A fault of the screen, or of the source of keys, is told exactly where a call of it failed.
     ensures screen_faults { TellsFault H.called is_of_screen result host.new

@@ -4,7 +4,7 @@ use Rattle.zed_making.proofs.Pulls.{as_many}
 use Rattle.zed_worlds.specs.Stage.{Stage, stage}
 use Rattle.zed_words.specs.Commands.{meaning_of}
 use Rattle.zed_files.proofs.OffStage.{keys_uncounted, screen_uncounted, uncounted}
-use Rattle.zed_program.proofs.Called.{none_called, shown_once}
+use Rattle.zed_program.proofs.Called.{kept_idle, none_called, shown_idle, shown_once}
 use Rattle.zed_program.proofs.Endings.{merge_as, play_as, pulls_as, show_as, show_lacks}
 use Rattle.zed_program.proofs.program.act.Goals as goal
 
@@ -119,6 +119,25 @@ returns-in-Play-clause-devices g c =
       screen = λ dark. absurd (let bad : true ≡ false = dark in cc);
       keys = λ off. absurd (let bad : true ≡ false = off in cc);
     })
+
+-- what was asked of screen and keys
+pub returns-in-Save-clause-idle : goal.returns-in-Save-clause-idle
+returns-in-Save-clause-idle g c = kept_idle g.H.Host.called _ c.save.result _ (refl, refl)
+
+pub returns-in-Check-clause-idle : goal.returns-in-Check-clause-idle
+returns-in-Check-clause-idle g c = kept_idle g.H.Host.called _ c.check.result _ (refl, refl)
+
+pub returns-in-New-clause-idle : goal.returns-in-New-clause-idle
+returns-in-New-clause-idle g c = kept_idle g.H.Host.called _ c.make_new.result _ (refl, refl)
+
+pub returns-in-Edit-clause-idle : goal.returns-in-Edit-clause-idle
+returns-in-Edit-clause-idle g c = kept_idle g.H.Host.called _ c.edit.result _ (refl, refl)
+
+pub returns-in-Merge-clause-idle : goal.returns-in-Merge-clause-idle
+returns-in-Merge-clause-idle g c = kept_idle g.H.Host.called _ c.merge.result _ (refl, refl)
+
+pub returns-in-Show-clause-idle : goal.returns-in-Show-clause-idle
+returns-in-Show-clause-idle g c = shown_idle g.H.Host.called _ c.show.result _ _ _ _ refl c.show.ensures.once
 
 -- whose faults a command tells
 pub returns-in-Save-clause-screen_faults : goal.returns-in-Save-clause-screen_faults

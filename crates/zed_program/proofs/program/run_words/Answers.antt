@@ -43,6 +43,22 @@ returns-in-Ok-clause-devices g c = rw c.in-Ok.ensures c.in-Err.ensures.devices
 pub returns-in-Err-Memory-clause-devices : goal.returns-in-Err-Memory-clause-devices
 returns-in-Err-Memory-clause-devices g c = none_called_yet (command_of (map string_bytes c.args.words.now)) _ _ _ _ _ refl refl refl
 
+-- what was asked of screen and keys
+pub returns-in-Ok-act-clause-idle : goal.returns-in-Ok-act-clause-idle
+returns-in-Ok-act-clause-idle g c = inr (inl refl)
+
+pub returns-in-Ok-clause-idle : goal.returns-in-Ok-clause-idle
+returns-in-Ok-clause-idle g c = elim c.in-Err.ensures.idle [
+  | inl played ↦ inr (inr (refl, (c.in-Err.refusal, _, c.complain_of.ensures.asked, played)))
+  | inr stays ↦ inl stays
+]
+
+pub returns-in-Err-Memory-clause-idle : goal.returns-in-Err-Memory-clause-idle
+returns-in-Err-Memory-clause-idle g c = inl (refl, refl)
+
+pub returns-clause-idle : goal.returns-clause-idle
+returns-clause-idle g c = inl (refl, refl)
+
 -- whose faults are told
 pub returns-in-Ok-act-clause-screen_faults : goal.returns-in-Ok-act-clause-screen_faults
 returns-in-Ok-act-clause-screen_faults g c = inl (λ is. (let no : 0 ≡ 1 = is in cc), c.in-Ok-act.ensures.screen_faults)
