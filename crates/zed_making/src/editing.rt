@@ -12,12 +12,13 @@ ghost use Rattle.zed_files.specs.Faults.{TellsFailures};
 ghost use Rattle.zed_files.specs.Refusals.{IsOffStage};
 ghost use Rattle.zed_host.specs.HostContents.{HostContents};
 
+use crate::writing::write_document;
 use std::alloc::Global;
 use zed_action::act;
 use zed_document::Document;
 use zed_edit::{Cause, Edit};
-use zed_editfile::{EditFileError, write_file};
-use zed_files::{Refusal, deliver_all, edits_told, read_file, read_one, write_out};
+use zed_editfile::EditFileError;
+use zed_files::{Refusal, deliver_all, edits_told, read_file, read_one};
 use zed_host::Host;
 
 // The document of a world with these edits.
@@ -113,7 +114,6 @@ pub fn edit<H: Host>(
     ensures failures { TellsFailures H.faults H.failed result host.old host.new }
 {
     let document = edited(alloc, host, file, replica, words)?;
-    let text = write_file(alloc, document.world(), document.edits())?;
     let line = edits_told(alloc, document.edits().len())?;
-    write_out(host, file, text.as_slice(), line.as_str())
+    write_document(alloc, host, file, &document, line.as_str())
 }

@@ -13,10 +13,10 @@ ghost use Rattle.zed_files.specs.Refusals.{IsOffStage, link_refusal};
 
 use std::alloc::Global;
 use zed_document::Document;
-use zed_editfile::write_file;
-use zed_files::{Refusal, joined_told, write_out};
+use zed_files::{Refusal, joined_told};
 use zed_host::Host;
 use zed_link::{Link, LinkError, Pulled, receive};
+use zed_making::write_document;
 
 // Pulls the edits of a link into a document.
 fn pull_over(
@@ -86,7 +86,6 @@ pub(crate) fn merge<H: Host>(
     ensures failures { TellsFailures H.faults H.failed result host.old host.new }
 {
     let document = pulled_from(alloc, world, files.len(), links)?;
-    let text = write_file(alloc, document.world(), document.edits())?;
     let line = joined_told(alloc, document.edits().len(), document.held())?;
-    write_out(host, out, text.as_slice(), line.as_str())
+    write_document(alloc, host, out, &document, line.as_str())
 }

@@ -3,14 +3,13 @@ use Rattle.std.proofs.lemmas.Result.{err_from_is_err_and}
 use Rattle.zed_editfile.specs.Spelling.{file_text}
 use Rattle.zed_files.specs.Lines.{held_line, joined_line}
 use Rattle.zed_files.specs.Effects.{Writes}
-use Rattle.zed_files.specs.Refusals.{file_refusal}
 use Rattle.zed_making.specs.Merged.{ComesToMerge}
 use Rattle.zed_session.specs.Links.{seen}
-use Rattle.zed_host.proofs.Counts.{counted_up}
-use Rattle.zed_files.proofs.Endings.{effect_ends, refused_ends}
+use Rattle.zed_files.proofs.Endings.{refused_ends}
+use Rattle.zed_making.proofs.Endings.{written_ends}
 use Rattle.zed_making.proofs.Pulls.{each_of, merge_comes, merge_so, not_merged}
-use Rattle.zed_files.proofs.Failures.{file_is_other, memory_is_other, memory_on, none_yet, other_on, write_tells}
-use Rattle.zed_files.proofs.OffStage.{file_off, off_on, written_off}
+use Rattle.zed_files.proofs.Failures.{memory_is_other, memory_on, none_yet, other_on}
+use Rattle.zed_files.proofs.OffStage.{off_on}
 use Rattle.zed_files.specs.declared.refusal.Refusal.TheVariants.{Memory}
 use Rattle.zed_making.proofs.OffStage.{merged_off}
 use Rattle.zed_making.proofs.Others.{merged_is_other}
@@ -25,14 +24,14 @@ returns-clause-ends g c = λ t at.
     let news = each_of c.pulled_from.new.links.items (λ link. seen ((goal.Link-dyn g (link.vtable, link.value)).ends link.value) ((goal.Link-dyn g (link.vtable, link.value)).reads link.value)) in
     let d = c.in_ok-document.document in
     let line : c.as_str.result.now ≡ joined_line d.edits =
-    c.as_str.ensures.value ∙ c.in_ok-line.ensures ∙ ap₂ held_line (ap length c.edits-2.ensures.all) c.held.ensures in
-    let text : c.as_slice.result.now ≡ file_text c.args.world d.edits =
-    c.as_slice.ensures.value ∙ c.in_ok-text.ensures.ok ∙ ap₂ file_text (c.world.ensures ∙ c.in_ok-document.ensures.world) c.edits.ensures.all in
+    c.as_str.ensures.value ∙ c.in_ok-line.ensures ∙ ap₂ held_line (ap length c.edits.ensures.all) c.held.ensures in
+    let text : file_text d.world d.edits ≡ file_text c.args.world d.edits = ap (λ w. file_text w d.edits) c.in_ok-document.ensures.world in
     let same : g.H.Host.faults c.args.host.now ≤ g.H.Host.faults c.args.host.now = omega arith in
-    effect_ends (λ f. ComesToMerge links news c.args.out.now c.args.world (length c.args.files.now)) c.write_out.result _ _ _ t (Writes c.args.out.now c.as_slice.result.now c.as_str.result.now) _
-    (merge_so links news c.args.out.now c.args.world (length c.args.files.now)) same (counted_up _ _ _ c.write_out.ensures.faults)
-    (merge_comes links news c.args.out.now c.args.world (length c.args.files.now) d.edits c.as_slice.result.now c.as_str.result.now c.in_ok-document.ensures.pulled text line)
-    (c.write_out.ensures.ok t at) (c.write_out.ensures.half t at) c.write_out.ensures.err c.write_out.ensures.faults
+    written_ends (λ f. ComesToMerge links news c.args.out.now c.args.world (length c.args.files.now)) c.write_document.result _ _ _ t
+    (Writes c.args.out.now (file_text d.world d.edits) c.as_str.result.now) _
+    (merge_so links news c.args.out.now c.args.world (length c.args.files.now)) same c.write_document.ensures.failures.0.0
+    (merge_comes links news c.args.out.now c.args.world (length c.args.files.now) d.edits (file_text d.world d.edits) c.as_str.result.now c.in_ok-document.ensures.pulled text line)
+    (c.write_document.ensures.ends t at)
 
 pub returns-in_err-document-clause-ends : goal.returns-in_err-document-clause-ends
 returns-in_err-document-clause-ends g c = λ t at.
@@ -42,13 +41,6 @@ returns-in_err-document-clause-ends g c = λ t at.
     let same : p.0 ≡ c.in_err-document.field-0.0 = p.2 in
     rw (p.1, same) (refused_ends _ (ComesToMerge links news c.args.out.now c.args.world (length c.args.files.now)) t c.in_err-document.field-0.0 _ at
     (not_merged links news c.args.out.now c.args.world (length c.args.files.now) c.in_err-document.field-0.0 c.in_err-document.ensures.pulled))
-
-pub returns-in_err-text-clause-ends : goal.returns-in_err-text-clause-ends
-returns-in_err-text-clause-ends g c = λ t at.
-    let links = each_of c.args.links.now.items (λ link. seen ((goal.Link-dyn g (link.vtable, link.value)).ends link.value) ((goal.Link-dyn g (link.vtable, link.value)).reads link.value)) in
-    let news = each_of c.pulled_from.new.links.items (λ link. seen ((goal.Link-dyn g (link.vtable, link.value)).ends link.value) ((goal.Link-dyn g (link.vtable, link.value)).reads link.value)) in
-    let p = err_from_is_err_and c.from_residual-in_err-text.result c.from_residual-in_err-text.ensures.1 in
-    rw p.1 (refused_ends _ (ComesToMerge links news c.args.out.now c.args.world (length c.args.files.now)) t p.0 _ at (inl (p.2 ∙ ap file_refusal c.in_err-text.ensures.err)))
 
 pub returns-in_err-line-clause-ends : goal.returns-in_err-line-clause-ends
 returns-in_err-line-clause-ends g c = λ t at.
@@ -62,29 +54,15 @@ returns-in_err-document-clause-failures g c =
     other_on g.H.Host.faults g.H.Host.failed c.from_residual.result c.in_err-document.field-0.0 _ _ c.from_residual.ensures.1
     (merged_is_other c.args.world _ _ _ c.in_err-document.field-0.0 c.in_err-document.ensures.pulled) (none_yet g.H.Host.faults g.H.Host.failed _)
 
-pub returns-in_err-text-clause-failures : goal.returns-in_err-text-clause-failures
-returns-in_err-text-clause-failures g c =
-    other_on g.H.Host.faults g.H.Host.failed c.from_residual-in_err-text.result (file_refusal c.in_err-text.field-0.0) _ _ c.from_residual-in_err-text.ensures.1
-    (file_is_other c.in_err-text.field-0.0) (none_yet g.H.Host.faults g.H.Host.failed _)
-
 pub returns-in_err-line-clause-failures : goal.returns-in_err-line-clause-failures
 returns-in_err-line-clause-failures g c =
     memory_on g.H.Host.faults g.H.Host.failed c.from_residual-in_err-line.result _ _ c.from_residual-in_err-line.ensures.1 (none_yet g.H.Host.faults g.H.Host.failed _)
-
-pub returns-clause-failures : goal.returns-clause-failures
-returns-clause-failures g c =
-    write_tells g.H.Host.faults g.H.Host.failed c.write_out.result _ _ _ (none_yet g.H.Host.faults g.H.Host.failed _) c.write_out.ensures.faults c.write_out.ensures.failures
 
 pub returns-in_err-document-clause-asked : goal.returns-in_err-document-clause-asked
 returns-in_err-document-clause-asked g c =
     let p = err_from_is_err_and c.from_residual.result c.from_residual.ensures.1 in
     let same : p.0 ≡ c.in_err-document.field-0.0 = p.2 in
     rw (p.1, same) (asks_nothing g.H.Host.called [] (writing c.args.out.now) c.in_err-document.field-0.0 _ (merged_is_other c.args.world _ _ _ c.in_err-document.field-0.0 c.in_err-document.ensures.pulled))
-
-pub returns-in_err-text-clause-asked : goal.returns-in_err-text-clause-asked
-returns-in_err-text-clause-asked g c =
-    let p = err_from_is_err_and c.from_residual-in_err-text.result c.from_residual-in_err-text.ensures.1 in
-    rw p.1 (asks_nothing g.H.Host.called [] (writing c.args.out.now) p.0 _ (memory_is_other p.0 (p.2 ∙ ap file_refusal c.in_err-text.ensures.err)))
 
 pub returns-in_err-line-clause-asked : goal.returns-in_err-line-clause-asked
 returns-in_err-line-clause-asked g c =
@@ -97,13 +75,6 @@ returns-in_err-document-clause-err g c =
     off_on c.from_residual.result c.in_err-document.field-0.0 c.from_residual.ensures.1
     (merged_off c.args.world _ _ _ c.in_err-document.field-0.0 c.in_err-document.ensures.pulled)
 
-pub returns-in_err-text-clause-err : goal.returns-in_err-text-clause-err
-returns-in_err-text-clause-err g c =
-    off_on c.from_residual-in_err-text.result (file_refusal c.in_err-text.field-0.0) c.from_residual-in_err-text.ensures.1 (file_off c.in_err-text.field-0.0)
-
 pub returns-in_err-line-clause-err : goal.returns-in_err-line-clause-err
 returns-in_err-line-clause-err g c =
     off_on c.from_residual-in_err-line.result Memory c.from_residual-in_err-line.ensures.1 (refl, refl)
-
-pub returns-clause-err : goal.returns-clause-err
-returns-clause-err g c = written_off c.write_out.result c.write_out.ensures.err
