@@ -6,11 +6,12 @@ use Rattle.zed_files.specs.declared.refusal.Refusal.{Refusal}
 use Rattle.zed_files.specs.declared.refusal.Refusal.TheVariants.{Clash, NoLink}
 use Rattle.std.proofs.Common.{◌≡◌, ◌∷◌, [], ℕ, zero, suc, Bool, true, false, List, Some, Result, Ok, Err, length, refl, subst, nat_lt, inl, inr}
 use Rattle.std.specs.Prelude.{MatchBool}
+use Rattle.zed_action.specs.Deeds.{with_edits}
 use Rattle.zed_document.specs.Replica.{Replica}
 use Rattle.zed_session.specs.Links.{LinkSeen}
 use Rattle.zed_making.specs.Edited.{IsOpened, IsSettled}
 use Rattle.zed_making.specs.Fresh.{refused_as}
-use Rattle.zed_making.specs.Merged.{IsMerged, PullsEach, empty_document, with_edits}
+use Rattle.zed_making.specs.Merged.{IsMerged, PullsEach, empty_document}
 use Rattle.zed_files.specs.Refusals.{IsOffStage, file_refusal, link_refusal, world_refusal}
 use Rattle.zed_files.proofs.OffStage.{file_off, is_off, link_off, world_off}
 

@@ -11,11 +11,12 @@ use Rattle.zed_link.specs.Pull.{most_reads}
 use Rattle.zed_session.specs.Told as linked
 use Rattle.std.proofs.Common.{◌≡◌, ◌∙◌, ◌∷◌, [], ℕ, zero, suc, Bool, true, false, List, Some, Result, Ok, Err, length, refl, subst, sym, nat_lt, inl, inr}
 use Rattle.std.specs.Prelude.{MatchBool}
+use Rattle.zed_action.specs.Deeds.{with_edits}
 use Rattle.zed_document.specs.Replica.{Replica}
 use Rattle.zed_session.specs.Links.{LinkSeen, PullsOver}
 use Rattle.zed_making.specs.Edited.{IsOpened, IsSettled}
 use Rattle.zed_making.specs.Fresh.{refused_as}
-use Rattle.zed_making.specs.Merged.{IsMerged, MadeMostReads, PullsEach, empty_document, with_edits}
+use Rattle.zed_making.specs.Merged.{IsMerged, MadeMostReads, PullsEach, empty_document}
 use Rattle.zed_files.specs.Refusals.{file_refusal, link_refusal, world_refusal}
 use Rattle.zed_files.proofs.Failures.{file_is_other, session_is_other, world_is_other}
 

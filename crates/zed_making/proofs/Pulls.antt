@@ -10,12 +10,13 @@ use Rattle.std.specs.Prelude.{◌⊎◌, MatchBool}
 use Rattle.std.proofs.lemmas.List.{length-map}
 use Rattle.zed_editfile.specs.Spelling.{file_text}
 use Rattle.zed_document.specs.Counts.{Counts}
+use Rattle.zed_action.specs.Deeds.{with_edits}
 use Rattle.zed_document.specs.Replica.{Replica}
 use Rattle.zed_document.proofs.CountsAside.{with_counts}
 use Rattle.zed_link.proofs.CountsAside.{pull_aside}
 use Rattle.zed_session.specs.Links.{LinkSeen, PullsOver}
 use Rattle.zed_files.specs.Lines.{joined_line}
-use Rattle.zed_making.specs.Merged.{IsMerged, PullsEach, empty_document, with_edits, ComesToMerge}
+use Rattle.zed_making.specs.Merged.{IsMerged, PullsEach, empty_document, ComesToMerge}
 use Rattle.zed_files.specs.Effects.{Effect, Writes}
 use Rattle.zed_files.specs.Refusals.{link_refusal}
 

@@ -7,6 +7,7 @@ use Rattle.zed_link.specs.declared.pulled.Pulled.{Pulled}
 use Rattle.zed_files.specs.declared.refusal.Refusal.{Refusal}
 use Rattle.zed_files.specs.declared.refusal.Refusal.TheVariants.{NoLink}
 use Rattle.std.specs.Prelude.{◌≡◌, ◌⊎◌, ℕ, zero, suc, List, [], ◌∷◌, length, nat_lt, slice_get, false, Some, MatchBool, Result, Ok, Err}
+use Rattle.zed_action.specs.Deeds.{with_edits}
 use Rattle.zed_document.specs.Replica.{Replica}
 use Rattle.zed_session.specs.Links.{LinkSeen, PullsOver}
 use Rattle.zed_files.specs.Refusals.{link_refusal}
@@ -17,10 +18,6 @@ use Rattle.zed_files.specs.Effects.{Effect, Writes}
 -- a document of a world, without edits
 abbrev pub empty_document : ℕ → Replica
 empty_document world = record { world = world; edits = []; is_stale = false; counts = [] }
-
--- a document with these edits in place of its own
-abbrev pub with_edits : List Edit → Replica → Replica
-with_edits es d = record d { edits = es }
 
 -- pulls over the first so many links, one after the other, with what is seen of all links then: the edits of the document; or the first refusal
 -- of a link, and those behind it are as they were

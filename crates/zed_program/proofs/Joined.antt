@@ -25,7 +25,8 @@ use Rattle.zed_words.specs.Commands.{Merge}
 use Rattle.zed_files.specs.Files.{AreTextsOf, IsTextIn, joined}
 use Rattle.zed_host.specs.HostContents.{HostContents}
 use Rattle.zed_program.specs.Joining.{AsksToMerge, HasLink, IsOfLinks, MergesSet, left_on}
-use Rattle.zed_making.specs.Merged.{IsMerged, PullsEach, empty_document, with_edits, writes_joined}
+use Rattle.zed_action.specs.Deeds.{with_edits}
+use Rattle.zed_making.specs.Merged.{IsMerged, PullsEach, empty_document, writes_joined}
 use Rattle.zed_program.specs.Outcome.{EndsCalmly, HasStatus}
 use Rattle.zed_files.specs.Effects.{Effect}
 use Rattle.zed_files.specs.Refusals.{link_refusal}
