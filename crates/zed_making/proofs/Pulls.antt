@@ -5,7 +5,7 @@ use Rattle.zed_link.specs.declared.error.LinkError.{LinkError}
 use Rattle.zed_link.specs.declared.pulled.Pulled.{Pulled}
 use Rattle.zed_files.specs.declared.refusal.Refusal.{Refusal}
 use Rattle.zed_files.specs.declared.refusal.Refusal.TheVariants.{Memory, NoLink}
-use Rattle.std.proofs.Common.{◌≡◌, ◌∙◌, ◌≤◌, ◌<◌, ◌+◌, add-one, ap, ap₂, arith, ℕ, zero, suc, Bool, true, false, List, [], ◌∷◌, ◌++◌, drop, drop-cons, get_or, length, lt-ltb, set, take, nat_lt, Result, Ok, Err, refl, sym, subst, map, inl, inr}
+use Rattle.std.proofs.Common.{◌≡◌, ◌∙◌, ◌≤◌, ◌<◌, ◌+◌, add-one, ap, ap₂, arith, ℕ, zero, suc, Bool, false, List, [], ◌∷◌, ◌++◌, drop, drop-cons, get_or, length, lt-ltb, set, take, nat_lt, Result, Ok, Err, refl, sym, subst, map, inl, inr}
 use Rattle.std.specs.Prelude.{◌⊎◌, MatchBool}
 use Rattle.std.proofs.lemmas.List.{length-map}
 use Rattle.zed_editfile.specs.Spelling.{file_text}

@@ -1,10 +1,10 @@
 //! The edit file of a new world.
-ghost use Rattle.std.specs.Prelude.{◌≡◌, ◌∷◌, [], ◌⊎◌, Err, IfErr, IfOk, MatchResult, Ok, Option, List, ℕ, Some, false, option_map, replicate, take};
+ghost use Rattle.std.specs.Prelude.{◌≡◌, ◌∷◌, [], ◌⊎◌, Err, IfErr, IfOk, MatchResult, Ok, Option, Some, false, replicate, take};
 ghost use Rattle.zed_types.specs.declared.limits.TheConstants.{READ_BODY_LIMIT as most};
 ghost use Rattle.zed_edit.specs.Board.{new_table as table};
 ghost use Rattle.zed_editfile.specs.Spelling.{file_text};
 ghost use Rattle.zed_world.specs.Canonical.{IsCanonical};
-ghost use Rattle.zed_making.specs.Fresh.{ComesToNew, fresh_header, fresh_properties, fresh_world, genesis_of, made_by, name_or_none, refused_as, rewritten, taken_from, title_of, IsFirstWorld};
+ghost use Rattle.zed_making.specs.Fresh.{ComesToNew, fresh_header, fresh_properties, fresh_world, genesis_of, made_by, refused_as, rewritten, title_of, IsFirstWorld};
 ghost use Rattle.zed_world.specs.Writing.{written};
 ghost use Rattle.zed_world.specs.Reading.{world_at};
 ghost use Rattle.zed_files.specs.Asked.{Asks, named, reading, refusal_in, writing};

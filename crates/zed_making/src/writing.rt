@@ -1,5 +1,5 @@
 //! Edit files written.
-ghost use Rattle.std.specs.Prelude.{[], ◌≡◌, Err, IfErr, MatchResult, Ok, Some};
+ghost use Rattle.std.specs.Prelude.{[], ◌≡◌, IfErr, Ok, Some};
 ghost use Rattle.zed_editfile.specs.Spelling.{file_text};
 ghost use Rattle.zed_files.specs.Asked.{Asks, refusal_in, writing};
 ghost use Rattle.zed_files.specs.Effects.{Ends, Writes};

@@ -1,7 +1,6 @@
 -- What a run asked of its host.
-use Rattle.zed_files.specs.declared.refusal.Refusal.{Refusal}
 use Rattle.zed_files.specs.declared.refusal.Refusal.TheVariants.{Memory}
-use Rattle.std.proofs.Common.{◌≡◌, ◌≤◌, ℕ, Bool, List, [], ◌∷◌, ◌++◌, Option, Some, None, arith, refl, inl, inr}
+use Rattle.std.proofs.Common.{◌≤◌, ℕ, List, [], ◌∷◌, ◌++◌, Option, Some, None, arith, refl, inl, inr}
 use Rattle.zed_host.specs.Calls.{Call, Complaining, Leads, call}
 use Rattle.zed_host.specs.Counting.{NothingFailed}
 use Rattle.zed_host.proofs.Calls.{CountsFailures, CountsNoFault, calm_calls, leads_one, leads_then}

@@ -4,7 +4,7 @@ use Rattle.std.proofs.Common.{◌≡◌, Bool, true, false, ℕ, List, Option, S
 use Rattle.std.specs.Prelude.{⊤, ◌⊎◌, IfErr}
 use Rattle.zed_session.specs.Devices.{Foretold}
 use Rattle.zed_session.specs.Links.{LinkSeen}
-use Rattle.zed_program.specs.Called.{CallsDevices, ShowsOnce, calls_keys, calls_links, calls_screen}
+use Rattle.zed_program.specs.Called.{CallsDevices, ShowsOnce, calls_links, calls_screen}
 use Rattle.zed_program.specs.Outcome.{status_of}
 use Rattle.zed_words.specs.Commands.{Command, Save, Check, New, Edit as EditFile, Merge, Show, Play}
 use Rattle.zed_host.specs.Calls.{Call}

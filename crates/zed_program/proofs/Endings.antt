@@ -3,7 +3,7 @@ use Rattle.zed_host.specs.declared.host.WriteError.{WriteError}
 use Rattle.zed_files.specs.declared.refusal.Refusal.{Refusal}
 use Rattle.zed_files.specs.declared.refusal.Refusal.TheVariants.{File, Memory, TooManyTurns}
 use Rattle.std.proofs.Common.{◌≡◌, ◌≤◌, ◌∙◌, ℕ, List, length, arith, Option, Some, None, Result, Ok, Err, OnErr, OnOk, ap, is_err, refl, subst, inl, inr}
-use Rattle.std.specs.Prelude.{⊤, Bool, IfSome, ◌⊎◌}
+use Rattle.std.specs.Prelude.{⊤, Bool, IfSome}
 use Rattle.zed_program.specs.Devices.{Devices}
 use Rattle.zed_program.specs.Limit.{limit_of}
 use Rattle.zed_words.specs.Commands.{Command, Save, Check, New, Edit as EditFile, Merge, Show, Play}

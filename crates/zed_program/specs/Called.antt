@@ -8,7 +8,7 @@ use Rattle.zed_making.specs.Merged.{IsMerged}
 use Rattle.zed_host.specs.Calls.{Call}
 use Rattle.zed_program.specs.Asked.{Complains}
 use Rattle.zed_worlds.specs.Shown.{IsOfPlay}
-use Rattle.zed_words.specs.Commands.{Command, Save, Check, New, Edit as EditFile, Merge, Show, Play}
+use Rattle.zed_words.specs.Commands.{Command, Merge, Show, Play}
 
 -- whether words ask for a command that calls links: to merge
 abbrev pub calls_links : Option Command → Bool

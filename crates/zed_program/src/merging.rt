@@ -9,7 +9,7 @@ ghost use Rattle.zed_host.specs.HostContents.{HostContents};
 ghost use Rattle.zed_making.specs.Merged.{ComesToMerge, IsMerged};
 ghost use Rattle.zed_files.specs.Asked.{Asks, refusal_in, writing};
 ghost use Rattle.zed_files.specs.Effects.{Ends};
-ghost use Rattle.zed_files.specs.Refusals.{IsOffStage, link_refusal};
+ghost use Rattle.zed_files.specs.Refusals.{IsOffStage};
 
 use std::alloc::Global;
 use zed_document::Document;

@@ -1,5 +1,5 @@
 //! The program, over any host.
-ghost use Rattle.std.specs.Prelude.{[], ◌≡◌, ◌≤◌, ◌⊎◌, false, IfErr, IsSome, MatchResult, List, Ok, Err, None, Some, ◌∷◌, ℕ, codes, length, map, true, string_bytes};
+ghost use Rattle.std.specs.Prelude.{◌≡◌, ◌≤◌, ◌⊎◌, IfErr, IsSome, List, Ok, Err, None, Some, ◌∷◌, ℕ, codes, length, map, true, string_bytes};
 ghost use Rattle.std.specs.List.{list_all};
 ghost use Rattle.zed_op.specs.declared.op.Edit.{Edit as TheEdit};
 ghost use Rattle.zed_session.specs.Links.{seen};

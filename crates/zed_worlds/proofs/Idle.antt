@@ -5,7 +5,7 @@ use Rattle.zed_play.specs.declared.key.Key.{Key}
 use Rattle.zed_session.specs.declared.error.SessionError.{SessionError}
 use Rattle.zed_session.specs.declared.error.SessionError.TheVariants as session
 use Rattle.zed_session.specs.declared.playing.Playing.{Playing}
-use Rattle.std.proofs.Common.{◌≡◌, ◌∙◌, ℕ, true, List, [], ◌∷◌, ◌++◌, Option, Some, Result, Ok, Err, ap, refl, subst, sym, inl, inr}
+use Rattle.std.proofs.Common.{◌≡◌, ◌∙◌, ℕ, true, List, [], ◌∷◌, ◌++◌, Option, Result, Ok, Err, ap, refl, subst, sym, inl, inr}
 use Rattle.std.specs.Prelude.{◌⊎◌, IfErr, IsErrAnd}
 use Rattle.zed_host.specs.Calls.{Ask, Call, Leads, Printing, call, failed_at}
 use Rattle.zed_session.specs.Play.{PlaysKey, goes_on}

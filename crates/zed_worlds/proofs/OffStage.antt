@@ -13,7 +13,7 @@ use Rattle.zed_world.specs.Contents.{Contents}
 use Rattle.zed_worlds.specs.declared.saving.Form.{Form}
 use Rattle.zed_worlds.specs.declared.saving.Form.TheVariants.{WorldFile, Report}
 use Rattle.zed_files.specs.declared.refusal.Refusal.{Refusal}
-use Rattle.std.proofs.Common.{◌≡◌, ◌∙◌, ℕ, List, Bool, false, Option, Some, None, Result, Ok, Err, ap, refl, subst, sym, inl, inr}
+use Rattle.std.proofs.Common.{◌≡◌, ◌∙◌, ℕ, List, false, Option, Some, None, Result, Ok, Err, ap, refl, subst, sym, inl, inr}
 use Rattle.std.specs.Prelude.{IsErrAnd, slice_get}
 use Rattle.zed_edit.specs.Replay.{replay}
 use Rattle.zed_export.specs.Limits.{refusal_of}

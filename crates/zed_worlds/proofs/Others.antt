@@ -1,5 +1,4 @@
 -- Refusals other than `File`.
-use Rattle.zed_editfile.specs.declared.error.EditFileError.TheVariants as file
 use Rattle.zed_export.specs.declared.error.ExportError.{ExportError}
 use Rattle.zed_op.specs.declared.op.Edit.{Edit}
 use Rattle.zed_world.specs.declared.board.BoardData.{BoardData}

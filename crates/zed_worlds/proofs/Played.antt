@@ -1,5 +1,5 @@
 -- What a session answers, as a command tells it.
-use Rattle.std.proofs.Common.{◌≡◌, ◌∙◌, ◌≢◌, ◌<◌, ℕ, Bool, List, [], ◌∷◌, drop, true, false, Option, Some, None, Result, Ok, Err, MatchResult, ap, ap₂, refl, slice_get, subst, sym, inl, inr}
+use Rattle.std.proofs.Common.{◌≡◌, ◌∙◌, ◌≢◌, ◌<◌, ℕ, Bool, List, drop, true, false, Option, Some, None, Result, Ok, Err, MatchResult, ap, ap₂, refl, slice_get, subst, sym, inl, inr}
 use Rattle.std.specs.Prelude.{◌⊎◌, option_map}
 use Rattle.zed_world.specs.declared.board.BoardData.{BoardData}
 use Rattle.zed_world.specs.declared.header.Header.{Header}
@@ -16,7 +16,6 @@ use Rattle.zed_play.specs.declared.key.Key.{Key}
 use Rattle.zed_play.specs.Opening.{play_of}
 use Rattle.zed_play.specs.Playtest.{Playtest}
 use Rattle.zed_play.specs.Step.{Steps}
-use Rattle.zed_screen.specs.declared.frame.Frame.{Frame}
 use Rattle.zed_session.specs.declared.error.SessionError.{SessionError}
 use Rattle.zed_session.specs.declared.error.SessionError.TheVariants as session
 use Rattle.zed_session.specs.declared.playing.Playing.{Playing}

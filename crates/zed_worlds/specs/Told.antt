@@ -4,7 +4,7 @@ use Rattle.zed_export.specs.declared.warning.Warning.{Warning}
 use Rattle.zed_export.specs.declared.warning.Warning.TheVariants.{PlayerTile, OffBoard, SamePlace}
 use Rattle.zed_play.specs.declared.ending.Ending.{Ending}
 use Rattle.zed_play.specs.declared.ending.Ending.TheVariants.{Left, Died, Failed}
-use Rattle.std.specs.Prelude.{ℕ, List, ◌++◌, Option, Some, None, codes, length, ◌+◌}
+use Rattle.std.specs.Prelude.{ℕ, List, ◌++◌, Option, Some, None, codes, length}
 use Rattle.std.specs.List.{flat_map}
 use Rattle.std.specs.Fmt.{decimal}
 use Rattle.zed_world.specs.Contents.{Contents}

@@ -1,4 +1,4 @@
-use Rattle.std.proofs.Common.{◌≡◌, ◌≤◌, List, None, Ok, Result, ℕ, []}
+use Rattle.std.proofs.Common.{◌≡◌, ◌≤◌, List, None, Ok, Result, ℕ}
 use Rattle.zed_files.specs.declared.refusal.Refusal.{Refusal}
 use Rattle.zed_worlds.specs.Stage.{Stage, stage}
 use Rattle.zed_worlds.specs.Shown.{Course, Plays, PlaysOn, most_keys}

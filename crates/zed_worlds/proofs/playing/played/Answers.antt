@@ -1,10 +1,9 @@
-use Rattle.std.proofs.Common.{◌≡◌, ◌∙◌, arith}
+use Rattle.std.proofs.Common.{◌≡◌, ◌∙◌}
 use Rattle.std.proofs.lemmas.Result.{err_from_is_err_and}
 use Rattle.zed_worlds.specs.Stage.{Stage, stage}
 use Rattle.zed_files.specs.Texts.{texts_of}
 use Rattle.zed_worlds.specs.Shown.{chances_in}
 use Rattle.zed_worlds.proofs.Endings.{not_collected, not_read, played_result}
-use Rattle.zed_host.proofs.Counts.{rose_later}
 use Rattle.zed_files.proofs.Failures.{handed_later, handed_on, memory_is_other, memory_on, none_later, other_tells}
 use Rattle.zed_worlds.proofs.Idle.{unbegun}
 use Rattle.zed_worlds.proofs.Others.{or_memory, played_is_other}
