@@ -1,5 +1,5 @@
 //! A board in play with what a player carries.
-ghost use Rattle.std.specs.Prelude.{◌≡◌, IfOk};
+ghost use Rattle.std.specs.Prelude.{◌≡◌, IfOk, OnOk};
 ghost use Rattle.zed_play.specs.Game.{HasTurn, leaves};
 
 use crate::messages::Messages;
@@ -42,6 +42,17 @@ impl Game {
             left: self.left,
             messages,
         })
+    }
+
+    /// Becomes equal to another.
+    pub(crate) fn copy_from(&mut self, alloc: Global, other: &Game) -> Result<(), AllocError>
+        ensures { OnOk result (self.new ≡ other.now) }
+    {
+        self.scene.copy_from(alloc, &other.scene)?;
+        self.messages = other.messages.copy(alloc)?;
+        self.keys = other.keys;
+        self.left = other.left;
+        Ok(())
     }
 
     /// The player leaves for a board, unless that was done before.

@@ -1,6 +1,6 @@
 //! A playtest.
-ghost use Rattle.std.specs.Prelude.{◌≡◌, ◌⊎◌, Err, Some, None, MatchResult};
-ghost use Rattle.zed_scene.specs.declared.error.SceneError.TheVariants.{Memory, NoWords};
+ghost use Rattle.std.specs.Prelude.{◌≡◌, Err, None, IfOk};
+ghost use Rattle.zed_play.specs.Game.{Answers};
 ghost use Rattle.zed_play.specs.Playtest.{IsTick};
 ghost use Rattle.zed_play.specs.Step.{Looks, Steps, asked, closed_with, from_first, next_tick};
 
@@ -8,7 +8,7 @@ use crate::ending::{Ending, ending_by};
 use crate::error::PlayError;
 use crate::game::Game;
 use crate::key::{Asked, Bounds, Key};
-use std::alloc::Global;
+use std::alloc::{AllocError, Global};
 use std::marker::Model;
 use zed_oop::{SceneError, Words};
 
@@ -18,6 +18,9 @@ use zed_oop::{SceneError, Words};
 pub struct Play {
     pub(crate) alloc: Global,
     pub(crate) game: Game,
+    /// The board on which the next step is made: it becomes equal to the one in play first, and where the step is done the two change
+    /// places. So a step that isn't done leaves the board in play, and takes no copy of it.
+    spare: Game,
     pub(crate) bounds: Bounds,
     pub(crate) tick: u16,
     pub(crate) ending: Option<Ending>,
@@ -37,19 +40,42 @@ fn next_tick(tick: u16) -> u16
     if 420 <= tick { 1 } else { tick + 1 }
 }
 
+/// Lets a board become another one after the looks of a step.
+fn step_on(
+    alloc: Global,
+    game: &mut Game,
+    before: &Game,
+    asked: Asked,
+    words: &mut Words,
+) -> Result<(), SceneError>
+    ensures result { Answers result
+        (Looks asked 1024 (from_first before.now) words.old) game.new words.new }
+{
+    game.copy_from(alloc, before)?;
+    game.scene.set_ticking(0);
+    game.look_on(alloc, asked, words)
+}
+
 impl Play {
     /// A playtest before its first step.
-    pub(crate) fn begin(alloc: Global, game: Game, bounds: Bounds, tick: u16) -> Play
-        ensures result { result
-            ≡ record { game = game; bounds = bounds; tick = tick; ending = None } }
+    pub(crate) fn begin(
+        alloc: Global,
+        game: Game,
+        bounds: Bounds,
+        tick: u16,
+    ) -> Result<Play, AllocError>
+        ensures result { IfOk result (λ p. p
+            ≡ record { game = game; bounds = bounds; tick = tick; ending = None }) }
     {
-        Play {
+        let spare = game.copy(alloc)?;
+        Ok(Play {
             alloc,
             game,
+            spare,
             bounds,
             tick,
             ending: None,
-        }
+        })
     }
 
     fn asked(&self, key: Key) -> Asked
@@ -62,26 +88,12 @@ impl Play {
         }
     }
 
-    /// The board after the looks of a step.
-    fn stepped(&self, key: Key, words: &mut Words) -> Result<Game, SceneError>
-        ensures result { MatchResult result
-            (λ g. Looks (asked key self.now) 1024 (from_first self.now.game) words.old
-            (Some (g, words.new)))
-            (λ e. (e ≡ Memory) ⊎ ((e ≡ NoWords)
-            × Looks (asked key self.now) 1024 (from_first self.now.game) words.old None)) }
+    /// Ends a step that came to the board in play.
+    fn close(&mut self)
+        ensures { self.new ≡ closed_with self.old.game self.old }
     {
-        let mut game = self.game.copy(self.alloc)?;
-        game.scene.set_ticking(0);
-        game.look_on(self.alloc, self.asked(key), words)?;
-        Ok(game)
-    }
-
-    fn close(&mut self, game: Game)
-        ensures result { self.new ≡ closed_with game self.old }
-    {
-        self.ending = ending_by(game.left, game.scene.counters().health);
+        self.ending = ending_by(self.game.left, self.game.scene.counters().health);
         self.tick = next_tick(self.tick);
-        self.game = game;
     }
 
     /// Makes a step by a key, and tells how many words of chance it used. The refusals, the first that applies: Over where the
@@ -96,9 +108,11 @@ impl Play {
             return Err(PlayError::Over);
         }
         let mut left = Words::new(words);
-        match self.stepped(key, &mut left) {
-            Ok(game) => {
-                self.close(game);
+        let asked = self.asked(key);
+        match step_on(self.alloc, &mut self.spare, &self.game, asked, &mut left) {
+            Ok(()) => {
+                std::mem::swap(&mut self.game, &mut self.spare);
+                self.close();
                 Ok(words.len().saturating_sub(left.left()))
             }
             Err(SceneError::NoWords) => Err(PlayError::NoWords),

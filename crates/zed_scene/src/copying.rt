@@ -1,5 +1,5 @@
 //! Copies of a board.
-ghost use Rattle.std.specs.Prelude.{◌≡◌, IfOk};
+ghost use Rattle.std.specs.Prelude.{◌≡◌, IfOk, OnOk, length};
 
 use crate::scene::Scene;
 use crate::stat::Stat;
@@ -22,7 +22,72 @@ fn copy_all(alloc: Global, strings: &[Bytes]) -> Result<Seq<Bytes>, AllocError>
     Ok(out)
 }
 
+/// Makes one list of stats equal to another, in its own room where they are as many.
+fn copy_stats_onto(alloc: Global, into: &mut Seq<Stat>, stats: &[Stat]) -> Result<(), AllocError>
+    ensures { OnOk result (into.new ≡ stats.now) }
+{
+    if into.as_slice().len() == stats.len() {
+        into.as_mut_slice().copy_from_slice(stats);
+    } else {
+        *into = copy_stats(alloc, stats)?;
+    }
+    Ok(())
+}
+
+/// Makes one string equal to another, which takes memory only where they differ.
+fn copy_one_onto(into: &mut Bytes, string: &Bytes) -> Result<(), AllocError>
+    ensures { OnOk result (into.new ≡ string.now) }
+{
+    if !into.is_same(string) {
+        *into = string.copy()?;
+    }
+    Ok(())
+}
+
+/// Makes strings equal to as many others, one by one.
+fn copy_each_onto(into: &mut [Bytes], strings: &[Bytes]) -> Result<(), AllocError>
+    requires { length into.old ≡ length strings.now }
+    ensures result { OnOk result (into.new ≡ strings.now) }
+    ensures within { length into.new ≡ length into.old }
+{
+    let mut i = 0;
+    while i < strings.len() {
+        copy_one_onto(&mut into[i], &strings[i])?;
+        i += 1;
+    }
+    Ok(())
+}
+
+/// Makes a list of strings equal to another, which takes memory only for those that differ.
+fn copy_all_onto(alloc: Global, into: &mut Seq<Bytes>, strings: &[Bytes]) -> Result<(), AllocError>
+    ensures result { OnOk result (into.new ≡ strings.now) }
+    ensures within { length into.old ≡ length strings.now
+        → length into.new ≡ length strings.now }
+{
+    if into.as_slice().len() == strings.len() {
+        copy_each_onto(into.as_mut_slice(), strings)
+    } else {
+        *into = copy_all(alloc, strings)?;
+        Ok(())
+    }
+}
+
 impl Scene {
+    /// Becomes equal to another board. That takes memory only for what differs, so a board of which the other was made costs little.
+    pub fn copy_from(&mut self, alloc: Global, other: &Scene) -> Result<(), AllocError>
+        ensures result { OnOk result (self.new ≡ other.now) }
+    {
+        copy_stats_onto(alloc, &mut self.stats, other.stats.as_slice())?;
+        copy_all_onto(alloc, &mut self.programs, other.programs.as_slice())?;
+        copy_all_onto(alloc, &mut self.flags, other.flags.as_slice())?;
+        self.tiles = other.tiles;
+        self.counters = other.counters;
+        self.ticking = other.ticking;
+        self.acting = other.acting;
+        self.running = other.running;
+        Ok(())
+    }
+
     /// An equal board, whose stats share programs as here.
     pub fn copy(&self, alloc: Global) -> Result<Scene, AllocError>
         ensures result { IfOk result (λ c. c ≡ self.now) }

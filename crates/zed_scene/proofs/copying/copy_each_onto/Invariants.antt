@@ -1,0 +1,9 @@
+use Rattle.std.proofs.Common.{length, ◌-◌, ◌≡◌, take}
+use Rattle.zed_scene.proofs.copying.copy_each_onto.Given as goal
+
+abbrev pub invariant-loop-i : goal.invariant-loop-i
+invariant-loop-i l = take l.i l.into ≡ take l.i l.strings
+
+-- proposed from the loop's first test
+abbrev pub decreases-loop-i : goal.decreases-loop-i
+decreases-loop-i l = length l.strings - l.i
