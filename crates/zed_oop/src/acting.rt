@@ -26,11 +26,7 @@ pub enum Next {
 pub(crate) fn set_position(scene: &mut Scene, position: Option<usize>)
     ensures { scene.new ≡ with_position position scene.old }
 {
-    if let Some(stat) = scene.running_stat() {
-        let mut changed = stat;
-        changed.position = position;
-        scene.put_running_stat(changed);
-    }
+    scene.set_running_position(position);
 }
 
 pub(crate) fn set_p1(scene: &mut Scene, p1: u8)
@@ -78,7 +74,7 @@ pub(crate) fn set_step(scene: &mut Scene, step: Step)
 pub(crate) fn skip_line(scene: &mut Scene)
     ensures { scene.new ≡ skip_line scene.old }
 {
-    if let Some(stat) = scene.running_stat() {
+    if let Some(stat) = scene.running_stat_ref() {
         if let Some(at) = stat.position {
             let next = line_after(scene.program(stat.program), at);
             set_position(scene, Some(next));

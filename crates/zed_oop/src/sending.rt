@@ -1,5 +1,5 @@
 //! Messages to labels, and labels that are hidden and shown again.
-ghost use Rattle.std.specs.Prelude.{◌≡◌, None, position};
+ghost use Rattle.std.specs.Prelude.{◌≡◌, IfSome, None, position, slice_get};
 ghost use Rattle.zed_oop.specs.Sending.{arrived, is_colon, is_meant, is_named, is_number, is_own, is_reached, is_target, label_of, restore_at, restored_in, send_one, sent, sent_alone, set_to, so_far, zapped_in};
 
 use zed_scene::{Scene, Stat};
@@ -106,31 +106,31 @@ pub(crate) fn is_own(scene: &Scene, i: usize) -> bool
     is_number(i, scene.running())
 }
 
-fn set_to(scene: &mut Scene, i: usize, stat: Stat, place: Option<usize>)
-    ensures { scene.new ≡ set_to i stat place scene.old }
+/// Lets stat i go on at a place, if there is one.
+fn set_to(scene: &mut Scene, i: usize, place: Option<usize>)
+    ensures { IfSome (slice_get scene.old.stats i) (λ a. scene.new ≡ set_to i a place scene.old) }
 {
     if let Some(at) = place {
-        let mut changed = stat;
-        changed.position = Some(at);
-        scene.put_stat(i, changed);
+        scene.set_position(i, Some(at));
     }
 }
 
 /// Whether a word that is sent reaches stat i, whose program this is.
-fn is_reached(program: &[u8], word: &[u8], i: usize, own: bool, stat: Stat) -> bool
-    ensures { result ≡ is_reached program.now word.now i own stat }
+fn is_reached(program: &[u8], word: &[u8], i: usize, own: bool, stat: &Stat) -> bool
+    ensures { result ≡ is_reached program.now word.now i own stat.now }
 {
     is_target(program, word, i, own) && (stat.p2 == 0 || own)
 }
 
 /// Lets stat i go on at a place, and tells whether the own position was set by now.
-fn arrive(scene: &mut Scene, i: usize, stat: Stat, place: Option<usize>, before: bool) -> bool
-    ensures { so_far scene.new result ≡ arrived i stat place (so_far scene.old before) }
+fn arrive(scene: &mut Scene, i: usize, place: Option<usize>, before: bool) -> bool
+    ensures { IfSome (slice_get scene.old.stats i)
+        (λ a. so_far scene.new result ≡ arrived i a place (so_far scene.old before)) }
 {
     match place {
         Some(_) => {
             let own = is_own(scene, i);
-            set_to(scene, i, stat, place);
+            set_to(scene, i, place);
             before || own
         }
         None => before,
@@ -142,13 +142,13 @@ fn arrive(scene: &mut Scene, i: usize, stat: Stat, place: Option<usize>, before:
 fn send_one(scene: &mut Scene, word: &[u8], i: usize, before: bool) -> bool
     ensures { so_far scene.new result ≡ send_one word.now i (so_far scene.old before) }
 {
-    match scene.stat(i) {
+    match scene.stat_ref(i) {
         Some(stat) => {
             let own = is_own(scene, i);
             let program = scene.program(stat.program);
             if is_reached(program, word, i, own, stat) {
                 let place = label_place(program, label_of(word));
-                arrive(scene, i, stat, place, before)
+                arrive(scene, i, place, before)
             } else {
                 before
             }
@@ -195,10 +195,10 @@ pub(crate) fn send(scene: &mut Scene, word: &[u8]) -> bool
 pub fn send_alone(scene: &mut Scene, i: usize, label: &[u8])
     ensures result { scene.new ≡ sent_alone label.now i scene.old }
 {
-    if let Some(stat) = scene.stat(i) {
+    if let Some(stat) = scene.stat_ref(i) {
         if stat.p2 == 0 {
             let place = label_place(scene.program(stat.program), label);
-            set_to(scene, i, stat, place);
+            set_to(scene, i, place);
         }
     }
 }

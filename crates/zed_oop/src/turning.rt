@@ -209,7 +209,7 @@ fn one_step(
     ensures memory_only_when { result ≡ Err SceneError.Memory
         → ReadingTakes reading (state scene.old words.old lines.old) }
 {
-    let stat = match scene.running_stat() {
+    let stat = match scene.running_stat_ref() {
         Some(stat) => stat,
         None => return Ok(After::Ends),
     };
@@ -220,11 +220,13 @@ fn one_step(
     match reading {
         Reading::Instructing => {
             let (instruction, next) = standing_at(alloc, scene.program(stat.program), at)?;
-            instruct(alloc, scene, stat, at, instruction, next, words, lines)
+            let own = *stat;
+            instruct(alloc, scene, own, at, instruction, next, words, lines)
         }
         Reading::Commanding(start) => {
             let (command, next) = next_command(alloc, scene.program(stat.program), at)?;
-            command_with(alloc, scene, stat, start, command, next, words, lines)
+            let own = *stat;
+            command_with(alloc, scene, own, start, command, next, words, lines)
         }
     }
 }

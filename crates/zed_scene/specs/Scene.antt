@@ -89,6 +89,16 @@ running_stat s = stat_of s s.running
 abbrev pub put_running_stat : Stat → Scene → Scene
 put_running_stat a s = put_at s.running a s
 
+-- stat i, if it is there, is at this place of its program, or at none: its program has ended
+abbrev pub at_position : ℕ → Option ℕ → Option Stat → Scene → Scene
+at_position i o None s = s
+at_position i o (Some a) s = put_stat i (record a { position = o }) s
+
+-- the running stat, if it is there, is at this place of its program, or at none: its program has ended
+abbrev pub running_at : Option ℕ → Option Stat → Scene → Scene
+running_at o None s = s
+running_at o (Some a) s = put_running_stat (record a { position = o }) s
+
 -- the bytes of a program, no bytes where there is none
 abbrev pub or_empty : Option (List ℕ) → List ℕ
 or_empty None = []

@@ -9,6 +9,7 @@ mod error;
 mod flags;
 mod laws;
 mod moving;
+mod positions;
 mod programs;
 mod removing;
 mod scene;

@@ -1,5 +1,5 @@
 //! A board in play: what stands where.
-ghost use Rattle.std.specs.Prelude.{◌≡◌, [], ◌<◌, length, slice_get, None, Some};
+ghost use Rattle.std.specs.Prelude.{◌≡◌, [], ◌<◌, length, slice_get, option_copied, None, Some};
 ghost use Rattle.zed_scene.specs.Scene.{acting_stat, element_ahead, program_of, put, put_acting_stat, put_program, put_running_stat, put_stat, running_stat, stat_at, there, tile_at, with_tile};
 
 use crate::counters::Counters;
@@ -215,6 +215,13 @@ impl Scene {
         self.stats.as_slice().get(i).copied()
     }
 
+    /// A stat, where it stands: nothing of it is copied.
+    pub fn stat_ref(&self, i: usize) -> Option<&Stat>
+        ensures result { option_copied result ≡ slice_get self.now.stats i }
+    {
+        self.stats.as_slice().get(i)
+    }
+
     /// Changes a stat; nothing where there is none of this number.
     pub fn put_stat(&mut self, i: usize, stat: Stat)
         ensures result { self.new ≡ put_stat i stat self.old }
@@ -249,6 +256,16 @@ impl Scene {
     {
         match self.running {
             Some(i) => self.stat(i),
+            None => None,
+        }
+    }
+
+    /// The stat whose program has its turn, where it stands: nothing of it is copied.
+    pub fn running_stat_ref(&self) -> Option<&Stat>
+        ensures result { option_copied result ≡ running_stat self.now }
+    {
+        match self.running {
+            Some(i) => self.stat_ref(i),
             None => None,
         }
     }
