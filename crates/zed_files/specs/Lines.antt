@@ -4,9 +4,7 @@ use Rattle.zed_op.specs.declared.cause.Cause.{Cause}
 use Rattle.zed_op.specs.declared.op.Edit.{Edit}
 use Rattle.zed_files.specs.declared.refusal.Refusal.{Refusal}
 use Rattle.zed_files.specs.declared.refusal.Refusal.TheVariants.{Memory, NotZzt, TooManyBoards, Truncated, BadBoardSize, TooManyStats, BadShare, Magic, NewVersion, OtherWorld, RecordLength, BadEdit, CutShort, Clash, Stale, ClockSpent, NoSuch, OutOfRange, BadAction, NoWorld, BoardsOver, StatsOver, BoardOver, File, NoBoard, NoWords, Over, LinkFault, ScreenFault, KeyFault, TooManyTurns, NoLink}
-use Rattle.zed_types.specs.declared.stamp.Stamp.{Stamp}
-use Rattle.zed_op.specs.declared.op.Op.TheVariants.{Genesis}
-use Rattle.std.specs.Prelude.{ℕ, Bool, true, false, List, [], ◌∷◌, ◌++◌, codes, length, ◌+◌}
+use Rattle.std.specs.Prelude.{ℕ, Bool, true, false, List, [], ◌∷◌, ◌++◌, codes, length}
 use Rattle.std.specs.Fmt.{decimal}
 use Rattle.zed_document.specs.Held.{held_stamps}
 

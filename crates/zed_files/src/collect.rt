@@ -21,7 +21,7 @@ use zed_editfile::{EditFileError, EditReader};
 use zed_host::{Host, ReadError};
 
 /// The bytes of the file of a name. File where there is none or it can't be read; Memory.
-pub fn read_one<H: Host>(host: &mut H, name: &str) -> Result<Vec<u8>, Refusal>
+pub fn bytes_of_file<H: Host>(host: &mut H, name: &str) -> Result<Vec<u8>, Refusal>
     ensures bytes { (t : HostContents) → H.contents host.old ≡ Some t
         → IfOk result (λ bytes. file_in t name.now ≡ Some bytes.items) }
     ensures none { (t : HostContents) → H.contents host.old ≡ Some t
@@ -46,7 +46,7 @@ pub fn read_one<H: Host>(host: &mut H, name: &str) -> Result<Vec<u8>, Refusal>
 
 /// Appends the edits that the bytes of a file spell, and tells the number of its world, which is the one asked for or any. Refused is what
 /// the reader of edit files refuses; the edits before that are appended.
-pub fn read_file(
+pub fn append_edits(
     alloc: Global,
     asked: Option<u64>,
     bytes: &[u8],
@@ -96,7 +96,7 @@ fn read_all<H: Host>(alloc: Global, host: &mut H, names: &[&str]) -> Result<Gath
 {
     let mut gathered = Gathered::new(alloc);
     for name in names {
-        let bytes = match read_one(host, name) {
+        let bytes = match bytes_of_file(host, name) {
             Ok(bytes) => bytes,
             Err(Refusal::File) => {
                 gathered.refusal = Some(Refusal::File);
@@ -105,7 +105,7 @@ fn read_all<H: Host>(alloc: Global, host: &mut H, names: &[&str]) -> Result<Gath
             Err(_) => return Err(Refusal::Memory),
         };
         let mut edits = Vec::new(alloc);
-        let end = read_file(alloc, gathered.world, bytes.as_slice(), &mut edits);
+        let end = append_edits(alloc, gathered.world, bytes.as_slice(), &mut edits);
         drop(bytes);
         match end {
             Ok(world) => {

@@ -6,7 +6,7 @@ mod gathering;
 mod output;
 mod refusal;
 
-pub use collect::{load, read_file, read_one};
+pub use collect::{append_edits, bytes_of_file, load};
 pub use gathering::deliver_all;
 pub use output::{print_out, write_out};
 pub use refusal::{Refusal, bytes_told, edits_told, joined_told, line_of, plain_line};

@@ -18,7 +18,7 @@ use zed_action::act;
 use zed_document::Document;
 use zed_edit::{Cause, Edit};
 use zed_editfile::EditFileError;
-use zed_files::{Refusal, deliver_all, edits_told, read_file, read_one};
+use zed_files::{Refusal, append_edits, bytes_of_file, deliver_all, edits_told};
 use zed_host::Host;
 
 // The document of a world with these edits.
@@ -42,7 +42,7 @@ fn opened(alloc: Global, bytes: &[u8]) -> Result<Document, Refusal>
     ensures sound { IfOk result (λ d. d.is_stale ≡ false) }
 {
     let mut edits = Vec::new(alloc);
-    match read_file(alloc, None, bytes, &mut edits) {
+    match append_edits(alloc, None, bytes, &mut edits) {
         Ok(world) => collected(alloc, world, edits),
         Err(EditFileError::Memory) => Err(Refusal::Memory),
         Err(error) => {
@@ -65,7 +65,7 @@ fn open<H: Host>(alloc: Global, host: &mut H, file: &str) -> Result<Document, Re
         (refusal_in result) host.old host.new }
     ensures failures { TellsFailures H.faults H.failed result host.old host.new }
 {
-    let bytes = read_one(host, file)?;
+    let bytes = bytes_of_file(host, file)?;
     opened(alloc, bytes.as_slice())
 }
 

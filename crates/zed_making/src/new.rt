@@ -18,7 +18,7 @@ ghost use Rattle.zed_host.specs.HostContents.{HostContents};
 use std::alloc::{AllocError, Global};
 use zed_edit::{Edit, Op, new_table};
 use zed_editfile::{write_edit, write_head};
-use zed_files::{Refusal, edits_told, read_one, write_out};
+use zed_files::{Refusal, bytes_of_file, edits_told, write_out};
 use zed_host::Host;
 use zed_types::{Bytes, READ_BODY_LIMIT, Seq, Stamp};
 use zed_world::{BoardData, Header, Properties, StatData, World, read_world, write_world};
@@ -174,7 +174,7 @@ fn first<H: Host>(
 {
     match from {
         Some(file) => {
-            let bytes = read_one(host, file)?;
+            let bytes = bytes_of_file(host, file)?;
             written_again(alloc, bytes.as_slice())
         }
         None => made(alloc, name),

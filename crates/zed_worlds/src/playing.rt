@@ -15,7 +15,7 @@ ghost use Rattle.zed_files.specs.Texts.{texts_of};
 
 use std::alloc::{AllocError, Global};
 use zed_document::Document;
-use zed_files::{Refusal, load, print_out, read_one};
+use zed_files::{Refusal, bytes_of_file, load, print_out};
 use zed_host::Host;
 use zed_play::{Ending, Messages, Play};
 use zed_session::{Keys, Playing, Screen};
@@ -171,7 +171,7 @@ fn played<H: Host>(
         (refusal_in result) host.old host.new }
     ensures failures { TellsFailures H.faults H.failed result host.old host.new }
 {
-    let bytes = read_one(host, chance)?;
+    let bytes = bytes_of_file(host, chance)?;
     let words = chances_of(alloc, bytes.as_slice())?;
     let document = load(alloc, host, files)?;
     play_board(

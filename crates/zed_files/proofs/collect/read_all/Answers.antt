@@ -31,14 +31,14 @@ loop-name-preserved g c =
       same = c.in-Ok.ensures.kept ∙ old.same;
       calm = c.in-Ok.ensures.calm ∙ old.calm;
       uncounted = c.in-Ok.ensures.counts ∙ old.uncounted;
-      done = old.done ++ c.read_file-end.new.edits.items;
+      done = old.done ++ c.append_edits-end.new.edits.items;
       fit = fit_append _ _ old.fit (file_fits _ _ _ _ file);
       first = λ none. absurd (let no : Some c.in-Ok-end.world ≡ None = sym world ∙ none in cc);
       came = c.in_ok-take-in-Ok-end.ensures.took old.done old.fit (c.set_world.ensures.same old.done old.first old.came);
       asked = read_next g.H.Host.called c.args.names.now c.loop-name.name-index _ _ _ _ c.loop-name-test.true old.asked c.in-Ok.ensures.asked;
       read = λ t now rest at reads s is.
           let first = c.in-Ok.ensures.bytes t (old.same ∙ at) in
-          next_file (IsStreamIn (Rose (g.H.Host.faults c.args.host.now) now) t (texts_of c.args.names.now)) c.loop-name.gathered.world c.in-Ok.bytes.items rest _ old.done c.read_file-end.new.edits.items c.in-Ok-end.world
+          next_file (IsStreamIn (Rose (g.H.Host.faults c.args.host.now) now) t (texts_of c.args.names.now)) c.loop-name.gathered.world c.in-Ok.bytes.items rest _ old.done c.append_edits-end.new.edits.items c.in-Ok-end.world
           refl (λ s is. old.read t now (Some c.in-Ok.bytes.items ∷ rest) at
           (next_read _ t c.args.names.now c.loop-name.name-index _ (Some c.in-Ok.bytes.items) rest c.loop-name-test.true (inl (sym first)) reads) s is)
           (rw held at file) s (subst (λ w. IsStream w rest s) world is);
@@ -121,13 +121,13 @@ returns-in_default g c =
           let file = file_alone _ _ _ _ came.0 _ c.new-edits.ensures.items came.2 came.1 in
           record {
             stream = (
-              old.done ++ c.read_file-end.new.edits.items,
+              old.done ++ c.append_edits-end.new.edits.items,
               fit_append _ _ old.fit (file_fits _ _ _ _ file),
               c.in_ok-take-in_default.ensures.took old.done old.fit old.came,
               λ t at.
                   let first = c.in-Ok.ensures.bytes t (old.same ∙ at) in
                   let others = map (file_in t) (texts_of (drop (c.loop-name.name-index + 1) c.args.names.now)) in
-                  rw c.from.ensures (last_file (IsStreamIn _ t (texts_of c.args.names.now)) c.loop-name.gathered.world c.in-Ok.bytes.items others _ old.done c.read_file-end.new.edits.items c.in-Err-end.error
+                  rw c.from.ensures (last_file (IsStreamIn _ t (texts_of c.args.names.now)) c.loop-name.gathered.world c.in-Ok.bytes.items others _ old.done c.append_edits-end.new.edits.items c.in-Err-end.error
                   refl (λ s is. old.read t _ (Some c.in-Ok.bytes.items ∷ others) at
                   (next_read _ t c.args.names.now c.loop-name.name-index _ (Some c.in-Ok.bytes.items) others c.loop-name-test.true (inl (sym first)) (as_held _ t _)) s is)
                   (rw held at file)),

@@ -6,7 +6,7 @@ use Rattle.zed_making.proofs.editing.opened.Goals as goal
 pub returns-in-Ok-clause-opened : goal.returns-in-Ok-clause-opened
 returns-in-Ok-clause-opened c =
     let read = c.in-Ok.ensures in
-    let all : c.read_file.new.edits.items ≡ read.0 = read.2 ∙ ap (λ es. es ++ read.0) c.new-edits.ensures.items in
+    let all : c.append_edits.new.edits.items ≡ read.0 = read.2 ∙ ap (λ es. es ++ read.0) c.new-edits.ensures.items in
     opened_whole c.args.bytes.now read.0 c.in-Ok.world c.collected.result read.1 (rw all at c.collected.ensures)
 
 pub returns-in_ok-collected-in-Err : goal.returns-in_ok-collected-in-Err

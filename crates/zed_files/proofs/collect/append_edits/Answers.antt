@@ -2,7 +2,7 @@ use Rattle.std.proofs.Common.{◌≡◌, ◌∙◌, ap, refl, Some, None, Ok, Er
 use Rattle.std.proofs.lemmas.Result.{err_from_is_err_and}
 use Rattle.zed_editfile.specs.Stream.{Progress}
 use Rattle.zed_files.proofs.FileEnds.{fault_ends, file_answer, verdict_ends, whole_ends}
-use Rattle.zed_files.proofs.collect.read_file.Goals as goal
+use Rattle.zed_files.proofs.collect.append_edits.Goals as goal
 
 pub returns-in_err-feed : goal.returns-in_err-feed
 returns-in_err-feed c =
