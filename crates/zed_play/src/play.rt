@@ -19,7 +19,7 @@ pub struct Play {
     pub(crate) alloc: Global,
     pub(crate) game: Game,
     /// The board on which the next step is made: it becomes equal to the one in play first, and where the step is done the two change
-    /// places. So a step that isn't done leaves the board in play, and takes no copy of it.
+    /// places. So a step that isn't done leaves the board in play as it was, and none copies the whole of it.
     spare: Game,
     pub(crate) bounds: Bounds,
     pub(crate) tick: u16,

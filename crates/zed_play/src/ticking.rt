@@ -16,7 +16,7 @@ use zed_oop::{SceneError, Stat, Words};
 fn is_due(tick: u16, i: usize, cycle: u16) -> bool
     ensures { result ≡ is_due tick i cycle }
 {
-    // Most stats tick each time, which takes no division.
+    // One of cycle 1 ticks each time, which takes no division.
     cycle == 1 || (cycle != 0 && usize::from(tick) % usize::from(cycle) == i % usize::from(cycle))
 }
 

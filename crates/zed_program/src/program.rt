@@ -244,7 +244,8 @@ pub fn run<H: Host>(
         (screen_foretells screen.old) (screen_foretells screen.new)
         (links.new ≡ links.old) (screen.new ≡ screen.old) (keys.new ≡ keys.old) }
 
-    // Where no playtest is begun, nothing was asked of the screen and of the source of keys, whatever these tell.
+    // Where `play` is refused before a playtest is begun, but for want of memory, nothing was asked of the screen and of the source of
+    // keys, whatever these tell.
     ensures idle { IdleUnlessPlayed H.called result host.new
         ((screen.new ≡ screen.old) × (keys.new ≡ keys.old)) }
 

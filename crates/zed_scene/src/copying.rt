@@ -58,7 +58,7 @@ fn copy_each_onto(into: &mut [Bytes], strings: &[Bytes]) -> Result<(), AllocErro
     Ok(())
 }
 
-/// Makes a list of strings equal to another, which takes memory only for those that differ.
+/// Makes a list of strings equal to another. Where they are as many, that takes memory only for those that differ.
 fn copy_all_onto(alloc: Global, into: &mut Seq<Bytes>, strings: &[Bytes]) -> Result<(), AllocError>
     ensures result { OnOk result (into.new ≡ strings.now) }
     ensures within { length into.old ≡ length strings.now
@@ -73,7 +73,8 @@ fn copy_all_onto(alloc: Global, into: &mut Seq<Bytes>, strings: &[Bytes]) -> Res
 }
 
 impl Scene {
-    /// Becomes equal to another board. That takes memory only for what differs, so a board of which the other was made costs little.
+    /// Becomes equal to another board. Where both have as many stats and flags that takes memory only for strings that differ, so a
+    /// board of which the other was made costs little. Where a growth is refused it may be partly the other.
     pub fn copy_from(&mut self, alloc: Global, other: &Scene) -> Result<(), AllocError>
         ensures result { OnOk result (self.new ≡ other.now) }
     {
