@@ -5,7 +5,6 @@ ghost use Rattle.indexmap.specs.IndexMap.{keys, spare};
 ghost use Rattle.zed_op.specs.Fit.{Fits};
 ghost use Rattle.zed_op.specs.Growth.{may_grow};
 ghost use Rattle.zed_laws.specs.Winners.{changes_stat};
-ghost use Rattle.zed_op.specs.Verdict.{is_genesis};
 ghost use Rattle.zed_edit.specs.Replay.{made_by};
 ghost use Rattle.zed_live.specs.Board.{board_after, stat_changed};
 ghost use Rattle.zed_live.specs.Boards.{board_cmp, board_in, home_in, add as added, add_all as all_added, all_as_made as all_made, change as changed, change_all, boards_after};
@@ -153,11 +152,10 @@ impl LiveBoards {
         (*id, board)
     }
 
-    /// Puts an edit in that doesn't make the world, whenever it comes: changes the board that it is of, if that is there, or adds the
-    /// board that it makes. Memory leaves the boards as they were.
+    /// Puts an edit in, whenever it comes: changes the board that it is of, if that is there, or adds the boards that it makes.
+    /// Memory leaves the boards as they were.
     pub fn take(&mut self, alloc: Global, edit: &Edit) -> Result<(), AllocError>
-        requires fits { Fits edit.now }
-        requires other { is_genesis edit.now.op ≡ false }
+        requires { Fits edit.now }
         ensures ok { OnOk result (self.new ≡ boards_after edit.now.stamp edit.now.op self.old) }
         ensures kept { OnErr result (self.new ≡ self.old) }
         ensures memory_only_when { OnErr result (may_grow edit.now.op ≡ true) }
@@ -169,6 +167,7 @@ impl LiveBoards {
             Op::StatAdd(id, _) => self.change(*id, edit),
             Op::StatRemove(stat) => self.pass_stat(*stat, edit),
             Op::SetStat(stat, _) => self.pass_stat(*stat, edit),
+            Op::Genesis(_) => self.make(alloc, edit),
             Op::BoardAdd(_) => self.make(alloc, edit),
             _ => Ok(()),
         }
@@ -197,7 +196,7 @@ impl LiveBoards {
         Ok(())
     }
 
-    /// Adds the board that an edit makes.
+    /// Adds the boards that an edit makes.
     fn make(&mut self, alloc: Global, edit: &Edit) -> Result<(), AllocError>
         requires { Fits edit.now }
         ensures ok { OnOk result

@@ -1,6 +1,6 @@
 //! A document that changes edit by edit, in whatever order they come.
 
-ghost use Rattle.std.specs.Prelude.{◌≡◌, true, false, OnOk, OnErr};
+ghost use Rattle.std.specs.Prelude.{◌≡◌, true, OnOk, OnErr};
 ghost use Rattle.zed_op.specs.Fit.{Fits};
 ghost use Rattle.zed_op.specs.Growth.{may_grow};
 ghost use Rattle.zed_op.specs.Verdict.{is_genesis};
@@ -10,7 +10,7 @@ ghost use Rattle.zed_live.specs.Document.{empty_live, document_after};
 use crate::boards::LiveBoards;
 use crate::header::LiveHeader;
 use std::alloc::{AllocError, Global};
-use zed_edit::{Edit, Op, Plain};
+use zed_edit::{Edit, Op, Plain, made_by};
 
 /// A header and boards, each register with its latest write. The texts are in a crate of their own.
 #[derive(Drop)]
@@ -30,21 +30,24 @@ impl LiveDocument {
         }
     }
 
-    /// Puts an edit in that doesn't make the world, whenever it comes. Memory leaves the document as it was.
+    /// Puts an edit in, whenever it comes. Memory leaves the document as it was.
     pub fn take(&mut self, alloc: Global, edit: &Edit) -> Result<(), AllocError>
-        requires fits { Fits edit.now }
-        requires other { is_genesis edit.now.op ≡ false }
+        requires { Fits edit.now }
         ensures ok { OnOk result (self.new ≡ document_after edit.now self.old) }
         ensures kept { OnErr result (self.new ≡ self.old) }
         ensures memory_only_when { OnErr result (may_grow edit.now.op ≡ true) }
     {
         match &edit.op {
+            Op::Genesis(_) => {
+                let world = made_by(alloc, edit)?;
+                self.open(alloc, edit, world)
+            }
             Op::SetHeader(setting) => self.header.write(edit.stamp, setting),
             _ => self.boards.take(alloc, edit),
         }
     }
 
-    /// Opens the world that an edit makes, whenever it comes: gives the header its values, and adds its boards. Memory leaves the
+    /// Opens the world that an edit makes, as `take` does, for a caller who made it: gives the header its values, and adds its boards. Memory leaves the
     /// document as it was.
     pub fn open(&mut self, alloc: Global, edit: &Edit, mut world: Plain) -> Result<(), AllocError>
         requires fits { Fits edit.now }

@@ -6,7 +6,6 @@ ghost use Rattle.zed_types.specs.declared.limits.TheConstants.{READ_BODY_LIMIT};
 ghost use Rattle.zed_types.specs.Names.{same_text, same_element};
 ghost use Rattle.zed_types.specs.Text.{run_from, put_late, kill};
 ghost use Rattle.zed_op.specs.Fit.{Fits};
-ghost use Rattle.zed_op.specs.Verdict.{is_genesis};
 ghost use Rattle.zed_edit.specs.Replay.{made_by};
 ghost use Rattle.zed_laws.specs.Making.{made_texts};
 ghost use Rattle.zed_code.specs.Text.{StandsAfter, IsNewStamp};
@@ -20,7 +19,7 @@ use indexmap::IndexMap;
 use std::alloc::{AllocError, Global};
 use std::marker::Model;
 use zed_code::Text;
-use zed_edit::{Edit, Op, Text as PlainText};
+use zed_edit::{Edit, Op, Text as PlainText, made_by};
 use zed_names::{add, add_each, find, seek};
 use zed_types::{ByteRange, ElemId, Stamp, TextId};
 use zed_world::read_is_normal;
@@ -139,11 +138,10 @@ impl LiveTexts {
         (*id, text)
     }
 
-    /// Puts an edit in that doesn't make the world, whenever it comes: changes the text that it is of, if that is there, or adds the
-    /// text that it makes. Memory leaves the texts as they were.
+    /// Puts an edit in, whenever it comes: changes the text that it is of, if that is there, or adds the texts that it makes.
+    /// Memory leaves the texts as they were.
     pub fn take(&mut self, alloc: Global, edit: &Edit) -> Result<(), AllocError>
         requires fits { Fits edit.now }
-        requires other { is_genesis edit.now.op ≡ false }
         requires ready { IsReady edit.now.stamp edit.now.op (elements_of self.old) }
         ensures ok { OnOk result (elements_of self.new
             ≡ texts_after edit.now.stamp edit.now.op (elements_of self.old)) }
@@ -153,6 +151,10 @@ impl LiveTexts {
             (AllGrow (λ t. changes_text t edit.now.op) self.old self.new) }
     {
         match &edit.op {
+            Op::Genesis(_) => {
+                let world = made_by(alloc, edit)?;
+                self.open(alloc, edit, world.texts.as_slice())
+            }
             Op::TextAdd => self.add_empty(alloc, TextId::new(edit.stamp, 0)),
             Op::TextInsert(id, after, bytes) => {
                 self.insert(*id, *after, edit.stamp, bytes.as_slice())
@@ -217,7 +219,7 @@ impl LiveTexts {
         Ok(())
     }
 
-    /// Adds the texts of the world that an edit makes, whenever it comes. Memory leaves the texts as they were.
+    /// Adds the texts of the world that an edit makes, as `take` does, for a caller who made it. Memory leaves the texts as they were.
     pub fn open(
         &mut self,
         alloc: Global,
