@@ -1,5 +1,5 @@
 //! Copies of a board.
-ghost use Rattle.std.specs.Prelude.{◌≡◌, IfOk, OnOk, length};
+ghost use Rattle.std.specs.Prelude.{◌≡◌, ◌≢◌, IfOk, OnOk, OnErr, length};
 
 use crate::scene::Scene;
 use crate::stat::Stat;
@@ -24,7 +24,8 @@ fn copy_all(alloc: Global, strings: &[Bytes]) -> Result<Seq<Bytes>, AllocError>
 
 /// Makes one list of stats equal to another, in its own room where they are as many.
 fn copy_stats_onto(alloc: Global, into: &mut Seq<Stat>, stats: &[Stat]) -> Result<(), AllocError>
-    ensures { OnOk result (into.new ≡ stats.now) }
+    ensures result { OnOk result (into.new ≡ stats.now) }
+    ensures memory_only_when { OnErr result (into.old ≢ stats.now) }
 {
     if into.as_slice().len() == stats.len() {
         into.as_mut_slice().copy_from_slice(stats);
@@ -36,7 +37,8 @@ fn copy_stats_onto(alloc: Global, into: &mut Seq<Stat>, stats: &[Stat]) -> Resul
 
 /// Makes one string equal to another, which takes memory only where they differ.
 fn copy_one_onto(into: &mut Bytes, string: &Bytes) -> Result<(), AllocError>
-    ensures { OnOk result (into.new ≡ string.now) }
+    ensures result { OnOk result (into.new ≡ string.now) }
+    ensures memory_only_when { OnErr result (into.old ≢ string.now) }
 {
     if !into.is_same(string) {
         *into = string.copy()?;
@@ -49,6 +51,7 @@ fn copy_each_onto(into: &mut [Bytes], strings: &[Bytes]) -> Result<(), AllocErro
     requires { length into.old ≡ length strings.now }
     ensures result { OnOk result (into.new ≡ strings.now) }
     ensures within { length into.new ≡ length into.old }
+    ensures memory_only_when { OnErr result (into.old ≢ strings.now) }
 {
     let mut i = 0;
     while i < strings.len() {
@@ -63,6 +66,7 @@ fn copy_all_onto(alloc: Global, into: &mut Seq<Bytes>, strings: &[Bytes]) -> Res
     ensures result { OnOk result (into.new ≡ strings.now) }
     ensures within { length into.old ≡ length strings.now
         → length into.new ≡ length strings.now }
+    ensures memory_only_when { OnErr result (into.old ≢ strings.now) }
 {
     if into.as_slice().len() == strings.len() {
         copy_each_onto(into.as_mut_slice(), strings)
@@ -74,9 +78,10 @@ fn copy_all_onto(alloc: Global, into: &mut Seq<Bytes>, strings: &[Bytes]) -> Res
 
 impl Scene {
     /// Becomes equal to another board. Where both have as many stats and flags that takes memory only for strings that differ, so a
-    /// board of which the other was made costs little. Where a growth is refused it may be partly the other.
+    /// board of which the other was made costs little, and an equal one nothing. Where a growth is refused it may be partly the other.
     pub fn copy_from(&mut self, alloc: Global, other: &Scene) -> Result<(), AllocError>
         ensures result { OnOk result (self.new ≡ other.now) }
+        ensures memory_only_when { OnErr result (self.old ≢ other.now) }
     {
         copy_stats_onto(alloc, &mut self.stats, other.stats.as_slice())?;
         copy_all_onto(alloc, &mut self.programs, other.programs.as_slice())?;

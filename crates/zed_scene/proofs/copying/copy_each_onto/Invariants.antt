@@ -1,8 +1,8 @@
-use Rattle.std.proofs.Common.{length, ◌-◌, ◌≡◌, take}
+use Rattle.std.proofs.Common.{length, ◌-◌, ◌≡◌, take, drop}
 use Rattle.zed_scene.proofs.copying.copy_each_onto.Given as goal
 
 abbrev pub invariant-loop-i : goal.invariant-loop-i
-invariant-loop-i l = take l.i l.into ≡ take l.i l.strings
+invariant-loop-i l = (take l.i l.into ≡ take l.i l.strings) × (drop l.i l.into ≡ drop l.i l.fn.into)
 
 -- proposed from the loop's first test
 abbrev pub decreases-loop-i : goal.decreases-loop-i
