@@ -226,12 +226,16 @@ framed b rest body after n fits h r long e f =
 pub frame_after : (b body after : List ℕ) → Frames b body after → after ≡ drop (little_number 4 b) (drop 4 b)
 frame_after b body after f = sym (ap (λ (k : ℕ). drop k (drop 4 b)) (frame_number b body after f) ∙ ap (drop (length body)) (frame_behind b body after f) ∙ drop_at body after (length body) refl)
 
-pub frame_fault : (v : ℕ) (b body after : List ℕ) (e : EditFileError) → Frames b body after → (e ≡ Memory) ⊎ (edit_at v body ≡ Err e) → (e ≡ Memory) ⊎ (record_stop v b ≡ fails e)
-frame_fault v b body after e f h = elim h [ inl m ↦ inl m | inr r ↦ inr (frame_stop v b body after f ∙ ap fault_of r) ]
+pub frame_fault : (v : ℕ) (b body after : List ℕ) (e : EditFileError) → Frames b body after → (e ≡ Memory) ⊎ (edit_at v body ≡ Err e) → ((e ≡ Memory) × (0 < length b)) ⊎ (record_stop v b ≡ fails e)
+frame_fault v b body after e f h = elim h [ inl m ↦ inl (m, omega (arith, frame_shorter b body after f)) | inr r ↦ inr (frame_stop v b body after f ∙ ap fault_of r) ]
+
+-- where some bytes are, there are some with those behind them
+pub still_some : (k l : List ℕ) → 0 < length k → 0 < length (k ++ l)
+still_some k l h = omega (arith, h, length-append k l)
 
 -- a fault of the front is one of the whole
-pub fault_on : (v : ℕ) (total k l : List ℕ) (e : EditFileError) → k ++ l ≡ total → (e ≡ Memory) ⊎ (record_stop v k ≡ fails e) → (e ≡ Memory) ⊎ (record_stop v total ≡ fails e)
-fault_on v total k l e whole h = elim h [ inl m ↦ inl m | inr r ↦ inr (ap (record_stop v) (sym whole) ∙ fault_stays v k l e r) ]
+pub fault_on : (v : ℕ) (total k l : List ℕ) (e : EditFileError) → k ++ l ≡ total → ((e ≡ Memory) × (0 < length k)) ⊎ (record_stop v k ≡ fails e) → ((e ≡ Memory) × (0 < length total)) ⊎ (record_stop v total ≡ fails e)
+fault_on v total k l e whole h = elim h [ inl m ↦ inl (m.0, subst (λ (t : List ℕ). 0 < length t) whole (still_some k l m.1)) | inr r ↦ inr (ap (record_stop v) (sym whole) ∙ fault_stays v k l e r) ]
 
 pub bad_on : (v : ℕ) (total k l : List ℕ) (e : EditFileError) → k ++ l ≡ total → (e ≡ RecordLength) × (4 ≤ length k) × (is_length (little_number 4 k) ≡ false) → record_stop v total ≡ fails e
 bad_on v total k l e whole h = ap (record_stop v) (sym whole) ∙ fault_stays v k l e (is_bad v k h.1 h.2 ∙ ap fails (sym h.0))

@@ -255,10 +255,10 @@ record_front v bytes =
     choice (ltb (length bytes) 4) _ _ (waiting bytes)
     (choice (not (is_length (little_number 4 bytes))) _ _ (failing RecordLength (λ h. cc)) (choice (ltb (length (drop 4 bytes)) (little_number 4 bytes)) _ _ (waiting bytes) (by_result (edit_at v (body_at bytes)) (edit v (body_at bytes)))))
 
-stopped : (p : Progress) (stop : Option Stop) → StopsFine stop → Stops p stop → p.fault ≡ Some CutShort → ⊥
-stopped p stop fine (inl memory) cut = let both : Some Memory ≡ Some CutShort = sym memory ∙ cut in cc
-stopped p stop fine (inr is) cut = fine (stop_of p) is cut
+stopped : (left : List ℕ) (p : Progress) (stop : Option Stop) → StopsFine stop → Stops left p stop → p.fault ≡ Some CutShort → ⊥
+stopped left p stop fine (inl memory) cut = let both : Some Memory ≡ Some CutShort = sym memory.0 ∙ cut in cc
+stopped left p stop fine (inr is) cut = fine (stop_of p) is cut
 
 pub cut_is_told_at_the_end : CutIsToldAtTheEnd
-cut_is_told_at_the_end bytes found p (inl h) cut = stopped p (head_stop p.asked bytes) (head p.asked bytes) h.stop cut
-cut_is_told_at_the_end bytes found p (inr h) cut = stopped p (record_stop p.version h.tail) (record_front p.version h.tail) h.stop cut
+cut_is_told_at_the_end bytes found p (inl h) cut = stopped bytes p (head_stop p.asked bytes) (head p.asked bytes) h.stop cut
+cut_is_told_at_the_end bytes found p (inr h) cut = stopped h.tail p (record_stop p.version h.tail) (record_front p.version h.tail) h.stop cut

@@ -1,15 +1,15 @@
 -- What a reader has found, from piece to piece.
-use Rattle.std.proofs.Common.{◌≡◌, ℕ, Bool, true, false, not, cond, ltb, List, [], ◌++◌, length, drop, get_or, Option, Some, None, Result, Ok, Err, refl, sym, ap, subst, ◌∙◌, append_assoc, arith, ◌⊎◌, inl, inr}
+use Rattle.std.proofs.Common.{◌≡◌, ◌<◌, ℕ, Bool, true, false, not, cond, ltb, List, [], ◌++◌, length, drop, get_or, Option, Some, None, Result, Ok, Err, refl, sym, ap, subst, ◌∙◌, append_assoc, arith, ◌⊎◌, inl, inr}
 use Rattle.std.specs.List.{flat_map}
 use Rattle.std.proofs.lemmas.List.{append-nil}
 use Rattle.byteorder.specs.Endian.{little_number}
 use Rattle.zed_op.specs.declared.op.Edit.{Edit}
 use Rattle.zed_editfile.specs.declared.error.EditFileError.{EditFileError}
-use Rattle.zed_editfile.specs.declared.error.EditFileError.TheVariants.{Magic, NewVersion, OtherWorld, RecordLength}
+use Rattle.zed_editfile.specs.declared.error.EditFileError.TheVariants.{Memory, Magic, NewVersion, OtherWorld, RecordLength}
 use Rattle.zed_editfile.specs.Spelling.{record_text, head_text, text_of, AreOf}
 use Rattle.zed_editfile.specs.Reading.{edit_at}
 use Rattle.zed_editfile.specs.Stream.{Stop, waits, fails, has_letters, is_other, is_version, is_length, fault_of, body_at, head_stop, record_stop, Progress, stop_of, IsTextOf, Reads, Feeds, AreRecords, EndsAt, Collects, Enters, Advances}
-use Rattle.zed_editfile.proofs.Cuts.{waits_is, fault_stays, flat_both, records_both, spelled_both, is_short}
+use Rattle.zed_editfile.proofs.Cuts.{waits_is, fault_stays, still_some, flat_both, records_both, spelled_both, is_short}
 use Rattle.zed_editfile.proofs.Heads.{head_stays, head_waits}
 
 -- ---- the forms of a stop
@@ -76,7 +76,7 @@ stays bytes x found p e g r = elim r [
         world = h.world;
         version = h.version;
         none = append-nil found ∙ h.none;
-        stop = elim h.stop [ inl m ↦ inl m | inr s ↦ inr (head_ended p.asked bytes x (stop_of p) e s g) ];
+        stop = elim h.stop [ inl m ↦ inl (m.0, still_some bytes x m.1) | inr s ↦ inr (head_ended p.asked bytes x (stop_of p) e s g) ];
       })
   | inr h ↦
       inr (record {
@@ -89,7 +89,7 @@ stays bytes x found p e g r = elim r [
         good = subst (λ (t : List Edit). AreRecords t) (sym (append-nil found)) h.good;
         spelled = subst (λ (t : List Edit). AreOf p.version t) (sym (append-nil found)) h.spelled;
         whole = ap (λ (t : List ℕ). t ++ x) h.whole ∙ append_assoc (text_of p.version h.number found) h.tail x ∙ ap (λ (t : List Edit). text_of p.version h.number t ++ (h.tail ++ x)) (sym (append-nil found));
-        stop = elim h.stop [ inl m ↦ inl m | inr s ↦ inr (record_ended p.version h.tail x (stop_of p) e s g) ];
+        stop = elim h.stop [ inl m ↦ inl (m.0, still_some h.tail x m.1) | inr s ↦ inr (record_ended p.version h.tail x (stop_of p) e s g) ];
       })
 ]
 
@@ -117,18 +117,18 @@ moved asked world version s = record { asked = asked; world = world; version = v
 -- a reader in the head has all the bytes
 in_head : (asked : Option ℕ) (v : ℕ) (rest bytes : List ℕ) (found : List Edit) → Reads bytes found (at_rest asked None v rest) → (bytes ≡ rest) × (found ≡ []) × (v ≡ 0)
 in_head asked v rest bytes found r = elim r [
-  | inl h ↦ elim h.stop [ inl m ↦ absurd cc | inr s ↦ ((head_waits asked bytes rest s).0, h.none, h.version) ]
+  | inl h ↦ elim h.stop [ inl m ↦ let c : None ≡ Some Memory = m.0 in absurd cc | inr s ↦ ((head_waits asked bytes rest s).0, h.none, h.version) ]
   | inr h ↦ let c : None ≡ Some h.number = h.world in absurd cc
 ]
 
-on_head : (asked : Option ℕ) (v : ℕ) (rest x : List ℕ) (before after : List Edit) (s : Stop) → after ≡ before → EndsAt s (head_stop asked (rest ++ x)) → Feeds x before after (at_rest asked None v rest) (moved asked None v s)
+on_head : (asked : Option ℕ) (v : ℕ) (rest x : List ℕ) (before after : List Edit) (s : Stop) → after ≡ before → EndsAt (rest ++ x) s (head_stop asked (rest ++ x)) → Feeds x before after (at_rest asked None v rest) (moved asked None v s)
 on_head asked v rest x before after s same ends = record {
   edits = [];
   gained = same ∙ sym (append-nil before);
   good = tt;
   reads = λ bytes found r.
       let i = in_head asked v rest bytes found r in
-      inl (record { world = refl; version = i.2; none = append-nil found ∙ i.1; stop = elim ends [ inl m ↦ inl m | inr e ↦ inr (ap (λ (t : List ℕ). head_stop asked (t ++ x)) i.0 ∙ e) ] });
+      inl (record { world = refl; version = i.2; none = append-nil found ∙ i.1; stop = elim ends [ inl m ↦ inl (m.0, subst (λ (t : List ℕ). 0 < length (t ++ x)) (sym i.0) m.1) | inr e ↦ inr (ap (λ (t : List ℕ). head_stop asked (t ++ x)) i.0 ∙ e) ] });
 }
 
 into_records : (asked : Option ℕ) (v w n : ℕ) (rest x : List ℕ) (before after : List Edit) (s : Stop) → Enters asked w n (rest ++ x) before after s → Feeds x before after (at_rest asked None v rest) (moved asked (Some n) w s)
@@ -166,7 +166,7 @@ on_records asked v m n rest x before after s same c = record {
         | inr h ↦
             let new : List Edit = c.gains.edits in
             let k : ℕ = h.number in
-            let tail_is : h.tail ≡ rest = elim h.stop [ inl m ↦ absurd cc | inr w ↦ (waits_is v h.tail rest w).0 ] in
+            let tail_is : h.tail ≡ rest = elim h.stop [ inl m ↦ let c : None ≡ Some Memory = m.0 in absurd cc | inr w ↦ (waits_is v h.tail rest w).0 ] in
             let behind : h.tail ++ x ≡ flat_map record_text new ++ c.tail = ap (λ (t : List ℕ). t ++ x) tail_is ∙ c.gains.whole in
             let named : Some m ≡ Some k = h.world in
             let km : m ≡ k = cc in
@@ -213,7 +213,7 @@ pub ends_well : (asked : Option ℕ) (v n : ℕ) (bytes : List ℕ) (found : Lis
 ends_well asked v n bytes found r = elim r [
   | inl h ↦ let d : Some n ≡ None = h.world in absurd cc
   | inr h ↦
-      let tail_is : h.tail ≡ [] = elim h.stop [ inl m ↦ absurd cc | inr w ↦ (waits_is v h.tail [] w).0 ] in
+      let tail_is : h.tail ≡ [] = elim h.stop [ inl m ↦ let c : None ≡ Some Memory = m.0 in absurd cc | inr w ↦ (waits_is v h.tail [] w).0 ] in
       (h.number, h.world, h.good, record { version = v; known = h.known; spelled = h.spelled; text = h.whole ∙ ap (λ (t : List ℕ). text_of v h.number found ++ t) tail_is ∙ append-nil (text_of v h.number found) })
 ]
 

@@ -195,7 +195,7 @@ head_whole asked (a ∷ b ∷ c ∷ d ∷ t) fits le s = four_whole asked a b c 
 
 -- ---- as the code goes
 
-pub head_fault : (asked : Option ℕ) (total k l : List ℕ) (e : EditFileError) → k ++ l ≡ total → head_stop asked k ≡ fails e → (e ≡ Memory) ⊎ (head_stop asked total ≡ fails e)
+pub head_fault : (asked : Option ℕ) (total k l : List ℕ) (e : EditFileError) → k ++ l ≡ total → head_stop asked k ≡ fails e → ((e ≡ Memory) × (0 < length total)) ⊎ (head_stop asked total ≡ fails e)
 head_fault asked total k l e whole s = inr (ap (head_stop asked) (sym whole) ∙ head_stays asked k l e s)
 
 pub head_short : (asked : Option ℕ) (total k l : List ℕ) → k ++ l ≡ total → (length k < 12 → l ≡ []) → head_stop asked k ≡ waits k → (k ≡ total) × (head_stop asked k ≡ waits k)

@@ -130,8 +130,8 @@ one_file m n es fs a b r q v w same =
 
 -- ---- readings
 
-abbrev stopped : (p : Progress) → (p.fault ≡ Some Memory → ⊥) → (o : Option Stop) → Stops p o → o ≡ some_stop (stop_of p)
-stopped p m o s = elim s [ inl bad ↦ absurd (m bad) | inr h ↦ h ]
+abbrev stopped : (left : List ℕ) (p : Progress) → (p.fault ≡ Some Memory → ⊥) → (o : Option Stop) → Stops left p o → o ≡ some_stop (stop_of p)
+stopped left p m o s = elim s [ inl bad ↦ absurd (m bad.0) | inr h ↦ h ]
 
 abbrev stop_in : Stop → Option Stop → Stop
 stop_in d None = d
@@ -158,17 +158,17 @@ one_reading bytes es fs p q same m n a b = elim a [
   | inl x ↦
       elim b [
         | inl y ↦
-            let s = stopped p m (head_stop p.asked bytes) x.stop in
-            let t = stopped q n (head_stop q.asked bytes) y.stop in
+            let s = stopped bytes p m (head_stop p.asked bytes) x.stop in
+            let t = stopped bytes q n (head_stop q.asked bytes) y.stop in
             (x.none ∙ sym y.none, same_progress p q same (x.world ∙ sym y.world) (x.version ∙ sym y.version) (stop_is (stop_of p) (stop_of q) (sym s ∙ ap (λ (o : Option ℕ). head_stop o bytes) same ∙ t)))
-        | inr y ↦ absurd (none_is_not (stop_of p) (sym (head_is_whole p.asked bytes fs q (sym same) y) ∙ stopped p m (head_stop p.asked bytes) x.stop))
+        | inr y ↦ absurd (none_is_not (stop_of p) (sym (head_is_whole p.asked bytes fs q (sym same) y) ∙ stopped bytes p m (head_stop p.asked bytes) x.stop))
       ]
   | inr x ↦
       elim b [
-        | inl y ↦ absurd (none_is_not (stop_of q) (sym (head_is_whole q.asked bytes es p same x) ∙ stopped q n (head_stop q.asked bytes) y.stop))
+        | inl y ↦ absurd (none_is_not (stop_of q) (sym (head_is_whole q.asked bytes es p same x) ∙ stopped bytes q n (head_stop q.asked bytes) y.stop))
         | inr y ↦
-            let s = stopped p m (record_stop p.version x.tail) x.stop in
-            let t = stopped q n (record_stop q.version y.tail) y.stop in
+            let s = stopped x.tail p m (record_stop p.version x.tail) x.stop in
+            let t = stopped y.tail q n (record_stop q.version y.tail) y.stop in
             let texts : head_text p.version x.number ++ (flat_map record_text es ++ x.tail) ≡ head_text q.version y.number ++ (flat_map record_text fs ++ y.tail) = sym (append_assoc (head_text p.version x.number) (flat_map record_text es) x.tail) ∙ sym x.whole ∙ y.whole ∙ append_assoc (head_text q.version y.number) (flat_map record_text fs) y.tail in
             let h = one_head p.version q.version x.number y.number (flat_map record_text es ++ x.tail) (flat_map record_text fs ++ y.tail) x.fits y.fits texts in
             let spelled = subst (λ (v : ℕ). AreOf v fs) (sym h.0) y.spelled in

@@ -109,16 +109,16 @@ pub record Progress : Type 0 where
 abbrev pub stop_of : Progress → Stop
 stop_of p = record { rest = p.rest; fault = p.fault }
 
--- the reader is where reading stops, or its memory ran out
-abbrev pub Stops : Progress → Option Stop → Type 0
-Stops p stop = (p.fault ≡ Some Memory) ⊎ (stop ≡ Some (stop_of p))
+-- of bytes that are left the reader is where reading stops, or its memory ran out, and there are some
+abbrev pub Stops : List ℕ → Progress → Option Stop → Type 0
+Stops left p stop = ((p.fault ≡ Some Memory) × (0 < length left)) ⊎ (stop ≡ Some (stop_of p))
 
 -- the bytes are less than a good head
 pub record InHead (bytes : List ℕ) (edits : List Edit) (p : Progress) : Type 0 where
   pub world : p.world ≡ None
   pub version : p.version ≡ 0
   pub none : edits ≡ []
-  pub stop : Stops p (head_stop p.asked bytes)
+  pub stop : Stops bytes p (head_stop p.asked bytes)
 
 -- the bytes are a good head, the records of these edits, and a tail where reading stops
 pub record InRecords (bytes : List ℕ) (edits : List Edit) (p : Progress) : Type 0 where
@@ -131,7 +131,7 @@ pub record InRecords (bytes : List ℕ) (edits : List Edit) (p : Progress) : Typ
   pub good : AreRecords edits
   pub spelled : AreOf p.version edits
   pub whole : bytes ≡ text_of p.version number edits ++ tail
-  pub stop : Stops p (record_stop p.version tail)
+  pub stop : Stops tail p (record_stop p.version tail)
 
 -- what a reader has found in the bytes so far, however they were cut: these edits, and where it is now
 abbrev pub Reads : List ℕ → List Edit → Progress → Type 0
@@ -177,15 +177,15 @@ abbrev pub end_of : Result (Unit {0}) EditFileError → List ℕ → Stop
 end_of (Ok u) kept = record { rest = kept; fault = None }
 end_of (Err e) kept = record { rest = []; fault = Some e }
 
--- the step ends where reading stops, or its memory ran out
-abbrev pub EndsAt : Stop → Option Stop → Type 0
-EndsAt s stop = (s.fault ≡ Some Memory) ⊎ (stop ≡ Some s)
+-- of bytes that are left the step ends where reading stops, or its memory ran out, and there are some
+abbrev pub EndsAt : List ℕ → Stop → Option Stop → Type 0
+EndsAt left s stop = ((s.fault ≡ Some Memory) × (0 < length left)) ⊎ (stop ≡ Some s)
 
 -- the records at the front of the bytes were taken, up to where the step ends
 pub record Collects (version : ℕ) (bytes : List ℕ) (before after : List Edit) (s : Stop) : Type 0 where
   pub tail : List ℕ
   pub gains : Gains version before after bytes tail
-  pub ends : EndsAt s (record_stop version tail)
+  pub ends : EndsAt tail s (record_stop version tail)
 
 -- a good head is at the front of the bytes, and then records were taken
 pub record Enters (asked : Option ℕ) (version n : ℕ) (bytes : List ℕ) (before after : List Edit) (s : Stop) : Type 0 where
@@ -198,7 +198,7 @@ pub record Enters (asked : Option ℕ) (version n : ℕ) (bytes : List ℕ) (bef
 
 -- from a world and a version to a world and a version: still in the head, into the records, or on in the records
 abbrev pub Advances : Option ℕ → Option ℕ → Option ℕ → ℕ → ℕ → List ℕ → List Edit → List Edit → Stop → Type 0
-Advances asked None None v w bytes before after s = (w ≡ v) × (after ≡ before) × EndsAt s (head_stop asked bytes)
+Advances asked None None v w bytes before after s = (w ≡ v) × (after ≡ before) × EndsAt bytes s (head_stop asked bytes)
 Advances asked None (Some n) v w bytes before after s = Enters asked w n bytes before after s
 Advances asked (Some m) None v w bytes before after s = ⊥
 Advances asked (Some m) (Some n) v w bytes before after s = (w ≡ v) × (n ≡ m) × Collects v bytes before after s

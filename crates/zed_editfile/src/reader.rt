@@ -54,8 +54,9 @@ impl EditReader {
     /// A fault comes with the byte that shows it, after the edits before it: `Magic` at the first of three letters that
     /// differs, `NewVersion` at a version byte other than 1 and 2, `OtherWorld` at the last byte of a head with another number
     /// than the one asked for, `RecordLength` at the fourth byte of a length below 9 or above 4,194,304, `BadEdit` at the
-    /// end of a record that spells no edit that fits. `Memory` comes where a growth was refused. After a fault, `Memory`
-    /// too, each later call answers it again, and nothing changes. An empty piece changes nothing, and takes no memory.
+    /// end of a record that spells no edit that fits. `Memory` comes where a growth was refused, and only where
+    /// bytes are left of which no edit was read. After a fault, `Memory` too, each later call answers it again, and nothing changes. An
+    /// empty piece changes nothing, and takes no memory.
     pub fn feed(&mut self, piece: &[u8], out: &mut Vec<Edit>) -> Result<(), EditFileError>
         // What was read of any bytes before, with the edits appended, is what is read of those bytes and the piece.
         ensures feeds { Feeds piece.now out.old.items out.new.items self.old self.new }

@@ -86,7 +86,8 @@ pub(crate) fn read_record<'a>(
     ensures none { IfOk result (λ rest. IfNone rest
         ((out.new.items ≡ out.old.items) × (record_stop version bytes.now ≡ waits bytes.now))) }
     ensures err { IfErr result (λ e. (out.new.items ≡ out.old.items)
-        × ((e ≡ EditFileError.Memory) ⊎ (record_stop version bytes.now ≡ fails e))) }
+        × (((e ≡ EditFileError.Memory) × (0 < length bytes.now))
+        ⊎ (record_stop version bytes.now ≡ fails e))) }
 {
     match split_record(bytes)? {
         None => Ok(None),
@@ -108,7 +109,8 @@ pub(crate) fn read_records<'a>(
         × (record_stop version tail.now ≡ waits tail.now)) }
     ensures err { IfErr result (λ e. (tail : List ℕ)
         × Gains version out.old.items out.new.items bytes.now tail
-        × ((e ≡ EditFileError.Memory) ⊎ (record_stop version tail ≡ fails e))) }
+        × (((e ≡ EditFileError.Memory) × (0 < length tail))
+        ⊎ (record_stop version tail ≡ fails e))) }
 {
     let mut rest = bytes;
     while let Some(after) = read_record(alloc, version, rest, out)? {

@@ -1,5 +1,5 @@
 //! One step of a reader: a piece of a head, or of records.
-ghost use Rattle.std.specs.Prelude.{◌≡◌, ◌⊎◌, ◌++◌, ◌<◌, ◌≤◌, ◌^◌, ℕ, List, [], length, drop, slice_index, Some, None, OnOk, IfOk, IfErr, IfSome, IfNone, false, true};
+ghost use Rattle.std.specs.Prelude.{◌≡◌, ◌⊎◌, ◌++◌, ◌<◌, ◌≤◌, ◌^◌, ℕ, List, [], length, drop, slice_index, Some, None, OnOk, OnErr, IfOk, IfErr, IfSome, IfNone, false, true};
 ghost use Rattle.byteorder.specs.Endian.{little_number};
 ghost use Rattle.zed_editfile.specs.Spelling.{head_text};
 ghost use Rattle.zed_editfile.specs.Stream.{Gains, waits, fails, is_other, is_version, head_stop, record_stop, IsWaiting, Advances, end_of};
@@ -57,6 +57,7 @@ fn fill<'a>(kept: &mut Vec<u8>, size: usize, piece: &'a [u8]) -> Result<&'a [u8]
     ensures size { OnOk result (length kept.old.items ≤ size → length kept.new.items ≤ size) }
     ensures none { IfOk result (λ left. length kept.new.items < size → left.now ≡ []) }
     ensures full { OnOk result (size ≤ length kept.old.items → kept.new.items ≡ kept.old.items) }
+    ensures memory_only_when { OnErr result (0 < length piece.now) }
 {
     let count = size.saturating_sub(kept.len()).min(piece.len());
     let (front, left) = piece.split_at(count);
@@ -78,7 +79,8 @@ fn take_head<'a>(
         (kept.new.items ≡ []) × (is_other asked h.1 ≡ false) × (h.1 < 2 ^ 64)
         × (is_version h.0 ≡ true)
         × (kept.old.items ++ piece.now ≡ head_text h.0 h.1 ++ x.1.now))) }
-    ensures err { IfErr result (λ e. (e ≡ EditFileError.Memory)
+    ensures err { IfErr result (λ e.
+        ((e ≡ EditFileError.Memory) × (0 < length (kept.old.items ++ piece.now)))
         ⊎ (head_stop asked (kept.old.items ++ piece.now) ≡ fails e)) }
 {
     let left = fill(kept, HEAD, piece)?;
@@ -106,7 +108,7 @@ fn take_cut<'a>(
         × (kept.new.items ≡ kept.old.items ++ piece.now)
         × (record_stop version kept.new.items ≡ waits kept.new.items))) }
     ensures err { IfErr result (λ e. (out.new.items ≡ out.old.items)
-        × ((e ≡ EditFileError.Memory)
+        × (((e ≡ EditFileError.Memory) × (0 < length (kept.old.items ++ piece.now)))
         ⊎ (record_stop version (kept.old.items ++ piece.now) ≡ fails e))) }
 {
     if kept.is_empty() {
@@ -142,7 +144,8 @@ fn take_records(
         × (record_stop version kept.new.items ≡ waits kept.new.items)) }
     ensures err { IfErr result (λ e. (tail : List ℕ)
         × Gains version out.old.items out.new.items (kept.old.items ++ piece.now) tail
-        × ((e ≡ EditFileError.Memory) ⊎ (record_stop version tail ≡ fails e))) }
+        × (((e ≡ EditFileError.Memory) × (0 < length tail))
+        ⊎ (record_stop version tail ≡ fails e))) }
 {
     match take_cut(alloc, version, kept, piece, out)? {
         None => Ok(()),
