@@ -1,7 +1,7 @@
 -- Which devices a command calls.
 use Rattle.zed_op.specs.declared.op.Edit.{Edit}
 use Rattle.zed_files.specs.declared.refusal.Refusal.{Refusal}
-use Rattle.std.specs.Prelude.{◌≡◌, ◌⊎◌, ℕ, Bool, true, false, List, Option, Some, Result, length}
+use Rattle.std.specs.Prelude.{◌≡◌, ◌<◌, ◌⊎◌, ℕ, Bool, true, false, List, Option, Some, Result, length}
 use Rattle.zed_session.specs.Devices.{Foretold}
 use Rattle.zed_session.specs.Links.{LinkSeen}
 use Rattle.zed_making.specs.Merged.{IsMerged}
@@ -14,6 +14,11 @@ use Rattle.zed_words.specs.Commands.{Command, Merge, Show, Play}
 abbrev pub calls_links : Option Command → Bool
 calls_links (Some (Merge out world files)) = true
 calls_links command = false
+
+-- a command asks to merge more files than there are links
+abbrev pub LacksLinks : Command → ℕ → Type 0
+LacksLinks (Merge out world files) count = count < length files
+LacksLinks command count = ⊥
 
 -- the first links of a merge are pulled over, one after the other, up to the first refusal, and the others are as they were
 abbrev pub PullsLinks : Option Command → List LinkSeen → List LinkSeen → Type 0

@@ -7,7 +7,7 @@ ghost use Rattle.zed_files.specs.Files.{joined};
 ghost use Rattle.zed_program.specs.Joining.{AsksToMerge, MergesSet};
 ghost use Rattle.zed_files.specs.Asked.{Asks, refusal_in};
 ghost use Rattle.zed_program.specs.Asked.{Complains, RunAsks, last_of, reads_of};
-ghost use Rattle.zed_program.specs.Called.{CallsDevices, IdleUnlessPlayed, PullsLinks};
+ghost use Rattle.zed_program.specs.Called.{CallsDevices, IdleUnlessPlayed, LacksLinks, PullsLinks};
 ghost use Rattle.zed_program.specs.Devices.{devices};
 ghost use Rattle.zed_program.specs.Faults.{TellsFault};
 ghost use Rattle.zed_program.specs.Outcome.{EndsCalmly, EndsCommand, EndsRun, IsTold, status_of};
@@ -79,6 +79,8 @@ fn act<H: Host>(
     ensures pulls { PullsLinks (Some (meaning_of command.now))
         (map (λ link. seen (ends link) (reads link)) links.old.items)
         (map (λ link. seen (ends link) (reads link)) links.new.items) }
+    ensures no_link { LacksLinks (meaning_of command.now) (length links.old.items)
+        → (result ≡ Err Refusal.NoLink) × (links.new ≡ links.old) }
     ensures idle { IfErr result (λ e. IsOfPlay H.called e host.new
         ⊎ ((screen.new ≡ screen.old) × (keys.new ≡ keys.old))) }
     ensures screen_faults { Counts (is_screen_fault result)

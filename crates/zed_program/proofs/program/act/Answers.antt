@@ -1,4 +1,4 @@
-use Rattle.std.proofs.Common.{◌≡◌, ◌∙◌, Some, ap, inl, length, refl, true, false}
+use Rattle.std.proofs.Common.{◌≡◌, ◌<◌, ◌∙◌, Some, ap, inl, length, refl, subst, sym, true, false}
 use Rattle.zed_files.specs.Texts.{texts_of}
 use Rattle.zed_making.proofs.Pulls.{as_many}
 use Rattle.zed_worlds.specs.Stage.{Stage, stage}
@@ -172,3 +172,7 @@ returns-in-Merge-clause-key_faults g c = keys_uncounted c.merge.result _ _ c.mer
 
 pub returns-in-Show-clause-key_faults : goal.returns-in-Show-clause-key_faults
 returns-in-Show-clause-key_faults g c = uncounted _ _ _ c.show.ensures.err refl
+
+pub returns-in-Merge-clause-no_link : goal.returns-in-Merge-clause-no_link
+returns-in-Merge-clause-no_link g c =
+    rw c.in-Merge.is (λ few. c.merge.ensures.no_link (subst (λ n. length c.args.links.now.items < n) (sym (ap length c.as_slice-in-Merge.ensures.value ∙ as_many _ _)) few))
