@@ -43,6 +43,16 @@ fn is_among(edit: &Edit, edits: &[Edit]) -> bool {
     false
 }
 
+/// Whether each of some edits is among others.
+fn are_among(some: &[Edit], edits: &[Edit]) -> bool {
+    for edit in some {
+        if !is_among(edit, edits) {
+            return false;
+        }
+    }
+    true
+}
+
 /// How many of a replica's new edits another has, if these are the first.
 fn count_front(own: &[Edit], edits: &[Edit], others: &[Edit]) -> Option<usize> {
     let mut count: usize = 0;
@@ -142,8 +152,8 @@ impl Table {
         let edits = self.one.document.edits();
         let count = count_front(own.as_slice(), edits, self.other.document.edits());
         let left = edits.len().checked_sub(own.len());
-        put_whether(count.is_some() && count == left, seen)?;
-        Ok(())
+        let is_front = count.is_some() && count == left && are_among(own.as_slice(), edits);
+        Ok(put_whether(is_front, seen)?)
     }
 
     /// Makes a call that takes no memory.
