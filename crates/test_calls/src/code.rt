@@ -68,6 +68,19 @@ fn tells_without_memory(alloc: Global, text: &mut Text) -> bool {
     !was_refused(alloc) && is_told
 }
 
+/// Whether a text without a byte is made without memory.
+fn begins_without_memory(alloc: Global) -> bool {
+    refuse(alloc, 1);
+    let text = Text::new(alloc);
+    !was_refused(alloc) && text.length() == 0 && text.visits() == 0
+}
+
+#[test]
+fn a_text_without_a_byte_takes_no_memory_refused(rt: HostRuntime) -> Result<(), Fail> {
+    assert!(rt; begins_without_memory(rt.alloc()));
+    Ok(())
+}
+
 #[test]
 fn readers_take_no_memory_refused(rt: HostRuntime) -> Result<(), Fail> {
     let mut text = letters(rt.alloc())?;

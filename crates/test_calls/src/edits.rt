@@ -2,7 +2,7 @@
 use crate::growths::{refuse_each, turn_of};
 use std::alloc::Global;
 use std::test::Fail;
-use test_rows::{Turn, refuse};
+use test_rows::{Turn, refuse, was_refused};
 use zed_editfile::{EditFileError, EditReader, write_edit, write_head};
 use zed_op::{Cause, Edit, EditError, Op, check};
 use zed_types::{BoardId, Name, Rectangle, Stamp, StatId, Tile};
@@ -80,6 +80,22 @@ fn feed_head_once(alloc: Global, nth: usize) -> Turn {
 #[test]
 fn each_growth_of_a_head_and_a_record_refused(rt: HostRuntime) -> Result<(), Fail> {
     refuse_each!(nth => feed_head_once(rt.alloc(), nth))
+}
+
+/// Whether a reader that was fed the file tells its world and that it ended well, without memory.
+fn tells_without_memory(alloc: Global, reader: &EditReader) -> bool {
+    refuse(alloc, 1);
+    let is_told = reader.world() == Some(7) && reader.finish() == Ok(());
+    !was_refused(alloc) && is_told
+}
+
+#[test]
+fn what_a_reader_tells_takes_no_memory_refused(rt: HostRuntime) -> Result<(), Fail> {
+    let mut out = Vec::new(rt.alloc());
+    let mut reader = EditReader::new(rt.alloc(), None);
+    reader.feed(ONE_CELL, &mut out)?;
+    assert!(rt; tells_without_memory(rt.alloc(), &reader));
+    Ok(())
 }
 
 /// How a call came out that answered so and left these bytes, of which those are wanted.

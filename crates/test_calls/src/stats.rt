@@ -37,9 +37,19 @@ fn board(rt: HostRuntime) -> Result<Stats, Fail> {
     Ok(stats)
 }
 
-/// Whether a byte of the second stat is so.
-fn is_byte(stats: &Stats, byte: StatByte, wanted: u8) -> bool {
-    1 < stats.count() && stats.field(1, StatField::Byte(byte)) == StatSetting::Byte(byte, wanted)
+/// Whether a byte of the stat at a place is so.
+fn is_byte(stats: &Stats, place: usize, byte: StatByte, wanted: u8) -> bool {
+    place < stats.count()
+        && stats.field(place, StatField::Byte(byte)) == StatSetting::Byte(byte, wanted)
+}
+
+/// Whether the stat at a place is this one, removed or not.
+fn is_at(stats: &Stats, place: usize, id: StatId, is_removed: bool) -> bool {
+    if place >= stats.count() {
+        return false;
+    }
+    let (name, stat) = stats.at(place);
+    name == id && stat.removed == is_removed
 }
 
 #[test]
@@ -49,10 +59,8 @@ fn a_removed_stat_keeps_its_fields_and_stays_removed(rt: HostRuntime) -> Result<
     stats.set_field(stat(3), at(9), StatSetting::Byte(StatByte::X, 60));
     stats.add(stat(3), false, values(7, 7))?;
     assert_eq!(rt; stats.count(), 4);
-    let (id, removed) = stats.at(1);
-    assert_eq!(rt; id, stat(3));
-    assert!(rt; removed.removed);
-    assert!(rt; is_byte(&stats, StatByte::X, 60) && is_byte(&stats, StatByte::Y, 3));
+    assert!(rt; is_at(&stats, 1, stat(3), true));
+    assert!(rt; is_byte(&stats, 1, StatByte::X, 60) && is_byte(&stats, 1, StatByte::Y, 3));
     Ok(())
 }
 
@@ -95,7 +103,7 @@ fn each_growth_of_add_refused(rt: HostRuntime) -> Result<(), Fail> {
     Ok(())
 }
 
-/// Whether a stat of a board is found, changed, added again and removed, all without memory.
+/// Whether a stat of a board is found, changed, added again, removed and read, all without memory.
 fn changes_without_memory(rt: HostRuntime, stats: &mut Stats) -> bool {
     refuse(rt.alloc(), 1);
     let is_known = stats.add(stat(4), false, values(9, 9)).is_ok();
@@ -103,7 +111,10 @@ fn changes_without_memory(rt: HostRuntime, stats: &mut Stats) -> bool {
     stats.set_field(stat(4), at(9), StatSetting::Leader(Some(stat(3))));
     stats.remove(stat(3));
     let is_found = stats.number_of(stat(4)) == Some(1) && stats.has(stat(3));
-    !was_refused(rt.alloc()) && is_known && is_found && stats.count() == 4
+    let is_read = is_at(stats, 1, stat(3), true)
+        && is_at(stats, 2, stat(4), false)
+        && is_byte(stats, 2, StatByte::X, 60);
+    !was_refused(rt.alloc()) && is_known && is_found && is_read && stats.count() == 4
 }
 
 #[test]
