@@ -80,11 +80,16 @@ impl Act {
 
     /// Whether nothing is done with a document that is stale or isn't.
     pub fn is_idle(&self, is_stale: bool) -> bool {
-        matches!(self.asked, Asked::Stale) && !is_stale
+        self.asked.is_stale() && !is_stale
     }
 }
 
 impl Asked {
+    /// Whether it is asked of a document that is stale alone.
+    pub fn is_stale(self) -> bool {
+        matches!(self, Asked::Stale)
+    }
+
     /// What is told of an answer.
     pub fn told(self, answer: Told) -> Told {
         match self {

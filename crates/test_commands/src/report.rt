@@ -1,6 +1,6 @@
 //! How the sections of a book come out.
 use crate::book::Book;
-use crate::row::{Outcome, Row};
+use crate::row::Outcome;
 use crate::section::Section;
 use crate::sight::Sight;
 use crate::stage::sight_of;
@@ -97,11 +97,6 @@ fn sight_of_all(alloc: Global, names: &Names, section: &Section) -> Result<Sight
     }
 }
 
-/// Whether the row whose growths are refused says what is to be seen then.
-fn wants_refusals(rows: &[Row]) -> bool {
-    rows.iter().any(|row| row.is_tried && !row.wanted(Outcome::Refused).is_empty())
-}
-
 fn break_section(report: &mut Report, name: &str, what: &str) -> Result<(), AllocError> {
     report.broken = report.broken.saturating_add(1);
     write!(report.told, "{name}:\n{what}")
@@ -135,15 +130,50 @@ fn compare(
     Ok(())
 }
 
-/// The growths of a section, of which each was refused in turn, where none is wanted though one is to be refused.
-fn end_sweep(report: &mut Report, section: &Section, growths: usize) -> Result<(), AllocError> {
-    report.growths = report.growths.saturating_add(growths);
-    let is_wanted = wants_refusals(section.before.as_slice())
-        || wants_refusals(section.acts.as_slice());
-    if is_wanted && growths == 0 {
-        break_section(report, section.name, "  no growth was refused\n")?;
+/// What the turns of a sweep met.
+#[derive(Clone, Copy)]
+struct Met {
+    refused: bool,
+    device: bool,
+    stale: bool,
+}
+
+impl Met {
+    fn take(&mut self, sight: &Sight) {
+        match sight.outcome {
+            Outcome::Whole => {}
+            Outcome::Refused => self.refused = true,
+            Outcome::Device => self.device = true,
+        }
+        self.stale = self.stale || sight.met_stale;
     }
-    Ok(())
+
+    /// What a section tells of and no turn met, if there is something.
+    fn missed(self, section: &Section) -> Option<&'static str> {
+        if section.wants(Outcome::Refused) && !self.refused {
+            Some("  no growth was refused\n")
+        } else if section.wants(Outcome::Device) && !self.device {
+            Some("  no growth of the host was refused\n")
+        } else if section.asks_of_stale() && !self.stale {
+            Some("  no document was stale\n")
+        } else {
+            None
+        }
+    }
+}
+
+/// Takes the growths of a section, of which each was refused in turn, and tells what no turn met.
+fn end_sweep(
+    report: &mut Report,
+    section: &Section,
+    growths: usize,
+    met: Met,
+) -> Result<(), AllocError> {
+    report.growths = report.growths.saturating_add(growths);
+    match met.missed(section) {
+        Some(what) => break_section(report, section.name, what),
+        None => Ok(()),
+    }
 }
 
 /// Goes through a section with each growth refused in turn, until none is left.
@@ -153,14 +183,20 @@ fn sweep(
     names: &Names,
     section: &Section,
 ) -> Result<(), Trouble> {
+    let mut met = Met {
+        refused: false,
+        device: false,
+        stale: false,
+    };
     for nth in 1..MOST {
         let sight = sight_of(alloc, names, section, Turn::refusing(nth))?;
+        met.take(&sight);
         if !take(report, section.name, &sight)? {
             writeln!(report.told, "  where growth {nth} is refused")?;
             return Ok(());
         }
         if sight.outcome == Outcome::Whole {
-            return Ok(end_sweep(report, section, nth.saturating_sub(1))?);
+            return Ok(end_sweep(report, section, nth.saturating_sub(1), met)?);
         }
     }
     Ok(break_section(report, section.name, "  more growths than expected\n")?)

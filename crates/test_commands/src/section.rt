@@ -1,5 +1,5 @@
 //! Sections of a book, each a test of its own.
-use crate::row::Row;
+use crate::row::{Outcome, Row};
 use crate::turn::Turns;
 use std::alloc::Global;
 use test_rows::Trouble;
@@ -31,6 +31,11 @@ fn want_of_last(rows: &mut Vec<Row>, line: &str) -> Result<bool, Trouble> {
         Some(row) => Ok(row.want(line)?),
         None => Ok(false),
     }
+}
+
+fn wants(rows: &[Row], outcome: Outcome) -> bool {
+    rows.iter()
+        .any(|row| row.is_tried && !row.wanted(outcome).is_empty())
 }
 
 impl<'a> Section<'a> {
@@ -83,6 +88,16 @@ impl<'a> Section<'a> {
             self.part = Part::Acts;
         }
         Ok(())
+    }
+
+    /// Whether a row whose growths are refused says what is to be seen where it comes out so.
+    pub fn wants(&self, outcome: Outcome) -> bool {
+        wants(&self.before, outcome) || wants(&self.acts, outcome)
+    }
+
+    /// Whether a row asks what is refused of a document that is stale.
+    pub fn asks_of_stale(&self) -> bool {
+        self.acts.iter().any(|row| row.line.starts_with("stale "))
     }
 
     /// Whether a row of it says that its growths are refused.

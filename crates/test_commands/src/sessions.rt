@@ -153,6 +153,7 @@ fn have_session(room: &Room, document: Document, parts: Parts, rows: &[Row], sig
             take_told(room, row, Asked::Answer, Told::Well(true), sight);
             continue;
         }
+        sight.met_stale = sight.met_stale || act.asked.is_stale();
         let ends = room.traces.ended_links();
         refuse(room.alloc, room.turn.growth_of(row));
         let answer = match &act.call {

@@ -7,6 +7,8 @@ use test_rows::put_broken;
 #[derive(Drop)]
 pub struct Sight {
     pub outcome: Outcome,
+    /// Whether a row `stale ..` was done with a document that is stale.
+    pub met_stale: bool,
     /// Rows of which what is to be seen is seen.
     pub held: usize,
     /// Rows of which something else is.
@@ -32,6 +34,7 @@ impl Sight {
     pub fn new(alloc: Global) -> Sight {
         Sight {
             outcome: Outcome::Whole,
+            met_stale: false,
             held: 0,
             broken: 0,
             told: String::new(alloc),
