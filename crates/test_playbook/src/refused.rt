@@ -4,18 +4,21 @@ use crate::case::Case;
 use crate::changes::put_changes;
 use crate::file::{play_of, world_of};
 use crate::playbook::{Playbook, Script};
-use crate::seen::{Before, put_step, put_turned, turn_on_copy};
+use crate::seen::{Before, put_board, put_step, put_turned, turn_on_copy};
 use std::alloc::{AllocError, Global};
 use std::fmt::Write;
 use test_rows::{MOST, Report, Trouble, Turn, refuse, turn_of, was_refused};
 use zed_oop::{Effects, Scene, SceneError, turn};
 use zed_play::{Ending, Key, Play, PlayError};
+use zed_screen::{Frame, ScreenError, draw_board};
 
 /// A call whose growths are refused.
 #[derive(Clone, Copy)]
 enum Call<'a> {
     Turn { stat: usize, words: &'a [u16] },
     Copy,
+    /// A picture of a board, which takes no memory.
+    Draw(usize),
     Open(u16),
     Step(FirstStep<'a>),
 }
@@ -96,6 +99,26 @@ fn copy_turn(alloc: Global, board: &Scene, nth: usize) -> Result<Turn, Trouble> 
 fn copy_turn_of(alloc: Global, case: &Case, nth: usize) -> Result<Turn, Trouble> {
     let play = play_of(alloc, case, 1)?;
     copy_turn(alloc, play.board(), nth)
+}
+
+/// What is seen of a picture.
+fn seen_of(alloc: Global, drawn: &Result<Frame, ScreenError>) -> Result<String, Trouble> {
+    let mut seen = String::new(alloc);
+    put_board(drawn, &mut seen)?;
+    Ok(seen)
+}
+
+fn draw_turn(alloc: Global, case: &Case, board: usize, nth: usize) -> Result<Turn, Trouble> {
+    let world = world_of(alloc, case)?;
+    refuse(alloc, nth);
+    let drawn = draw_board(&world, board);
+    if was_refused(alloc) {
+        return Ok(Turn::Wrong);
+    }
+    let seen = seen_of(alloc, &drawn)?;
+    // With ample memory.
+    let wanted = seen_of(alloc, &draw_board(&world, board))?;
+    Ok(whole_turn(seen.as_str() == wanted.as_str()))
 }
 
 /// Whether a playtest is as a new one of a case is.
@@ -189,6 +212,7 @@ fn call_turn(alloc: Global, case: &Case, call: Call, nth: usize) -> Result<Turn,
     match call {
         Call::Turn { stat, words } => turn_of_case(alloc, case, stat, words, nth),
         Call::Copy => copy_turn_of(alloc, case, nth),
+        Call::Draw(board) => draw_turn(alloc, case, board, nth),
         Call::Open(tick) => open_turn(alloc, case, tick, nth),
         Call::Step(step) => step_turn_of(alloc, case, step, nth),
     }
@@ -260,6 +284,7 @@ fn sweep_first(alloc: Global, report: &mut Report, script: &Script) -> Result<()
             sweep(alloc, report, script, first.row.text, turn)?;
             sweep(alloc, report, script, "copy", Call::Copy)
         }
+        Act::Drawn(board) => sweep(alloc, report, script, first.row.text, Call::Draw(*board)),
         Act::Opened(tick) => {
             sweep(alloc, report, script, first.row.text, Call::Open(*tick))?;
             sweep_step(alloc, report, script, *tick)

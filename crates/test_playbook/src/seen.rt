@@ -9,7 +9,7 @@ use std::fmt::Write;
 use test_rows::{Trouble, put_trimmed};
 use zed_oop::{Effects, Scene, SceneError, turn};
 use zed_play::{Ending, Key, Messages, Play, PlayError};
-use zed_screen::{Frame, ascii, draw_board, draw_play};
+use zed_screen::{Frame, ScreenError, ascii, draw_board, draw_play};
 use zed_types::Bytes;
 
 /// A case, with the playtest that its acts go on with.
@@ -215,11 +215,17 @@ fn put_cell(frame: &Frame, column: u8, row: u8, out: &mut String) -> Result<(), 
     }
 }
 
-fn put_drawn(alloc: Global, case: &Case, board: usize, out: &mut String) -> Result<(), Trouble> {
-    match draw_board(&world_of(alloc, case)?, board) {
-        Ok(frame) => Ok(put_frame(&frame, out)?),
-        Err(_) => Ok(out.push_str("noboard\n")?),
+/// Appends a picture of a board, or that there is no such board.
+pub fn put_board(drawn: &Result<Frame, ScreenError>, out: &mut String) -> Result<(), AllocError> {
+    match drawn {
+        Ok(frame) => put_frame(frame, out),
+        Err(_) => out.push_str("noboard\n"),
     }
+}
+
+fn put_drawn(alloc: Global, case: &Case, board: usize, out: &mut String) -> Result<(), Trouble> {
+    let world = world_of(alloc, case)?;
+    Ok(put_board(&draw_board(&world, board), out)?)
 }
 
 fn put_begun(alloc: Global, case: &Case, board: usize, out: &mut String) -> Result<(), Trouble> {
