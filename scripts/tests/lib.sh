@@ -1,0 +1,87 @@
+# shellcheck shell=bash
+# What the tests share; each takes it in at its head. It counts what passed and failed, compares, finds the programs under test and a
+# compiler, and says what can't be tried on this machine. `room` is a folder for the test alone, and `top` the repository. A test ends
+# by `tell_counts`; where one ends before that, it is told where.
+set -Eeuo pipefail
+top=$(cd "$(dirname "${BASH_SOURCE[0]}")/../.." && pwd)
+suite=${0##*/}
+room=$(mktemp -d)
+passed=0 failed=0 untried=0 is_counted='' broke_at=''
+
+ends_run() {
+    local status=$?
+    [ -n "$is_counted" ] || echo "$suite: FAILED: ended early, at ${broke_at:-an unknown place}, with status $status"
+    rm -rf "$room"
+}
+trap 'broke_at="line $LINENO of ${BASH_SOURCE[0]##*/}"' ERR
+trap ends_run EXIT
+
+passes() {
+    passed=$((passed + 1))
+}
+
+fails() {
+    echo "$suite: FAILED: $1"
+    failed=$((failed + 1))
+}
+
+# Wants the second to be the third; the first says what it is.
+is() {
+    if [ "$2" = "$3" ]; then
+        passes
+    else
+        fails "$1: $2, and not $3"
+    fi
+}
+
+# Says what can't be tried here, and why.
+not_tried() {
+    echo "$suite: not tried: $1"
+    untried=$((untried + 1))
+}
+
+# The last line. Nothing tried at all is well only where it was said why.
+tell_counts() {
+    is_counted=yes
+    echo "$suite: $passed passed, $failed failed"
+    [ "$failed" -eq 0 ] && [ "$((passed + untried))" -gt 0 ]
+}
+
+# Prints where a program under test lies: the one that a variable names, as ZZTED for zzted, or the one that would run here.
+program_of() {
+    local named=${1^^}
+    if [ -n "${!named:-}" ]; then
+        realpath -- "${!named}"
+    else
+        "$top/scripts/program" --where "$1"
+    fi
+}
+
+# Puts a copy of a program under test into the room, so that it stays the same while the test runs, and sets the variables of its name:
+# zzted for the test, and ZZTED for the scripts that the test runs. What isn't there is built.
+tests_program() {
+    local at
+    at=$(program_of "$1") || { "$top/scripts/program" --build "$1" && at=$(program_of "$1"); }
+    mkdir -p "$room/program"
+    cp "$at" "$room/program/$1"
+    declare -g "$1=$room/program/$1"
+    export "${1^^}=$room/program/$1"
+}
+
+# Finds a compiler of C, as `compiler`: the kit's, or another one.
+finds_compiler() {
+    local kit
+    kit=$(command -v rt) && kit=$(dirname "$(dirname "$(readlink -f "$kit")")")/toolchain/bin
+    for compiler in "$kit/clang" cc clang gcc; do
+        ! command -v "$compiler" > /dev/null || break
+    done
+    # the kit's has a linker of its own
+    linker=()
+    [ "$compiler" != "$kit/clang" ] || linker=("-fuse-ld=$kit/ld.lld")
+    command -v "$compiler" > /dev/null
+}
+
+# Compiles a file of this folder, which stands on no header, to a library that is loaded before a program.
+compiles_library() {
+    "$compiler" -shared -fPIC -O2 -ffreestanding -nostdlib "${linker[@]}" -o "$2" "$top/scripts/tests/$1"
+}
