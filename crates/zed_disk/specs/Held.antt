@@ -1,16 +1,25 @@
 -- What the folder of a file that is to be written holds.
-use Rattle.std.specs.Prelude.{◌≡◌, ℕ, Bool, true, false, List, [], ◌++◌, Option, Some, None, IsSome, option_map}
+use Rattle.std.specs.Prelude.{◌≡◌, ◌⊎◌, ℕ, Bool, true, false, List, [], ◌++◌, Option, Some, None, IsSome, option_map}
+use Rattle.std.specs.Option.{option_or}
+use Rattle.zed_disk.specs.declared.folder.Old.{Old}
+use Rattle.zed_disk.specs.declared.folder.Old.TheVariants.{Dropped, Kept}
 
--- What stands in the file's place, the new file beside it, and whether each of them is on the disk as it is.
+-- What stands in the file's place, the new file beside it, the old file that is kept beside it, and whether the first two are on
+-- the disk as they are.
 pub record Held : Type 0 where
   pub place : Option (List ℕ)
   pub beside : Option (List ℕ)
+  pub kept : Option (List ℕ)
   pub synced : Bool
   pub settled : Bool
 
 -- What stands in the place.
 abbrev pub place_of : Held → Option (List ℕ)
 place_of h = h.place
+
+-- What stands in the place, and what is kept beside it: all that authors see.
+abbrev pub seen_of : Held → Option (List ℕ) × Option (List ℕ)
+seen_of h = (h.place, h.kept)
 
 -- The new file.
 abbrev pub beside_of : Held → Option (List ℕ)
@@ -40,9 +49,29 @@ IsWhole h = IsSome h.beside × (h.synced ≡ true)
 abbrev pub none_beside : Held → Held
 none_beside h = record h { beside = None; synced = false }
 
+-- What stands in the place is kept beside it too; where nothing stands there, what was kept before.
+abbrev pub with_kept : Held → Held
+with_kept h = record h { kept = option_or h.place h.kept }
+
+-- What a write keeps of the old file: nothing beside what was kept before, or all of it.
+abbrev pub kept_by : Old → Held → Held
+kept_by Dropped h = h
+kept_by Kept h = with_kept h
+
+-- Where a write is refused the place is as it was, and so is what is kept; but where the old file was to be kept, that may be gone,
+-- or what stands in the place.
+abbrev pub IsUnwritten : Old → Held → Held → Type 0
+IsUnwritten Dropped h i = (i.place ≡ h.place) × (i.kept ≡ h.kept)
+IsUnwritten Kept h i = (i.place ≡ h.place) × ((i.kept ≡ h.kept) ⊎ ((i.kept ≡ None) ⊎ (i.kept ≡ h.place)))
+
+-- A folder that tells what it holds still does, and holds what is so related to that.
+abbrev pub StillTells : (Held → Held → Type 0) → Option Held → Option Held → Type 0
+StillTells R None new = new ≡ None
+StillTells R (Some h) new = (i : Held) × R h i × (new ≡ Some i)
+
 -- The new file stands in the place.
 abbrev pub with_place : Held → Held
-with_place h = record { place = h.beside; beside = None; synced = false; settled = false }
+with_place h = record h { place = h.beside; beside = None; synced = false; settled = false }
 
 -- What stands in the place is on the disk.
 abbrev pub with_settled : Held → Held
@@ -50,7 +79,7 @@ with_settled h = record h { settled = true }
 
 -- A file with these bytes stands in the place, and nothing beside it.
 abbrev pub renamed_by : List ℕ → Held → Held
-renamed_by bytes h = record { place = Some bytes; beside = None; synced = false; settled = false }
+renamed_by bytes h = record h { place = Some bytes; beside = None; synced = false; settled = false }
 
 -- And it is on the disk.
 abbrev pub replaced_by : List ℕ → Held → Held

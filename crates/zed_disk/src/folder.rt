@@ -1,10 +1,20 @@
 //! How a file takes its place: whole, or not at all.
 ghost use Rattle.std.specs.Prelude.{◌≡◌, ◌⊎◌, ◌||◌, Bool, IfSome, OnErr, OnOk, None, Option, is_err, option_map};
-ghost use Rattle.zed_disk.specs.Held.{Held, IsWhole, beside_of, none_beside, place_of, renamed_by, replaced_by, with_beside, with_empty, with_more, with_place, with_settled, with_synced};
+ghost use Rattle.zed_disk.specs.Held.{Held, IsUnwritten, IsWhole, StillTells, beside_of, kept_by, none_beside, renamed_by, replaced_by, seen_of, with_beside, with_empty, with_kept, with_more, with_place, with_settled, with_synced};
 
 use std::io;
 
-/// The folder of one file that is to be written: what stands in the file's place, and the new file beside it.
+/// What becomes of a file when another one takes its place.
+#[derive(Clone, Copy, Debug, PartialEq, Eq)]
+pub enum Old {
+    /// It is gone.
+    Dropped,
+    /// It is kept beside the new one, in place of what was kept before.
+    Kept,
+}
+
+/// The folder of one file that is to be written: what stands in the file's place, the new file beside it, and the old file that is kept
+/// beside it.
 pub trait Folder {
     /// What it holds, or that this isn't told.
     ghost told: { Self → Option Held };
@@ -15,20 +25,26 @@ pub trait Folder {
     /// Makes the new file, empty, under a name that no other file has.
     fn create(&mut self) -> io::Result<()>
         ensures result { OnOk result (told self.new ≡ option_map with_empty (told self.old)) }
-        ensures kept { option_map place_of (told self.new) ≡ option_map place_of (told self.old) }
+        ensures kept { option_map seen_of (told self.new) ≡ option_map seen_of (told self.old) }
         ensures faults { has_failed self.new ≡ (is_err result || has_failed self.old) };
 
     /// Gives the new file its bytes.
     fn fill(&mut self, bytes: &[u8]) -> io::Result<()>
         ensures result { OnOk result
             (told self.new ≡ option_map (with_more bytes.now) (told self.old)) }
-        ensures kept { option_map place_of (told self.new) ≡ option_map place_of (told self.old) }
+        ensures kept { option_map seen_of (told self.new) ≡ option_map seen_of (told self.old) }
         ensures faults { has_failed self.new ≡ (is_err result || has_failed self.old) };
 
     /// Brings the new file onto the disk.
     fn sync(&mut self) -> io::Result<()>
         ensures result { OnOk result (told self.new ≡ option_map with_synced (told self.old)) }
-        ensures kept { option_map place_of (told self.new) ≡ option_map place_of (told self.old) }
+        ensures kept { option_map seen_of (told self.new) ≡ option_map seen_of (told self.old) }
+        ensures faults { has_failed self.new ≡ (is_err result || has_failed self.old) };
+
+    /// Gives the file in the place a second name beside it, in place of an earlier file of that name, and brings that onto the disk.
+    fn keep(&mut self) -> io::Result<()>
+        ensures result { OnOk result (told self.new ≡ option_map with_kept (told self.old)) }
+        ensures kept { OnErr result (StillTells (IsUnwritten Old.Kept) (told self.old) (told self.new)) }
         ensures faults { has_failed self.new ≡ (is_err result || has_failed self.old) };
 
     /// Puts the new file into the place. Whoever looks finds the old file before it, and the new one after it.
@@ -54,8 +70,8 @@ pub trait Folder {
 fn make<F: Folder>(folder: &mut F, bytes: &[u8]) -> io::Result<()>
     ensures result { OnOk result (F.told folder.new
         ≡ option_map (λ h. with_synced (with_beside bytes.now h)) (F.told folder.old)) }
-    ensures kept { option_map place_of (F.told folder.new)
-        ≡ option_map place_of (F.told folder.old) }
+    ensures kept { option_map seen_of (F.told folder.new)
+        ≡ option_map seen_of (F.told folder.old) }
     ensures faults { F.has_failed folder.new ≡ (is_err result || F.has_failed folder.old) }
 {
     folder.create()?;
@@ -63,31 +79,38 @@ fn make<F: Folder>(folder: &mut F, bytes: &[u8]) -> io::Result<()>
     folder.sync()
 }
 
-// Makes the new file and puts it into the place.
-fn take_place<F: Folder>(folder: &mut F, bytes: &[u8]) -> io::Result<()>
-    ensures result { OnOk result
-        (F.told folder.new ≡ option_map (renamed_by bytes.now) (F.told folder.old)) }
+// Makes the new file, keeps the old one where that is asked for, and puts the new one into the place.
+fn take_place<F: Folder>(folder: &mut F, old: Old, bytes: &[u8]) -> io::Result<()>
+    ensures result { OnOk result (F.told folder.new
+        ≡ option_map (λ h. renamed_by bytes.now (kept_by old h)) (F.told folder.old)) }
     ensures kept { OnErr result
-        (option_map place_of (F.told folder.new) ≡ option_map place_of (F.told folder.old)) }
+        (StillTells (IsUnwritten old) (F.told folder.old) (F.told folder.new)) }
     ensures faults { F.has_failed folder.new ≡ (is_err result || F.has_failed folder.old) }
 {
     make(folder, bytes)?;
+    match old {
+        Old::Dropped => {}
+        Old::Kept => folder.keep()?,
+    }
     folder.rename()
 }
 
-/// Writes a file: afterwards it has these bytes, or is as it was. It is refused where a step fails; then the new file is removed, and the
-/// file is as it was, but where only the last step failed, by which the place comes onto the disk. It is refused for nothing else.
-pub fn replace<F: Folder>(folder: &mut F, bytes: &[u8]) -> io::Result<()>
-    ensures result { OnOk result
-        (F.told folder.new ≡ option_map (replaced_by bytes.now) (F.told folder.old)) }
+/// Writes a file: afterwards it has these bytes, or is as it was. The old one is dropped or kept beside it; what was kept before stays where
+/// nothing else is asked for. It is refused where a step fails, and for nothing else. Then the new file is removed, and the file is as it
+/// was, but where only the last step failed, by which the place comes onto the disk; and where the old one was to be kept, what is kept
+/// is that, what was kept before, or nothing.
+pub fn replace<F: Folder>(folder: &mut F, old: Old, bytes: &[u8]) -> io::Result<()>
+    ensures result { OnOk result (F.told folder.new
+        ≡ option_map (λ h. replaced_by bytes.now (kept_by old h)) (F.told folder.old)) }
     ensures kept { OnErr result
-        ((option_map place_of (F.told folder.new) ≡ option_map place_of (F.told folder.old))
-        ⊎ (F.told folder.new ≡ option_map (renamed_by bytes.now) (F.told folder.old))) }
+        (StillTells (IsUnwritten old) (F.told folder.old) (F.told folder.new)
+        ⊎ (F.told folder.new
+        ≡ option_map (λ h. renamed_by bytes.now (kept_by old h)) (F.told folder.old))) }
     ensures cleared { option_map beside_of (F.told folder.new)
         ≡ option_map (λ h. None) (F.told folder.old) }
     ensures faults { F.has_failed folder.new ≡ (is_err result || F.has_failed folder.old) }
 {
-    match take_place(folder, bytes) {
+    match take_place(folder, old, bytes) {
         Ok(()) => folder.sync_place(),
         Err(error) => {
             folder.remove();

@@ -1,7 +1,8 @@
 //! Writing a file of a real folder.
 ghost use Rattle.std.specs.Prelude.{◌≡◌, ◌||◌, None, is_err};
 
-use crate::folder::{Folder, replace};
+use crate::folder::{Folder, Old, replace};
+use crate::keeping::{Beginning, keep, old_one};
 use crate::named::{FoundFile, is_at};
 use std::fs::{self, File, Metadata, OpenOptions, Permissions};
 use std::io::{self, ErrorKind, Write};
@@ -17,7 +18,7 @@ const PERMISSIONS: u32 = 0o7777;
 const GROUP: u32 = 0o070;
 
 /// The permissions of a new file before it has those of the old one: nobody else reads it.
-const OWN: u32 = 0o600;
+pub(crate) const OWN: u32 = 0o600;
 
 /// The permissions that are asked for where there is no old file.
 const COMMON: u32 = 0o666;
@@ -54,8 +55,8 @@ fn hold(rt: &HostRuntime, path: &str, file: &File) -> io::Result<bool> {
     is_at(rt, file, path)
 }
 
-// Makes a new file.
-fn make_fresh(rt: &HostRuntime, path: &str, mode: u32) -> io::Result<File> {
+/// Makes a new file, which this process alone has.
+pub(crate) fn make_fresh(rt: &HostRuntime, path: &str, mode: u32) -> io::Result<File> {
     for _ in 0..TRIES {
         if let Some(file) = open_fresh(rt, path, mode)? {
             return Ok(file);
@@ -70,8 +71,8 @@ fn takes_group(file: &File, old: &Metadata) -> bool {
         || fchown(file, None, Some(old.gid())).is_ok()
 }
 
-// Gives a new file the owner and the permissions of the old one. What its group might do is not for the author's own group.
-fn keep(file: &File, old: &Metadata) -> io::Result<()> {
+/// Gives a new file the owner and the permissions of the old one. What its group might do is not for the author's own group.
+pub(crate) fn liken(file: &File, old: &Metadata) -> io::Result<()> {
     let made = file.metadata()?;
     let is_owned = made.uid() == old.uid() && made.gid() == old.gid();
     let mode = if is_owned || takes_group(file, old) {
@@ -104,7 +105,7 @@ fn fill_fresh(fresh: &mut Option<File>, old: &Option<Metadata>, bytes: &[u8]) ->
         return Err(missing());
     };
     if let Some(old) = old {
-        keep(file, old)?;
+        liken(file, old)?;
     }
     file.write_all(bytes)
 }
@@ -122,6 +123,12 @@ fn sync_folder(folder: &File) -> io::Result<()> {
         Err(error) if error.kind() == ErrorKind::InvalidInput => Ok(()),
         synced => synced,
     }
+}
+
+// Keeps the file in a place, and brings that onto the disk: after a stop of the machine nobody finds the new file without it.
+fn keep_in(rt: &HostRuntime, found: &FoundFile, folder: &File) -> io::Result<()> {
+    keep(rt, found)?;
+    sync_folder(folder)
 }
 
 impl Folder for RealFolder<'_> {
@@ -155,6 +162,12 @@ impl Folder for RealFolder<'_> {
         synced
     }
 
+    fn keep(&mut self) -> io::Result<()> {
+        let kept = keep_in(self.rt, self.found, &self.folder);
+        note(&mut self.has_failed, &kept);
+        kept
+    }
+
     fn rename(&mut self) -> io::Result<()> {
         let renamed = fs::rename(self.rt, self.found.fresh(), self.found.path());
         note(&mut self.has_failed, &renamed);
@@ -183,18 +196,21 @@ fn opened(rt: &HostRuntime, name: &str) -> io::Result<Option<File>> {
     }
 }
 
-// Puts a file with these bytes into a place.
-fn put(rt: &HostRuntime, found: &FoundFile, old: Option<Metadata>, bytes: &[u8]) -> io::Result<()> {
+// The folder of a place, in which nothing was done yet.
+fn folder_at<'a>(
+    rt: &'a HostRuntime,
+    found: &'a FoundFile,
+    old: Option<Metadata>,
+) -> io::Result<RealFolder<'a>> {
     let folder = fs::open(rt, found.folder())?;
-    let mut folder = RealFolder {
+    Ok(RealFolder {
         rt,
         found,
         old,
         folder,
         fresh: None,
         has_failed: false,
-    };
-    replace(&mut folder, bytes)
+    })
 }
 
 /// Writes the file of a name that leads to a place. A file is replaced whole or stays as it was; what is no file, as a pipe or a
@@ -209,7 +225,7 @@ pub fn write(
     bytes: &[u8],
 ) -> io::Result<()> {
     let Some(mut file) = opened(rt, name)? else {
-        return put(rt, found?, None, bytes);
+        return replace(&mut folder_at(rt, found?, None)?, Old::Dropped, bytes);
     };
     let old = file.metadata()?;
     if !old.is_file() {
@@ -218,5 +234,30 @@ pub fn write(
     let found = found?;
     // A file that has no name any more can't be replaced.
     fs::symlink_metadata(rt, found.path())?;
-    put(rt, found, Some(old), bytes)
+    replace(&mut folder_at(rt, found, Some(old))?, Old::Dropped, bytes)
+}
+
+/// Writes the file of a name as `write` does, and keeps the file that stood there, if it begins so, beside the new one. Both have the same
+/// owner and permissions, and nobody else writes there in between.
+///
+/// # Errors
+/// Those of `write`, or the old file can't be kept. Then it stands in its place as it was.
+pub fn write_keeping(
+    rt: &HostRuntime,
+    name: &str,
+    found: io::Result<&FoundFile>,
+    beginning: &Beginning,
+    bytes: &[u8],
+) -> io::Result<()> {
+    let found = match found {
+        Ok(found) => found,
+        Err(error) => return write(rt, name, Err(error), bytes),
+    };
+    let Some(old) = old_one(rt, name, found, beginning)? else {
+        return write(rt, name, Ok(found), bytes);
+    };
+    // as there: a file that may not be written isn't replaced
+    OpenOptions::new().write(true).open(rt, name)?;
+    let mut folder = folder_at(rt, found, Some(old.metadata()?))?;
+    replace(&mut folder, Old::Kept, bytes)
 }

@@ -4,10 +4,12 @@
 mod folder;
 mod fresh;
 mod hold;
+mod keeping;
 mod leftover;
 mod named;
 
-pub use folder::{Folder, replace};
-pub use fresh::write;
+pub use folder::{Folder, Old, replace};
+pub use fresh::{write, write_keeping};
 pub use hold::{held, stands};
-pub use named::{FoundFile, NamedFile};
+pub use keeping::{Beginning, is_kept};
+pub use named::{FoundFile, NamedFile, leads_to};

@@ -1,5 +1,5 @@
-//! Where a file stands that a command writes: its path behind symbolic links, its folder, and the name of the new file that is to take
-//! its place.
+//! Where a file stands that a command writes: its path behind symbolic links, its folder, the name of the new file that is to take
+//! its place, and the name under which the old one is kept.
 ghost use Rattle.std.specs.Io.{StartsWith};
 
 use crate::leftover::{BEGINNING, clear, is_new_name};
@@ -25,6 +25,8 @@ pub struct FoundFile {
     path: String,
     folder: String,
     fresh: String,
+    spare: String,
+    kept: String,
 }
 
 impl FoundFile {
@@ -41,6 +43,16 @@ impl FoundFile {
     /// The new file beside it: its name tells the program, the process and the time.
     pub fn fresh(&self) -> &str {
         self.fresh.as_str()
+    }
+
+    /// A second new file beside it, for a copy of the file.
+    pub fn spare(&self) -> &str {
+        self.spare.as_str()
+    }
+
+    /// The old file that is kept beside it: its path with a tilde behind it.
+    pub fn kept(&self) -> &str {
+        self.kept.as_str()
     }
 }
 
@@ -113,10 +125,14 @@ fn find(rt: &HostRuntime, name: &str) -> io::Result<FoundFile> {
     let folder = String::from_str(rt.alloc(), if folder.is_empty() { "./" } else { folder })?;
     clear(rt, folder.as_str())?;
     let fresh = fresh_in(rt, folder.as_str())?;
+    let spare = format!(in rt.alloc(); "{fresh}-0")?;
+    let kept = format!(in rt.alloc(); "{path}~")?;
     Ok(FoundFile {
         path,
         folder,
         fresh,
+        spare,
+        kept,
     })
 }
 
@@ -148,17 +164,9 @@ impl NamedFile {
         let Some(found) = &self.found else {
             return Ok(false);
         };
-        let Some(here) = unless_missing(fs::symlink_metadata(rt, found.path()))? else {
-            return Ok(false);
-        };
         for name in names {
-            if *name == "stdin" {
-                continue;
-            }
-            if let Some(there) = unless_missing(fs::metadata(rt, *name))? {
-                if is_same(&here, &there) {
-                    return Ok(true);
-                }
+            if *name != "stdin" && leads_to(rt, name, found.path())? {
+                return Ok(true);
             }
         }
         Ok(false)
@@ -173,17 +181,31 @@ impl NamedFile {
     /// Where the file stands.
     ///
     /// # Errors
-    /// That this is unknown.
+    /// That this is unknown, which isn't told as a file that isn't there.
     pub fn found(&self) -> io::Result<&FoundFile> {
         match &self.found {
             Some(found) => Ok(found),
-            None => Err(io::Error::from(ErrorKind::NotFound)),
+            None => Err(io::Error::from(ErrorKind::Other)),
         }
     }
 }
 
+/// Whether a name leads to the file that stands at a path. What isn't there is led to by no name.
+///
+/// # Errors
+/// A device failed.
+pub fn leads_to(rt: &HostRuntime, name: &str, path: &str) -> io::Result<bool> {
+    let Some(here) = unless_missing(fs::symlink_metadata(rt, path))? else {
+        return Ok(false);
+    };
+    match unless_missing(fs::metadata(rt, name))? {
+        Some(there) => Ok(is_same(&here, &there)),
+        None => Ok(false),
+    }
+}
+
 // What a look at a file told, if the file is there.
-fn unless_missing(looked: io::Result<Metadata>) -> io::Result<Option<Metadata>> {
+pub(crate) fn unless_missing(looked: io::Result<Metadata>) -> io::Result<Option<Metadata>> {
     match looked {
         Ok(metadata) => Ok(Some(metadata)),
         Err(error) if error.kind() == ErrorKind::NotFound => Ok(None),

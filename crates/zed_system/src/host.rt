@@ -1,0 +1,246 @@
+//! Real files and streams as a host.
+ghost use Rattle.std.specs.Prelude.{◌≡◌, None, false, is_err};
+ghost use Rattle.zed_host.specs.Counting.{Counts, Rose};
+ghost use Rattle.zed_system.specs.Counted.{called_in, failed_in, nothing_failed};
+
+use crate::place::{Place, Way};
+use crate::reading::{Stop, read_whole};
+use std::fs;
+use std::io::{self, ErrorKind, Write};
+use std::marker::Model;
+use zed_disk::NamedFile;
+use zed_host::{Host, ReadError, WriteError};
+
+/// Files by their paths; `stdin` and `stdout` are the streams. It doesn't tell what they hold. It writes the files that it is told of, and
+/// nothing else.
+#[derive(Drop)]
+pub struct SystemHost {
+    rt: HostRuntime,
+    places: Vec<Place>,
+    // the reads that failed for want of a file
+    missing: u64,
+    // the calls that failed otherwise
+    faults: u64,
+}
+
+impl Model for SystemHost {
+    ghost use Rattle.zed_system.specs.Counted.{Counted};
+
+    ghost Value = { Counted };
+
+    ghost view = { λ s. record { missing = s.missing; faults = s.faults } };
+}
+
+impl SystemHost {
+    /// A host for a command that writes no file.
+    pub fn new(rt: HostRuntime) -> SystemHost
+        ensures { result ≡ nothing_failed }
+    {
+        SystemHost {
+            rt,
+            places: Vec::new(rt.alloc()),
+            missing: 0,
+            faults: 0,
+        }
+    }
+
+    /// Lets the command write the file of a name. An edit file that stands there then is kept beside it, under its name and a tilde.
+    ///
+    /// A file that it gets to by another name already, or in another way, isn't written by this one, nor one that an earlier one would be
+    /// kept as. To tell of a name once more changes nothing.
+    ///
+    /// # Errors
+    /// `OutOfMemory` alone: all memory that a write takes is had here. What else fails is told where the file is written.
+    pub fn writes(&mut self, name: &str) -> io::Result<()>
+        ensures kept { self.new ≡ self.old }
+    {
+        let file = NamedFile::of(&self.rt, name)?;
+        self.admit(name, Place::new(file, Way::Writes))
+    }
+
+    /// Lets the command read the file of a name and write it again. From the read on it is held: nobody else replaces it before this
+    /// command has written it, or has ended.
+    ///
+    /// A file that it gets to by another name already, or in another way, is neither read nor written by this one. To tell of a name once
+    /// more changes nothing.
+    ///
+    /// # Errors
+    /// `OutOfMemory` alone, as of `writes`.
+    pub fn edits(&mut self, name: &str) -> io::Result<()>
+        ensures kept { self.new ≡ self.old }
+    {
+        let file = NamedFile::of(&self.rt, name)?;
+        self.admit(name, Place::new(file, Way::Edits))
+    }
+
+    /// Lets the command write the file of a name, where it reads others over links. If one of these is that file itself, by whatever name,
+    /// it is held from now on, as by `edits`, and else written as by `writes`. Where that can't be told nothing but a device is written
+    /// there.
+    ///
+    /// # Errors
+    /// `OutOfMemory` alone, as of `writes`.
+    pub fn joins(&mut self, name: &str, links: &[&str]) -> io::Result<()>
+        ensures kept { self.new ≡ self.old }
+    {
+        let file = NamedFile::of(&self.rt, name)?;
+        let place = match file.is_led_to(&self.rt, links) {
+            Ok(true) => Place::new(file, Way::Edits),
+            Ok(false) => Place::new(file, Way::Writes),
+            Err(error) if error.kind() == ErrorKind::OutOfMemory => return Err(error),
+            Err(_) => Place::new(file.lost(), Way::Writes),
+        };
+        self.admit(name, place)?;
+        self.hold(name);
+        Ok(())
+    }
+
+    // Holds the file of a name, if it is edited.
+    fn hold(&mut self, name: &str)
+        ensures kept { self.new ≡ self.old }
+    {
+        for place in self.places.iter_mut() {
+            if place.is_edited(name) {
+                place.hold(&self.rt);
+            }
+        }
+    }
+
+    // Adds a place, unless it is there. One that meets an earlier one is refused, since nobody may wait for a lock of its own.
+    fn admit(&mut self, name: &str, mut place: Place) -> io::Result<()>
+        ensures kept { self.new ≡ self.old }
+    {
+        if self.has(name, &place) {
+            return Ok(());
+        }
+        if self.is_met(name, &place) {
+            place.refuse();
+        }
+        self.places.push(place)?;
+        Ok(())
+    }
+
+    // Whether there is a place of this name already to which the command gets in the same way.
+    fn has(&self, name: &str, place: &Place) -> bool {
+        self.places
+            .iter()
+            .any(|earlier| earlier.is_of(name) && earlier.is_as(place))
+    }
+
+    // Whether a place of this name meets an earlier one, or that can't be told.
+    fn is_met(&self, name: &str, place: &Place) -> bool {
+        for earlier in &self.places {
+            if !matches!(place.meets(&self.rt, name, earlier), Ok(false)) {
+                return true;
+            }
+        }
+        false
+    }
+
+    // The place of a name, unless one of this name is refused.
+    fn place_of(&self, name: &str) -> io::Result<&Place> {
+        let mut found = Err(io::Error::from(ErrorKind::Unsupported));
+        for place in &self.places {
+            if place.is_of(name) {
+                if place.is_refused() {
+                    return Err(io::Error::from(ErrorKind::ResourceBusy));
+                }
+                found = Ok(place);
+            }
+        }
+        found
+    }
+
+    // Reads the file of a name.
+    fn read_named(&mut self, name: &str) -> Result<Vec<u8>, Stop>
+        ensures kept { self.new ≡ self.old }
+    {
+        let alloc = self.rt.alloc();
+        if name == "stdin" {
+            return read_whole(alloc, &mut self.rt.stdin());
+        }
+        for place in self.places.iter_mut() {
+            if place.is_edited(name) {
+                return place.read(&self.rt, name);
+            }
+        }
+        let bytes = read_whole(alloc, &mut fs::open(&self.rt, name)?)?;
+        for place in self.places.iter_mut() {
+            place.was_read(&self.rt, name)?;
+        }
+        Ok(bytes)
+    }
+
+    // Writes the file of a name.
+    fn write_named(&self, name: &str, bytes: &[u8]) -> io::Result<()> {
+        if name == "stdout" {
+            return self.rt.stdout().write_all(bytes);
+        }
+        self.place_of(name)?.write(&self.rt, name, bytes)
+    }
+}
+
+// Counts a call that failed.
+fn count(counter: &mut u64)
+    ensures { Rose counter.old counter.new }
+{
+    *counter = counter.saturating_add(1);
+}
+
+// Counts a write that failed.
+fn counted(faults: &mut u64, written: io::Result<()>) -> Result<(), WriteError>
+    ensures { Counts (is_err result) faults.old faults.new }
+{
+    if written.is_ok() {
+        return Ok(());
+    }
+    count(faults);
+    Err(WriteError)
+}
+
+impl Host for SystemHost {
+    ghost contents = { λ _. None };
+
+    ghost failed = { failed_in };
+
+    ghost faults = { λ s. s.faults };
+
+    ghost called = { called_in };
+
+    fn read(&mut self, name: &str) -> Result<Vec<u8>, ReadError> {
+        match self.read_named(name) {
+            Ok(bytes) => Ok(bytes),
+            Err(Stop::Memory) => Err(ReadError::Memory),
+            Err(Stop::Missing) => {
+                count(&mut self.missing);
+                Err(ReadError::NoFile)
+            }
+            Err(Stop::Device) => {
+                count(&mut self.faults);
+                Err(ReadError::File)
+            }
+        }
+    }
+
+    fn write(&mut self, name: &str, bytes: &[u8]) -> Result<(), WriteError> {
+        let written = self.write_named(name, bytes);
+        counted(&mut self.faults, written)
+    }
+
+    fn print(&mut self, bytes: &[u8]) -> Result<(), WriteError> {
+        let written = self.rt.stdout().write_all(bytes);
+        counted(&mut self.faults, written)
+    }
+
+    fn complain(&mut self, bytes: &[u8]) -> Result<(), WriteError> {
+        let written = self.rt.stderr().write_all(bytes);
+        counted(&mut self.faults, written)
+    }
+
+    fn failures(&self) -> u64 {
+        self.faults.saturating_add(self.missing)
+    }
+
+    ghost counts_failures = { λ old call new is. is.0 };
+
+    ghost counts_no_fault = { λ old call new is. is.1 };
+}
