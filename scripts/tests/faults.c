@@ -1,8 +1,8 @@
 /* For LD_PRELOAD: lets one call of a program fail, or ends the program there, and tells what it did. It stands on no header.
    $FAULT is `KIND NTH HOW`: of the calls of this kind the one of this number fails (HOW is `fail`), the program is ended before it (`end`), or
-   half of its bytes are written and then the program is ended (`half`). KIND is growth, open, list, read, write, sync, rename, lock, look, mode, or
-   any for each of these. Once that has come, $FAULT_MET has a line with the call's kind and file. Each call that changes what a folder
-   holds, and each write, adds a line to $FAULT_TRACE. */
+   half of its bytes are written and then the program is ended (`half`). KIND is growth, open, list, read, write, sync, rename, link, unlink, lock, look,
+   mode, or any for each of these. Once that has come, $FAULT_MET has a line with the call's kind and file. Each call that changes what a folder
+   holds, and each write, adds a line to $FAULT_TRACE. Where $FAULT_LINKS is set, no file gets a second name, as on some file systems. */
 typedef unsigned long size;
 struct statx;
 
@@ -15,6 +15,7 @@ extern int getpid(void);
 extern int kill(int, int);
 
 #define NEXT(name) ((__typeof__(&name)) dlsym((void *) -1, #name))
+#define EPERM 1
 #define EIO 5
 #define ENOSPC 28
 #define SIGKILL 9
@@ -145,6 +146,19 @@ int rename(const char *from, const char *to) {
     if (is_met("rename", from)) return (int) failed(EIO);
     tell("FAULT_TRACE", "rename", from, to);
     return NEXT(rename)(from, to);
+}
+
+int link(const char *from, const char *to) {
+    if (is_met("link", from)) return (int) failed(EIO);
+    if (getenv("FAULT_LINKS")) return (int) failed(EPERM);
+    tell("FAULT_TRACE", "link", from, to);
+    return NEXT(link)(from, to);
+}
+
+int unlink(const char *path) {
+    if (is_met("unlink", path)) return (int) failed(EIO);
+    tell("FAULT_TRACE", "unlink", path, 0);
+    return NEXT(unlink)(path);
 }
 
 int flock(int file, int wanted) { return is_met("lock", path_of(file)) ? (int) failed(EIO) : NEXT(flock)(file, wanted); }
