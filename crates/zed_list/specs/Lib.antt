@@ -1,0 +1,3 @@
+pub mod Boards
+pub mod Program
+pub mod Stats
