@@ -1,3 +1,4 @@
 pub mod Boards
+pub mod Laws
 pub mod Program
 pub mod Stats

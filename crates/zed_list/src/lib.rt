@@ -2,10 +2,12 @@
 #![tactic(auto)]
 
 mod board_lines;
+mod laws;
 mod program_lines;
 mod put;
 mod stat_lines;
 
 pub use board_lines::boards;
+pub use laws::{each_is_on_its_line, lines_are_the_program};
 pub use program_lines::program;
 pub use stat_lines::stats;
