@@ -5,7 +5,8 @@ use Rattle.zed_edit.specs.declared.plain.Plain.{Plain}
 use Rattle.zed_edit.specs.Numbers.{board_numbered}
 use Rattle.zed_edit.specs.Replay.{replay}
 use Rattle.zed_export.specs.declared.error.ExportError.{ExportError}
-use Rattle.zed_export.specs.Limits.{exported}
+use Rattle.zed_export.specs.Limits.{refusal_of}
+use Rattle.zed_export.specs.World.{world_of}
 use Rattle.zed_files.specs.declared.refusal.Refusal.{Refusal}
 use Rattle.zed_files.specs.declared.refusal.Refusal.TheVariants.{File, NoBoard, NoSuch, OutOfRange}
 use Rattle.zed_files.specs.Refusals.{IsOffStage, export_refusal}
@@ -25,7 +26,7 @@ use Rattle.zed_telling.specs.declared.sought.Cell.{Cell}
 use Rattle.zed_telling.specs.declared.sought.Sought.{Sought}
 use Rattle.zed_telling.specs.declared.telling.Telling.{Telling}
 use Rattle.zed_telling.specs.declared.telling.Telling.TheVariants.{Edits, Numbers}
-use Rattle.zed_telling.specs.Listed.{listed, listed_of, program_of, program_on, ranks_of, stats_of}
+use Rattle.zed_telling.specs.Listed.{listed, program_of, program_on, ranks_of, stats_of, unless_over}
 use Rattle.zed_telling.specs.Logged.{board_or_none, board_sought, cell_at, cell_on, cell_sought, log_with, named_board, place_of, sought_of, sought_with, there}
 use Rattle.zed_telling.specs.Told.{text_of}
 
@@ -72,9 +73,9 @@ listed_plain ranks w Boards e is = absurd cc
 listed_plain ranks w (Stats b) e is = stats_plain (slice_get w.boards b) e is
 listed_plain ranks w (Program b s) e is = program_on_plain (slice_get w.boards b) s e is
 
-list_plain : (ranks : List ℕ) (listing : Listing) (w : Result Contents ExportError) → RefusesPlainly (listed_of ranks listing w)
-list_plain ranks listing (Err x) e is = same_plain e (export_refusal x) cc (export_plain x)
-list_plain ranks listing (Ok w) e is = listed_plain ranks w listing e is
+list_plain : (over : Option ExportError) (told : Result (List ℕ) Refusal) → RefusesPlainly told → RefusesPlainly (unless_over over told)
+list_plain None told plain e is = plain e is
+list_plain (Some x) told plain e is = same_plain e (export_refusal x) cc (export_plain x)
 
 -- ---- what is logged
 
@@ -120,7 +121,7 @@ log_plain es (Ok sought) plain e is = absurd cc
 -- ---- what is told
 
 text_plain : (telling : Telling) (es : List Edit) → RefusesPlainly (text_of telling es)
-text_plain (Numbers listing) es e is = list_plain (ranks_of (replay es)) listing (exported 32767 (replay es)) e is
+text_plain (Numbers listing) es e is = list_plain (refusal_of 32767 (replay es)) (listed (ranks_of (replay es)) (world_of (replay es)) listing) (listed_plain (ranks_of (replay es)) (world_of (replay es)) listing) e is
 text_plain (Edits f) es e is =
     log_plain es (sought_of (replay es) f) (with_plain f.replica f.since (board_sought (replay es) f.board) (cell_sought (replay es) f.cell) (board_plain (replay es) f.board) (cell_plain (replay es) f.cell)) e is
 

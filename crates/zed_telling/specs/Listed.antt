@@ -8,7 +8,8 @@ use Rattle.zed_edit.specs.declared.plain.Plain.{Plain}
 use Rattle.zed_edit.specs.Numbers.{alive_boards}
 use Rattle.zed_edit.specs.Replay.{replay}
 use Rattle.zed_export.specs.declared.error.ExportError.{ExportError}
-use Rattle.zed_export.specs.Limits.{exported}
+use Rattle.zed_export.specs.Limits.{refusal_of}
+use Rattle.zed_export.specs.World.{world_of}
 use Rattle.zed_list.specs.Boards.{boards_text}
 use Rattle.zed_list.specs.Program.{program_text}
 use Rattle.zed_list.specs.Stats.{stats_text}
@@ -43,11 +44,11 @@ listed ranks w Boards = Ok (boards_text ranks w)
 listed ranks w (Stats b) = stats_of (slice_get w.boards b)
 listed ranks w (Program b s) = program_on (slice_get w.boards b) s
 
--- what is listed of an exported world, or the limit that it is over
-abbrev pub listed_of : List ℕ → Listing → Result Contents ExportError → Result (List ℕ) Refusal
-listed_of ranks listing (Err e) = Err (export_refusal e)
-listed_of ranks listing (Ok w) = listed ranks w listing
+-- what is listed of a world that goes over no limit, or the refusal for its limit
+abbrev pub unless_over : Option ExportError → Result (List ℕ) Refusal → Result (List ℕ) Refusal
+unless_over None told = told
+unless_over (Some e) told = Err (export_refusal e)
 
 -- what is listed of the world of a set of edits, of at most 32,767 bytes a body; or the first refusal
 abbrev pub list_of : Listing → List Edit → Result (List ℕ) Refusal
-list_of listing es = listed_of (ranks_of (replay es)) listing (exported 32767 (replay es))
+list_of listing es = unless_over (refusal_of 32767 (replay es)) (listed (ranks_of (replay es)) (world_of (replay es)) listing)
