@@ -15,19 +15,31 @@ use std::{fs, io};
 use test_rows::{Asked, Line, exit_of, is_skipped};
 use zed_host::{Host, MemoryHost};
 
-// Has a file stand in the host, of at most so many bytes.
-fn stand(rt: &HostRuntime, host: &mut MemoryHost, name: &str, most: usize) -> io::Result<bool> {
-    let bytes = fs::read(rt, name)?;
+// Has a file stand in the host, of at most so many bytes. It lies in the folder of the rows.
+fn stand(
+    rt: &HostRuntime,
+    host: &mut MemoryHost,
+    folder: &str,
+    name: &str,
+    most: usize,
+) -> io::Result<bool> {
+    let place = format!(in rt.alloc(); "{folder}{name}")?;
+    let bytes = fs::read(rt, place.as_str())?;
     let kept = most.min(bytes.len());
     Ok(host.write(name, &bytes[..kept]).is_ok())
 }
 
 // Does a row that has files stand in the host, if it is one.
-fn do_file(rt: &HostRuntime, host: &mut MemoryHost, row: &str) -> io::Result<Option<bool>> {
+fn do_file(
+    rt: &HostRuntime,
+    host: &mut MemoryHost,
+    folder: &str,
+    row: &str,
+) -> io::Result<Option<bool>> {
     let mut words = Line::new(row);
     match (words.word(), words.word(), words.size()) {
-        (Ok("file"), Ok(name), Err(_)) => Ok(Some(stand(rt, host, name, usize::MAX)?)),
-        (Ok("cut"), Ok(name), Ok(most)) => Ok(Some(stand(rt, host, name, most)?)),
+        (Ok("file"), Ok(name), Err(_)) => Ok(Some(stand(rt, host, folder, name, usize::MAX)?)),
+        (Ok("cut"), Ok(name), Ok(most)) => Ok(Some(stand(rt, host, folder, name, most)?)),
         _ => Ok(None),
     }
 }
@@ -53,16 +65,25 @@ fn do_command(
     Ok(is_well)
 }
 
+// The folder of a file, with the `/` behind it.
+fn folder_of(file: &str) -> &str {
+    match file.rsplit_once('/') {
+        Some((_, name)) => file.strip_suffix(name).unwrap_or(""),
+        None => "",
+    }
+}
+
 // Goes through the rows of a file; whether all are well.
 fn go_through(rt: &HostRuntime, is_refusing: bool, file: &str) -> io::Result<bool> {
     let text = fs::read_to_string(rt, file)?;
+    let folder = folder_of(file);
     let mut host = MemoryHost::new(rt.alloc(), u64::MAX);
     let mut all_is_well = true;
     for row in text.lines() {
         if is_skipped(row) {
             continue;
         }
-        let is_well = match do_file(rt, &mut host, row)? {
+        let is_well = match do_file(rt, &mut host, folder, row)? {
             Some(stands) => stands,
             None => do_command(rt, &mut host, is_refusing, row)?,
         };

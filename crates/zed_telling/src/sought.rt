@@ -1,7 +1,7 @@
 //! Which edits are asked for, in a document: its boards by their names.
-ghost use Rattle.std.specs.Prelude.{◌≡◌, ◌×◌, false};
+ghost use Rattle.std.specs.Prelude.{◌≡◌, false};
 ghost use Rattle.zed_edit.specs.Replay.{replay};
-ghost use Rattle.zed_telling.specs.Logged.{board_sought, cell_sought, named_board, place_of, sought_of as sought_in};
+ghost use Rattle.zed_telling.specs.Logged.{board_sought, cell_at, cell_sought, named_board, place_of, sought_of as sought_in};
 
 use crate::filter::Filter;
 use zed_document::Document;
