@@ -57,15 +57,15 @@ RefusesPlainly r = (e : Refusal) → r ≡ Err e → IsPlain e
 -- ---- what is listed
 
 stats_plain : (b : Option BoardData) → RefusesPlainly (stats_of b)
-stats_plain None e is = same_plain e NoBoard cc no_board
+stats_plain None e is = same_plain e NoBoard (cc) no_board
 stats_plain (Some b) e is = absurd cc
 
 program_plain : (b : BoardData) (s : Option StatData) → RefusesPlainly (program_of b s)
-program_plain b None e is = same_plain e NoSuch cc no_such
+program_plain b None e is = same_plain e NoSuch (cc) no_such
 program_plain b (Some s) e is = absurd cc
 
 program_on_plain : (b : Option BoardData) (s : ℕ) → RefusesPlainly (program_on b s)
-program_on_plain None s e is = same_plain e NoBoard cc no_board
+program_on_plain None s e is = same_plain e NoBoard (cc) no_board
 program_on_plain (Some b) s e is = program_plain b (slice_get b.stats s) e is
 
 listed_plain : (ranks : List ℕ) (w : Contents) (listing : Listing) → RefusesPlainly (listed ranks w listing)
@@ -75,25 +75,25 @@ listed_plain ranks w (Program b s) e is = program_on_plain (slice_get w.boards b
 
 list_plain : (over : Option ExportError) (told : Result (List ℕ) Refusal) → RefusesPlainly told → RefusesPlainly (unless_over over told)
 list_plain None told plain e is = plain e is
-list_plain (Some x) told plain e is = same_plain e (export_refusal x) cc (export_plain x)
+list_plain (Some x) told plain e is = same_plain e (export_refusal x) (cc) (export_plain x)
 
 -- ---- what is logged
 
 board_or_plain : (b : Option BoardId) → RefusesPlainly (board_or_none b)
-board_or_plain None e is = same_plain e NoBoard cc no_board
+board_or_plain None e is = same_plain e NoBoard (cc) no_board
 board_or_plain (Some b) e is = absurd cc
 
 there_plain : {X : Type 0} (r : Result X Refusal) → RefusesPlainly r → RefusesPlainly (there r)
 there_plain (Ok x) plain e is = absurd cc
-there_plain (Err f) plain e is = same_plain e f cc (plain f refl)
+there_plain (Err f) plain e is = same_plain e f (cc) (plain f refl)
 
 board_plain : (p : Plain) (n : Option ℕ) → RefusesPlainly (board_sought p n)
 board_plain p None e is = absurd cc
 board_plain p (Some n) e is = there_plain (named_board p n) (board_or_plain (board_numbered p n)) e is
 
 cell_on_plain : (place : Result Place Refusal) (board : Result BoardId Refusal) → RefusesPlainly place → RefusesPlainly board → RefusesPlainly (cell_on place board)
-cell_on_plain (Err f) board first second e is = same_plain e f cc (first f refl)
-cell_on_plain (Ok place) (Err f) first second e is = same_plain e f cc (second f refl)
+cell_on_plain (Err f) board first second e is = same_plain e f (cc) (first f refl)
+cell_on_plain (Ok place) (Err f) first second e is = same_plain e f (cc) (second f refl)
 cell_on_plain (Ok place) (Ok board) first second e is = absurd cc
 
 place_plain : (x y : ℕ) → RefusesPlainly (place_of x y)
@@ -101,7 +101,7 @@ place_plain x y e is = go (nat_le 1 x && nat_le x 60 && nat_le 1 y && nat_le y 2
   where
     go : (t : Bool) (at : Place) → cond t (Ok at) (Err OutOfRange) ≡ Err e → IsPlain e
     go true at is = absurd cc
-    go false at is = same_plain e OutOfRange cc out_of_range
+    go false at is = same_plain e OutOfRange (cc) out_of_range
 
 cell_plain : (p : Plain) (c : Option (ℕ × ℕ × ℕ)) → RefusesPlainly (cell_sought p c)
 cell_plain p None e is = absurd cc
@@ -110,12 +110,12 @@ cell_plain p (Some (n, x, y)) e is =
 
 with_plain : (replica since : Option ℕ) (board : Result (Option BoardId) Refusal) (cell : Result (Option Cell) Refusal) → RefusesPlainly board → RefusesPlainly cell
     → RefusesPlainly (sought_with replica since board cell)
-with_plain replica since (Err f) cell first second e is = same_plain e f cc (first f refl)
-with_plain replica since (Ok board) (Err f) first second e is = same_plain e f cc (second f refl)
+with_plain replica since (Err f) cell first second e is = same_plain e f (cc) (first f refl)
+with_plain replica since (Ok board) (Err f) first second e is = same_plain e f (cc) (second f refl)
 with_plain replica since (Ok board) (Ok cell) first second e is = absurd cc
 
 log_plain : (es : List Edit) (sought : Result Sought Refusal) → RefusesPlainly sought → RefusesPlainly (log_with es sought)
-log_plain es (Err f) plain e is = same_plain e f cc (plain f refl)
+log_plain es (Err f) plain e is = same_plain e f (cc) (plain f refl)
 log_plain es (Ok sought) plain e is = absurd cc
 
 -- ---- what is told
