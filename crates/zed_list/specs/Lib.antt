@@ -1,0 +1,4 @@
+pub mod Boards
+pub mod Laws
+pub mod Program
+pub mod Stats

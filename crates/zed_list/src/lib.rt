@@ -1,0 +1,13 @@
+//! Lines that tell the numbers of a world: its boards, the stats of a board, and the lines of a program. docs/LIST.md has their forms.
+#![tactic(auto)]
+
+mod board_lines;
+mod laws;
+mod program_lines;
+mod put;
+mod stat_lines;
+
+pub use board_lines::boards;
+pub use laws::{each_is_on_its_line, lines_are_the_program};
+pub use program_lines::program;
+pub use stat_lines::stats;

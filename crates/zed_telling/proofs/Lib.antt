@@ -1,0 +1,4 @@
+pub mod Endings
+pub mod Exported
+pub mod Others
+pub mod Unfiltered

@@ -1,0 +1,14 @@
+-- What the law on filters promises.
+use Rattle.std.specs.Prelude.{◌≡◌, List, None, Ok}
+use Rattle.zed_op.specs.declared.op.Edit.{Edit}
+use Rattle.zed_log.specs.Laws.{marked_log}
+use Rattle.zed_telling.specs.declared.filter.Filter.{Filter}
+use Rattle.zed_telling.specs.Logged.{is_held, log_of}
+
+-- a filter that asks for nothing
+abbrev pub no_filter : Filter
+no_filter = record { board = None; cell = None; replica = None; since = None }
+
+-- where nothing is asked for, there is a line for each edit, with a mark in front of those that are held
+abbrev pub TellsAllUnfiltered : Type 0
+TellsAllUnfiltered = (es : List Edit) → log_of no_filter es ≡ Ok (marked_log (is_held es) es)

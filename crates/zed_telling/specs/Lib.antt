@@ -1,0 +1,5 @@
+pub mod Edits
+pub mod Laws
+pub mod Listed
+pub mod Logged
+pub mod Told
