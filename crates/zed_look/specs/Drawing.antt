@@ -1,5 +1,6 @@
 -- What is shown of a board, place by place.
-use Rattle.std.specs.Prelude.{◌≡◌, ℕ, pos, ◌+◌, ◌-◌, ◌<◌, Bool, ◌&&◌, ◌||◌, ◌==◌, if◌then◌else◌, find, List, length, slice_get, Option, Some, None, MatchOption}
+use Rattle.std.specs.Prelude.{ℕ, pos, ◌+◌, ◌-◌, Bool, ◌&&◌, ◌||◌, ◌==◌, if◌then◌else◌, find, List, map, Option, Some, None}
+use Rattle.std.specs.List.{range_with_len}
 use Rattle.zed_types.specs.declared.tile.Place.{Place}
 use Rattle.zed_types.specs.declared.tile.Tile.{Tile}
 use Rattle.zed_scene.specs.declared.stat.Stat.{Stat}
@@ -80,22 +81,14 @@ played_at p row column = scene_at p.game.scene p.tick row column
 
 -- ---- pictures by what is shown in a row and a column
 
--- these are the 60 places of a row
-abbrev pub IsRow : (ℕ → ℕ → Spot) → ℕ → List Spot → Type 0
-IsRow f row spots = (length spots ≡ 60) × ((column : ℕ) → column < 60 → slice_get spots column ≡ Some (f row column))
+-- the 60 places of a row
+unfoldable pub row_of : (ℕ → ℕ → Spot) → ℕ → List Spot
+row_of f row = map (f row) (range_with_len 0 60)
 
--- these are the first n rows
-abbrev pub AreRows : (ℕ → ℕ → Spot) → ℕ → List (List Spot) → Type 0
-AreRows f n rows = (row : ℕ) → row < n → (spots : List Spot) × ((slice_get rows row ≡ Some spots) × IsRow f row spots)
+-- the picture of 25 rows
+unfoldable pub picture_of : (ℕ → ℕ → Spot) → Picture
+picture_of f = record { rows = map (row_of f) (range_with_len 0 25) }
 
--- a picture shows this: 25 rows of 60 places
-abbrev pub Shows : (ℕ → ℕ → Spot) → Picture → Type 0
-Shows f picture = (length picture.rows ≡ 25) × AreRows f 25 picture.rows
-
--- a picture shows the board of this number as it is before it is played
-abbrev pub ShowsBoard : List BoardData → ℕ → Picture → Type 0
-ShowsBoard boards n picture = (b : BoardData) × ((slice_get boards n ≡ Some b) × Shows (shown_at b 0) picture)
-
--- so it does, or there is no such board
-abbrev pub DrawsBoard : List BoardData → ℕ → Option Picture → Type 0
-DrawsBoard boards n result = MatchOption result (slice_get boards n ≡ None) (λ picture. ShowsBoard boards n picture)
+-- the picture of a board in a tick
+abbrev pub board_picture : ℕ → BoardData → Picture
+board_picture tick b = picture_of (shown_at b tick)

@@ -6,4 +6,5 @@ pub mod Drawing
 pub mod Plain
 pub mod Coloured
 pub mod Svg
+pub mod Form
 pub mod Laws

@@ -1,6 +1,6 @@
 -- How a tile looks in ZZT 3.2: its character of code page 437, and its attribute. The numbers are ZZT's, as its editor shows a board, with
 -- dark boards lit; they are known from the public Reconstruction of ZZT (its table of elements, and the procedures that draw them).
-use Rattle.std.specs.Prelude.{ℕ, pos, negsuc, ◌+◌, ◌-◌, ◌*◌, ◌/◌, ◌%◌, ◌&&◌, ◌||◌, ◌==◌, nat_le, nat_lt, if◌then◌else◌, List, [], ◌∷◌, slice_index_or}
+use Rattle.std.specs.Prelude.{ℕ, ℤ, pos, negsuc, ◌+◌, ◌-◌, ◌*◌, ◌/◌, ◌%◌, ◌&&◌, ◌||◌, ◌==◌, nat_le, nat_lt, if◌then◌else◌, List, [], ◌∷◌, slice_index_or}
 use Rattle.std.specs.Ordering.{int_eq}
 use Rattle.zed_types.specs.declared.tile.Tile.{Tile}
 use Rattle.zed_look.specs.declared.look.Pose.{Pose}
@@ -35,12 +35,12 @@ abbrev pub bomb : ℕ → ℕ
 bomb p1 = if nat_le p1 1 then 11 else (p1 + 48) % 256
 
 -- one of four characters
-abbrev pub arm : ℕ → ℕ → ℕ → ℕ → ℕ → ℕ
-arm a b c d k = if k == 0 then a else if k == 1 then b else if k == 2 then c else d
+abbrev pub fourth : ℕ → ℕ → ℕ → ℕ → ℕ → ℕ
+fourth a b c d k = if k == 0 then a else if k == 1 then b else if k == 2 then c else d
 
 -- a star by the tick
 abbrev pub star : ℕ → ℕ
-star tick = arm 179 47 196 92 (tick % 4)
+star tick = fourth 179 47 196 92 (tick % 4)
 
 -- a conveyor that turns clockwise, in a tick
 abbrev pub clockwise : ℕ → ℕ
@@ -48,11 +48,11 @@ clockwise tick = star (tick / 3)
 
 -- a conveyor that turns counter-clockwise, in a tick
 abbrev pub counter : ℕ → ℕ
-counter tick = arm 92 196 47 179 (tick / 2 % 4)
+counter tick = fourth 92 196 47 179 (tick / 2 % 4)
 
 -- a spinning gun in a tick
 abbrev pub gun : ℕ → ℕ
-gun tick = arm 24 26 25 27 (tick / 2 % 4)
+gun tick = fourth 24 26 25 27 (tick / 2 % 4)
 
 -- a pusher by the step of its stat
 abbrev pub pusher : Pose → ℕ
@@ -63,17 +63,26 @@ pusher p =
 abbrev pub frame : ℕ → ℕ → ℕ
 frame tick cycle = if cycle == 0 then 0 else tick / cycle % 4
 
--- a transporter by the step of its stat, in a tick; of other steps ZZT shows what its memory happens to hold, and here element 30's own
+-- the characters of transporters to the north and south, and to the west and east
+abbrev pub upright : List ℕ
+upright = 94 ∷ 126 ∷ 94 ∷ 45 ∷ 118 ∷ 95 ∷ 118 ∷ 95 ∷ []
+
+abbrev pub level : List ℕ
+level = 40 ∷ 60 ∷ 40 ∷ 179 ∷ 41 ∷ 62 ∷ 41 ∷ 179 ∷ []
+
+-- one of eight characters: a step of -1 begins with the first of them, and each step more two later. Where there is none ZZT shows what its
+-- memory happens to hold, and here it is element 30's own
+abbrev pub eighth : List ℕ → ℤ → ℕ → ℕ
+eighth eight step k =
+    if int_eq step (negsuc 0) then slice_index_or eight k 197
+    else if int_eq step (pos 0) then slice_index_or eight (2 + k) 197
+    else if int_eq step (pos 1) then slice_index_or eight (4 + k) 197
+    else if int_eq step (pos 2) then slice_index_or eight (6 + k) 197 else 197
+
+-- a transporter by the step of its stat, in a tick
 abbrev pub transporter : Pose → ℕ → ℕ
 transporter p tick =
-    let k = frame tick p.cycle in
-    if int_eq p.step_x (negsuc 0) then arm 40 60 40 179 k
-    else if int_eq p.step_x (pos 1) then arm 41 62 41 179 k
-    else if int_eq p.step_x (pos 0) then
-    (if int_eq p.step_y (negsuc 0) then arm 94 126 94 45 k
-    else if int_eq p.step_y (pos 0) then arm 94 45 118 95 k
-    else if int_eq p.step_y (pos 1) then arm 118 95 118 95 k else 197)
-    else 197
+    if int_eq p.step_x (pos 0) then eighth upright p.step_y (frame tick p.cycle) else eighth level p.step_x (frame tick p.cycle)
 
 -- the sixteen line walls by what they join: 1 for north, 2 for south, 4 for west and 8 for east
 abbrev pub lines : List ℕ

@@ -1,8 +1,8 @@
 //! Pictures of boards, place by place.
-ghost use Rattle.std.specs.Prelude.{◌≡◌, ◌<◌, ◌≤◌, find, option_map, slice_set};
+ghost use Rattle.std.specs.Prelude.{◌≡◌, ◌<◌, ◌≤◌, find, option_map, slice_get, slice_set};
 ghost use Rattle.zed_scene.specs.Scene.{same_place};
 ghost use Rattle.zed_play.specs.Opening.{cycle_in};
-ghost use Rattle.zed_look.specs.Drawing.{DrawsBoard, IsRow, Shows, in_play, joined_at, joins, no_pose, place_of, played_at, played_pose, pose_in, pose_of, scene_at, scene_pose, shown_at, shown_of, stands_at, weight};
+ghost use Rattle.zed_look.specs.Drawing.{board_picture, in_play, joined_at, joins, no_pose, picture_of, place_of, played_at, played_pose, pose_in, pose_of, row_of, scene_at, scene_pose, shown_at, shown_of, stands_at, weight};
 
 use crate::look::{Picture, Pose, Spot};
 use crate::tiles::spot_of;
@@ -219,7 +219,7 @@ fn put_row(rows: &mut [[Spot; 60]; 25], row: usize, spots: [Spot; 60])
 #[tactic(auto, using(crate::proofs::Filling::one_more))]
 fn row_of(board: &BoardData, tick: u16, row: usize) -> [Spot; 60]
     requires { row < 25 }
-    ensures { IsRow (shown_at board.now tick) row result }
+    ensures { result ≡ row_of (shown_at board.now tick) row }
 {
     let mut spots = [BLANK; 60];
     for column in 0..60_usize {
@@ -230,7 +230,7 @@ fn row_of(board: &BoardData, tick: u16, row: usize) -> [Spot; 60]
 
 /// The picture of a board in a tick, by which some elements turn; 0 serves for one that isn't played. It takes no memory.
 pub fn draw(board: &BoardData, tick: u16) -> Picture
-    ensures result { Shows (shown_at board.now tick) result }
+    ensures { result ≡ board_picture tick board.now }
 {
     let mut rows = [[BLANK; 60]; 25];
     for row in 0..25_usize {
@@ -239,10 +239,11 @@ pub fn draw(board: &BoardData, tick: u16) -> Picture
     Picture { rows }
 }
 
+/// A row of the picture of a board in play, counted from 0. It takes no memory.
 #[tactic(auto, using(crate::proofs::Filling::one_more))]
-fn played_row(play: &Play, row: usize) -> [Spot; 60]
+pub fn draw_play_row(play: &Play, row: usize) -> [Spot; 60]
     requires { row < 25 }
-    ensures { IsRow (played_at play.now) row result }
+    ensures { result ≡ row_of (played_at play.now) row }
 {
     let mut spots = [BLANK; 60];
     for column in 0..60_usize {
@@ -253,11 +254,11 @@ fn played_row(play: &Play, row: usize) -> [Spot; 60]
 
 /// The picture of a board in play. It takes no memory.
 pub fn draw_play(play: &Play) -> Picture
-    ensures result { Shows (played_at play.now) result }
+    ensures { result ≡ picture_of (played_at play.now) }
 {
     let mut rows = [[BLANK; 60]; 25];
     for row in 0..25_usize {
-        put_row(&mut rows, row, played_row(play, row));
+        put_row(&mut rows, row, draw_play_row(play, row));
     }
     Picture { rows }
 }
@@ -265,7 +266,7 @@ pub fn draw_play(play: &Play) -> Picture
 /// The picture of the board of this number, 0 for the title, as it is before it is played; or None where the world has no such board.
 /// It takes no memory.
 pub fn draw_board(world: &World, board: usize) -> Option<Picture>
-    ensures result { DrawsBoard world.now.boards board result }
+    ensures { result ≡ option_map (board_picture 0) (slice_get world.now.boards board) }
 {
     match world.boards().get(board) {
         None => None,

@@ -1,6 +1,6 @@
 //! How a tile looks.
 ghost use Rattle.std.specs.Prelude.{◌≡◌, ◌<◌, slice_index_or};
-ghost use Rattle.zed_look.specs.Tiles.{arm, attribute_of, bomb, character_of, clockwise, counter, duplicator, frame, gun, line, next_star, pusher, spot_of, star, still, transporter};
+ghost use Rattle.zed_look.specs.Tiles.{attribute_of, bomb, character_of, clockwise, counter, duplicator, eighth, frame, gun, level, line, next_star, pusher, spot_of, star, still, transporter, upright};
 
 use crate::look::{Pose, Spot};
 use zed_types::Tile;
@@ -107,15 +107,34 @@ fn frame(tick: u16, cycle: u16) -> u16
     if cycle == 0 { 0 } else { tick / cycle % 4 }
 }
 
-/// One of four characters.
-fn arm(first: u8, second: u8, third: u8, fourth: u8, k: u16) -> u8
-    ensures { result ≡ arm first second third fourth k }
+/// The characters of transporters to the north and south.
+const UPRIGHT: [u8; 8] = [94, 126, 94, 45, 118, 95, 118, 95];
+
+/// The same to the west and east.
+const LEVEL: [u8; 8] = [40, 60, 40, 179, 41, 62, 41, 179];
+
+/// The character of a number in a table, or a transporter's own.
+fn one_of(table: &[u8], index: usize) -> u8
+    ensures { result ≡ slice_index_or table.now index 197 }
 {
-    match k {
-        0 => first,
-        1 => second,
-        2 => third,
-        _ => fourth,
+    match table.get(index) {
+        Some(character) => *character,
+        None => 197,
+    }
+}
+
+/// One of eight characters by a step: -1 begins with the first of them, and each step more two later.
+fn eighth(eight: &[u8], step: i16, k: u16) -> u8
+    requires { k < 4 }
+    ensures { result ≡ eighth eight.now step k }
+{
+    let k = usize::from(k);
+    match step {
+        -1 => one_of(eight, k),
+        0 => one_of(eight, 2 + k),
+        1 => one_of(eight, 4 + k),
+        2 => one_of(eight, 6 + k),
+        _ => 197,
     }
 }
 
@@ -123,20 +142,10 @@ fn transporter(pose: Pose, tick: u16) -> u8
     ensures { result ≡ transporter pose tick }
 {
     let k = frame(tick, pose.cycle);
-    if pose.step_x == -1 {
-        arm(40, 60, 40, 179, k)
-    } else if pose.step_x == 1 {
-        arm(41, 62, 41, 179, k)
-    } else if pose.step_x != 0 {
-        197
-    } else if pose.step_y == -1 {
-        arm(94, 126, 94, 45, k)
-    } else if pose.step_y == 0 {
-        arm(94, 45, 118, 95, k)
-    } else if pose.step_y == 1 {
-        arm(118, 95, 118, 95, k)
+    if pose.step_x == 0 {
+        eighth(&UPRIGHT, pose.step_y, k)
     } else {
-        197
+        eighth(&LEVEL, pose.step_x, k)
     }
 }
 
