@@ -1,0 +1,31 @@
+//! What another editor changed in a world file, as edits: those that lead from a document to the world of the file.
+#![tactic(auto)]
+
+mod aligning;
+mod beside;
+mod boards;
+mod cells;
+mod changes;
+mod checking;
+mod claims;
+mod error;
+mod fresh;
+mod header;
+mod lines;
+mod pairing;
+mod plan;
+mod plan_error;
+mod planning;
+mod programs;
+mod properties;
+mod ranks;
+mod sight;
+mod stats;
+mod table;
+mod taking;
+mod texts;
+
+pub use beside::take_beside;
+pub use checking::deliver;
+pub use error::TakeError;
+pub use taking::take;
