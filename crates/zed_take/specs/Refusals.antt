@@ -1,12 +1,15 @@
--- The refusals of taking.
-use Rattle.std.specs.Prelude.{◌≡◌, ◌⊎◌, ℕ, Err}
-use Rattle.zed_types.specs.declared.limits.TheConstants.{READ_BODY_LIMIT}
+-- When a taking is refused, and for what.
+use Rattle.std.specs.Prelude.{◌≡◌, ◌⊎◌, ℕ, nat_lt, Bool, true, false, List, None, Err}
 use Rattle.zed_world.specs.Contents.{Contents}
-use Rattle.zed_world.specs.Writing.{written}
+use Rattle.zed_world.specs.Writing.{HasText, written}
 use Rattle.zed_world.specs.declared.error.WorldError.TheVariants.{BoardOver}
+use Rattle.zed_op.specs.declared.op.Edit.{Edit}
+use Rattle.zed_edit.specs.Replay.{replay}
+use Rattle.zed_history.specs.Clock.{next_time}
 use Rattle.zed_document.specs.Replica.{Replica}
-use Rattle.zed_export.specs.Limits.{IsRefusal}
+use Rattle.zed_export.specs.Limits.{IsRefusal, refusal_of}
 use Rattle.zed_export.specs.declared.error.ExportError.{ExportError}
+use Rattle.zed_take.specs.Taken.{Shows}
 use Rattle.zed_take.specs.declared.plan_error.PlanError.{PlanError}
 use Rattle.zed_take.specs.declared.plan_error.PlanError.TheVariants as plan
 use Rattle.zed_take.specs.declared.error.TakeError.{TakeError}
@@ -16,20 +19,33 @@ use Rattle.zed_take.specs.declared.error.TakeError.TheVariants.{Memory, Base, Wo
 abbrev pub of_plan : PlanError → TakeError
 of_plan plan.Memory = Memory
 of_plan plan.ClockSpent = ClockSpent
-of_plan plan.NoSuch = NotTaken
+of_plan plan.NotTaken = NotTaken
 
--- those that come once the base and the world are known to be good
-abbrev pub IsLate : TakeError → Type 0
-IsLate e = (e ≡ Memory) ⊎ ((e ≡ ClockSpent) ⊎ (e ≡ NotTaken))
+-- whether no time is left behind some edits: the last one is 2^48 - 1
+abbrev pub is_out_of_time : List Edit → Bool
+is_out_of_time es = nat_lt 281474976710655 (next_time es)
 
--- a board of a world would be too large
+-- a board of a world has more than the 32,767 bytes that can be read
 abbrev pub IsOver : Contents → TakeError → Type 0
-IsOver w e = (board : ℕ) × (bytes : ℕ) × (written READ_BODY_LIMIT w ≡ Err (BoardOver board bytes)) × (e ≡ WorldOver board bytes)
+IsOver w e = (board : ℕ) × (bytes : ℕ) × (written 32767 w ≡ Err (BoardOver board bytes)) × (e ≡ WorldOver board bytes)
 
--- a base can't be exported
+-- a base can't be exported so
 abbrev pub IsBase : Replica → TakeError → Type 0
-IsBase d e = (why : ExportError) × IsRefusal READ_BODY_LIMIT d why × (e ≡ Base why)
+IsBase d e = (why : ExportError) × IsRefusal 32767 d why × (e ≡ Base why)
 
--- what refuses to take a world: that world, or the base, or what comes later
-abbrev pub IsRefused : Replica → Contents → TakeError → Type 0
-IsRefused d w e = IsOver w e ⊎ (IsBase d e ⊎ IsLate e)
+-- what refuses a taking before any edit is sought: no time is left, else a board of the world is too large, else the base can't be exported
+abbrev pub IsRefused : Replica → Replica → Contents → TakeError → Type 0
+IsRefused d base w e =
+    ((is_out_of_time d.edits ≡ true) × (e ≡ ClockSpent))
+    ⊎ ((is_out_of_time d.edits ≡ false) × (IsOver w e ⊎ (HasText 32767 w × IsBase base e)))
+
+-- nothing refuses it yet
+pub record CanBegin (d base : Replica) (w : Contents) : Type 0 where
+  pub time : is_out_of_time d.edits ≡ false
+  pub text : HasText 32767 w
+  pub sound : base.is_stale ≡ false
+  pub within : refusal_of 32767 (replay base.edits) ≡ None
+
+-- what may be answered then: Memory, and where the base doesn't show the world already, that times or edits don't suffice
+abbrev pub IsLate : List Edit → Contents → TakeError → Type 0
+IsLate base w e = (e ≡ Memory) ⊎ ((Shows base w → ⊥) × ((e ≡ ClockSpent) ⊎ (e ≡ NotTaken)))

@@ -151,7 +151,7 @@ pub(crate) fn plan_boards(
         match partner {
             Some(i) => {
                 let Some(old) = seen.get(*i) else {
-                    return Err(PlanError::NoSuch);
+                    return Err(PlanError::NotTaken);
                 };
                 boards.keep(*i, old)?;
             }

@@ -1,38 +1,36 @@
 //! Edits that were planned, tried before they are handed out.
-ghost use Rattle.std.specs.Prelude.{◌≡◌, false, Ok, IfErr, IfOk, OnOk};
+ghost use Rattle.std.specs.Prelude.{◌≡◌, ◌⊎◌, false, Ok, IfErr, IfOk, OnOk};
 ghost use Rattle.std.specs.Bool.{OnTrue};
-ghost use Rattle.zed_types.specs.declared.limits.TheConstants.{READ_BODY_LIMIT as most};
 ghost use Rattle.zed_world.specs.Reading.{world_at};
 ghost use Rattle.zed_op.specs.Set.{AllFit, union};
 ghost use Rattle.zed_edit.specs.Replay.{replay};
 ghost use Rattle.zed_export.specs.Limits.{saved};
 ghost use Rattle.zed_export.specs.World.{world_of};
-ghost use Rattle.zed_take.specs.Refusals.{IsLate};
-ghost use Rattle.zed_take.specs.Taken.{AreFrom};
+ghost use Rattle.zed_take.specs.Taken.{AreFrom, Joins};
 
-use crate::error::TakeError;
+use crate::delivering::copies_of;
+use crate::plan_error::PlanError;
 use std::alloc::Global;
 use zed_document::{Document, DocumentError};
 use zed_export::{ExportError, save};
 use zed_op::{Edit, EditError, check, rising_lists_are_sets};
 use zed_types::{READ_BODY_LIMIT, Stamp};
 
-// Whether all edits fit.
-pub(crate) fn check_fit(alloc: Global, edits: &[Edit]) -> Result<(), TakeError>
-    ensures fit { OnOk result (AllFit edits.now) }
-    ensures err { IfErr result IsLate }
+/// Whether all edits fit.
+pub(crate) fn check_fit(alloc: Global, edits: &[Edit]) -> Result<(), PlanError>
+    ensures { OnOk result (AllFit edits.now) }
 {
     for edit in edits {
         match check(alloc, edit) {
             Ok(()) => {}
-            Err(EditError::Memory) => return Err(TakeError::Memory),
-            Err(EditError::BadEdit(_)) => return Err(TakeError::NotTaken),
+            Err(EditError::Memory) => return Err(PlanError::Memory),
+            Err(EditError::BadEdit(_)) => return Err(PlanError::NotTaken),
         }
     }
     Ok(())
 }
 
-// Whether edits are those of one replica, time after time from a first stamp on.
+/// Whether edits are those of one replica, time after time from a first stamp on.
 pub(crate) fn are_from(first: Stamp, edits: &[Edit]) -> bool
     ensures { OnTrue result (AreFrom first edits.now) }
 {
@@ -49,77 +47,51 @@ pub(crate) fn are_from(first: Stamp, edits: &[Edit]) -> bool
     true
 }
 
-// An equal edit.
-fn copy_of(edit: &Edit) -> Result<Edit, TakeError>
-    ensures copy { IfOk result (λ copy. copy ≡ edit.now) }
-    ensures err { IfErr result IsLate }
-{
-    match edit.copy() {
-        Ok(copy) => Ok(copy),
-        Err(_) => Err(TakeError::Memory),
-    }
-}
-
-// Equal edits.
-fn copies_of(alloc: Global, edits: &[Edit]) -> Result<Vec<Edit>, TakeError>
-    ensures copies { IfOk result (λ copies. copies.items ≡ edits.now) }
-    ensures err { IfErr result IsLate }
-{
-    let mut copies = Vec::new(alloc);
-    for edit in edits {
-        copies.push(copy_of(edit)?)?;
-    }
-    Ok(copies)
-}
-
-// A document of its own with the edits of another one.
-fn copy_of_document(alloc: Global, base: &Document) -> Result<Document, TakeError>
+/// A document of its own with the edits of another one.
+fn copy_of(alloc: Global, base: &Document) -> Result<Document, PlanError>
     ensures edits { IfOk result (λ copy. copy.edits ≡ base.now.edits) }
     ensures sound { IfOk result (λ copy. copy.is_stale ≡ false) }
-    ensures err { IfErr result IsLate }
 {
     rising_lists_are_sets();
     base.edits();
     let mut copy = Document::new(alloc, base.world());
     match copy.merge(base) {
         Ok(()) => Ok(copy),
-        Err(_) => Err(TakeError::Memory),
+        Err(_) => Err(PlanError::Memory),
     }
 }
 
-/// Gives a document edits that fit, beside its own. Where it is refused the first of them may be there.
-pub fn deliver(document: &mut Document, edits: Vec<Edit>) -> Result<(), TakeError>
-    requires fit { AllFit edits.items }
-    requires sound { document.old.is_stale ≡ false }
-    ensures edits { OnOk result (document.new.edits ≡ union document.old.edits edits.items) }
-    ensures world { document.new.world ≡ document.old.world }
-    ensures err { IfErr result IsLate }
+/// A document of its own with the edits of another one and these beside, where none of them clashes.
+fn copy_with(alloc: Global, base: &Document, edits: &[Edit]) -> Result<Document, PlanError>
+    requires { AllFit edits.now }
+    ensures edits { IfOk result (λ copy. copy.edits ≡ union base.now.edits edits.now) }
+    ensures joins { OnOk result (Joins base.now.edits edits.now) }
 {
-    match document.deliver_all(edits) {
-        Ok(()) => Ok(()),
-        Err(DocumentError::Memory) => Err(TakeError::Memory),
-        Err(_) => Err(TakeError::NotTaken),
+    let mut copy = copy_of(alloc, base)?;
+    match copy.deliver_all(copies_of(alloc, edits)?) {
+        Ok(()) => Ok(copy),
+        Err(DocumentError::Memory) => Err(PlanError::Memory),
+        Err(_) => Err(PlanError::NotTaken),
     }
 }
 
-// The file of a document with more edits.
+/// The file of a document with more edits, where none of them clashes.
 pub(crate) fn file_with(
     alloc: Global,
     base: &Document,
     edits: &[Edit],
-) -> Result<Vec<u8>, TakeError>
+) -> Result<Vec<u8>, PlanError>
     requires { AllFit edits.now }
+    ensures joins { OnOk result (Joins base.now.edits edits.now) }
     ensures saved { IfOk result (λ file.
-        saved most (replay (union base.now.edits edits.now)) ≡ Ok file.items) }
+        saved 32767 (replay (union base.now.edits edits.now)) ≡ Ok file.items) }
     ensures back { IfOk result (λ file.
         world_at file.items ≡ Ok (world_of (replay (union base.now.edits edits.now)))) }
-    ensures err { IfErr result IsLate }
 {
-    let mut document = copy_of_document(alloc, base)?;
-    deliver(&mut document, copies_of(alloc, edits)?)?;
+    let document = copy_with(alloc, base, edits)?;
     match save(alloc, &document, READ_BODY_LIMIT) {
         Ok(file) => Ok(file),
-        Err(ExportError::Memory) => Err(TakeError::Memory),
-        Err(_) => Err(TakeError::NotTaken),
+        Err(ExportError::Memory) => Err(PlanError::Memory),
+        Err(_) => Err(PlanError::NotTaken),
     }
 }

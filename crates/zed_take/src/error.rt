@@ -13,15 +13,12 @@ use zed_export::ExportError;
 pub enum TakeError {
     #[error("out of memory")]
     Memory,
-    /// The document that the file was saved from can't be exported.
+    /// The document that the world was saved from can't be exported.
     #[error("the base can't be exported")]
     Base(ExportError),
-    /// The body of this board of the file, written again, would have more bytes than a file can spell.
-    #[error("board {board} of the file has {bytes} bytes")]
+    /// The body of this board of the world, written again, would have more bytes than a file can spell.
+    #[error("board {board} of the world has {bytes} bytes")]
     WorldOver { board: usize, bytes: usize },
-    /// The base has an edit that the document has not.
-    #[error("the base is no part of the document")]
-    NoBase,
     #[error("no time is left for so many edits")]
     ClockSpent,
     /// The edits that were planned don't lead to the world of the file.
@@ -52,7 +49,7 @@ impl From<PlanError> for TakeError {
         match error {
             PlanError::Memory => TakeError::Memory,
             PlanError::ClockSpent => TakeError::ClockSpent,
-            PlanError::NoSuch => TakeError::NotTaken,
+            PlanError::NotTaken => TakeError::NotTaken,
         }
     }
 }

@@ -2,12 +2,12 @@
 #![tactic(auto)]
 
 mod aligning;
-mod beside;
 mod boards;
 mod cells;
 mod changes;
 mod checking;
 mod claims;
+mod delivering;
 mod error;
 mod fresh;
 mod header;
@@ -25,7 +25,6 @@ mod table;
 mod taking;
 mod texts;
 
-pub use beside::take_beside;
-pub use checking::deliver;
+pub use delivering::{copies_of, deliver};
 pub use error::TakeError;
 pub use taking::take;

@@ -23,7 +23,7 @@ impl Plan {
     /// Plans an edit, and tells its stamp.
     pub(crate) fn add(&mut self, op: Op) -> Result<Stamp, PlanError> {
         let stamp = self.next;
-        if stamp.time >= Stamp::LAST_TIME {
+        if stamp.time > Stamp::LAST_TIME {
             return Err(PlanError::ClockSpent);
         }
         self.edits.push(Edit { stamp, op })?;

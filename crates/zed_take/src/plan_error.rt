@@ -12,8 +12,8 @@ pub enum PlanError {
     Memory,
     #[error("no time is left for so many edits")]
     ClockSpent,
-    #[error("there is no such thing")]
-    NoSuch,
+    #[error("the edits do not lead to the world")]
+    NotTaken,
 }
 
 impl From<AllocError> for PlanError {

@@ -39,7 +39,7 @@ fn tasks_of<'w>(
     let mut tasks = Vec::new(alloc);
     for (j, board) in after.boards().iter().enumerate() {
         let Some((seen, old)) = boards.origin(j, seen, before.boards()) else {
-            return Err(PlanError::NoSuch);
+            return Err(PlanError::NotTaken);
         };
         tasks.push(Task {
             seen,

@@ -199,7 +199,7 @@ pub(crate) fn plan_stats(
             Some(i) => {
                 let before = task.before.stats.as_slice().get(*i);
                 let (Some(seen), Some(before)) = (task.seen.stats.get(*i), before) else {
-                    return Err(PlanError::NoSuch);
+                    return Err(PlanError::NotTaken);
                 };
                 plan_kept(plan, boards, task, seen, before, after, *text)?;
                 *seen
