@@ -27,11 +27,16 @@ abbrev pub Joins : List Edit → List Edit → Type 0
 Joins log es = JoinOn log es None (union log es)
 
 -- edits that fit, made one after the other from a stamp on, that join a base and lead from what it shows to a world
-pub record AreTaken (base : List Edit) (w : Contents) (first : Stamp) (edits : List Edit) : Type 0 where
+pub record LeadsTo (base : List Edit) (w : Contents) (first : Stamp) (edits : List Edit) : Type 0 where
   pub fit : AllFit edits
   pub from : AreFrom first edits
   pub joins : Joins base edits
   pub shows : Shows (union base edits) w
+
+-- such edits, and none where the base shows the world already
+pub record AreTaken (base : List Edit) (w : Contents) (first : Stamp) (edits : List Edit) : Type 0 where
+  pub lead : LeadsTo base w first edits
+  pub nothing : Shows base w → edits ≡ []
 
 -- the stamp of the next edit that a replica makes beside these
 abbrev pub next_stamp : List Edit → ℕ → Stamp

@@ -61,6 +61,20 @@ fn copy_of(alloc: Global, base: &Document) -> Result<Document, PlanError>
     }
 }
 
+/// Joins edits that fit to a document, where none of them clashes.
+fn join(document: &mut Document, edits: Vec<Edit>) -> Result<(), PlanError>
+    requires fit { AllFit edits.items }
+    requires sound { document.old.is_stale ≡ false }
+    ensures edits { OnOk result (document.new.edits ≡ union document.old.edits edits.items) }
+    ensures joins { OnOk result (Joins document.old.edits edits.items) }
+{
+    match document.deliver_all(edits) {
+        Ok(()) => Ok(()),
+        Err(DocumentError::Memory) => Err(PlanError::Memory),
+        Err(_) => Err(PlanError::NotTaken),
+    }
+}
+
 /// A document of its own with the edits of another one and these beside, where none of them clashes.
 fn copy_with(alloc: Global, base: &Document, edits: &[Edit]) -> Result<Document, PlanError>
     requires { AllFit edits.now }
@@ -68,11 +82,8 @@ fn copy_with(alloc: Global, base: &Document, edits: &[Edit]) -> Result<Document,
     ensures joins { OnOk result (Joins base.now.edits edits.now) }
 {
     let mut copy = copy_of(alloc, base)?;
-    match copy.deliver_all(copies_of(alloc, edits)?) {
-        Ok(()) => Ok(copy),
-        Err(DocumentError::Memory) => Err(PlanError::Memory),
-        Err(_) => Err(PlanError::NotTaken),
-    }
+    join(&mut copy, copies_of(alloc, edits)?)?;
+    Ok(copy)
 }
 
 /// The file of a document with more edits, where none of them clashes.

@@ -11,6 +11,7 @@ mod delivering;
 mod error;
 mod fresh;
 mod header;
+mod laws;
 mod lines;
 mod pairing;
 mod plan;
@@ -27,4 +28,8 @@ mod texts;
 
 pub use delivering::{copies_of, deliver};
 pub use error::TakeError;
+pub use laws::{
+    nothing_is_taken_unchanged, taking_again_takes_nothing, unwritten_boards_stay,
+    unwritten_header_stays, unwritten_stats_stay,
+};
 pub use taking::take;
