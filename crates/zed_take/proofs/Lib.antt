@@ -1,0 +1,5 @@
+pub mod Deliveries
+pub mod Limits
+pub mod Refused
+pub mod Showing
+pub mod Unwritten

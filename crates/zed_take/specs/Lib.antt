@@ -1,0 +1,4 @@
+pub mod Laws
+pub mod Others
+pub mod Refusals
+pub mod Taken

@@ -1,0 +1,35 @@
+//! What another editor changed in a world file, as edits: those that lead from a document to the world of the file.
+#![tactic(auto)]
+
+mod aligning;
+mod boards;
+mod cells;
+mod changes;
+mod checking;
+mod claims;
+mod delivering;
+mod error;
+mod fresh;
+mod header;
+mod laws;
+mod lines;
+mod pairing;
+mod plan;
+mod plan_error;
+mod planning;
+mod programs;
+mod properties;
+mod ranks;
+mod sight;
+mod stats;
+mod table;
+mod taking;
+mod texts;
+
+pub use delivering::{copies_of, deliver};
+pub use error::TakeError;
+pub use laws::{
+    nothing_is_taken_unchanged, taking_again_takes_nothing, unwritten_boards_stay,
+    unwritten_header_stays, unwritten_stats_stay,
+};
+pub use taking::take;
