@@ -105,11 +105,11 @@ pub record IsBoardOver (e : WorldError) : Type 0 where
 
 only_boards : (n : ℕ) (bs : List BoardData) (e : WorldError) → first_over 32767 n bs ≡ Some e → IsBoardOver e
 only_boards n [] e h = absurd (let no : not_over ≡ over e = h in cc)
-only_boards n (b ∷ bs) e h = go (nat_lt 32767 (length (body_text b))) h
+only_boards n (b ∷ bs) e h = go (nat_lt 32767 (length (body_text b))) (λ k. only_boards (n + 1) bs e k) h
   where
-    go : (c : Bool) → (if c then over (world.BoardOver n (length (body_text b))) else first_over 32767 (n + 1) bs) ≡ Some e → IsBoardOver e
-    go true k = record { board = n; bytes = length (body_text b); is = (let same : over (world.BoardOver n (length (body_text b))) ≡ over e = k in cc) }
-    go false k = only_boards (n + 1) bs e k
+    go : (c : Bool) → (first_over 32767 (n + 1) bs ≡ Some e → IsBoardOver e) → (if c then over (world.BoardOver n (length (body_text b))) else first_over 32767 (n + 1) bs) ≡ Some e → IsBoardOver e
+    go true more k = record { board = n; bytes = length (body_text b); is = (let same : over (world.BoardOver n (length (body_text b))) ≡ over e = k in cc) }
+    go false more k = more k
 
 refused_for : (o : Option WorldError) (text : List ℕ) (e : WorldError) → unless_refused o text ≡ Err e → o ≡ Some e
 refused_for None text e h = absurd (let no : text_as text ≡ refusal_as e = h in cc)
