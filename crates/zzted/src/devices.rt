@@ -13,6 +13,9 @@ use zed_session::{DeviceFailed, Keys, Screen};
 /// A read that was interrupted is made again, so many times.
 const TRIES: u32 = 1024;
 
+/// Most bytes of one file that is pulled over a link: the next read fails. So one that comes to no end takes no more memory than this many.
+const MOST: u64 = 268_435_456;
+
 /// So many line feeds in a row are a failure.
 const LINE_FEEDS: u32 = 4096;
 
@@ -36,6 +39,7 @@ pub struct FileLink {
     rt: HostRuntime,
     name: String,
     file: Option<File>,
+    taken: u64,
     reads: u64,
     failures: u64,
 }
@@ -50,9 +54,24 @@ impl FileLink {
             rt,
             name: String::from_str(rt.alloc(), name)?,
             file: None,
+            taken: 0,
             reads: 0,
             failures: 0,
         })
+    }
+
+    // Reads from the file, unless it has given too much already.
+    fn read_within(&mut self, into: &mut [u8]) -> io::Result<usize>
+        ensures within { IfOk result (λ n. n ≤ length into.old) }
+        ensures reads { self.new.reads ≡ self.old.reads }
+        ensures failures { self.new.failures ≡ self.old.failures }
+    {
+        let count = self.read_file(into)?;
+        self.taken = self.taken.saturating_add(count as u64);
+        if self.taken > MOST {
+            return Err(io::Error::from(ErrorKind::FileTooLarge));
+        }
+        Ok(count)
     }
 
     // Reads from the file, which is opened if it wasn't yet.
@@ -87,7 +106,7 @@ impl Link for FileLink {
 
     fn read(&mut self, into: &mut [u8]) -> Result<usize, LinkFailed> {
         self.reads = self.reads.saturating_add(1);
-        match self.read_file(into) {
+        match self.read_within(into) {
             Ok(count) => Ok(count),
             Err(_) => {
                 self.failures = self.failures.saturating_add(1);
