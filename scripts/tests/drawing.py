@@ -452,7 +452,9 @@ def two_authors():
     author("their", 1, hall(lambda b: b.put(4, 4, (20, 2))))
     is_so("one number twice", zzted("merge", "both.zed", 7, "mine.zed", "their.zed"), "1 zzted: Clash 4 1")
     is_so("my world", zzted("save", "--big", "my.zzt", "mine.zed")[:2], "0 ")
-    is_so("over theirs", zztool("take", "--base", "start.zed", "their.zed", 3, "my.zzt"), "0 1 taken, 5 edits")
+    # the base is written too
+    shutil.copy(at("start.zed"), at("before.zed"))
+    is_so("over theirs", zztool("take", "--base", "before.zed", "their.zed", 3, "my.zzt"), "0 1 taken, 5 edits")
     seen = world_of("their.zed")
     is_so("both are there", (seen.boards[1].at(3, 3), seen.boards[1].at(4, 4)), ((21, 1), (20, 2)))
 
