@@ -1,0 +1,4 @@
+pub mod Made
+pub mod Steps
+pub mod Endings
+pub mod Taken
