@@ -5,7 +5,7 @@ use Rattle.zed_files.specs.declared.refusal.Refusal.{Refusal}
 use Rattle.zed_files.specs.declared.refusal.Refusal.TheVariants as refusal
 use Rattle.zed_host.specs.declared.host.WriteError.{WriteError}
 use Rattle.std.proofs.Common.{◌≡◌, ◌≤◌, ◌∙◌, ℕ, List, arith, Option, Some, None, Result, Ok, Err, OnErr, OnOk, ap, is_err, refl, subst, sym, inl, inr}
-use Rattle.std.specs.Prelude.{⊤, IfSome, IsSome, option_and_then}
+use Rattle.std.specs.Prelude.{⊤, ◌⊎◌, IfSome, IsSome, option_and_then}
 use Rattle.clap.specs.Walk.{Text}
 use Rattle.zed_host.specs.Calls.{Call}
 use Rattle.zed_host.specs.Counting.{Counts, NothingFailed, Rose}
@@ -16,6 +16,8 @@ use Rattle.zed_telling.specs.Listed.{list_of}
 use Rattle.zed_telling.specs.Logged.{log_of}
 use Rattle.zed_telling.specs.Told.{ComesToTell}
 use Rattle.zed_drawing.specs.Effects.{Effect, Ends, IsRefused}
+use Rattle.zed_drawing.specs.Opening.{ComesToOpen}
+use Rattle.zed_drawing.specs.Taking.{ComesToTake}
 use Rattle.zed_drawing.specs.Refusals.{memory}
 use Rattle.clap.specs.Kinds.{Kinds}
 use Rattle.clap.specs.Simple.{subcommand_of}
@@ -84,17 +86,17 @@ told_why t e f P same comes why = elim why [
 stopped : {H : Type 0} (called : H → Call → H → Type 0) (p : Type 0) (command : Command) (old new : H) (t : HostContents) (e : DrawingError) (left : Option HostContents) → (p → ⊥)
     → EndsCommand called p command old new t (Err e) left → IsStopped t command e left
 stopped called p (Open until forcing file world) old new t e left never is =
-    let before = draw_stopped p _ t e left never is in
-    (before.0, drawn_why t e _ (λ x comes same. (x, open_so p ⊥ t until (forcing_of forcing) file world x never comes, sym same)) before.1)
+    let before = draw_stopped p (ComesToOpen p t until (forcing_of forcing) file world) t e left never is in
+    (before.0, drawn_why t e (ComesToOpen p t until (forcing_of forcing) file world) (λ x comes same. (x, open_so p ⊥ t until (forcing_of forcing) file world x never comes, sym same)) before.1)
 stopped called p (Take base file replica world) old new t e left never is =
-    let before = draw_stopped p _ t e left never is in
-    (before.0, drawn_why t e _ (λ x comes same. (x, take_so p ⊥ t base file replica world x never comes, sym same)) before.1)
+    let before = draw_stopped p (ComesToTake p t base file replica world) t e left never is in
+    (before.0, drawn_why t e (ComesToTake p t base file replica world) (λ x comes same. (x, take_so p ⊥ t base file replica world x never comes, sym same)) before.1)
 stopped called p (Log board cell replica since files) old new t e left never is =
-    let before = tell_stopped p _ t is.0 left never is.2 in
-    (before.0, told_why t e is.0 _ is.1 (λ x comes same. (x, tell_so p ⊥ t (log_of (filter_of board cell replica since)) files x never comes, sym same)) before.1)
+    let before = tell_stopped p (ComesToTell p t (log_of (filter_of board cell replica since)) files) t is.0 left never is.2 in
+    (before.0, told_why t e is.0 (ComesToTell p t (log_of (filter_of board cell replica since)) files) is.1 (λ x comes same. (x, tell_so p ⊥ t (log_of (filter_of board cell replica since)) files x never comes, sym same)) before.1)
 stopped called p (Lists listing files) old new t e left never is =
-    let before = tell_stopped p _ t is.0 left never is.2 in
-    (before.0, told_why t e is.0 _ is.1 (λ x comes same. (x, tell_so p ⊥ t (list_of (listing_of listing)) files x never comes, sym same)) before.1)
+    let before = tell_stopped p (ComesToTell p t (list_of (listing_of listing)) files) t is.0 left never is.2 in
+    (before.0, told_why t e is.0 (ComesToTell p t (list_of (listing_of listing)) files) is.1 (λ x comes same. (x, tell_so p ⊥ t (list_of (listing_of listing)) files x never comes, sym same)) before.1)
 
 told_calmly : {H : Type 0} (h : Hosts H) (text : List ℕ) (t : HostContents) (old new : H) → NothingFailed (h.faults old) (h.faults new) → h.contents old ≡ Some t → Complained h text old new
     → h.contents new ≡ Some (with_complaint text t)

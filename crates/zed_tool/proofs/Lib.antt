@@ -2,3 +2,4 @@ pub mod Made
 pub mod Steps
 pub mod Endings
 pub mod Taken
+pub mod Telling
