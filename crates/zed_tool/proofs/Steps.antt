@@ -93,6 +93,7 @@ gathered_so p q t word base file world r so is =
 
 taken_so : (p q : Type 0) (t : HostContents) (word : Option (List ℕ)) (base file : List ℕ) (replica : ℕ) (world : List ℕ) (r : Result Effect DrawingError) → (p → q)
     → TakesFrom p t (presence_of word) base file replica world r → TakesFrom q t (presence_of word) base file replica world r
+unfolding TakesFrom
 taken_so p q t word base file replica world r so is = go (replica == 0) is
   where
     Begins : Type 0 → Bool → Type 0

@@ -164,6 +164,7 @@ DrawsSet name file replica number own based shown r =
 
 draws_set : (name file : List ℕ) (replica number : ℕ) (own based : List Edit) (shown : Contents) (r : Result Effect DrawingError) → Agree own based
     → Draws name file replica (given (number, own) (Some based) shown) r → DrawsSet name file replica number own based shown r
+unfolding Draws
 draws_set name file replica number own based shown r agree draws =
     let joined : draws.0 ≡ Ok (union own based) = elim draws.1 [
       | inl both ↦ both.1
@@ -186,6 +187,7 @@ taken_set name file t replica number own based shown x status new draws has = el
 draws_of : WrittenIsRead → (words : List (List ℕ)) (t : HostContents) (name file : List ℕ) (replica number : ℕ) (own based : List Edit) (shown : Contents) (x : Result Effect DrawingError)
     → (asks : AsksToTake words t name file replica number own based shown) → ComesToTake ⊥ t asks.base file replica asks.world x
     → DrawsSet name file replica number (set_of own) (set_of based) shown x
+unfolding TakesFrom
 draws_of law words t name file replica number own based shown x asks comes =
     let presence = presence_of asks.base in
     let from : TakesFrom ⊥ t presence name file replica asks.world x = subst (λ n. TakesFrom ⊥ t presence n file replica asks.world x) (sym asks.is_base) comes in
