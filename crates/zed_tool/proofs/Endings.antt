@@ -15,7 +15,7 @@ use Rattle.zed_files.specs.Effects.{Effect as Told, IsRefused as IsToldOff}
 use Rattle.zed_telling.specs.Listed.{list_of}
 use Rattle.zed_telling.specs.Logged.{log_of}
 use Rattle.zed_telling.specs.Told.{ComesToTell}
-use Rattle.zed_drawing.specs.Effects.{Effect, Ends, IsRefused}
+use Rattle.zed_drawing.specs.Effects.{Effect, IsRefused}
 use Rattle.zed_drawing.specs.Opening.{ComesToOpen}
 use Rattle.zed_drawing.specs.Taking.{ComesToTake}
 use Rattle.zed_drawing.specs.Refusals.{memory}
@@ -23,8 +23,8 @@ use Rattle.clap.specs.Kinds.{Kinds}
 use Rattle.clap.specs.Simple.{subcommand_of}
 use Rattle.zed_tool_words.specs.Grammar.{tool_app}
 use Rattle.zed_tool_words.specs.Commands.{AsksHelp, Command, Open, Take, Log, Lists, command_of, subcommand_asks, unless_refused}
-use Rattle.zed_tool.specs.Calm.{ComesTo, EndsCalmly, HasStatus, left_by, told_left}
-use Rattle.zed_tool.specs.Commands.{EndsCommand, EndsTelling, filter_of, forcing_of, listing_of}
+use Rattle.zed_tool.specs.Calm.{ComesTo, EndsCalmly, left_by, told_left}
+use Rattle.zed_tool.specs.Commands.{EndsCommand, filter_of, forcing_of, listing_of}
 use Rattle.zed_tool.specs.Lines.{line_of}
 use Rattle.zed_tool.specs.Outcome.{Complained, Hosts, IsComplained, IsLineOf, Runs, RunsAs}
 use Rattle.zed_tool.proofs.Steps.{open_so, take_so, tell_so}

@@ -1,6 +1,6 @@
 -- The calls of a run.
 use Rattle.zed_drawing.specs.declared.error.DrawingError.{DrawingError}
-use Rattle.std.proofs.Common.{◌≡◌, ◌≤◌, ℕ, true, false, List, [], ◌∷◌, ◌++◌, Option, Some, None, Result, Ok, Err, arith, inl, inr}
+use Rattle.std.proofs.Common.{◌≤◌, ℕ, true, false, List, [], ◌∷◌, ◌++◌, Option, Some, None, Result, Ok, Err, arith, inl, inr}
 use Rattle.std.specs.Prelude.{⊤}
 use Rattle.clap.specs.Walk.{Text}
 use Rattle.zed_host.specs.Calls.{Call, Complaining, Leads, Printing, call, passed}
@@ -9,7 +9,7 @@ use Rattle.zed_host.proofs.Calls.{CountsFailures, CountsNoFault, calm_calls, lea
 use Rattle.zed_drawing.specs.Asked.{Asks, writing}
 use Rattle.zed_tool_words.specs.Commands.{Command, Open, Take, Log, Lists, command_of}
 use Rattle.zed_tool.specs.Commands.{AsksCommand, AsksTelling}
-use Rattle.zed_tool.specs.Outcome.{Complained, Hosts, Runs, RunsAs, RunsCommand, RunsOther}
+use Rattle.zed_tool.specs.Outcome.{Complained, Hosts, Runs, RunsAs}
 
 -- such calls lead from the one state of a host to the other
 abbrev Made : {H : Type 0} → (H → Call → H → Type 0) → H → H → Type 0

@@ -18,8 +18,8 @@ use Rattle.zed_files.proofs.Endings.{collected_so}
 use Rattle.zed_telling.specs.Told.{ComesToTell}
 use Rattle.zed_drawing.specs.Base.{FindsBase, HasEdits, OfBase, ReadsBase, base_word, beside, presence_of}
 use Rattle.zed_drawing.specs.Effects.{Effect}
-use Rattle.zed_drawing.specs.Files.{FileEdits, IsOpened, IsTried, IsWorld, OfName, OpensAs, ReadsAs}
-use Rattle.zed_drawing.specs.Opening.{ComesToOpen, IsFree, IsSame, IsUndrawn, MayReplace}
+use Rattle.zed_drawing.specs.Files.{FileEdits, IsOpened, IsTried, IsWorld, OfName, OpensAs}
+use Rattle.zed_drawing.specs.Opening.{ComesToOpen, IsFree, IsUndrawn, MayReplace}
 use Rattle.zed_drawing.specs.Steps.{Steps, Then}
 use Rattle.zed_drawing.specs.Taking.{ComesToTake, Draws, Gathers, Given, TakesFrom}
 

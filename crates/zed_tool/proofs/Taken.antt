@@ -9,7 +9,6 @@ use Rattle.zed_files.specs.declared.refusal.Refusal.TheVariants as refusal
 use Rattle.zed_op.specs.declared.cause.Cause.TheVariants as cause
 use Rattle.std.proofs.Common.{◌≡◌, ◌∙◌, ◌==◌, ◌<◌, ◌^◌, ℕ, Bool, true, false, List, [], ◌∷◌, ◌++◌, Option, Some, None, Result, Ok, Err, refl, ap, ap₂, sym, subst, arith, inl, inr, ◌≢◌}
 use Rattle.std.specs.Prelude.{not, Contains, MatchBool}
-use Rattle.std.specs.Str.{bytes_eq}
 use Rattle.std.proofs.lemmas.List.Elements.{Contains-append_left, Contains-append_right}
 use Rattle.std.proofs.lemmas.Bool.{ne_eqb}
 use Rattle.zed_op.specs.Set.{Agrees, set_of, union}
@@ -21,12 +20,12 @@ use Rattle.zed_editfile.specs.Stream.{AreRecords, IsTextOf, Progress, Reads, end
 use Rattle.zed_document.specs.Delivery.{IsFirstClash}
 use Rattle.zed_files.specs.Files.{IsFile, IsTextIn, end_by}
 use Rattle.zed_host.specs.HostContents.{HostContents, IsRead, file_in}
-use Rattle.zed_drawing.specs.Base.{FindsBase, HasEdits, OfBase, ReadsBase, base_word, edits_of_base, presence_of}
+use Rattle.zed_drawing.specs.Base.{HasEdits, OfBase, ReadsBase, presence_of}
 use Rattle.zed_drawing.specs.Effects.{Effect}
-use Rattle.zed_drawing.specs.Files.{FileEdits, IsOpened, IsTried, IsWorld, OfFile, OfName, OpensAs, ReadsAs, edits_at, world_told}
+use Rattle.zed_drawing.specs.Files.{FileEdits, IsOpened, IsWorld, OfFile, OpensAs, ReadsAs, edits_at, world_told}
 use Rattle.zed_drawing.specs.Refusals.{take_refusal}
 use Rattle.zed_drawing.specs.Steps.{Steps, Then}
-use Rattle.zed_drawing.specs.Taking.{ComesToTake, Draws, Gathers, Given, IsJoined, IsTaken, TakesFrom, drawn, given}
+use Rattle.zed_drawing.specs.Taking.{ComesToTake, Draws, Gathers, Given, IsTaken, TakesFrom, drawn, given}
 use Rattle.zed_tool_words.specs.Commands.{Take}
 use Rattle.zed_tool.specs.Calm.{EndsCalmly, HasStatus, left_by}
 use Rattle.zed_tool.specs.Taking.{AsksToTake, TakesSet}

@@ -12,10 +12,9 @@ use Rattle.zed_tool_words.specs.declared.asked.Forcing.TheVariants.{Careful, For
 use Rattle.zed_tool_words.specs.declared.asked.Listing.{Listing as ListingWords}
 use Rattle.zed_tool_words.specs.declared.asked.Listing.TheVariants.{Boards, Stats, Program}
 use Rattle.zed_tool_words.specs.Commands.{Command, Open, Take, Log, Lists}
-use Rattle.std.specs.Prelude.{◌≡◌, ℕ, List, [], ◌∷◌, Option, Some, None, Result, Ok, Err, MatchResult, ⊤}
-use Rattle.zed_op.specs.declared.op.Edit.{Edit}
+use Rattle.std.specs.Prelude.{◌≡◌, ℕ, List, [], ◌∷◌, Option, Some, None, Result, Ok, MatchResult, ⊤}
 use Rattle.zed_host.specs.Calls.{Call, Printing}
-use Rattle.zed_host.specs.HostContents.{HostContents, StillTells, with_printed}
+use Rattle.zed_host.specs.HostContents.{HostContents, StillTells}
 use Rattle.zed_files.specs.Asked.{Asks as AsksFiles, reading}
 use Rattle.zed_files.specs.Effects.{Effect, IsRefused, after}
 use Rattle.zed_telling.specs.Listed.{list_of}

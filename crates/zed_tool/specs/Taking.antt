@@ -4,7 +4,7 @@ use Rattle.zed_take.specs.declared.error.TakeError.{TakeError}
 use Rattle.std.specs.Prelude.{◌≡◌, ◌≢◌, ◌⊎◌, ◌<◌, ◌^◌, ◌++◌, ℕ, false, List, Option, Some, Ok, Err}
 use Rattle.std.specs.Str.{bytes_eq}
 use Rattle.clap.specs.Walk.{Text}
-use Rattle.zed_op.specs.Set.{Agrees, set_of, union}
+use Rattle.zed_op.specs.Set.{Agrees, union}
 use Rattle.zed_world.specs.Contents.{Contents}
 use Rattle.zed_world.specs.Reading.{world_at}
 use Rattle.zed_editfile.specs.Stream.{AreRecords}
