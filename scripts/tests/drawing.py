@@ -1,0 +1,563 @@
+"""Draws in world files as an editor would, has zztool take them, and looks whether the world comes out that was drawn.
+
+Usage: drawing.py ZZTED ZZTOOL FOLDER COUNT     COUNT is how many worlds are drawn at random
+The world files are read and written by zzt.py, which shares no code with the programs under test."""
+
+import os
+import random
+import shutil
+import subprocess
+import sys
+from concurrent.futures import ThreadPoolExecutor
+
+import zzt
+from zzt import Board, Stat, World
+
+ZZTED, ZZTOOL, ROOM, COUNT = sys.argv[1], sys.argv[2], sys.argv[3], int(sys.argv[4])
+passed = failed = 0
+
+
+def is_so(what, told, wanted):
+    global passed, failed
+    if told == wanted:
+        passed += 1
+    else:
+        failed += 1
+        print(f"drawing: FAILED: {what}: {str(told)[:300]}, and not {str(wanted)[:300]}")
+
+
+def run(program, *words):
+    ran = subprocess.run([program, *map(str, words)], stdin=subprocess.DEVNULL, capture_output=True, text=True, cwd=ROOM)
+    return f"{ran.returncode} {ran.stdout}{ran.stderr}".strip()
+
+
+def zzted(*words):
+    return run(ZZTED, *words)
+
+
+def zztool(*words):
+    return run(ZZTOOL, *words)
+
+
+def at(name):
+    return os.path.join(ROOM, name)
+
+
+def bytes_of(name):
+    if not os.path.exists(at(name)):
+        return None
+    with open(at(name), "rb") as it:
+        return it.read()
+
+
+def put(name, data):
+    with open(at(name), "wb") as it:
+        it.write(data)
+
+
+def world_of(name):
+    """The world of an edit file, saved by zzted."""
+    said = zzted("save", "--big", "seen.zzt", name)
+    if not said.startswith("0 "):
+        return said
+    return zzt.read(bytes_of("seen.zzt"))
+
+
+# ---- a world with something of everything
+
+
+def start():
+    world = World(ammo=3, name=b"START", flags=[b"OPEN", *[b""] * 9], current=1)
+    title = Board(name=b"Title", stats=[Stat(30, 12, cycle=1)], start=(30, 12))
+    title.fill(1, 1, 60, 25, (22, 0x0E))
+    title.put(30, 12, (4, 0x1F))
+    hall = Board(name=b"Hall", exits=[0, 2, 0, 3], message=b"Hello", start=(5, 5), time_limit=90, stats=[Stat(5, 5, cycle=1)])
+    hall.fill(1, 1, 60, 25, (0, 0))
+    hall.put(5, 5, (4, 0x1F))
+    hall.put(20, 10, (36, 0x0F))
+    hall.put(22, 10, (36, 0x0D))
+    hall.put(24, 10, (36, 0x0C))
+    hall.put(40, 12, (11, 0x1F))
+    hall.put(10, 20, (41, 0x0C))
+    hall.stats += [
+        Stat(20, 10, cycle=3, p1=2, program=b"@guard\r#end\r:touch\rHalt!\r#end\r"),
+        Stat(22, 10, cycle=3, p1=2, program=b"@twin\r/e/w\r#restart\r"),
+        Stat(24, 10, cycle=3, p1=2, program=2),
+        Stat(40, 12, p3=2),
+        Stat(10, 20, cycle=2, p1=5),
+        Stat(11, 20, cycle=2, follower=5),
+    ]
+    cave = Board(name=b"Cave", dark=1, exits=[1, 0, 0, 0], stats=[Stat(2, 2, cycle=1)], start=(2, 2))
+    cave.fill(1, 1, 60, 25, (21, 0x08))
+    cave.put(2, 2, (4, 0x1F))
+    tower = Board(name=b"Tower", exits=[0, 0, 1, 0], stats=[Stat(9, 9, cycle=1), Stat(8, 8, program=b"")], start=(9, 9))
+    tower.put(9, 9, (4, 0x1F))
+    world.boards = [title, hall, cave, tower]
+    return world
+
+
+def prepare():
+    put("start.zzt", zzt.write(start()))
+    is_so("new", zzted("new", "start.zed", 7, "--from", "start.zzt"), "0 1 edits")
+    is_so("edit", zzted("edit", "start.zed", 5, "cells", 1, 50, 20, 52, 22, 25, 3), "0 2 edits")
+    is_so("edit", zzted("edit", "start.zed", 5, "insert", 1, 1, 7, "#char 33|"), "0 3 edits")
+    # what others did meanwhile, who know of nothing that is drawn
+    shutil.copy(at("start.zed"), at("others.zed"))
+    is_so("others", zzted("edit", "others.zed", 9, "cells", 1, 59, 24, 60, 25, 19, 9), "0 4 edits")
+    is_so("others", zzted("edit", "others.zed", 9, "insert", 1, 2, 0, "#lock|"), "0 5 edits")
+
+
+# ---- one change each
+
+
+def change(world, path, value):
+    """Sets a register, told as `board.1.stat.2.p1`."""
+    thing, words = world, path.split(".")
+    while len(words) > 1:
+        word = words.pop(0)
+        if word == "board":
+            thing = thing.boards[int(words.pop(0))]
+        elif word == "stat":
+            thing = thing.stats[int(words.pop(0))]
+        elif word in ("exits", "keys", "flags"):
+            getattr(thing, word)[int(words[0])] = value
+            return
+    setattr(thing, words[0], value)
+
+
+REGISTERS = [
+    ("ammo", 77), ("gems", 5), ("keys.0", 1), ("keys.6", 1), ("health", -3), ("current", 3), ("torches", 2), ("torch_ticks", 4), ("energizer", 9),
+    ("score", 30000), ("name", b"OTHER NAME, TWENTY B"), ("flags.0", b""), ("flags.9", b"LAST"), ("passed", 12), ("hundredths", 99), ("saved", 1),
+    ("board.1.name", b"Great hall"), ("board.1.shots", 3), ("board.1.dark", 1), ("board.1.exits.0", 3), ("board.1.exits.1", 0), ("board.1.exits.2", 1),
+    ("board.1.exits.3", 2), ("board.1.re_enter", 1), ("board.1.message", b"x" * 58), ("board.1.start", (6, 5)), ("board.1.start", (5, 6)),
+    ("board.1.time_limit", -1), ("board.0.name", b"The title"),
+    ("board.1.stat.1.x", 21), ("board.1.stat.1.y", 11), ("board.1.stat.1.step", (1, 0)), ("board.1.stat.1.step", (0, -1)), ("board.1.stat.1.cycle", 1),
+    ("board.1.stat.1.p1", 200), ("board.1.stat.1.p2", 1), ("board.1.stat.1.p3", 9), ("board.1.stat.4.p3", 3), ("board.1.stat.6.follower", 1),
+    ("board.1.stat.6.follower", -1), ("board.1.stat.6.leader", 5), ("board.1.stat.1.under", (5, 0)), ("board.1.stat.1.under", (0, 7)),
+    ("board.1.stat.1.position", 4), ("board.1.stat.0.cycle", 2), ("board.3.stat.1.cycle", 5),
+]  # fmt: skip
+
+
+def programs():
+    """Programs of stat 1 of the hall, which begins as this one, with how many edits lead to each."""
+    old = b"@guard\r#char 33\r#end\r:touch\rHalt!\r#end\r"
+    return [
+        ("a line in front", b"#cycle 1\r" + old, 1),
+        ("a line in the middle", old.replace(b":touch", b"#lock\r:touch"), 1),
+        ("a line at the end", old + b":shot\r", 1),
+        ("a line less", old.replace(b"#char 33\r", b""), None),
+        ("a byte in a line", old.replace(b"Halt", b"Hault"), 1),
+        ("a word for another", old.replace(b"Halt", b"Stop"), None),
+        ("two lines", old.replace(b"33", b"34").replace(b"Halt", b"Stop"), None),
+        ("lines changed places", b"@guard\r#end\r#char 33\r:touch\rHalt!\r#end\r", None),
+        ("emptied", b"", None),
+        ("quite another", b"hello\rworld", None),
+        ("every byte there is", bytes(range(1, 256)), None),
+        ("the same twice", old + old, None),
+        ("without its last end", old[:-1], 1),
+        ("of ends alone", b"\r" * 40, None),
+    ]
+
+
+def add_stat(board, index, x, y, tile, **fields):
+    """Puts a stat in at a number: what names the stats behind it names them still."""
+
+    def moved(number):
+        return number + 1 if isinstance(number, int) and number >= index else number
+
+    for stat in board.stats:
+        stat.follower, stat.leader, stat.program = moved(stat.follower), moved(stat.leader), moved(stat.program)
+    board.put(x, y, tile)
+    board.stats.insert(index, Stat(x, y, **fields))
+
+
+def remove_stat(board, index):
+    def moved(number):
+        return -1 if number == index else number - 1 if number > index else number
+
+    gone = board.stats[index]
+    heir = None
+    for number, stat in enumerate(board.stats):
+        if stat.program == index and isinstance(stat.program, int):
+            if heir is None:
+                heir, stat.program = number, gone.program
+            else:
+                stat.program = heir
+    for stat in board.stats:
+        stat.follower, stat.leader = moved(stat.follower), moved(stat.leader)
+        if isinstance(stat.program, int) and stat.program > index:
+            stat.program -= 1
+    board.put(gone.x, gone.y, gone.under)
+    del board.stats[index]
+
+
+def move_boards(world, order):
+    """Puts boards into another order, where -1 is a new one; exits, passages and the current board go with them."""
+    to = {old: new for new, old in enumerate(order)}
+    new = []
+    for number in order:
+        if number < 0:
+            board = Board(name=b"New", stats=[Stat(30, 12, cycle=1)], start=(30, 12))
+            board.put(30, 12, (4, 0x1F))
+            new.append(board)
+            continue
+        board = world.boards[number]
+        board.exits = [to.get(it, 0) if it else 0 for it in board.exits]
+        for stat in board.stats:
+            tile = board.at(stat.x, stat.y)
+            if tile and tile[0] == zzt.PASSAGE:
+                stat.p3 = to.get(stat.p3, 0)
+        new.append(board)
+    world.current = to.get(world.current, 0)
+    world.boards = new
+
+
+def shapes():
+    """Larger changes: a name, what is done to a world, and how many edits lead there, where that is plain."""
+    hall = 1
+
+    def one(what):
+        return lambda world: what(world.boards[hall])
+
+    def hundred(world):
+        move_boards(world, [0, 1, 2, 3] + [-1] * 97)
+        for number, board in enumerate(world.boards[4:]):
+            board.name = b"Room %d" % number
+
+    def all_other(world):
+        world.boards = start().boards[:1] + [Board(name=b"B%d" % n, stats=[Stat(3, 3, cycle=1), Stat(4, 4, program=b"x\r")]) for n in range(7)]
+
+    def many_stats(board):
+        for number in range(140):
+            board.stats.append(Stat(number % 60 + 1, number // 60 + 15, cycle=number, program=b"@n%d\r" % number))
+
+    def swap(board):
+        board.stats[1], board.stats[2] = board.stats[2], board.stats[1]
+        board.stats[3].program = 1
+
+    return [
+        ("nothing", lambda world: None, 0),
+        ("a cell", one(lambda b: b.put(33, 3, (21, 14))), 1),
+        ("a colour", one(lambda b: b.put(20, 10, (36, 0x0A))), 1),
+        ("a rectangle", one(lambda b: b.fill(30, 14, 45, 18, (22, 2))), 1),
+        ("a frame", one(lambda b: (b.fill(30, 14, 45, 18, (22, 2)), b.fill(31, 15, 44, 17, (0, 0)))), None),
+        ("every cell", one(lambda b: b.fill(1, 1, 60, 25, (27, 3))), None),
+        ("a pattern", one(lambda b: [b.put(x, y, (21, x * y % 256)) for x in range(1, 61) for y in range(13, 20)]), None),
+        ("a stat at the end", one(lambda b: add_stat(b, 7, 44, 4, (36, 9), cycle=3, program=b"@new\r")), None),
+        ("a stat without a program", one(lambda b: add_stat(b, 7, 44, 4, (13, 9), cycle=6, p1=9)), None),
+        ("a stat in the middle", one(lambda b: add_stat(b, 3, 44, 4, (36, 9), cycle=3, program=b"@mid\r")), None),
+        ("a stat in front", one(lambda b: add_stat(b, 1, 44, 4, (34, 9), cycle=3)), None),
+        ("a stat less", one(lambda b: remove_stat(b, 5)), None),
+        ("a stat less in the middle", one(lambda b: remove_stat(b, 2)), None),
+        ("the first stat less", one(lambda b: remove_stat(b, 1)), None),
+        ("no stats", one(lambda b: b.stats.__delitem__(slice(1, None))), None),
+        ("stats that changed places", one(swap), None),
+        ("a hundred and forty stats more", one(many_stats), None),
+        ("a share split", one(lambda b: change_stat(b, 3, program=b"@twin\r/e/w\r#restart\r")), None),
+        ("a share changed", one(lambda b: change_stat(b, 2, program=b"@twin\r/w/e\r#restart\r")), None),
+        ("a share more", one(lambda b: change_stat(b, 5, program=2)), None),
+        ("a share with another", one(lambda b: change_stat(b, 3, program=1)), None),
+        ("a player who moved", one(move_player), None),
+        ("a player with a program", one(lambda b: change_stat(b, 0, program=b"@me\r")), None),
+        ("a player outside", one(lambda b: change_stat(b, 0, x=0, y=0)), None),
+        ("a passage elsewhere", one(lambda b: change_stat(b, 4, p3=0)), None),
+        ("a passage more", one(lambda b: add_stat(b, 7, 3, 3, (11, 0x2F), p3=3)), None),
+        ("no passage any more", one(lambda b: b.put(40, 12, (22, 1))), None),
+        ("a tile that becomes a passage", one(lambda b: b.put(20, 10, (11, 1))), None),
+        ("a board at the end", lambda world: move_boards(world, [0, 1, 2, 3, -1]), None),
+        ("a board in the middle", lambda world: move_boards(world, [0, 1, -1, 2, 3]), None),
+        ("a board in front", lambda world: move_boards(world, [0, -1, 1, 2, 3]), None),
+        ("a board less", lambda world: move_boards(world, [0, 1, 3]), None),
+        ("the first board less", lambda world: move_boards(world, [0, 2, 3]), None),
+        ("boards that changed places", lambda world: move_boards(world, [0, 3, 1, 2]), None),
+        ("boards turned round", lambda world: move_boards(world, [0, 3, 2, 1]), None),
+        ("one board", lambda world: move_boards(world, [0]), None),
+        ("a board that moved and changed", lambda world: (move_boards(world, [0, 2, 3, 1]), world.boards[3].put(1, 1, (9, 9))), None),
+        ("a hundred boards beside the title", hundred, None),
+        ("quite another world", all_other, None),
+        ("two boards of one name", lambda world: change(world, "board.2.name", b"Hall"), None),
+    ]
+
+
+def change_stat(board, number, **fields):
+    for name, value in fields.items():
+        setattr(board.stats[number], name, value)
+
+
+def move_player(board):
+    board.put(5, 5, (0, 0))
+    board.put(7, 6, (4, 0x1F))
+    change_stat(board, 0, x=7, y=6)
+
+
+# ---- a drawing that is taken
+
+
+def counts(said):
+    """The counts of `<n> taken, <m> edits`."""
+    words = said.split()
+    return (int(words[1]), int(words[3])) if len(words) == 5 and words[0] == "0" and words[2] == "taken," else said
+
+
+def differences(one, other):
+    """Where two worlds differ, in short."""
+    if isinstance(one, str) or isinstance(other, str):
+        return f"{one} {other}"[:200]
+    for name in vars(one):
+        if name != "boards" and getattr(one, name) != getattr(other, name):
+            return f"{name}: {getattr(one, name)} {getattr(other, name)}"
+    if len(one.boards) != len(other.boards):
+        return f"boards: {len(one.boards)} {len(other.boards)}"
+    for number, (b, c) in enumerate(zip(one.boards, other.boards)):
+        for name in vars(b):
+            if getattr(b, name) != getattr(c, name):
+                return f"board {number} {name}: {str(getattr(b, name))[:90]} {str(getattr(c, name))[:90]}"
+    return "nothing"
+
+
+def draws(what, change_it, wanted=None, rubbish=0, longest=255):
+    """Opens a world, changes it, has it taken beside what others did, and looks at all that comes of it."""
+    for name in ("mine.zed", "mine.zzt", "mine.zzt.base", "mine.zzt.base~", "mine.zed~"):
+        if os.path.exists(at(name)):
+            os.remove(at(name))
+    shutil.copy(at("start.zed"), at("mine.zed"))
+    told = zztool("open", "mine.zed", "mine.zzt")
+    is_so(f"{what}: open", told, f"0 {len(bytes_of('mine.zzt') or b'')} bytes")
+    is_so(f"{what}: the base", bytes_of("mine.zzt.base"), bytes_of("start.zed"))
+    world = zzt.read(bytes_of("mine.zzt"))
+    change_it(world)
+    put("mine.zzt", zzt.write(world, rubbish, longest))
+    shutil.copy(at("others.zed"), at("mine.zed"))
+    told = counts(zztool("take", "mine.zed", 1, "mine.zzt"))
+    is_so(f"{what}: take", isinstance(told, tuple), True)
+    if not isinstance(told, tuple):
+        print(f"    {told}")
+        return
+    made, there = told
+    is_so(f"{what}: edits of FILE", there, made + 5)
+    if wanted is not None:
+        is_so(f"{what}: edits made", made, wanted)
+    is_so(f"{what}: the base's world", differences(world_of("mine.zzt.base"), zzt.normal(world)), "nothing")
+    if made == 0:
+        is_so(f"{what}: nothing is written", bytes_of("mine.zed"), bytes_of("others.zed"))
+    before = bytes_of("mine.zed"), bytes_of("mine.zzt.base")
+    is_so(f"{what}: taken again", zztool("take", "mine.zed", 1, "mine.zzt"), f"0 0 taken, {there} edits")
+    is_so(f"{what}: nothing is written again", (bytes_of("mine.zed"), bytes_of("mine.zzt.base")), before)
+    # what others did meanwhile is there, unless it was drawn over or its board is gone
+    seen = world_of("mine.zed")
+    if not isinstance(seen, str):
+        hall = next((b for b in seen.boards if b.name in (b"Hall", b"Great hall")), None)
+        if hall and what.startswith(("a cell", "a rectangle", "board.1", "a stat at", "a player")):
+            is_so(f"{what}: the others' cells", hall.at(60, 25), (19, 9))
+
+
+# ---- a world drawn at random
+
+
+def at_random(seed):
+    dice = random.Random(seed)
+
+    def draw(world):
+        for _ in range(dice.randint(1, 12)):
+            board = dice.choice(world.boards)
+            pick = dice.randrange(12)
+            if pick == 0:
+                x, y = dice.randint(1, 60), dice.randint(1, 25)
+                board.fill(x, y, dice.randint(x, 60), dice.randint(y, 25), (dice.randrange(60), dice.randrange(256)))
+            elif pick == 1:
+                for _ in range(30):
+                    board.put(dice.randint(1, 60), dice.randint(1, 25), (dice.randrange(60), dice.randrange(256)))
+            elif pick == 2 and len(board.stats) < 140:
+                number = dice.randint(1, len(board.stats))
+                add_stat(board, number, dice.randint(1, 60), dice.randint(1, 25), (36, 15), cycle=dice.randint(0, 9), program=b"@r\r" * dice.randint(0, 4))
+            elif pick == 3 and len(board.stats) > 1:
+                remove_stat(board, dice.randint(1, len(board.stats) - 1))
+            elif pick == 4:
+                stat = dice.choice(board.stats)
+                stat.p1, stat.p2, stat.p3 = dice.randrange(256), dice.randrange(256), dice.randrange(256)
+                stat.x, stat.y = dice.randrange(256), dice.randrange(256)
+            elif pick == 5:
+                stat = dice.choice(board.stats)
+                stat.follower, stat.leader = dice.randint(-2, 8), dice.randint(-2, 8)
+                stat.step, stat.position = (dice.randint(-32768, 32767), dice.randint(-9, 9)), dice.randint(-1, 900)
+            elif pick in (6, 7):
+                stat = dice.choice(board.stats)
+                if isinstance(stat.program, bytes):
+                    where = dice.randint(0, len(stat.program))
+                    upto = dice.randint(where, len(stat.program))
+                    stat.program = stat.program[:where] + bytes(dice.randrange(1, 256) for _ in range(dice.randint(0, 40))) + stat.program[upto:]
+                    owner = board.stats.index(stat)
+                    if not stat.program:
+                        for other in board.stats:
+                            if other.program == owner and isinstance(other.program, int):
+                                other.program = b""
+            elif pick == 8:
+                order = list(range(1, len(world.boards)))
+                dice.shuffle(order)
+                if dice.random() < 0.4 and order:
+                    order.pop()
+                for _ in range(dice.randint(0, 3)):
+                    order.insert(dice.randint(0, len(order)), -1)
+                move_boards(world, [0, *order])
+            elif pick == 9:
+                board.exits = [dice.randrange(6) for _ in range(4)]
+                board.message, board.dark, board.time_limit = b"m" * dice.randrange(59), dice.randrange(3), dice.randint(-9, 9)
+            elif pick == 10:
+                board.name = dice.choice([b"Hall", b"Cave", b"", b"n" * 50])
+            else:
+                world.name, world.health, world.current = b"w" * dice.randrange(21), dice.randint(-9, 200), dice.randrange(6)
+                world.flags[dice.randrange(10)] = b"F" * dice.randrange(21)
+
+    return draw, dice
+
+
+# ---- two authors, and what is refused
+
+
+def two_authors():
+    def author(name, replica, change_it):
+        shutil.copy(at("start.zed"), at(f"{name}.zed"))
+        zztool("open", "--force", f"{name}.zed", f"{name}.zzt")
+        world = zzt.read(bytes_of(f"{name}.zzt"))
+        change_it(world)
+        put(f"{name}.zzt", zzt.write(world, 7))
+        return counts(zztool("take", f"{name}.zed", replica, f"{name}.zzt"))
+
+    def merged(one, other):
+        is_so("first author", isinstance(author("one", 1, one), tuple), True)
+        is_so("second author", isinstance(author("two", 2, other), tuple), True)
+        is_so("merged", zzted("merge", "both.zed", 7, "one.zed", "two.zed")[:2], "0 ")
+        is_so("merged", zzted("merge", "back.zed", 7, "two.zed", "one.zed")[:2], "0 ")
+        is_so("merged in either order", bytes_of("both.zed"), bytes_of("back.zed"))
+        return world_of("both.zed")
+
+    def hall(change_it):
+        return lambda world: change_it(world.boards[1])
+
+    seen = merged(hall(lambda b: b.fill(30, 1, 33, 4, (21, 1))), hall(lambda b: b.fill(40, 1, 43, 4, (20, 2))))
+    is_so("two places", (seen.boards[1].at(31, 2), seen.boards[1].at(41, 2)), ((21, 1), (20, 2)))
+    # in one cell the later stamp: the second author made more edits, so the time of the last is later
+    seen = merged(hall(lambda b: b.put(30, 1, (21, 1))), hall(lambda b: b.put(30, 1, (20, 2))))
+    is_so("one cell, one time: the higher replica", seen.boards[1].at(30, 1), (20, 2))
+    seen = merged(
+        hall(lambda b: change_stat(b, 1, program=b.stats[1].program.replace(b"@guard\r", b"@guard\r#lock\r"))),
+        hall(lambda b: change_stat(b, 1, program=b.stats[1].program.replace(b"Halt!", b"Halt, you!"))),
+    )
+    is_so("two lines", seen.boards[1].stats[1].program, b"@guard\r#lock\r#char 33\r#end\r:touch\rHalt, you!\r#end\r")
+    seen = merged(lambda world: move_boards(world, [0, 1, 2, 3, -1]), lambda world: move_boards(world, [0, 3, 1, 2]))
+    is_so("a new board and another order", sorted(b.name for b in seen.boards), [b"Cave", b"Hall", b"New", b"Title", b"Tower"])
+    # the number of the second author, who began from the first one's number: my world over theirs, with what both began with as base
+    shutil.copy(at("one.zed"), at("mine.zed"))
+    author("mine", 1, hall(lambda b: b.put(3, 3, (21, 1))))
+    author("their", 1, hall(lambda b: b.put(4, 4, (20, 2))))
+    is_so("one number twice", zzted("merge", "both.zed", 7, "mine.zed", "their.zed"), "1 zzted: Clash 4 1")
+    is_so("my world", zzted("save", "--big", "my.zzt", "mine.zed")[:2], "0 ")
+    # the base is written too
+    shutil.copy(at("start.zed"), at("before.zed"))
+    is_so("over theirs", zztool("take", "--base", "before.zed", "their.zed", 3, "my.zzt"), "0 1 taken, 5 edits")
+    seen = world_of("their.zed")
+    is_so("both are there", (seen.boards[1].at(3, 3), seen.boards[1].at(4, 4)), ((21, 1), (20, 2)))
+
+
+def undoes():
+    """An author goes back to an earlier time, and what others do meanwhile stays."""
+    shutil.copy(at("others.zed"), at("mine.zed"))
+    is_so("back", zztool("open", "--until", 2, "--force", "mine.zed", "mine.zzt")[:2], "0 ")
+    is_so("the base is all of FILE", bytes_of("mine.zzt.base"), bytes_of("others.zed"))
+    drawn = zzt.read(bytes_of("mine.zzt"))
+    is_so("others merge meanwhile", zzted("edit", "mine.zed", 8, "cells", 1, 1, 25, 1, 25, 19, 9)[:2], "0 ")
+    is_so("taken", isinstance(counts(zztool("take", "mine.zed", 1, "mine.zzt")), tuple), True)
+    seen = world_of("mine.zed")
+    is_so("as it was, with what came meanwhile", (seen.boards[1].at(60, 25), seen.boards[1].at(1, 25)), ((0, 0), (19, 9)))
+    drawn.boards[1].put(1, 25, (19, 9))
+    is_so("all of it", differences(seen, zzt.normal(drawn)), "nothing")
+
+
+def refused():
+    """Worlds and files that are no good: nothing changes."""
+    shutil.copy(at("start.zed"), at("mine.zed"))
+    is_so("open", zztool("open", "--force", "mine.zed", "mine.zzt")[:2], "0 ")
+    good = bytes_of("mine.zzt")
+    held = bytes_of("mine.zed"), bytes_of("mine.zzt.base")
+
+    def refuses(what, wanted, *words, data=None):
+        if data is not None:
+            put("mine.zzt", data)
+        is_so(what, zztool(*words), f"1 zztool: {wanted}")
+        is_so(f"{what}: nothing changes", (bytes_of("mine.zed"), bytes_of("mine.zzt.base")), held)
+
+    taken = ("take", "mine.zed", 1, "mine.zzt")
+    refuses("cut short", "Truncated", *taken, data=good[:600])
+    refuses("still being written", "Truncated", *taken, data=b"")
+    refuses("of Super ZZT", "NotZzt", *taken, data=b"\xfe\xff" + good[2:])
+    refuses("too many boards", "TooManyBoards", *taken, data=good[:2] + b"\x65\0" + good[4:])
+    refuses("a board too large", "BadBoardSize", *taken, data=good[:512] + b"\xff\xff" + good[514:])
+    put("mine.zzt", good)
+    refuses("replica 0", "BadEdit Stamp", "take", "mine.zed", 0, "mine.zzt")
+    refuses("no FILE", "File", "take", "none.zed", 1, "mine.zzt")
+    refuses("no WORLD", "File", "take", "mine.zed", 1, "none.zzt")
+    refuses("no base", "File", "take", "--base", "none.zed", "mine.zed", 1, "mine.zzt")
+    refuses("no edit file", "Magic", "take", "mine.zzt", 1, "mine.zzt")
+    zzted("new", "other.zed", 8)
+    refuses("another world", "OtherWorld", "take", "--base", "other.zed", "mine.zed", 1, "mine.zzt")
+    shutil.copy(at("start.zed"), at("clash.zed"))
+    zzted("edit", "clash.zed", 1, "cells", 1, 1, 1, 1, 1, 9, 9)
+    zzted("edit", "mine.zed", 1, "cells", 1, 1, 1, 1, 1, 8, 8)
+    held = bytes_of("mine.zed"), bytes_of("mine.zzt.base")
+    refuses("a clash of base and FILE", "Clash 4 1", "take", "--base", "clash.zed", "mine.zed", 1, "mine.zzt")
+    # a drawing isn't lost by opening again
+    world = zzt.read(good)
+    world.boards[1].put(1, 1, (21, 1))
+    put("mine.zzt", zzt.write(world))
+    refuses("drawn in", "NotTaken", "open", "mine.zed", "mine.zzt")
+    is_so("the drawing is there", bytes_of("mine.zzt"), zzt.write(world))
+    is_so("opened all the same", zztool("open", "--force", "mine.zed", "mine.zzt")[:2], "0 ")
+    is_so("opened again", zztool("open", "mine.zed", "mine.zzt")[:2], "0 ")
+
+
+def at_once():
+    """Twenty authors' takes of one file at the same time: none is lost."""
+    shutil.copy(at("start.zed"), at("mine.zed"))
+    for number in range(20):
+        zztool("open", "--force", "mine.zed", f"w{number}.zzt")
+        world = zzt.read(bytes_of(f"w{number}.zzt"))
+        world.boards[1].put(1 + number, 23, (21, number))
+        put(f"w{number}.zzt", zzt.write(world))
+    with ThreadPoolExecutor(20) as pool:
+        said = list(pool.map(lambda n: zztool("take", "mine.zed", 10 + n, f"w{n}.zzt")[:9], range(20)))
+    is_so("twenty at once", said, ["0 1 taken"] * 20)
+    seen = world_of("mine.zed")
+    is_so("all of them", [seen.boards[1].at(1 + n, 23) for n in range(20)], [(21, n) for n in range(20)])
+
+
+def broken_off():
+    """A take that ended between its two files: the next one ends well."""
+    draws("before it breaks off", lambda world: world.boards[1].put(33, 3, (21, 14)), 1)
+    before, after = bytes_of("others.zed"), bytes_of("mine.zed")
+    put("mine.zed", before)
+    is_so("taken again", zztool("take", "mine.zed", 1, "mine.zzt"), "0 0 taken, 6 edits")
+    is_so("as if it had not", bytes_of("mine.zed"), after)
+
+
+def main():
+    prepare()
+    for path, value in REGISTERS:
+        # an editor leaves rubbish in unused bytes, and writes runs of its own length
+        draws(path, lambda world, p=path, v=value: change(world, p, v), 1, rubbish=99, longest=60)
+    for what, program, wanted in programs():
+        draws(f"program: {what}", lambda world, p=program: change_stat(world.boards[1], 1, program=p), wanted)
+    for what, change_it, wanted in shapes():
+        draws(what, change_it, wanted, longest=256)
+    two_authors()
+    undoes()
+    refused()
+    at_once()
+    broken_off()
+    for seed in range(COUNT):
+        draw, dice = at_random(seed)
+        draws(f"at random {seed}", draw, rubbish=dice.randrange(256), longest=dice.choice([1, 60, 255, 256]))
+    print(f"drawing: {passed} passed, {failed} failed")
+    return 1 if failed else 0
+
+
+sys.exit(main())
