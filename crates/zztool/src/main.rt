@@ -45,7 +45,7 @@ fn prepare(rt: &HostRuntime, words: &[String], host: &mut SystemHost) -> io::Res
         Ok(Command::Open { file, world, .. }) => {
             holds(host, file)?;
             writes(host, world)?;
-            writes(host, &base_of(rt.alloc(), world)?)
+            holds(host, &base_of(rt.alloc(), world)?)
         }
         Ok(
             Command::Take {
