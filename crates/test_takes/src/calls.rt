@@ -152,7 +152,11 @@ fn deliver_once(alloc: Global, world: &World, nth: usize) -> Result<Turn, Fail> 
     refuse(alloc, nth);
     let is_done = deliver(&mut from, edits).is_ok();
     let new = from.edits().len();
-    Ok(turn_of(alloc, is_done && new == old.saturating_add(count), !is_done && new == old))
+    Ok(turn_of(
+        alloc,
+        is_done && new == old.saturating_add(count),
+        !is_done && new == old,
+    ))
 }
 
 #[test]

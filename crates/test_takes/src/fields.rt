@@ -12,64 +12,134 @@ use zed_types::{
     KeyColour, Rectangle, Side, StatByte, StatId, StatNumber, StatSetting, ThirdParameter, Tile,
 };
 
-/// How many edits are taken of the base with these edits.
-fn taken_with(alloc: Global, ops: Vec<Op>) -> Result<usize, Fail> {
-    let mut from = base(alloc)?;
-    let mut other = base(alloc)?;
-    for op in ops {
-        set(&mut other, 9, op)?;
-    }
-    taken(alloc, &mut from, &other)
-}
-
 #[test]
 fn registers_of_the_header(rt: HostRuntime) -> Result<(), Fail> {
-    let ops = vec![in rt.alloc();
+    let mut from = base(rt.alloc())?;
+    let mut other = base(rt.alloc())?;
+    set(
+        &mut other,
+        9,
         Op::SetHeader(HeaderSetting::Number(HeaderNumber::Gems, -2)),
+    )?;
+    set(
+        &mut other,
+        9,
         Op::SetHeader(HeaderSetting::Number(HeaderNumber::Hundredths, 99)),
+    )?;
+    set(
+        &mut other,
+        9,
         Op::SetHeader(HeaderSetting::Key(KeyColour::White, true)),
-        Op::SetHeader(HeaderSetting::Saved(true)),
+    )?;
+    set(&mut other, 9, Op::SetHeader(HeaderSetting::Saved(true)))?;
+    set(
+        &mut other,
+        9,
         Op::SetHeader(HeaderSetting::CurrentBoard(south())),
+    )?;
+    set(
+        &mut other,
+        9,
         Op::SetHeader(HeaderSetting::WorldName(bytes(rt.alloc(), "TOWN")?)),
+    )?;
+    set(
+        &mut other,
+        9,
         Op::SetHeader(HeaderSetting::Flag(FlagSlot::Tenth, bytes(rt.alloc(), "GATE")?)),
-    ]?;
-    assert_eq!(rt; taken_with(rt.alloc(), ops)?, 7);
+    )?;
+    assert_eq!(rt; taken(rt.alloc(), &mut from, &other)?, 7);
     Ok(())
 }
 
 #[test]
 fn registers_of_boards(rt: HostRuntime) -> Result<(), Fail> {
-    let ops = vec![in rt.alloc();
+    let mut from = base(rt.alloc())?;
+    let mut other = base(rt.alloc())?;
+    set(
+        &mut other,
+        9,
         Op::SetBoard(north(), BoardSetting::Byte(BoardByte::MaxShots, 3)),
+    )?;
+    set(
+        &mut other,
+        9,
         Op::SetBoard(north(), BoardSetting::Byte(BoardByte::StartX, 5)),
+    )?;
+    set(
+        &mut other,
+        9,
         Op::SetBoard(north(), BoardSetting::Flag(BoardFlag::Dark, true)),
+    )?;
+    set(
+        &mut other,
+        9,
         Op::SetBoard(north(), BoardSetting::TimeLimit(-1)),
+    )?;
+    set(
+        &mut other,
+        9,
         Op::SetBoard(north(), BoardSetting::Exit(Side::South, Some(south()))),
+    )?;
+    set(
+        &mut other,
+        9,
         Op::SetBoard(
             south(),
-            BoardSetting::Text(BoardText::Message, bytes(rt.alloc(), "Cold.")?)
+            BoardSetting::Text(BoardText::Message, bytes(rt.alloc(), "Cold.")?),
         ),
+    )?;
+    set(
+        &mut other,
+        9,
         Op::SetBoard(
             BoardId::TITLE,
-            BoardSetting::Text(BoardText::Name, bytes(rt.alloc(), "Title")?)
+            BoardSetting::Text(BoardText::Name, bytes(rt.alloc(), "Title")?),
         ),
-    ]?;
-    assert_eq!(rt; taken_with(rt.alloc(), ops)?, 7);
+    )?;
+    assert_eq!(rt; taken(rt.alloc(), &mut from, &other)?, 7);
     Ok(())
 }
 
 #[test]
 fn registers_of_stats(rt: HostRuntime) -> Result<(), Fail> {
-    let ops = vec![in rt.alloc();
+    let mut from = base(rt.alloc())?;
+    let mut other = base(rt.alloc())?;
+    set(
+        &mut other,
+        9,
         Op::SetStat(first(), StatSetting::Byte(StatByte::P1, 7)),
+    )?;
+    set(
+        &mut other,
+        9,
         Op::SetStat(first(), StatSetting::Byte(StatByte::UnderElement, 22)),
+    )?;
+    set(
+        &mut other,
+        9,
         Op::SetStat(first(), StatSetting::Number(StatNumber::StepX, -1)),
+    )?;
+    set(
+        &mut other,
+        9,
         Op::SetStat(first(), StatSetting::Number(StatNumber::Position, -1)),
+    )?;
+    set(
+        &mut other,
+        9,
         Op::SetStat(first(), StatSetting::P3(ThirdParameter::Byte(200))),
+    )?;
+    set(
+        &mut other,
+        9,
         Op::SetStat(first(), StatSetting::Follower(Some(second()))),
+    )?;
+    set(
+        &mut other,
+        9,
         Op::SetStat(second(), StatSetting::Leader(Some(first()))),
-    ]?;
-    assert_eq!(rt; taken_with(rt.alloc(), ops)?, 7);
+    )?;
+    assert_eq!(rt; taken(rt.alloc(), &mut from, &other)?, 7);
     Ok(())
 }
 
@@ -88,12 +158,16 @@ fn cell(board: BoardId, x: u8, y: u8, element: u8, colour: u8) -> Op {
 #[test]
 fn a_player_is_moved(rt: HostRuntime) -> Result<(), Fail> {
     let player = StatId::new(at(2), 0);
-    let ops = vec![in rt.alloc();
-        cell(north(), 30, 12, 0, 15),
-        cell(north(), 31, 12, 4, 31),
+    let mut from = base(rt.alloc())?;
+    let mut other = base(rt.alloc())?;
+    set(&mut other, 9, cell(north(), 30, 12, 0, 15))?;
+    set(&mut other, 9, cell(north(), 31, 12, 4, 31))?;
+    set(
+        &mut other,
+        9,
         Op::SetStat(player, StatSetting::Byte(StatByte::X, 31)),
-    ]?;
-    assert_eq!(rt; taken_with(rt.alloc(), ops)?, 3);
+    )?;
+    assert_eq!(rt; taken(rt.alloc(), &mut from, &other)?, 3);
     Ok(())
 }
 

@@ -2,7 +2,7 @@
 use Rattle.zed_edit.specs.declared.plain.Plain.{Plain}
 use Rattle.zed_export.specs.declared.error.ExportError.{ExportError}
 use Rattle.zed_export.specs.declared.error.ExportError.TheVariants.{Memory}
-use Rattle.std.proofs.Common.{◌≡◌, ◌∙◌, ◌≤◌, ℕ, false, length, map, Option, Some, None, Ok, Err, ap, refl, sym, subst, inl, inr}
+use Rattle.std.proofs.Common.{◌≡◌, ◌∙◌, ◌≤◌, ℕ, false, length, Option, Some, None, Ok, Err, ap, refl, sym, subst, inl, inr}
 use Rattle.std.proofs.lemmas.List.{length-map}
 use mathlib.Core.Logic.{◌⊎◌}
 use Rattle.zed_world.specs.Contents.{Contents}

@@ -11,7 +11,7 @@ use Rattle.zed_files.specs.declared.refusal.Refusal.{Refusal}
 use Rattle.zed_files.specs.declared.refusal.Refusal.TheVariants.{File, NoBoard, NoSuch, OutOfRange}
 use Rattle.zed_files.specs.Refusals.{IsOffStage, export_refusal}
 use Rattle.zed_files.proofs.Failures.{session_is_other}
-use Rattle.zed_files.proofs.OffStage.{export_off, is_off}
+use Rattle.zed_files.proofs.OffStage.{export_off}
 use Rattle.zed_op.specs.declared.op.Edit.{Edit}
 use Rattle.zed_session.specs.Refusals as session
 use Rattle.zed_types.specs.declared.names.BoardId.{BoardId}
@@ -19,7 +19,6 @@ use Rattle.zed_types.specs.declared.tile.Place.{Place}
 use Rattle.zed_world.specs.declared.board.BoardData.{BoardData}
 use Rattle.zed_world.specs.declared.stat.StatData.{StatData}
 use Rattle.zed_world.specs.Contents.{Contents}
-use Rattle.zed_telling.specs.declared.filter.Filter.{Filter}
 use Rattle.zed_telling.specs.declared.listing.Listing.{Listing}
 use Rattle.zed_telling.specs.declared.listing.Listing.TheVariants.{Boards, Stats, Program}
 use Rattle.zed_telling.specs.declared.sought.Cell.{Cell}

@@ -11,7 +11,7 @@ use Rattle.zed_types.specs.Stamp.{same_stamp}
 use Rattle.zed_types.specs.Table.{is_inside}
 use Rattle.zed_op.specs.declared.op.Edit.{Edit}
 use Rattle.zed_op.specs.declared.op.Op.{Op}
-use Rattle.zed_op.specs.declared.op.Op.TheVariants.{Genesis, SetHeader, BoardAdd, BoardRemove, SetBoard, SetCells, StatAdd, StatRemove, SetStat, TextAdd, TextInsert, TextDelete}
+use Rattle.zed_op.specs.declared.op.Op.TheVariants.{BoardRemove, SetBoard, SetCells, StatAdd, StatRemove, SetStat, TextAdd, TextInsert, TextDelete}
 use Rattle.zed_op.specs.declared.thing.Thing.{Thing}
 use Rattle.zed_op.specs.declared.thing.Thing.TheVariants as thing
 use Rattle.zed_edit.specs.declared.plain.Board.{Board}

@@ -73,10 +73,7 @@ fn cell_at(document: &Document, number: u16, x: u16, y: u16) -> Result<Cell, Ref
     }
 }
 
-fn cell_sought(
-    document: &Document,
-    cell: Option<(u16, u16, u16)>,
-) -> Result<Option<Cell>, Refusal>
+fn cell_sought(document: &Document, cell: Option<(u16, u16, u16)>) -> Result<Option<Cell>, Refusal>
     requires { document.now.is_stale ≡ false }
     ensures { result ≡ cell_sought (replay document.now.edits) cell }
 {

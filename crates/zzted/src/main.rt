@@ -22,28 +22,47 @@ fn words_of(rt: &HostRuntime) -> io::Result<Vec<String>> {
     Ok(words)
 }
 
-// Tells the host which file the command of these words writes, and how; standard output is none. Answers the files that it pulls over
-// links. Words that are refused have neither; the program tells of them.
-fn prepare<'a>(
-    rt: &HostRuntime,
-    words: &'a [String],
-    host: &mut SystemHost,
-) -> io::Result<Vec<&'a str>> {
-    match parse(rt.alloc(), words) {
-        Ok(Command::Merge { out, files, .. }) => {
-            if out != "stdout" {
-                host.joins(out, &files)?;
-            }
-            return Ok(files);
+// How a command gets to the file that it writes.
+#[derive(Clone, Copy)]
+enum Way {
+    // It writes none.
+    Reads,
+    // It writes the file.
+    Writes,
+    // It reads the file and writes it again.
+    Edits,
+    // It writes the file, which may be one of those that it pulls over links.
+    Joins,
+}
+
+// How the command of these words gets to the file that it writes, the name of that, and the files that it pulls over links. Words that
+// are refused have neither; the program tells of them.
+fn needs_of<'a>(rt: &HostRuntime, words: &'a [String]) -> io::Result<(Way, &'a str, Vec<&'a str>)> {
+    let (way, name) = match parse(rt.alloc(), words) {
+        Ok(Command::Merge { out, files, .. }) => return Ok((Way::Joins, out, files)),
+        Ok(Command::Edit { file, .. }) => (Way::Edits, file),
+        Ok(Command::Save { out, .. }) => (Way::Writes, out),
+        Ok(Command::New { out, .. }) => (Way::Writes, out),
+        Ok(Command::Check { .. } | Command::Show { .. } | Command::Play { .. }) => {
+            (Way::Reads, "")
         }
-        Ok(Command::Edit { file, .. }) if file != "stdout" => host.edits(file)?,
-        Ok(Command::Save { out, .. } | Command::New { out, .. }) if out != "stdout" => {
-            host.writes(out)?;
-        }
-        Ok(_) | Err(ParseError::Refused(_)) => {}
+        Err(ParseError::Refused(_)) => (Way::Reads, ""),
         Err(ParseError::Memory) => return Err(io::Error::from(ErrorKind::OutOfMemory)),
+    };
+    Ok((way, name, Vec::new(rt.alloc())))
+}
+
+// Tells the host which file is written, and how. Standard output is no file.
+fn admit(host: &mut SystemHost, way: Way, name: &str, links: &[&str]) -> io::Result<()> {
+    if name == "stdout" {
+        return Ok(());
     }
-    Ok(Vec::new(rt.alloc()))
+    match way {
+        Way::Reads => Ok(()),
+        Way::Writes => host.writes(name),
+        Way::Edits => host.edits(name),
+        Way::Joins => host.joins(name, links),
+    }
 }
 
 // The status where the words or memory can't be had: memory was refused, or a word is no UTF-8 text.
@@ -59,8 +78,9 @@ fn status_of(rt: &HostRuntime, error: &io::Error) -> u8 {
 // Carries out what the words ask for, over real files and streams.
 fn carry_out(rt: HostRuntime, words: &[String]) -> io::Result<u8> {
     let alloc = rt.alloc();
+    let (way, name, linked) = needs_of(&rt, words)?;
     let mut host = SystemHost::new(rt);
-    let linked = prepare(&rt, words, &mut host)?;
+    admit(&mut host, way, name, &linked)?;
     let mut links: Vec<Box<dyn Link>> = Vec::new(alloc);
     for name in linked {
         let link = Box::new(alloc, FileLink::new(rt, name)?)?;

@@ -1,4 +1,4 @@
-use Rattle.std.proofs.Common.{◌≡◌, ◌&&◌, drop, Some}
+use Rattle.std.proofs.Common.{◌≡◌, ◌&&◌, drop}
 use Rattle.std.specs.List.{list_any}
 use Rattle.zed_types.specs.Names.{same_board}
 use Rattle.zed_telling.specs.Edits.{is_of_board}

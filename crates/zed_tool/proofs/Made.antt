@@ -1,0 +1,76 @@
+-- The calls of a run.
+use Rattle.zed_drawing.specs.declared.error.DrawingError.{DrawingError}
+use Rattle.std.proofs.Common.{◌≤◌, ℕ, true, false, List, [], ◌∷◌, ◌++◌, Option, Some, None, Result, Ok, Err, arith, inl, inr}
+use Rattle.std.specs.Prelude.{⊤}
+use Rattle.clap.specs.Walk.{Text}
+use Rattle.zed_host.specs.Calls.{Call, Complaining, Leads, Printing, call, passed}
+use Rattle.zed_host.specs.Counting.{NothingFailed}
+use Rattle.zed_host.proofs.Calls.{CountsFailures, CountsNoFault, calm_calls, leads_one, leads_then}
+use Rattle.zed_drawing.specs.Asked.{Asks, writing}
+use Rattle.zed_tool_words.specs.Commands.{Command, Open, Take, Log, Lists, command_of}
+use Rattle.zed_tool.specs.Commands.{AsksCommand, AsksTelling}
+use Rattle.zed_tool.specs.Outcome.{Complained, Hosts, Runs, RunsAs}
+
+-- such calls lead from the one state of a host to the other
+abbrev Made : {H : Type 0} → (H → Call → H → Type 0) → H → H → Type 0
+Made called old new = (calls : List Call) × Leads called calls old new
+
+then_made : {H : Type 0} (called : H → Call → H → Type 0) (old mid new : H) → Made called old mid → Made called mid new → Made called old new
+then_made called old mid new first second = (first.0 ++ second.0, leads_then called first.0 second.0 old mid new first.1 second.1)
+
+drawing_made : {H : Type 0} (called : H → Call → H → Type 0) (Course : List Call → Type 0) (Names : List (List ℕ) → Type 0) (result : Result ⊤ DrawingError) (old new : H)
+    → Asks called Course Names result old new → Made called old new
+drawing_made called Course Names (Ok u) old new asks = let did = asks.2 in (did.0 ++ passed (writing asks.0), did.2)
+drawing_made called Course Names (Err e) old new asks = let stopped = asks.2 in (stopped.1, stopped.3)
+
+telling_made : {H : Type 0} (called : H → Call → H → Type 0) (files : List (List ℕ)) (result : Result ⊤ DrawingError) (old new : H)
+    → AsksTelling called files result old new → Made called old new
+telling_made called files (Ok u) old new asks = (asks.0, asks.1)
+telling_made called files (Err e) old new asks = let told = asks.2 in (told.0, told.1)
+
+command_made : {H : Type 0} (called : H → Call → H → Type 0) (command : Command) (result : Result ⊤ DrawingError) (old new : H)
+    → AsksCommand called command result old new → Made called old new
+command_made called (Open until forcing file world) result old new asks = drawing_made called _ _ result old new asks
+command_made called (Take base file replica world) result old new asks = drawing_made called _ _ result old new asks
+command_made called (Log board cell replica since files) result old new asks = telling_made called files result old new asks
+command_made called (Lists listing files) result old new asks = telling_made called files result old new asks
+
+told_made : {H : Type 0} (h : Hosts H) (text : List ℕ) (old new : H) → Complained h text old new → Made h.called old new
+told_made h text old new told =
+    let asked = told.asked in
+    (call (Complaining text) asked.0 ∷ [], leads_one h.called (call (Complaining text) asked.0) old new asked.1)
+
+as_made : {H : Type 0} (h : Hosts H) (words : List Text) (command : Option Command) (status : ℕ) (old new : H) → RunsAs h words command status old new → Made h.called old new
+as_made h words (Some command) status old new runs = elim runs [
+  | inl done ↦ command_made h.called command (Ok tt) old new done.1.asked
+  | inr refused ↦ (
+      let rest = refused.1 in
+      let tells = rest.3 in
+      then_made h.called old rest.1 new (command_made h.called command (Err rest.0) old rest.1 rest.2.asked) (told_made h tells.0 rest.1 new tells.2))
+]
+as_made h words None status old new runs = elim runs [
+  | inl refused ↦ (let told = refused.2 in told_made h told.0 old new told.1)
+  | inr other ↦ elim other [
+    | inl helped ↦ (let printed = helped.2 in (call Printing false ∷ [], leads_one h.called (call Printing false) old new printed.1.asked))
+    | inr failed ↦ (
+        let rest = failed.2 in
+        let tells = rest.3 in
+        let first : Made h.called old rest.1 = (call Printing true ∷ [], leads_one h.called (call Printing true) old rest.1 rest.2.asked) in
+        then_made h.called old rest.1 new first (told_made h tells.0 rest.1 new tells.2))
+  ]
+]
+
+run_made : {H : Type 0} (h : Hosts H) (words : List Text) (status : ℕ) (old new : H) → Runs h words status old new → Made h.called old new
+run_made h words status old new runs = elim runs [
+  | inl ran ↦ as_made h words (command_of words) status old new ran
+  | inr memory ↦ told_made h _ old new memory.1
+]
+
+-- where no failure was counted, no fault was
+pub run_calm : {H : Type 0} (h : Hosts H) → CountsFailures h.called h.failed → CountsNoFault h.called h.faults
+    → (words : List Text) (status : ℕ) (old new : H) → Runs h words status old new
+    → h.faults old ≤ h.failed old → NothingFailed (h.failed old) (h.failed new) → NothingFailed (h.faults old) (h.faults new)
+run_calm h law none words status old new runs within calm =
+    let made = run_made h words status old new runs in
+    let low = calm.1 in
+    (calm_calls h.called h.failed h.faults law none made.0 old new made.1 calm, omega arith)

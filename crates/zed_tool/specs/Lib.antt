@@ -1,0 +1,5 @@
+pub mod Calm
+pub mod Commands
+pub mod Lines
+pub mod Outcome
+pub mod Taking

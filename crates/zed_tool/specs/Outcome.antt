@@ -1,0 +1,89 @@
+-- What `run` does.
+use Rattle.zed_drawing.specs.declared.error.DrawingError.{DrawingError}
+use Rattle.std.specs.Prelude.{◌≡◌, ◌≤◌, ◌⊎◌, ℕ, Bool, true, false, List, Option, Some, None, Result, Ok, Err, ⊤}
+use Rattle.clap.specs.Walk.{Text}
+use Rattle.zed_host.specs.Calls.{Call, Complaining, Printing, call}
+use Rattle.zed_host.specs.Counting.{Rose}
+use Rattle.zed_host.specs.HostContents.{HalfComplained, HalfPrinted, HostContents, StillTells, with_complaint, with_printed}
+use Rattle.zed_drawing.specs.Asked.{TellsFailures}
+use Rattle.zed_drawing.specs.Refusals.{file, memory}
+use Rattle.zed_tool_words.specs.Commands.{AsksHelp, Command, MayAskHelp, command_of}
+use Rattle.zed_tool.specs.Commands.{AsksCommand, EndsCommand}
+use Rattle.zed_tool.specs.Lines.{line_of, tells_numbers}
+
+-- what hosts tell: what they hold, their calls, how many of these failed, and how many by a fault
+pub record Hosts (H : Type 0) : Type 1 where
+  pub contents : H → Option HostContents
+  pub called : H → Call → H → Type 0
+  pub failed : H → ℕ
+  pub faults : H → ℕ
+
+-- hosts that tell so
+abbrev pub hosts : {H : Type 0} → (H → Option HostContents) → (H → Call → H → Type 0) → (H → ℕ) → (H → ℕ) → Hosts H
+hosts contents called failed faults = record { contents = contents; called = called; failed = failed; faults = faults }
+
+-- no failure is forgotten
+abbrev pub NoneForgotten : {H : Type 0} → Hosts H → H → H → Type 0
+NoneForgotten h old new = (h.faults old ≤ h.faults new) × (h.failed old ≤ h.failed new)
+
+-- a command that answered this led from the one state of a host to the other: what it left, what it asked for, call by call, and that it forgot
+-- no failure
+pub record Acted {H : Type 0} (h : Hosts H) (command : Command) (result : Result ⊤ DrawingError) (old new : H) : Type 0 where
+  pub ends : (t : HostContents) → h.contents old ≡ Some t
+      → EndsCommand h.called (Rose (h.faults old) (h.faults new)) command old new t result (h.contents new)
+  pub asked : AsksCommand h.called command result old new
+  pub failures : TellsFailures h.faults h.failed result old new
+
+-- a text is on the standard error, or the host failed at it
+abbrev pub IsComplained : Type 0 → List ℕ → HostContents → Option HostContents → Type 0
+IsComplained failed text t new = (new ≡ Some (with_complaint text t)) ⊎ (failed × StillTells (HalfComplained text t) new)
+
+-- one call did that
+pub record Complained {H : Type 0} (h : Hosts H) (text : List ℕ) (old new : H) : Type 0 where
+  pub told : (t : HostContents) → h.contents old ≡ Some t → IsComplained (Rose (h.faults old) (h.faults new)) text t (h.contents new)
+  pub asked : (failed : Bool) × h.called old (call (Complaining text) failed) new
+  pub failures : NoneForgotten h old new
+
+-- one call printed a text
+pub record Printed {H : Type 0} (h : Hosts H) (text : List ℕ) (old new : H) : Type 0 where
+  pub told : (t : HostContents) → h.contents old ≡ Some t → h.contents new ≡ Some (with_printed text t)
+  pub asked : h.called old (call Printing false) new
+  pub failures : NoneForgotten h old new
+
+-- one call was to print a text, and failed
+pub record FailedToPrint {H : Type 0} (h : Hosts H) (text : List ℕ) (old new : H) : Type 0 where
+  pub left : (t : HostContents) → h.contents old ≡ Some t → StillTells (HalfPrinted text t) (h.contents new)
+  pub asked : h.called old (call Printing true) new
+  pub failures : Rose (h.faults old) (h.faults new) × Rose (h.failed old) (h.failed new)
+
+-- the line of a refusal; where it has numbers memory may run out for it, and then its line says so
+abbrev pub IsLineOf : DrawingError → List ℕ → Type 0
+IsLineOf e line = (line ≡ line_of e) ⊎ ((tells_numbers e ≡ true) × (line ≡ line_of memory))
+
+-- the user is told of a refusal
+abbrev pub TellsOf : {H : Type 0} → Hosts H → DrawingError → H → H → Type 0
+TellsOf h e old new = (line : List ℕ) × IsLineOf e line × Complained h line old new
+
+-- a command is carried out with status 0, or refused with status 1, and then the user is told
+abbrev pub RunsCommand : {H : Type 0} → Hosts H → Command → ℕ → H → H → Type 0
+RunsCommand h command status old new =
+    ((status ≡ 0) × Acted h command (Ok tt) old new)
+    ⊎ ((status ≡ 1) × ((e : DrawingError) × (mid : _) × Acted h command (Err e) old mid × TellsOf h e mid new))
+
+-- words that are no command are refused with status 2 and a text; or they ask for help, and a text is printed with status 0. Where that failed
+-- the status is 1
+abbrev pub RunsOther : {H : Type 0} → Hosts H → List Text → ℕ → H → H → Type 0
+RunsOther h words status old new =
+    ((status ≡ 2) × ¬ (AsksHelp words) × ((text : List ℕ) × Complained h text old new))
+    ⊎ ((status ≡ 0) × MayAskHelp words × ((text : List ℕ) × Printed h text old new))
+    ⊎ ((status ≡ 1) × MayAskHelp words × ((text : List ℕ) × (mid : _) × FailedToPrint h text old mid × TellsOf h file mid new))
+
+-- what words come to that ask for a command, or for none
+abbrev pub RunsAs : {H : Type 0} → Hosts H → List Text → Option Command → ℕ → H → H → Type 0
+RunsAs h words (Some command) status old new = RunsCommand h command status old new
+RunsAs h words None status old new = RunsOther h words status old new
+
+-- the whole of a run; with status 1 memory may run out before anything is done
+abbrev pub Runs : {H : Type 0} → Hosts H → List Text → ℕ → H → H → Type 0
+Runs h words status old new =
+    RunsAs h words (command_of words) status old new ⊎ ((status ≡ 1) × Complained h (line_of memory) old new)

@@ -1,0 +1,46 @@
+-- What `take` makes of files that spell lists of edits.
+use Rattle.zed_op.specs.declared.op.Edit.{Edit}
+use Rattle.zed_take.specs.declared.error.TakeError.{TakeError}
+use Rattle.std.specs.Prelude.{◌≡◌, ◌≢◌, ◌⊎◌, ◌<◌, ◌^◌, ◌++◌, ℕ, false, List, Option, Some, Ok, Err}
+use Rattle.std.specs.Str.{bytes_eq}
+use Rattle.clap.specs.Walk.{Text}
+use Rattle.zed_op.specs.Set.{Agrees, union}
+use Rattle.zed_world.specs.Contents.{Contents}
+use Rattle.zed_world.specs.Reading.{world_at}
+use Rattle.zed_editfile.specs.Stream.{AreRecords}
+use Rattle.zed_files.specs.Files.{IsTextIn}
+use Rattle.zed_host.specs.HostContents.{HostContents, file_in}
+use Rattle.zed_take.specs.Taken.{AreTaken, next_stamp}
+use Rattle.zed_drawing.specs.Base.{base_word}
+use Rattle.zed_drawing.specs.Effects.{after}
+use Rattle.zed_drawing.specs.Refusals.{memory, take_refusal}
+use Rattle.zed_drawing.specs.Taking.{IsNotTaken, drawn, given}
+use Rattle.zed_tool_words.specs.Commands.{Take, command_of}
+use Rattle.zed_tool.specs.Calm.{HasStatus}
+
+-- the words ask an author to take what was drawn; FILE spells these edits of a world, and the base, which is another file, those, each in one
+-- of the versions; all of them agree; and WORLD is read as this world
+pub record AsksToTake (words : List Text) (t : HostContents) (name file : Text) (replica number : ℕ) (own based : List Edit) (shown : Contents) : Type 0 where
+  pub base : Option Text
+  pub world : Text
+  pub bytes : List ℕ
+  pub asks : command_of words ≡ Some (Take base file replica world)
+  pub is_base : name ≡ base_word base world
+  pub other : bytes_eq name file ≡ false
+  pub is_author : replica ≢ 0
+  pub spelled : IsTextIn number own (file_in t file)
+  pub base_spelled : IsTextIn number based (file_in t name)
+  pub there : file_in t world ≡ Some bytes
+  pub reads : world_at bytes ≡ Ok shown
+  pub is_number : number < 2 ^ 64
+  pub records : AreRecords (own ++ based)
+  pub agree : Agrees (own ++ based)
+
+-- edits are taken that lead from what the set of the base shows to this world, with stamps behind those of both sets: the base's file gets its
+-- set with them, and FILE both sets with them. Or none are found, which is told; or memory runs out
+abbrev pub TakesSet : Text → Text → HostContents → ℕ → ℕ → List Edit → List Edit → Contents → ℕ → Option HostContents → Type 0
+TakesSet name file t replica number own based shown status new =
+    ((taken : List Edit) × AreTaken based shown (next_stamp (union own based) replica) taken
+    × HasStatus (Ok (after (drawn name file (given (number, own) (Some based) shown) (union own based) taken) t)) t status new)
+    ⊎ ((e : TakeError) × IsNotTaken (union own based) based shown e × HasStatus (Err (take_refusal e)) t status new)
+    ⊎ HasStatus (Err memory) t status new

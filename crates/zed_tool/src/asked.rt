@@ -1,0 +1,27 @@
+//! What words ask for, as the commands take it.
+ghost use Rattle.std.specs.Prelude.{◌≡◌};
+ghost use Rattle.zed_tool.specs.Commands.{forcing_of as forcing_for, listing_of as listing_for};
+
+use zed_drawing::Forcing;
+use zed_telling::Listing;
+
+/// What is done to a world file that was drawn in.
+pub(crate) fn forcing_of(forcing: zed_tool_words::Forcing) -> Forcing
+    ensures { result ≡ forcing_for forcing }
+{
+    match forcing {
+        zed_tool_words::Forcing::Careful => Forcing::Careful,
+        zed_tool_words::Forcing::Forced => Forcing::Forced,
+    }
+}
+
+/// What of a world is listed.
+pub(crate) fn listing_of(listing: zed_tool_words::Listing) -> Listing
+    ensures { result ≡ listing_for listing }
+{
+    match listing {
+        zed_tool_words::Listing::Boards => Listing::Boards,
+        zed_tool_words::Listing::Stats(board) => Listing::Stats(board),
+        zed_tool_words::Listing::Program(board, stat) => Listing::Program(board, stat),
+    }
+}

@@ -1,0 +1,9 @@
+//! The work of the program `zztool`, over any host.
+#![tactic(auto)]
+
+mod asked;
+mod lines;
+mod program;
+
+pub use program::run;
+pub use zed_host::{Host, MemoryHost, ReadError, WriteError};

@@ -1,0 +1,110 @@
+//! The lines that the program writes on refusals: those of `zzted`, under its own name.
+ghost use Rattle.std.specs.Prelude.{◌≡◌, IfOk, IfSome, None, string_bytes, true};
+ghost use Rattle.zed_files.specs.declared.refusal.Refusal.TheVariants.{BadEdit};
+ghost use Rattle.zed_drawing.specs.declared.error.DrawingError.TheVariants.{Refused};
+ghost use Rattle.zed_tool.specs.Lines.{line_of as line_for, tells_numbers};
+
+use std::alloc::{AllocError, Global};
+use zed_drawing::DrawingError;
+use zed_edit::Cause;
+use zed_files::Refusal;
+use zed_types::Stamp;
+
+// The line of an edit that doesn't fit.
+fn bad_edit_line(cause: Cause) -> &'static str
+    ensures { result.now ≡ line_for (Refused (BadEdit cause)) }
+{
+    match cause {
+        Cause::Short => "zztool: BadEdit Short\n",
+        Cause::Op => "zztool: BadEdit Op\n",
+        Cause::Tag => "zztool: BadEdit Tag\n",
+        Cause::Long => "zztool: BadEdit Long\n",
+        Cause::Stamp => "zztool: BadEdit Stamp\n",
+        Cause::Range => "zztool: BadEdit Range\n",
+        Cause::Order => "zztool: BadEdit Order\n",
+        Cause::Genesis => "zztool: BadEdit Genesis\n",
+    }
+}
+
+// The line of a refusal that `zzted` has too, if it has no numbers.
+fn shared_line(refusal: Refusal) -> Option<&'static str>
+    ensures line { IfSome result (λ text. text.now ≡ line_for (Refused refusal)) }
+    ensures none { result ≡ None → tells_numbers (Refused refusal) ≡ true }
+{
+    let text = match refusal {
+        Refusal::Memory => "zztool: Memory\n",
+        Refusal::NotZzt => "zztool: NotZzt\n",
+        Refusal::TooManyBoards => "zztool: TooManyBoards\n",
+        Refusal::Truncated => "zztool: Truncated\n",
+        Refusal::BadBoardSize => "zztool: BadBoardSize\n",
+        Refusal::TooManyStats => "zztool: TooManyStats\n",
+        Refusal::BadShare => "zztool: BadShare\n",
+        Refusal::Magic => "zztool: Magic\n",
+        Refusal::NewVersion => "zztool: NewVersion\n",
+        Refusal::OtherWorld => "zztool: OtherWorld\n",
+        Refusal::RecordLength => "zztool: RecordLength\n",
+        Refusal::BadEdit(cause) => bad_edit_line(cause),
+        Refusal::CutShort => "zztool: CutShort\n",
+        Refusal::Stale => "zztool: Stale\n",
+        Refusal::ClockSpent => "zztool: ClockSpent\n",
+        Refusal::NoSuch => "zztool: NoSuch\n",
+        Refusal::OutOfRange => "zztool: OutOfRange\n",
+        Refusal::NoWorld => "zztool: NoWorld\n",
+        Refusal::BadAction => "zztool: BadAction\n",
+        Refusal::File => "zztool: File\n",
+        Refusal::NoBoard => "zztool: NoBoard\n",
+        Refusal::NoWords => "zztool: NoWords\n",
+        Refusal::Over => "zztool: Over\n",
+        Refusal::LinkFault => "zztool: LinkFault\n",
+        Refusal::ScreenFault => "zztool: ScreenFault\n",
+        Refusal::KeyFault => "zztool: KeyFault\n",
+        Refusal::TooManyTurns => "zztool: TooManyTurns\n",
+        Refusal::NoLink => "zztool: NoLink\n",
+        Refusal::Clash(_)
+        | Refusal::BoardsOver(_)
+        | Refusal::StatsOver { .. }
+        | Refusal::BoardOver { .. } => return None,
+    };
+    Some(text)
+}
+
+/// The line of a refusal that has no numbers, for the standard error.
+pub(crate) fn plain_line(error: DrawingError) -> Option<&'static str>
+    ensures line { IfSome result (λ text. text.now ≡ line_for error) }
+    ensures none { result ≡ None → tells_numbers error ≡ true }
+{
+    match error {
+        DrawingError::Refused(refusal) => shared_line(refusal),
+        DrawingError::NotTaken => Some("zztool: NotTaken\n"),
+    }
+}
+
+// The line of a refusal that `zzted` has too.
+fn shared_line_of(alloc: Global, refusal: Refusal) -> Result<String, AllocError>
+    ensures { IfOk result (λ text. string_bytes text ≡ line_for (Refused refusal)) }
+{
+    match refusal {
+        Refusal::Clash(stamp) => {
+            let Stamp { time, replica } = stamp;
+            format!(in alloc; "zztool: Clash {time} {replica}\n")
+        }
+        Refusal::BoardsOver(boards) => format!(in alloc; "zztool: BoardsOver {boards}\n"),
+        Refusal::StatsOver { board, stats } => format!(in alloc;
+            "zztool: StatsOver {board} {stats}\n"
+        ),
+        Refusal::BoardOver { board, bytes } => format!(in alloc;
+            "zztool: BoardOver {board} {bytes}\n"
+        ),
+        _ => String::from_str(alloc, shared_line(refusal).unwrap_or("")),
+    }
+}
+
+/// The line for the standard error: `zztool: `, the name of the refusal, and its numbers or cause, each after a space.
+pub(crate) fn line_of(alloc: Global, error: DrawingError) -> Result<String, AllocError>
+    ensures { IfOk result (λ text. string_bytes text ≡ line_for error) }
+{
+    match error {
+        DrawingError::Refused(refusal) => shared_line_of(alloc, refusal),
+        DrawingError::NotTaken => String::from_str(alloc, "zztool: NotTaken\n"),
+    }
+}

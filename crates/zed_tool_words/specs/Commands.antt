@@ -1,0 +1,139 @@
+-- What the words of the command line ask for.
+use Rattle.std.specs.Prelude.{◌≡◌, ◌&&◌, ℕ, Bool, List, [], ◌∷◌, Option, Some, None, codes, length, map, nat_le, nat_lt, if◌then◌else◌, option_and_then, option_map}
+use Rattle.std.specs.Char.{is_ascii_digit}
+use Rattle.std.specs.List.{list_all}
+use Rattle.std.specs.Str.{bytes_eq}
+use Rattle.clap.specs.Walk.{Row, Text, all_of, first_of, one_of}
+use Rattle.clap.specs.Simple.{subcommand_of}
+use Rattle.clap.specs.Faults.{fault_of}
+use Rattle.clap.specs.Kinds.{IsAmong, Kinds}
+use Rattle.clap.specs.declared.error.kind.ErrorKind.TheVariants.{DisplayHelp}
+use Rattle.zed_words.specs.Commands.{number_of}
+use Rattle.zed_tool_words.specs.declared.asked.Forcing.{Forcing}
+use Rattle.zed_tool_words.specs.declared.asked.Forcing.TheVariants.{Careful, Forced}
+use Rattle.zed_tool_words.specs.declared.asked.Listing.{Listing}
+use Rattle.zed_tool_words.specs.declared.asked.Listing.TheVariants.{Boards, Stats, Program}
+use Rattle.zed_tool_words.specs.declared.asked.Command.{Command as Spoken}
+use Rattle.zed_tool_words.specs.declared.asked.Command.TheVariants as spoken
+use Rattle.zed_tool_words.specs.declared.words.ParseError.{ParseError}
+use Rattle.zed_tool_words.specs.declared.words.ParseError.TheVariants.{Memory, Refused, Help}
+use Rattle.zed_tool_words.specs.Grammar.{tool_app}
+
+-- a command with its words
+pub data Command : Type 0 where
+  Open : (until : Option ℕ) → (forcing : Forcing) → (file : Text) → (world : Text) → Command
+  Take : (base : Option Text) → (file : Text) → (replica : ℕ) → (world : Text) → Command
+  Log : (board : Option ℕ) → (cell : Option (ℕ × ℕ × ℕ)) → (replica : Option ℕ) → (since : Option ℕ) → (files : List Text) → Command
+  Lists : (listing : Listing) → (files : List Text) → Command
+
+-- what a command of the code says
+abbrev pub meaning_of : Spoken → Command
+meaning_of (spoken.Open until forcing file world) = Open until forcing file.now world.now
+meaning_of (spoken.Take base file replica world) = Take (option_map (λ s. s.now) base) file.now replica world.now
+meaning_of (spoken.Log board cell replica since files) = Log board cell replica since (map (λ s. s.now) files.items)
+meaning_of (spoken.List listing files) = Lists listing (map (λ s. s.now) files.items)
+
+-- by the word of `--force`, which is there as a default too
+abbrev pub forcing_by : Option Text → Forcing
+forcing_by None = Careful
+forcing_by (Some word) = if bytes_eq word (codes "true") then Forced else Careful
+
+-- whether `--force` is there
+abbrev pub forcing_of : List Row → Forcing
+forcing_of rows = forcing_by (first_of (codes "force") rows)
+
+-- the number of the option of this name, of so many bits, if it is there
+abbrev pub option_number : ℕ → Text → List Row → Option ℕ
+option_number bits name rows = option_and_then (number_of bits) (one_of name rows)
+
+-- what the rows say, for `open`
+abbrev pub open_of : List Row → Option Command
+open_of rows = option_and_then (λ file. option_map (λ world.
+    Open (option_number 64 (codes "until") rows) (forcing_of rows) file world)
+    (first_of (codes "WORLD") rows)) (first_of (codes "FILE") rows)
+
+-- for `take`
+abbrev pub take_of : List Row → Option Command
+take_of rows = option_and_then (λ file. option_and_then (λ replica. option_map (λ world.
+    Take (first_of (codes "base") rows) file replica world)
+    (first_of (codes "WORLD") rows)) (option_number 16 (codes "REPLICA") rows)) (first_of (codes "FILE") rows)
+
+-- a number from one to another
+abbrev pub number_within : ℕ → ℕ → Text → Option ℕ
+number_within low high word =
+    option_and_then (λ n. if nat_le low n && nat_le n high then Some n else None) (number_of 16 word)
+
+-- a board and a cell on it
+abbrev pub cell_by : List Text → Option (ℕ × ℕ × ℕ)
+cell_by (b ∷ x ∷ y ∷ []) = option_and_then (λ board. option_and_then (λ column. option_map (λ row.
+    (board, column, row)) (number_within 1 25 y)) (number_within 1 60 x)) (number_of 16 b)
+cell_by words = None
+
+-- the cell of `--cell`, if that is there; the words are refused where those behind it are no cell
+abbrev pub cell_asked : Option (List Text) → Option (Option (ℕ × ℕ × ℕ))
+cell_asked None = Some None
+cell_asked (Some words) = option_map (λ cell. Some cell) (cell_by words)
+
+-- for `log`
+abbrev pub log_of : List Row → Option Command
+log_of rows = option_and_then (λ cell. option_map (λ files.
+    Log (option_number 16 (codes "board") rows) cell (option_number 16 (codes "replica") rows) (option_number 64 (codes "since") rows) files)
+    (all_of (codes "FILES") rows)) (cell_asked (all_of (codes "cell") rows))
+
+-- a word of decimal digits alone
+abbrev pub is_decimal : Text → Bool
+is_decimal word = nat_lt 0 (length word) && list_all is_ascii_digit word
+
+-- a listing of these files, of which there is one at least
+abbrev pub list_files : Listing → List Text → Option Command
+list_files listing [] = None
+list_files listing (file ∷ files) = Some (Lists listing (file ∷ files))
+
+-- behind the number of a board
+abbrev pub list_board : ℕ → List Text → Option Command
+list_board board [] = None
+list_board board (word ∷ words) =
+    if is_decimal word then option_and_then (λ stat. list_files (Program board stat) words) (number_of 16 word)
+    else list_files (Stats board) (word ∷ words)
+
+-- words of digits alone are numbers in front of the files, two at most
+abbrev pub list_words : List Text → Option Command
+list_words [] = None
+list_words (word ∷ words) =
+    if is_decimal word then option_and_then (λ board. list_board board words) (number_of 16 word)
+    else list_files Boards (word ∷ words)
+
+-- for `list`
+abbrev pub list_of : List Row → Option Command
+list_of rows = option_and_then list_words (all_of (codes "WORDS") rows)
+
+-- by the name of the subcommand
+abbrev pub subcommand_asks : Text × List Row → Option Command
+subcommand_asks p =
+    if bytes_eq p.0 (codes "open") then open_of p.1
+    else (if bytes_eq p.0 (codes "take") then take_of p.1
+    else (if bytes_eq p.0 (codes "log") then log_of p.1
+    else (if bytes_eq p.0 (codes "list") then list_of p.1 else None)))
+
+-- what is asked for where `clap` finds no fault
+abbrev pub unless_refused : Kinds → Option Command → Option Command
+unless_refused [] command = command
+unless_refused (kind ∷ kinds) command = None
+
+-- what the words ask for; or that they are refused, or ask for help
+unfoldable pub command_of : List Text → Option Command
+command_of words = unless_refused (fault_of tool_app words) (option_and_then subcommand_asks (subcommand_of tool_app words))
+
+-- the words ask for help, as `--help` does
+abbrev pub AsksHelp : List Text → Type 0
+AsksHelp words = fault_of tool_app words ≡ DisplayHelp ∷ []
+
+-- `clap` may answer with help: to words that ask for it, and to `help` before others, where it refuses a name that is no command
+abbrev pub MayAskHelp : List Text → Type 0
+MayAskHelp words = IsAmong DisplayHelp (fault_of tool_app words)
+
+-- why words ask for nothing: they are refused, or ask for help; want of memory says nothing of them
+abbrev pub AsksNothing : List Text → ParseError → Type 0
+AsksNothing words Memory = Unit {0}
+AsksNothing words (Refused text) = (command_of words ≡ None) × (¬ (AsksHelp words))
+AsksNothing words (Help text) = (command_of words ≡ None) × MayAskHelp words

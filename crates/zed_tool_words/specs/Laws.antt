@@ -1,0 +1,103 @@
+-- What plain words ask for. A word is plain where it doesn't begin with a hyphen, as `is_plain` says: those of numbers are so by themselves.
+use Rattle.std.specs.Prelude.{◌≡◌, ◌≤◌, ◌++◌, IfSome, ℕ, List, [], ◌∷◌, Option, Some, None, codes, length, true, false, option_and_then}
+use Rattle.std.specs.List.{list_all}
+use Rattle.clap.specs.Walk.{Text}
+use Rattle.zed_words.specs.Commands.{is_plain, number_of}
+use Rattle.zed_words.specs.Laws.{option_words}
+use Rattle.zed_tool_words.specs.declared.asked.Forcing.{Forcing}
+use Rattle.zed_tool_words.specs.declared.asked.Forcing.TheVariants.{Careful, Forced}
+use Rattle.zed_tool_words.specs.declared.asked.Listing.{Listing}
+use Rattle.zed_tool_words.specs.declared.asked.Listing.TheVariants.{Boards, Stats, Program}
+use Rattle.zed_tool_words.specs.Commands.{AsksHelp, Open, Take, Log, Lists, command_of, is_decimal, number_within}
+
+-- the words that force, if it is forced
+abbrev pub force_words : Forcing → List Text
+force_words Careful = []
+force_words Forced = codes "--force" ∷ []
+
+-- `open FILE WORLD` asks to open, and so it does with `--until TIME`, `--force` or both in front
+abbrev pub PlainWordsOpen : Type 0
+PlainWordsOpen =
+    (until : Option Text) (forcing : Forcing) (file world : Text)
+    → IfSome until (λ time. (n : ℕ) × (number_of 64 time ≡ Some n))
+    → list_all is_plain (file ∷ world ∷ []) ≡ true
+    → command_of (codes "open" ∷ option_words (codes "--until") until ++ force_words forcing ++ file ∷ world ∷ [])
+    ≡ Some (Open (option_and_then (number_of 64) until) forcing file world)
+
+-- `take FILE REPLICA WORLD` asks to take what was drawn, as the author with the replica of this number, and so it does with `--base BASE` in front
+abbrev pub PlainWordsTake : Type 0
+PlainWordsTake =
+    (base : Option Text) (file number world : Text) (replica : ℕ)
+    → number_of 16 number ≡ Some replica
+    → IfSome base (λ word. is_plain word ≡ true)
+    → list_all is_plain (file ∷ world ∷ []) ≡ true
+    → command_of (codes "take" ∷ option_words (codes "--base") base ++ file ∷ number ∷ world ∷ []) ≡ Some (Take base file replica world)
+
+-- words of a filter, and what `log` is asked for with them in front of its files
+abbrev pub Filters : List Text → Option ℕ → Option (ℕ × ℕ × ℕ) → Option ℕ → Option ℕ → Type 0
+Filters words board cell replica since =
+    (file : Text) (files : List Text)
+    → list_all is_plain (file ∷ files) ≡ true
+    → length (file ∷ files) ≤ 18446744073709551615
+    → command_of (codes "log" ∷ words ++ file ∷ files) ≡ Some (Log board cell replica since (file ∷ files))
+
+-- `log FILES...` asks for all edits
+abbrev pub PlainWordsLog : Type 0
+PlainWordsLog = Filters [] None None None None
+
+-- with `--board B` in front for those of board B
+abbrev pub LogOfBoard : Type 0
+LogOfBoard = (word : Text) (board : ℕ) → number_of 16 word ≡ Some board → Filters (codes "--board" ∷ word ∷ []) (Some board) None None None
+
+-- with `--cell B X Y` for those of this cell
+abbrev pub LogOfCell : Type 0
+LogOfCell =
+    (word column row : Text) (board x y : ℕ)
+    → number_of 16 word ≡ Some board → number_within 1 60 column ≡ Some x → number_within 1 25 row ≡ Some y
+    → Filters (codes "--cell" ∷ word ∷ column ∷ row ∷ []) None (Some (board, x, y)) None None
+
+-- with `--replica R` for those of the author of this number
+abbrev pub LogOfReplica : Type 0
+LogOfReplica = (word : Text) (replica : ℕ) → number_of 16 word ≡ Some replica → Filters (codes "--replica" ∷ word ∷ []) None None (Some replica) None
+
+-- with `--since TIME` for those of this time and later ones
+abbrev pub LogSince : Type 0
+LogSince = (word : Text) (time : ℕ) → number_of 64 word ≡ Some time → Filters (codes "--since" ∷ word ∷ []) None None None (Some time)
+
+-- `list FILES...`, where the first file's word isn't of digits alone, asks for the boards
+abbrev pub ListsBoards : Type 0
+ListsBoards =
+    (file : Text) (files : List Text)
+    → is_decimal file ≡ false
+    → list_all is_plain (file ∷ files) ≡ true
+    → length (file ∷ files) ≤ 18446744073709551615
+    → command_of (codes "list" ∷ file ∷ files) ≡ Some (Lists Boards (file ∷ files))
+
+-- `list B FILES...`, where it isn't either, for the stats of board B
+abbrev pub ListsStats : Type 0
+ListsStats =
+    (number file : Text) (files : List Text) (board : ℕ)
+    → is_decimal number ≡ true → number_of 16 number ≡ Some board → is_decimal file ≡ false
+    → list_all is_plain (file ∷ files) ≡ true
+    → length (number ∷ file ∷ files) ≤ 18446744073709551615
+    → command_of (codes "list" ∷ number ∷ file ∷ files) ≡ Some (Lists (Stats board) (file ∷ files))
+
+-- `list B S FILES...` for the program of stat S of board B
+abbrev pub ListsProgram : Type 0
+ListsProgram =
+    (number other file : Text) (files : List Text) (board stat : ℕ)
+    → is_decimal number ≡ true → number_of 16 number ≡ Some board
+    → is_decimal other ≡ true → number_of 16 other ≡ Some stat
+    → list_all is_plain (file ∷ files) ≡ true
+    → length (number ∷ other ∷ file ∷ files) ≤ 18446744073709551615
+    → command_of (codes "list" ∷ number ∷ other ∷ file ∷ files) ≡ Some (Lists (Program board stat) (file ∷ files))
+
+-- `--help` asks for help
+abbrev pub HelpAsksHelp : Type 0
+HelpAsksHelp = AsksHelp (codes "--help" ∷ [])
+
+-- and so it does behind the name of a command
+abbrev pub HelpOfCommands : Type 0
+HelpOfCommands =
+    AsksHelp (codes "open" ∷ codes "--help" ∷ []) × AsksHelp (codes "take" ∷ codes "--help" ∷ [])
+    × AsksHelp (codes "log" ∷ codes "--help" ∷ []) × AsksHelp (codes "list" ∷ codes "--help" ∷ [])

@@ -1,0 +1,56 @@
+//! What words may ask for.
+
+/// What is done to a world file that was drawn in.
+#[derive(Clone, Copy)]
+pub enum Forcing {
+    /// It is kept.
+    Careful,
+    /// It is written over: `--force`.
+    Forced,
+}
+
+/// What of a world is listed.
+#[derive(Clone, Copy)]
+pub enum Listing {
+    /// Its boards.
+    Boards,
+    /// The stats of the board of this number.
+    Stats(u16),
+    /// The program of a stat: the number of its board, and its own.
+    Program(u16, u16),
+}
+
+/// What is to be done.
+#[derive(Drop)]
+pub enum Command<'a> {
+    /// The world file of an edit file is to be written, to be drawn in by another editor.
+    Open {
+        /// The time of the last edits that count; all count without it.
+        until: Option<u64>,
+        forcing: Forcing,
+        file: &'a str,
+        world: &'a str,
+    },
+    /// What was drawn in a world file is to be added to an edit file, as edits of an author.
+    Take {
+        /// The edit file of what the world was before it was drawn in.
+        base: Option<&'a str>,
+        file: &'a str,
+        replica: u16,
+        world: &'a str,
+    },
+    /// The edits of files are to be listed: those alone that pass each filter that is there.
+    Log {
+        board: Option<u16>,
+        /// The number of a board, then X from 1 to 60 and Y from 1 to 25.
+        cell: Option<(u16, u16, u16)>,
+        replica: Option<u16>,
+        since: Option<u64>,
+        files: Vec<&'a str>,
+    },
+    /// The world of edit files is to be listed.
+    List {
+        listing: Listing,
+        files: Vec<&'a str>,
+    },
+}

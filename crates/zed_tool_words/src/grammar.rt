@@ -1,0 +1,267 @@
+//! What the words of the command line may be.
+ghost use Rattle.std.specs.Prelude.{◌≡◌, false, IfOk};
+ghost use Rattle.clap.specs.Words.{app_of, new_app, rule_of, shape_of, with_rule, with_subcommand};
+ghost use Rattle.clap.specs.declared.builder.command.Command.TheViews.{out-Command};
+ghost use Rattle.zed_tool_words.specs.Grammar.{cell_rule, force_rule, list_shape, log_shape, number_option, open_shape, option_rule, replica_rule, required_rule, several_rule, take_shape, time_option, tool_app, top_app};
+
+use clap::{Arg, ArgAction, Command};
+use std::alloc::{AllocError, Global};
+
+// A word that must be there.
+fn required_argument<'a>(alloc: Global, name: &'a str, help: &'a str) -> Arg<'a>
+    ensures rule { rule_of result ≡ required_rule name.entry.now }
+    ensures local { result.global ≡ false }
+{
+    Arg::new(alloc, name).required(true).help(help)
+}
+
+// One word or more.
+fn several_argument<'a>(alloc: Global, name: &'a str, help: &'a str) -> Arg<'a>
+    ensures rule { rule_of result ≡ several_rule name.entry.now }
+    ensures local { result.global ≡ false }
+{
+    Arg::new(alloc, name)
+        .required(true)
+        .num_args(1..)
+        .help(help)
+}
+
+// A word behind a name with two hyphens.
+fn option_argument<'a>(alloc: Global, name: &'a str, value: &'a str, help: &'a str) -> Arg<'a>
+    ensures rule { rule_of result ≡ option_rule name.entry.now }
+    ensures local { result.global ≡ false }
+{
+    Arg::new(alloc, name)
+        .long(name)
+        .value_name(value)
+        .help(help)
+}
+
+// A time behind a name with two hyphens.
+fn time_argument<'a>(alloc: Global, name: &'a str, help: &'a str) -> Arg<'a>
+    ensures rule { rule_of result ≡ time_option name.entry.now }
+    ensures local { result.global ≡ false }
+{
+    option_argument(alloc, name, "TIME", help).value_parser(clap::value_parser!(u64))
+}
+
+// A number behind a name with two hyphens.
+fn number_argument<'a>(alloc: Global, name: &'a str, value: &'a str, help: &'a str) -> Arg<'a>
+    ensures rule { rule_of result ≡ number_option name.entry.now }
+    ensures local { result.global ≡ false }
+{
+    option_argument(alloc, name, value, help).value_parser(clap::value_parser!(u16))
+}
+
+fn force_argument<'a>(alloc: Global) -> Arg<'a>
+    ensures rule { rule_of result ≡ force_rule }
+    ensures local { result.global ≡ false }
+{
+    Arg::new(alloc, "force")
+        .long("force")
+        .action(ArgAction::SetTrue)
+        .help("Write over a world file that was drawn in and not taken")
+}
+
+fn replica_argument<'a>(alloc: Global) -> Arg<'a>
+    ensures rule { rule_of result ≡ replica_rule }
+    ensures local { result.global ≡ false }
+{
+    Arg::new(alloc, "REPLICA")
+        .help("The author's own number, 1 to 65535; no other author of the world has it")
+        .required(true)
+        .value_parser(clap::value_parser!(u16))
+}
+
+fn cell_argument<'a>(alloc: Global) -> Arg<'a>
+    ensures rule { rule_of result ≡ cell_rule }
+    ensures local { result.global ≡ false }
+{
+    Arg::new(alloc, "cell")
+        .long("cell")
+        .value_names(&["B", "X", "Y"])
+        .help("List only edits of this cell of board B: X is 1 to 60, Y 1 to 25")
+}
+
+// A command of this name, without arguments.
+fn bare_command<'a>(alloc: Global, name: &'a str, about: &'a str) -> Command<'a>
+    ensures app { app_of result ≡ new_app name.entry.now }
+    ensures local { (out-Command result).has_globals ≡ false }
+{
+    Command::new(alloc, name).about(about)
+}
+
+// A command with one argument more.
+fn with_argument<'a>(command: Command<'a>, argument: Arg<'a>) -> Result<Command<'a>, AllocError>
+    requires own { argument.global ≡ false }
+    requires local { (out-Command command).has_globals ≡ false }
+    ensures app { IfOk result (λ c.
+        app_of c ≡ with_rule (app_of command.entry) (rule_of argument.entry)) }
+    ensures local { IfOk result (λ c. (out-Command c).has_globals ≡ false) }
+{
+    command.arg(argument)
+}
+
+/// `open [--until TIME] [--force] FILE WORLD`
+fn open_command<'a>(alloc: Global) -> Result<Command<'a>, AllocError>
+    ensures shape { IfOk result (λ c. shape_of c ≡ open_shape) }
+    ensures local { IfOk result (λ c. (out-Command c).has_globals ≡ false) }
+{
+    let command = bare_command(
+        alloc,
+        "open",
+        "Write the world file of an edit file, to draw in with another editor; take brings the drawing back",
+    );
+    let command = with_argument(command, required_argument(alloc, "FILE", "The edit file"))?;
+    let command = with_argument(
+        command,
+        required_argument(
+            alloc,
+            "WORLD",
+            "The world file to write; beside it WORLD.base is written, the edit file that take compares with",
+        ),
+    )?;
+    let command = with_argument(
+        command,
+        time_argument(
+            alloc,
+            "until",
+            "Write the world as it was at this time, without the edits of later ones",
+        ),
+    )?;
+    with_argument(command, force_argument(alloc))
+}
+
+/// `take [--base BASE] FILE REPLICA WORLD`
+fn take_command<'a>(alloc: Global) -> Result<Command<'a>, AllocError>
+    ensures shape { IfOk result (λ c. shape_of c ≡ take_shape) }
+    ensures local { IfOk result (λ c. (out-Command c).has_globals ≡ false) }
+{
+    let command = bare_command(
+        alloc,
+        "take",
+        "Add what another editor drew in a world file to an edit file, as edits of an author",
+    );
+    let command = with_argument(
+        command,
+        required_argument(
+            alloc,
+            "FILE",
+            "The edit file, which is read and written again",
+        ),
+    )?;
+    let command = with_argument(command, replica_argument(alloc))?;
+    let command = with_argument(
+        command,
+        required_argument(alloc, "WORLD", "The world file that was drawn in"),
+    )?;
+    with_argument(
+        command,
+        option_argument(
+            alloc,
+            "base",
+            "BASE",
+            "The edit file of the world before it was drawn in, which is written again; without it WORLD.base, and FILE where there is none",
+        ),
+    )
+}
+
+/// `log [--board B] [--cell B X Y] [--replica R] [--since TIME] FILES...`
+fn log_command<'a>(alloc: Global) -> Result<Command<'a>, AllocError>
+    ensures shape { IfOk result (λ c. shape_of c ≡ log_shape) }
+    ensures local { IfOk result (λ c. (out-Command c).has_globals ≡ false) }
+{
+    let command = bare_command(
+        alloc,
+        "log",
+        "List the edits of edit files, a line each: when, by whom and what, and whether it still holds",
+    );
+    let command = with_argument(
+        command,
+        several_argument(
+            alloc,
+            "FILES",
+            "Edit files, in the order in which they are read; stdin is standard input",
+        ),
+    )?;
+    let command = with_argument(
+        command,
+        number_argument(
+            alloc,
+            "board",
+            "B",
+            "List only edits of the board of this number, 0 for the title",
+        ),
+    )?;
+    let command = with_argument(command, cell_argument(alloc))?;
+    let command = with_argument(
+        command,
+        number_argument(
+            alloc,
+            "replica",
+            "R",
+            "List only edits of the author of this number",
+        ),
+    )?;
+    with_argument(
+        command,
+        time_argument(
+            alloc,
+            "since",
+            "List only edits of this time and of later ones",
+        ),
+    )
+}
+
+/// `list [B [S]] FILES...`
+fn list_command<'a>(alloc: Global) -> Result<Command<'a>, AllocError>
+    ensures shape { IfOk result (λ c. shape_of c ≡ list_shape) }
+    ensures local { IfOk result (λ c. (out-Command c).has_globals ≡ false) }
+{
+    let command = bare_command(
+        alloc,
+        "list",
+        "List the world of edit files: list FILES its boards, list B FILES the stats of board B, list B S FILES the program of stat S there",
+    );
+    with_argument(
+        command,
+        several_argument(
+            alloc,
+            "WORDS",
+            "At most two numbers, of a board (0 for the title) and of a stat on it (0 for the player); then edit files, in the order in which they are read; stdin is standard input, and ./7 a file named 7",
+        ),
+    )
+}
+
+// The program without its commands.
+fn top_command<'a>(alloc: Global) -> Result<Command<'a>, AllocError>
+    ensures { IfOk result (λ c. app_of c ≡ top_app) }
+{
+    Command::new(alloc, "zztool")
+        .about(
+            "Opens the world of a zzted edit file to another editor, takes back what was drawn, and lists edits and worlds",
+        )
+        .no_binary_name(true)
+        .arg_required_else_help(true)
+        .bin_name("zztool")
+}
+
+// A program with one command more.
+fn with_command<'a>(program: Command<'a>, command: Command<'a>) -> Result<Command<'a>, AllocError>
+    requires local { (out-Command command).has_globals ≡ false }
+    ensures { IfOk result (λ c.
+        app_of c ≡ with_subcommand (app_of program.entry) (shape_of command.entry)) }
+{
+    program.subcommand(command)
+}
+
+/// The words after the program's name.
+pub(crate) fn tool_command<'a>(alloc: Global) -> Result<Command<'a>, AllocError>
+    ensures { IfOk result (λ c. app_of c ≡ tool_app) }
+{
+    let program = top_command(alloc)?;
+    let program = with_command(program, open_command(alloc)?)?;
+    let program = with_command(program, take_command(alloc)?)?;
+    let program = with_command(program, log_command(alloc)?)?;
+    with_command(program, list_command(alloc)?)
+}

@@ -1,0 +1,38 @@
+//! What plain words ask for. A number is written in decimal digits, where a plus may stand first, so its word begins with no hyphen.
+ghost use Rattle.zed_tool_words.specs.Laws.{HelpAsksHelp, HelpOfCommands, ListsBoards, ListsProgram, ListsStats, LogOfBoard, LogOfCell, LogOfReplica, LogSince, PlainWordsLog, PlainWordsOpen, PlainWordsTake};
+
+/// `open FILE WORLD`, where no word begins with a hyphen, asks to open; in front of them may stand `--until TIME`, where `TIME` is a number
+/// below 2^64, and then `--force`.
+pub fn plain_words_open()
+    ensures { PlainWordsOpen }
+{}
+
+/// `take FILE REPLICA WORLD`, where `REPLICA` is a number below 2^16 and no other word begins with a hyphen, asks to take what was drawn;
+/// in front of them may stand `--base BASE`, where `BASE` begins with no hyphen.
+pub fn plain_words_take()
+    ensures { PlainWordsTake }
+{}
+
+/// `log FILES...`, where no word begins with a hyphen, asks for the edits of the files, and with a filter in front of them for those that
+/// pass it.
+pub fn plain_words_log()
+    ensures all { PlainWordsLog }
+    ensures board { LogOfBoard }
+    ensures cell { LogOfCell }
+    ensures replica { LogOfReplica }
+    ensures since { LogSince }
+{}
+
+/// `list FILES...`, where no word begins with a hyphen, asks for the boards; with a number in front of the files for the stats of this
+/// board, and with two for the program of a stat.
+pub fn plain_words_list()
+    ensures boards { ListsBoards }
+    ensures stats { ListsStats }
+    ensures program { ListsProgram }
+{}
+
+/// `--help` asks for help, alone or behind the name of a command.
+pub fn help_words()
+    ensures alone { HelpAsksHelp }
+    ensures commands { HelpOfCommands }
+{}

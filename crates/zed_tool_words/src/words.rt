@@ -1,0 +1,212 @@
+//! What the words of the command line ask for.
+ghost use Rattle.std.specs.Prelude.{◌≡◌, IfOk, MatchResult, Some, map, option_and_then, option_map, string_bytes};
+ghost use Rattle.clap.specs.Walk.{all_of, first_of, one_of};
+ghost use Rattle.clap.specs.Words.{FailsBy, fault_of, found_of, rows_of, subcommand_of, subcommand_rows_of};
+ghost use Rattle.zed_tool_words.specs.declared.words.ParseError.TheVariants.{Memory};
+ghost use Rattle.zed_tool_words.specs.Grammar.{tool_app};
+ghost use Rattle.zed_tool_words.specs.Commands.{AsksNothing, command_of, forcing_of, list_of, log_of, meaning_of, open_of, option_number, subcommand_asks, take_of};
+
+use crate::asked::{Command, Forcing};
+use crate::grammar::tool_command;
+use crate::listed::{cell_in, listed};
+use clap::error::ErrorKind;
+use clap::{ArgMatches, Error};
+use std::alloc::{AllocError, Global};
+
+const NO_CELL: &str =
+    "error: the words behind '--cell' are no cell: B is the number of a board, X is 1 to 60 and Y is 1 to 25\n\nFor more information, try '--help'.\n";
+
+const NO_FILES: &str =
+    "error: 'list' takes at most two numbers up to 65535, and a file behind them\n\nFor more information, try '--help'.\n";
+
+/// Why the words ask for nothing.
+#[derive(Debug, Drop)]
+pub enum ParseError {
+    Memory,
+    /// The words are refused, with the text for the user.
+    Refused(String),
+    /// Help is asked for, which is this text.
+    Help(String),
+}
+
+impl From<AllocError> for ParseError {
+    ghost from_gives = { λ _ e. e ≡ Memory };
+
+    fn from(_error: AllocError) -> ParseError {
+        ParseError::Memory
+    }
+}
+
+// The word of this name, if it is there.
+fn word_in<'a>(matches: &ArgMatches<'a>, name: &str) -> Option<&'a str>
+    ensures { option_map (λ s. s.now) result ≡ first_of name.now (rows_of (found_of matches.now)) }
+{
+    matches.get_str(name)
+}
+
+// Whether the words write over what was drawn.
+fn forcing_in(matches: &ArgMatches<'_>) -> Forcing
+    ensures { result ≡ forcing_of (rows_of (found_of matches.now)) }
+{
+    match word_in(matches, "force") {
+        Some("true") => Forcing::Forced,
+        _ => Forcing::Careful,
+    }
+}
+
+// All words of this name, if it is there.
+fn words_in<'m, 'a>(matches: &'m ArgMatches<'a>, name: &str) -> Option<&'m [&'a str]>
+    ensures { option_map (λ ws. map (λ s. s.now) ws.now) result
+        ≡ all_of name.now (rows_of (found_of matches.now)) }
+{
+    matches.get_strs(name)
+}
+
+// The time that the word of this name writes, if it is there.
+fn time_in(matches: &ArgMatches<'_>, name: &str) -> Option<u64>
+    ensures { result ≡ option_number 64 name.now (rows_of (found_of matches.now)) }
+{
+    matches.get_one::<u64>(name)
+}
+
+// The number that the word of this name writes, if it is there.
+fn number_in(matches: &ArgMatches<'_>, name: &str) -> Option<u16>
+    ensures { result ≡ option_number 16 name.now (rows_of (found_of matches.now)) }
+{
+    matches.get_one::<u16>(name)
+}
+
+fn open_in<'a>(matches: &ArgMatches<'a>) -> Option<Command<'a>>
+    ensures { option_map meaning_of result ≡ open_of (rows_of (found_of matches.now)) }
+{
+    let until = time_in(matches, "until");
+    let forcing = forcing_in(matches);
+    if let (Some(file), Some(world)) = (word_in(matches, "FILE"), word_in(matches, "WORLD")) {
+        Some(Command::Open {
+            until,
+            forcing,
+            file,
+            world,
+        })
+    } else {
+        None
+    }
+}
+
+fn take_in<'a>(matches: &ArgMatches<'a>) -> Option<Command<'a>>
+    ensures { option_map meaning_of result ≡ take_of (rows_of (found_of matches.now)) }
+{
+    let base = word_in(matches, "base");
+    let file = word_in(matches, "FILE");
+    let replica = number_in(matches, "REPLICA");
+    let world = word_in(matches, "WORLD");
+    if let (Some(file), Some(replica), Some(world)) = (file, replica, world) {
+        Some(Command::Take {
+            base,
+            file,
+            replica,
+            world,
+        })
+    } else {
+        None
+    }
+}
+
+fn log_in<'a>(alloc: Global, matches: &ArgMatches<'a>) -> Result<Option<Command<'a>>, AllocError>
+    ensures { IfOk result (λ a.
+        option_map meaning_of a ≡ log_of (rows_of (found_of matches.now))) }
+{
+    let board = number_in(matches, "board");
+    let replica = number_in(matches, "replica");
+    let since = time_in(matches, "since");
+    let cell = cell_in(words_in(matches, "cell"));
+    if let (Some(cell), Some(files)) = (cell, words_in(matches, "FILES")) {
+        let files = Vec::from_slice(alloc, files)?;
+        Ok(Some(Command::Log {
+            board,
+            cell,
+            replica,
+            since,
+            files,
+        }))
+    } else {
+        Ok(None)
+    }
+}
+
+fn list_in<'a>(alloc: Global, matches: &ArgMatches<'a>) -> Result<Option<Command<'a>>, AllocError>
+    ensures { IfOk result (λ a.
+        option_map meaning_of a ≡ list_of (rows_of (found_of matches.now))) }
+{
+    match words_in(matches, "WORDS") {
+        Some(words) => listed(alloc, words),
+        None => Ok(None),
+    }
+}
+
+fn command_named<'a>(
+    alloc: Global,
+    matches: &ArgMatches<'a>,
+) -> Result<Option<Command<'a>>, AllocError>
+    ensures { IfOk result (λ a. option_map meaning_of a
+        ≡ option_and_then subcommand_asks (subcommand_rows_of matches.now)) }
+{
+    let Some((name, inner)) = matches.subcommand() else {
+        return Ok(None);
+    };
+    if name == "open" {
+        Ok(open_in(inner))
+    } else if name == "take" {
+        Ok(take_in(inner))
+    } else if name == "log" {
+        log_in(alloc, inner)
+    } else if name == "list" {
+        list_in(alloc, inner)
+    } else {
+        Ok(None)
+    }
+}
+
+fn matches_in<'a>(alloc: Global, words: &'a [String]) -> Result<ArgMatches<'a>, Error>
+    ensures fails { FailsBy (fault_of tool_app (map string_bytes words.entry.now)) result }
+    ensures rows { IfOk result (λ m. subcommand_rows_of m
+        ≡ subcommand_of tool_app (map string_bytes words.entry.now)) }
+{
+    tool_command(alloc)?.try_get_matches_from(words)
+}
+
+// The text for words that `clap` takes and that ask for nothing.
+fn no_command(alloc: Global, matches: &ArgMatches<'_>) -> Result<String, AllocError> {
+    match matches.subcommand_name() {
+        Some("list") => String::from_str(alloc, NO_FILES),
+        _ => String::from_str(alloc, NO_CELL),
+    }
+}
+
+/// Reads the words after the program's name.
+///
+/// # Errors
+/// `Help`, with clap's text, where help is asked for; `Refused`, with a text that says why, where the words are those of no command.
+pub fn parse<'a>(alloc: Global, words: &'a [String]) -> Result<Command<'a>, ParseError>
+    ensures { MatchResult result
+        (λ a. command_of (map string_bytes words.entry.now) ≡ Some (meaning_of a))
+        (λ e. AsksNothing (map string_bytes words.entry.now) e) }
+{
+    match matches_in(alloc, words) {
+        Ok(matches) => match command_named(alloc, &matches)? {
+            Some(command) => Ok(command),
+            None => Err(ParseError::Refused(no_command(alloc, &matches)?)),
+        },
+        Err(error) => match error.kind() {
+            ErrorKind::OutOfMemory => Err(ParseError::Memory),
+            ErrorKind::DisplayHelp => {
+                let text = error.to_string(alloc)?;
+                Err(ParseError::Help(text))
+            }
+            _ => {
+                let text = error.to_string(alloc)?;
+                Err(ParseError::Refused(text))
+            }
+        },
+    }
+}
