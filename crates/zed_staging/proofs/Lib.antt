@@ -1,2 +1,0 @@
-mod Keys
-mod Rows
