@@ -1,0 +1,101 @@
+-- Worlds compared by their texts.
+use Rattle.zed_op.specs.declared.op.Edit.{Edit}
+use Rattle.zed_edit.specs.declared.plain.Plain.{Plain}
+use Rattle.zed_export.specs.declared.error.ExportError.{ExportError}
+use Rattle.zed_world.specs.declared.error.WorldError.{WorldError}
+use Rattle.zed_drawing.specs.declared.error.DrawingError.{DrawingError}
+use Rattle.zed_drawing.specs.declared.error.DrawingError.TheVariants.{Refused, NotTaken}
+use Rattle.std.proofs.Common.{◌≡◌, ◌∙◌, ℕ, Bool, true, false, List, Option, Some, None, Result, Ok, Err, ap, refl, subst, sym, inl, inr}
+use Rattle.std.specs.Prelude.{◌⊎◌, MatchBool}
+use Rattle.zed_world.specs.Contents.{Contents}
+use Rattle.zed_world.specs.Reading.{world_at}
+use Rattle.zed_world.specs.declared.error.WorldError.TheVariants as worlds
+use Rattle.zed_world.specs.Writing.{HasText, unless_refused, world_text, written}
+use Rattle.zed_edit.specs.Replay.{replay}
+use Rattle.zed_export.specs.Limits.{exported, refusal_of, saved, unless_over}
+use Rattle.zed_export.specs.World.{exported_boards, world_of}
+use Rattle.zed_export.proofs.Within.{boards_within, none_over}
+use Rattle.zed_files.specs.Refusals.{export_refusal}
+use Rattle.zed_take.specs.Taken.{Shows}
+use Rattle.zed_drawing.specs.Opening.{IsExported, IsSame, IsSaved, export_told}
+use Rattle.zed_drawing.specs.Refusals.{memory}
+
+abbrev read : Contents → Result Contents WorldError
+read w = Ok w
+
+abbrev shown_as : Contents → Result Contents ExportError
+shown_as w = Ok w
+
+one_world : (v w : Contents) → read v ≡ read w → v ≡ w
+one_world v w is = cc
+
+-- what was saved is within the limit, and is the text of its world
+pub record Stands (p : Plain) (bytes : List ℕ) : Type 0 where
+  pub within : refusal_of 32767 p ≡ None
+  pub text : bytes ≡ world_text (world_of p)
+  pub shown : exported 32767 p ≡ Ok (world_of p)
+
+stands : (p : Plain) (bytes : List ℕ) → saved 32767 p ≡ Ok bytes → Stands p bytes
+stands p bytes is = go (refusal_of 32767 p) refl is
+  where
+    go : (o : Option ExportError) → refusal_of 32767 p ≡ o → unless_over o (world_text (world_of p)) ≡ Ok bytes → Stands p bytes
+    go None none is = record {
+      within = none;
+      text = (let same : world_text (world_of p) ≡ bytes = cc in sym same);
+      shown = ap (λ o. unless_over o (world_of p)) none;
+    }
+    go (Some e) some is = absurd (let no : Err e ≡ Ok bytes = is in cc)
+
+-- the edits show one world at most
+shows_one : (es : List Edit) (bytes : List ℕ) (w : Contents) → IsSaved es bytes → Shows es w → world_of (replay es) ≡ w
+shows_one es bytes w is shows =
+    let both : shown_as (world_of (replay es)) ≡ shown_as w = sym (stands (replay es) bytes is.0).shown ∙ shows in cc
+
+-- a world of the same text is what the edits show, and one of another text isn't
+pub text_tells : (es : List Edit) (bytes text : List ℕ) (w : Contents) (same : Bool) → IsSaved es bytes → text ≡ world_text w → world_at text ≡ Ok w
+    → (same ≡ true → text ≡ bytes) → (same ≡ false → text ≡ bytes → ⊥) → MatchBool same (Shows es w) (Shows es w → ⊥)
+text_tells es bytes text w true is spelled back alike apart =
+    let here : read w ≡ read (world_of (replay es)) = sym back ∙ ap world_at (alike refl) ∙ is.1 in
+    let one : world_of (replay es) ≡ w = sym (one_world w (world_of (replay es)) here) in
+    (stands (replay es) bytes is.0).shown ∙ ap (λ v. Ok v) one
+text_tells es bytes text w false is spelled back alike apart = λ shows.
+    let one = shows_one es bytes w is shows in
+    apart refl (spelled ∙ ap world_text (sym one) ∙ sym (stands (replay es) bytes is.0).text)
+
+-- a world that has no text isn't what edits show that can be saved
+pub no_text_tells : (es : List Edit) (bytes : List ℕ) (w : Contents) → IsSaved es bytes → (HasText 32767 w → ⊥) → Shows es w → ⊥
+no_text_tells es bytes w is none shows =
+    let p = replay es in
+    none (subst (HasText 32767) (shows_one es bytes w is shows) (none_over 32767 0 (exported_boards p) (boards_within 32767 p (stands p bytes is.0).within)))
+
+-- ---- what is answered of a world
+
+pub same_world : (es : List Edit) (w : Contents) → Shows es w → IsSame w (exported 32767 (replay es)) (Ok tt)
+same_world es w shows = subst (λ r. IsSame w r (Ok tt)) (sym shows) (inl (refl, refl))
+
+pub other_world : (es : List Edit) (bytes : List ℕ) (w : Contents) → IsSaved es bytes → (Shows es w → ⊥) → IsSame w (exported 32767 (replay es)) (Err NotTaken)
+other_world es bytes w is other =
+    let shown = (stands (replay es) bytes is.0).shown in
+    subst (λ r. IsSame w r (Err NotTaken)) (sym shown) (inr (λ same. other (shown ∙ ap (λ v. Ok v) same), refl))
+
+-- where the edits can't be exported, they can't be saved
+pub unsaved : (es : List Edit) (w : Contents) (e : DrawingError) → IsExported es (Err e) → IsSame w (exported 32767 (replay es)) (Err e)
+unsaved es w e is = go (refusal_of 32767 (replay es)) is
+  where
+    go : (o : Option ExportError) → Err e ≡ export_told (unless_over o (world_text (world_of (replay es)))) → IsSame w (unless_over o (world_of (replay es))) (Err e)
+    go None nothing = absurd (cc)
+    go (Some x) why = let same : e ≡ Refused (export_refusal x) = cc in ap (λ y. Err y) same
+
+pub unsaved_gives : (es : List Edit) (w : Contents) (e : DrawingError) → (e ≡ memory) ⊎ IsExported es (Err e) → (e ≡ memory) ⊎ IsSame w (exported 32767 (replay es)) (Err e)
+unsaved_gives es w e why = elim why [ inl lack ↦ inl lack | inr is ↦ inr (unsaved es w e is) ]
+
+abbrev as_text : List ℕ → Result (List ℕ) WorldError
+as_text bytes = Ok bytes
+
+-- a world with a board that is too large has no text
+pub over_has_none : (w : Contents) (e : WorldError) (b n : ℕ) → e ≡ worlds.BoardOver b n → (e ≡ worlds.Memory) ⊎ (written 32767 w ≡ Err e) → HasText 32767 w → ⊥
+unfolding written
+over_has_none w e b n is why none = elim why [
+  | inl lack ↦ (let no : worlds.BoardOver b n ≡ worlds.Memory = sym is ∙ lack in cc)
+  | inr over ↦ (let no : as_text (world_text w) ≡ Err e = sym (ap (λ o. unless_refused o (world_text w)) none) ∙ over in cc)
+]

@@ -1,0 +1,13 @@
+pub mod Asking
+pub mod Bases
+pub mod Beside
+pub mod Comparing
+pub mod Drawing
+pub mod Earlier
+pub mod Ending
+pub mod Gathering
+pub mod Looking
+pub mod Opened
+pub mod Others
+pub mod So
+pub mod Steps

@@ -1,0 +1,120 @@
+-- What the edits of a file come to.
+use Rattle.zed_types.specs.declared.stamp.Stamp.{Stamp}
+use Rattle.zed_op.specs.declared.op.Edit.{Edit}
+use Rattle.zed_editfile.specs.declared.error.EditFileError.{EditFileError}
+use Rattle.zed_world.specs.declared.error.WorldError.{WorldError}
+use Rattle.zed_world.specs.declared.error.WorldError.TheVariants as worlds
+use Rattle.zed_drawing.specs.declared.error.DrawingError.{DrawingError}
+use Rattle.zed_drawing.specs.declared.error.DrawingError.TheVariants.{Refused}
+use Rattle.zed_files.specs.declared.refusal.Refusal.{Refusal}
+use Rattle.zed_files.specs.declared.refusal.Refusal.TheVariants as refusal
+use Rattle.std.proofs.Common.{◌≡◌, ◌∙◌, ℕ, Bool, true, false, not, eqb, List, Option, Some, None, Result, Ok, Err, MatchResult, IfOk, ap, refl, subst, sym, inl, inr}
+use Rattle.std.specs.Prelude.{◌⊎◌}
+use Rattle.std.proofs.lemmas.Bool.{eqb-true}
+use Rattle.zed_op.specs.Set.{Agrees, set_of}
+use Rattle.zed_document.specs.Replica.{Replica}
+use Rattle.zed_document.specs.Delivery.{IsFirstClash}
+use Rattle.zed_editfile.specs.Stream.{ending, is_other}
+use Rattle.zed_host.specs.HostContents.{HostContents, IsRead, file_in}
+use Rattle.zed_world.specs.Contents.{Contents}
+use Rattle.zed_world.specs.Reading.{world_at}
+use Rattle.zed_files.specs.Files.{IsFile, end_by}
+use Rattle.zed_files.specs.Refusals.{file_refusal, world_refusal}
+use Rattle.zed_drawing.specs.Files.{FileEdits, IsOpened, IsTried, IsWorld, OfName, world_told}
+use Rattle.zed_drawing.specs.Refusals.{memory}
+use Rattle.zed_drawing.specs.Steps.{Gives}
+
+-- what a document of these edits comes to
+abbrev pub Came : List Edit → Result Replica DrawingError → Type 0
+Came es result = MatchResult result
+    (λ d. Agrees es × (d.edits ≡ set_of es))
+    (λ e. (e ≡ memory) ⊎ ((s : Stamp) × IsFirstClash es s × (e ≡ Refused (refusal.Clash s))))
+
+-- the file was read to its end
+pub opened_whole : (asked : Option ℕ) (bytes : List ℕ) (es : List Edit) (world : ℕ) (result : Result Replica DrawingError) → IsFile asked bytes es (Ok world) → Came es result
+    → IfOk result (λ d. d.world ≡ world) → Gives (λ d. (d.world, d.edits)) (IsOpened asked bytes) result
+opened_whole asked bytes es world (Ok d) whole all is =
+    let answer : ℕ → List Edit → Result FileEdits DrawingError = λ w xs. Ok (w, xs) in
+    (es, Ok world, whole, inr (all.0, ap (λ w. answer w d.edits) is ∙ ap (answer world) all.1))
+opened_whole asked bytes es world (Err e) whole why is =
+    elim why [
+      | inl lack ↦ inl lack
+      | inr clash ↦ inr (es, Ok world, whole, inl (clash.0, clash.1, ap (λ x. Err x) clash.2))
+    ]
+
+-- two edits of a file clash before its fault
+pub opened_clash : (asked : Option ℕ) (bytes : List ℕ) (es : List Edit) (error : EditFileError) (e : DrawingError) → IsFile asked bytes es (Err error)
+    → (e ≡ memory) ⊎ ((s : Stamp) × IsFirstClash es s × (e ≡ Refused (refusal.Clash s))) → (e ≡ memory) ⊎ IsOpened asked bytes (Err e)
+opened_clash asked bytes es error e part why =
+    elim why [
+      | inl lack ↦ inl lack
+      | inr clash ↦ inr (es, Err error, part, inl (clash.0, clash.1, ap (λ x. Err x) clash.2))
+    ]
+
+-- the fault comes first
+pub opened_fault : (asked : Option ℕ) (bytes : List ℕ) (es : List Edit) (error : EditFileError) (e : DrawingError) → IsFile asked bytes es (Err error) → Agrees es
+    → e ≡ Refused (file_refusal error) → IsOpened asked bytes (Err e)
+opened_fault asked bytes es error e part agrees is = (es, Err error, part, inr (agrees, ap (λ x. Err x) is))
+
+-- ---- the world of a file
+
+abbrev told : ℕ → Result ℕ EditFileError
+told n = Ok n
+
+ends_with : (o : Option EditFileError) (w : Option ℕ) (world : ℕ) → Ok world ≡ end_by o w → w ≡ Some world
+ends_with (Some e) w world is = absurd (let no : Ok world ≡ Err e = is in cc)
+ends_with None (Some v) world is = let same : told world ≡ told v = is in let one : world ≡ v = cc in ap (λ x. Some x) (sym one)
+ends_with None None world is = absurd (cc)
+
+is_the_one : (n m : ℕ) → is_other (Some n) m ≡ false → n ≡ m
+is_the_one n m is = go (eqb n m) refl is
+  where
+    go : (b : Bool) → eqb n m ≡ b → not b ≡ false → n ≡ m
+    go true same is = eqb-true n m same
+    go false same is = absurd (cc)
+
+-- a file has the world that was asked for
+pub has_world : (asked : Option ℕ) (n : ℕ) (bytes : List ℕ) (es : List Edit) (world : ℕ) → asked ≡ Some n → IsFile asked bytes es (Ok world) → world ≡ n
+has_world asked n bytes es world asks whole =
+    let got = ends_with (ending whole.progress) whole.progress.world world whole.ends in
+    elim whole.reads [
+      | inl head ↦ absurd (let no = head.world in let none : None ≡ Some world = sym no ∙ got in cc)
+      | inr records ↦ (
+          let told : Some records.number ≡ Some world = sym records.world ∙ got in
+          let same : records.number ≡ world = cc in
+          let one = is_the_one n records.number (subst (λ o. is_other o records.number ≡ false) (whole.asks ∙ asks) records.asked) in
+          sym (one ∙ same))
+    ]
+
+-- ---- files by name
+
+-- a file that was read
+pub named : {X Y : Type 0} (failed : Type 0) (t : HostContents) (name bytes : List ℕ) (Made : List ℕ → Result Y DrawingError → Type 0) (view : X → Y) (answer : Result X DrawingError)
+    → file_in t name ≡ Some bytes → Gives view (Made bytes) answer → Gives view (OfName failed t name Made) answer
+named failed t name bytes Made view (Ok x) held is = (Some bytes, inl (sym held), is)
+named failed t name bytes Made view (Err e) held why = elim why [ inl lack ↦ inl lack | inr is ↦ inr (Some bytes, inl (sym held), is) ]
+
+-- a file that was not
+pub unnamed : {Y : Type 0} (failed : Type 0) (t : HostContents) (name : List ℕ) (Made : List ℕ → Result Y DrawingError → Type 0) (r : Refusal)
+    → (r ≡ refusal.Memory) ⊎ (r ≡ refusal.File) → (r ≡ refusal.File → IsRead failed t name None) → (Refused r ≡ memory) ⊎ OfName failed t name Made (Err (Refused r))
+unnamed failed t name Made r why none =
+    elim why [ inl lack ↦ inl (ap (λ x. Refused x) lack) | inr is ↦ inr (None, none is, ap (λ x. Err (Refused x)) is) ]
+
+-- ---- world files
+
+pub told_world : (bytes : List ℕ) (w : Contents) → world_at bytes ≡ Ok w → IsWorld bytes (Ok w)
+told_world bytes w is = sym (ap world_told is)
+
+pub told_refusal : (bytes : List ℕ) (e : WorldError) → (e ≡ worlds.Memory) ⊎ (world_at bytes ≡ Err e) → (Refused (world_refusal e) ≡ memory) ⊎ IsWorld bytes (Err (Refused (world_refusal e)))
+told_refusal bytes e why = elim why [
+  | inl lack ↦ inl (ap (λ x. Refused (world_refusal x)) lack)
+  | inr is ↦ inr (sym (ap world_told is))
+]
+
+-- ---- files that may be missing
+
+pub tried_there : (failed : Type 0) (t : HostContents) (name bytes : List ℕ) → file_in t name ≡ Some bytes → IsTried failed t name (Ok (Some bytes))
+tried_there failed t name bytes held = inl (ap (λ o. Ok o) (sym held))
+
+pub tried_missing : (failed : Type 0) (t : HostContents) (name : List ℕ) → file_in t name ≡ None → IsTried failed t name (Ok None)
+tried_missing failed t name held = inl (ap (λ o. Ok o) (sym held))

@@ -1,0 +1,29 @@
+use Rattle.std.proofs.Common.{◌≡◌, inl, inr}
+use Rattle.std.proofs.lemmas.Result.{err_from_is_err_and}
+use Rattle.zed_drawing.specs.Opening.{IsSaved}
+use Rattle.zed_drawing.proofs.Comparing.{other_world, same_world, unsaved_gives}
+use Rattle.zed_drawing.proofs.opening.check_same.Goals as goal
+
+pub returns-in_err-file : goal.returns-in_err-file
+returns-in_err-file c =
+    let p = err_from_is_err_and c.from_residual.result c.from_residual.ensures.1 in
+    let same : p.0 ≡ c.in_err-file.field-0.0 = p.2 in
+    rw (p.1, same) (unsaved_gives c.args.document.now.edits c.args.world.now c.in_err-file.field-0.0 c.in_err-file.ensures.exported)
+
+pub returns-in_err-is_same : goal.returns-in_err-is_same
+returns-in_err-is_same c =
+    let p = err_from_is_err_and c.from_residual-in_err-is_same.result c.from_residual-in_err-is_same.ensures.1 in
+    let same : p.0 ≡ c.in_err-is_same.field-0.0 = p.2 in
+    rw (p.1, same) (inl c.in_err-is_same.ensures.err)
+
+pub returns-then-is_same : goal.returns-then-is_same
+returns-then-is_same c =
+    let back : IsSaved c.args.document.now.edits c.as_slice.result.now = rw c.as_slice.ensures.value c.in_ok-file.ensures.back in
+    let tells = rw c.if-is_same.true at (c.in_ok-is_same.ensures.is c.args.document.now.edits back) in
+    same_world c.args.document.now.edits c.args.world.now tells
+
+pub returns : goal.returns
+returns c =
+    let back : IsSaved c.args.document.now.edits c.as_slice.result.now = rw c.as_slice.ensures.value c.in_ok-file.ensures.back in
+    let tells = rw c.if-is_same.false at (c.in_ok-is_same.ensures.is c.args.document.now.edits back) in
+    inr (other_world c.args.document.now.edits c.as_slice.result.now c.args.world.now back tells)

@@ -1,0 +1,46 @@
+use Rattle.std.proofs.Common.{◌≡◌, ◌∙◌, [], ◌∷◌, false, None}
+use Rattle.std.proofs.lemmas.Result.{err_from_is_err_and}
+use Rattle.zed_host.specs.Calls.{Reading, call}
+use Rattle.zed_drawing.specs.Base.{beside}
+use Rattle.zed_drawing.specs.Files.{OpensAs}
+use Rattle.zed_drawing.specs.Opening.{LookReads, OpenReads, Shown}
+use Rattle.zed_drawing.proofs.Asking.{halted_before, reads_then, tells_later}
+use Rattle.zed_drawing.proofs.Looking.{open_behind_file, open_join, open_then}
+use Rattle.zed_drawing.proofs.Steps.{step_refused}
+use Rattle.zed_drawing.proofs.opening.open_to.Goals as goal
+
+pub returns-in_err-document-clause-comes : goal.returns-in_err-document-clause-comes
+returns-in_err-document-clause-comes g c = λ t at.
+    let p = err_from_is_err_and c.from_residual.result c.from_residual.ensures.1 in
+    let same : p.0 ≡ c.in_err-document.field-0.0 = p.2 in
+    rw (p.1, same) (step_refused (OpensAs _ t None c.args.file.now) (λ f. Shown _ t c.args.until c.args.forcing f c.args.file.now c.args.world.now) c.in_err-document.field-0.0
+    (c.in_err-document.ensures.opened t at))
+
+pub returns-in_err-document-clause-asked : goal.returns-in_err-document-clause-asked
+returns-in_err-document-clause-asked g c =
+    let p = err_from_is_err_and c.from_residual.result c.from_residual.ensures.1 in
+    let same : p.0 ≡ c.in_err-document.field-0.0 = p.2 in
+    rw (p.1, same) (halted_before g.H.Host.called (λ a. a ≡ call (Reading c.args.file.now) false ∷ []) (OpenReads c.args.forcing c.args.file.now c.args.world.now) c.in_err-document.field-0.0 _ _
+    (open_behind_file c.args.forcing c.args.file.now c.args.world.now) c.in_err-document.ensures.asked)
+
+pub returns-in_err-document-clause-failures : goal.returns-in_err-document-clause-failures
+returns-in_err-document-clause-failures g c =
+    let p = err_from_is_err_and c.from_residual.result c.from_residual.ensures.1 in
+    let same : p.0 ≡ c.in_err-document.field-0.0 = p.2 in
+    rw (p.1, same) c.in_err-document.ensures.failures
+
+pub returns-clause-comes : goal.returns-clause-comes
+returns-clause-comes g c = λ t at.
+    open_then t c.args.until c.args.forcing c.args.file.now c.args.world.now _ _ _ (c.in_ok-document.document.world, c.in_ok-document.document.edits) _ c.open_document.result
+    c.in_ok-document.ensures.failures.0 c.open_document.ensures.failures.0 (c.in_ok-document.ensures.opened t at) (c.open_document.ensures.comes t (c.in_ok-document.ensures.kept ∙ at))
+
+pub returns-clause-asked : goal.returns-clause-asked
+returns-clause-asked g c =
+    reads_then g.H.Host.called (λ a. a ≡ call (Reading c.args.file.now) false ∷ []) (LookReads c.args.forcing c.args.file.now (beside c.args.world.now) c.args.world.now)
+    (OpenReads c.args.forcing c.args.file.now c.args.world.now) c.open_document.result _ _ _ (open_join c.args.forcing c.args.file.now c.args.world.now)
+    c.in_ok-document.ensures.asked c.open_document.ensures.asked
+
+pub returns-clause-failures : goal.returns-clause-failures
+returns-clause-failures g c =
+    let told = c.in_ok-document.ensures.failures in
+    tells_later g.H.Host.faults g.H.Host.failed c.open_document.result _ _ _ (told.0, told.1) c.open_document.ensures.failures

@@ -1,0 +1,27 @@
+use Rattle.std.proofs.Common.{◌≡◌, inl}
+use Rattle.std.proofs.lemmas.Result.{err_from_is_err_and}
+use Rattle.zed_drawing.proofs.Drawing.{alone_ends, alone_none}
+use Rattle.zed_drawing.proofs.taking.draw_alone.Goals as goal
+
+pub taken_edits-requires : goal.taken_edits-requires
+taken_edits-requires c = record { file = c.requires; base = c.requires }
+
+pub returns-in_err-edits : goal.returns-in_err-edits
+returns-in_err-edits c = λ base.
+    let p = err_from_is_err_and c.from_residual.result c.from_residual.ensures.1 in
+    let same : p.0 ≡ c.in_err-edits.field-0.0 = p.2 in
+    rw (p.1, same) (alone_none base c.args.file.now c.args.replica c.args.document.now c.args.world.now c.in_err-edits.field-0.0 c.in_err-edits.ensures.taken)
+
+pub deliver-requires : goal.deliver-requires
+deliver-requires c = record { fit = c.in_ok-edits.ensures.fit; joins = c.in_ok-edits.ensures.file_joins; sound = c.requires }
+
+pub returns-in_err-deliver : goal.returns-in_err-deliver
+returns-in_err-deliver c = λ base.
+    let p = err_from_is_err_and c.from_residual-in_err-deliver.result c.from_residual-in_err-deliver.ensures.1 in
+    rw p.1 (inl p.2)
+
+pub returns : goal.returns
+returns c = λ base.
+    alone_ends base c.args.file.now c.args.replica c.args.document.now c.deliver.new.document c.args.world.now c.in_ok-edits.edits.items c.count_of-had.result c.taken_of-taken.result
+    c.alone_effect.result c.in_ok-edits.ensures.taken c.in_ok-deliver.ensures.edits c.in_ok-deliver.ensures.world c.count_of-had.ensures c.taken_of-taken.ensures
+    c.alone_effect.ensures.files c.alone_effect.ensures.text c.alone_effect.ensures.err

@@ -1,0 +1,115 @@
+//! The files that a command reads.
+ghost use Rattle.std.specs.Prelude.{◌≡◌, ◌∷◌, [], ◌⊎◌, ℕ, IfErr, IfOk, MatchResult, Some, None, false, option_map};
+ghost use Rattle.zed_op.specs.Set.{Agrees, AllFit, set_of};
+ghost use Rattle.zed_types.specs.declared.stamp.Stamp.{Stamp as TheStamp};
+ghost use Rattle.zed_document.specs.Delivery.{IsFirstClash};
+ghost use Rattle.zed_drawing.specs.Asked.{Reads, TellsFailures};
+ghost use Rattle.zed_drawing.specs.Files.{IsOpened, IsTried, OpensAs, ReadsAs};
+ghost use Rattle.zed_drawing.specs.Refusals.{is_fault, is_missed, memory};
+ghost use Rattle.zed_drawing.specs.Steps.{Gives};
+ghost use Rattle.zed_host.specs.Calls.{Reading, call};
+ghost use Rattle.zed_host.specs.Counting.{Counts, Rose};
+ghost use Rattle.zed_host.specs.HostContents.{HostContents};
+
+use crate::error::DrawingError;
+use std::alloc::Global;
+use zed_document::Document;
+use zed_edit::Edit;
+use zed_editfile::EditFileError;
+use zed_files::{Refusal, append_edits, bytes_of_file, deliver_all};
+use zed_host::{Host, ReadError};
+use zed_world::{World, read_world};
+
+/// The bytes of the file of a name, if there is one. File where the host fails; Memory.
+pub(crate) fn try_file<H: Host>(host: &mut H, name: &str) -> Result<Option<Vec<u8>>, DrawingError>
+    ensures tried { (t : HostContents) → H.contents host.old ≡ Some t
+        → let failed = Rose (H.faults host.old) (H.faults host.new) in
+        Gives (option_map (λ bytes. bytes.items)) (IsTried failed t name.now) result }
+    ensures kept { H.contents host.new ≡ H.contents host.old }
+    ensures asked { H.called host.old (call (Reading name.now) (is_missed result)) host.new }
+    ensures failures { Counts (is_missed result) (H.failed host.old) (H.failed host.new) }
+    ensures faults { Counts (is_fault result) (H.faults host.old) (H.faults host.new) }
+    ensures err { IfErr result (λ e. (e ≡ memory) ⊎ (e ≡ DrawingError.Refused Refusal.File)) }
+{
+    match host.read(name) {
+        Ok(bytes) => Ok(Some(bytes)),
+        Err(ReadError::NoFile) => Ok(None),
+        Err(ReadError::Memory) => Err(DrawingError::Refused(Refusal::Memory)),
+        Err(ReadError::File) => Err(DrawingError::Refused(Refusal::File)),
+    }
+}
+
+// The document of a world with these edits.
+fn collected(alloc: Global, world: u64, edits: Vec<Edit>) -> Result<Document, DrawingError>
+    requires { AllFit edits.items }
+    ensures collected { MatchResult result
+        (λ d. Agrees edits.items × (d.edits ≡ set_of edits.items))
+        (λ e. (e ≡ memory) ⊎ ((s : TheStamp) × IsFirstClash edits.items s
+        × (e ≡ DrawingError.Refused (Refusal.Clash s)))) }
+    ensures world { IfOk result (λ d. d.world ≡ world) }
+    ensures sound { IfOk result (λ d. d.is_stale ≡ false) }
+{
+    let mut document = Document::new(alloc, world);
+    deliver_all(&mut document, edits)?;
+    Ok(document)
+}
+
+/// The document of the bytes of an edit file, of the world asked for or of any.
+pub(crate) fn opened(
+    alloc: Global,
+    asked: Option<u64>,
+    bytes: &[u8],
+) -> Result<Document, DrawingError>
+    ensures opened { Gives (λ d. (d.world, d.edits)) (IsOpened asked bytes.now) result }
+    ensures world { IfOk result (λ d. (n : ℕ) → asked ≡ Some n → d.world ≡ n) }
+    ensures sound { IfOk result (λ d. d.is_stale ≡ false) }
+{
+    let mut edits = Vec::new(alloc);
+    match append_edits(alloc, asked, bytes, &mut edits) {
+        Ok(world) => collected(alloc, world, edits),
+        Err(EditFileError::Memory) => Err(DrawingError::Refused(Refusal::Memory)),
+        Err(error) => {
+            collected(alloc, 0, edits)?;
+            Err(DrawingError::from(error))
+        }
+    }
+}
+
+/// The document of the edit file of a name, of the world asked for or of any.
+pub(crate) fn open_file<H: Host>(
+    alloc: Global,
+    host: &mut H,
+    asked: Option<u64>,
+    name: &str,
+) -> Result<Document, DrawingError>
+    ensures opened { (t : HostContents) → H.contents host.old ≡ Some t
+        → let failed = Rose (H.faults host.old) (H.faults host.new) in
+        Gives (λ d. (d.world, d.edits)) (OpensAs failed t asked name.now) result }
+    ensures world { IfOk result (λ d. (n : ℕ) → asked ≡ Some n → d.world ≡ n) }
+    ensures sound { IfOk result (λ d. d.is_stale ≡ false) }
+    ensures kept { H.contents host.new ≡ H.contents host.old }
+    ensures asked { Reads H.called (λ reads. reads ≡ call (Reading name.now) false ∷ [])
+        result host.old host.new }
+    ensures failures { TellsFailures H.faults H.failed result host.old host.new }
+{
+    let bytes = bytes_of_file(host, name)?;
+    opened(alloc, asked, bytes.as_slice())
+}
+
+/// The world of the world file of a name.
+pub(crate) fn world_of<H: Host>(
+    alloc: Global,
+    host: &mut H,
+    name: &str,
+) -> Result<World, DrawingError>
+    ensures read { (t : HostContents) → H.contents host.old ≡ Some t
+        → let failed = Rose (H.faults host.old) (H.faults host.new) in
+        Gives (λ w. w) (ReadsAs failed t name.now) result }
+    ensures kept { H.contents host.new ≡ H.contents host.old }
+    ensures asked { Reads H.called (λ reads. reads ≡ call (Reading name.now) false ∷ [])
+        result host.old host.new }
+    ensures failures { TellsFailures H.faults H.failed result host.old host.new }
+{
+    let bytes = bytes_of_file(host, name)?;
+    Ok(read_world(alloc, bytes.as_slice())?)
+}
