@@ -134,9 +134,9 @@ unfolding Draws
 beside_ends base file replica d o all w new had (Err e) joined is base_of all_of had_is files text err = inl err
 beside_ends base file replica d o all w new had (Ok x) joined is base_of all_of had_is files text err =
     let first : grown base o.world (length o.edits) (union o.edits new) ≡ grown base d.world (length o.edits) (union o.edits new)
-        = ap (λ n. grown base n (length o.edits) (union o.edits new)) base_of in
+    = ap (λ n. grown base n (length o.edits) (union o.edits new)) base_of in
     let second : grown file all.world had (union all.edits new) ≡ grown file d.world (length d.edits) (union all.edits new)
-        = ap (λ n. grown file n had (union all.edits new)) all_of ∙ ap (λ n. grown file d.world n (union all.edits new)) had_is in
+    = ap (λ n. grown file n had (union all.edits new)) all_of ∙ ap (λ n. grown file d.world n (union all.edits new)) had_is in
     let both = files ∙ ap (λ fs. fs ++ grown file all.world had (union all.edits new)) first ∙ ap (λ fs. grown base d.world (length o.edits) (union o.edits new) ++ fs) second in
     (Ok all.edits, joined, (Ok new, is, ap (λ y. Ok y) (effect_is x (drawn base file (given (d.world, d.edits) (Some o.edits) w) all.edits new) both text)))
 
@@ -148,9 +148,9 @@ pub both_grown : (base file : List ℕ) (o all b now : Replica) (new : List Edit
 both_grown base file o all b now new base_had had taken (Err e) b_is b_of now_is now_of base_is files = tt
 both_grown base file o all b now new base_had had taken (Ok x) b_is b_of now_is now_of base_is files =
     let first : grown base b.world base_had b.edits ≡ grown base o.world (length o.edits) (union o.edits new)
-        = ap (λ n. grown base n base_had b.edits) b_of ∙ ap (λ n. grown base o.world n b.edits) base_is ∙ ap (λ es. grown base o.world (length o.edits) es) b_is in
+    = ap (λ n. grown base n base_had b.edits) b_of ∙ ap (λ n. grown base o.world n b.edits) base_is ∙ ap (λ es. grown base o.world (length o.edits) es) b_is in
     let second : grown file now.world had now.edits ≡ grown file all.world had (union all.edits new)
-        = ap (λ n. grown file n had now.edits) now_of ∙ ap (λ es. grown file all.world had es) now_is in
+    = ap (λ n. grown file n had now.edits) now_of ∙ ap (λ es. grown file all.world had es) now_is in
     files ∙ ap (λ fs. fs ++ grown file now.world had now.edits) first ∙ ap (λ fs. grown base o.world (length o.edits) (union o.edits new) ++ fs) second
 
 pub both_told : (all now : Replica) (new : List Edit) (taken : ℕ) (result : Result Effect DrawingError) → now.edits ≡ union all.edits new → taken ≡ length new

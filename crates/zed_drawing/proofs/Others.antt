@@ -1,7 +1,5 @@
 -- Refusals other than `File`.
-use Rattle.zed_types.specs.declared.stamp.Stamp.{Stamp}
 use Rattle.zed_op.specs.declared.op.Edit.{Edit}
-use Rattle.zed_op.specs.declared.cause.Cause.TheVariants as cause
 use Rattle.zed_editfile.specs.declared.error.EditFileError.{EditFileError}
 use Rattle.zed_export.specs.declared.error.ExportError.{ExportError}
 use Rattle.zed_take.specs.declared.error.TakeError.{TakeError}
@@ -10,19 +8,18 @@ use Rattle.zed_world.specs.declared.error.WorldError.{WorldError}
 use Rattle.zed_files.specs.declared.refusal.Refusal.{Refusal}
 use Rattle.zed_files.specs.declared.refusal.Refusal.TheVariants as refusal
 use Rattle.zed_drawing.specs.declared.error.DrawingError.{DrawingError}
-use Rattle.zed_drawing.specs.declared.error.DrawingError.TheVariants.{Refused, NotTaken}
+use Rattle.zed_drawing.specs.declared.error.DrawingError.TheVariants.{Refused}
 use Rattle.zed_session.specs.Refusals as told
 use Rattle.std.proofs.Common.{◌≡◌, ◌∙◌, ℕ, List, Option, Some, None, Result, Ok, Err, refl, subst, sym, inl, inr}
-use Rattle.std.specs.Prelude.{◌⊎◌, ⊤}
+use Rattle.std.specs.Prelude.{◌⊎◌}
 use Rattle.zed_world.specs.Contents.{Contents}
 use Rattle.zed_world.specs.Reading.{world_at}
 use Rattle.zed_edit.specs.Replay.{replay}
-use Rattle.zed_export.specs.Limits.{exported, saved}
+use Rattle.zed_export.specs.Limits.{saved}
 use Rattle.zed_files.specs.Refusals.{export_refusal, file_refusal, world_refusal}
 use Rattle.zed_files.proofs.Failures.{file_is_other, session_is_other, world_is_other}
 use Rattle.zed_drawing.specs.Base.{edits_of_base}
-use Rattle.zed_drawing.specs.Files.{FileEdits, IsOpened, IsSettled, IsWorld, world_told}
-use Rattle.zed_drawing.specs.Effects.{Effect}
+use Rattle.zed_drawing.specs.Files.{IsOpened, IsSettled, IsWorld, world_told}
 use Rattle.zed_drawing.specs.Opening.{IsExported, IsSame, export_told}
 use Rattle.zed_drawing.specs.Refusals.{file, memory, take_refusal}
 use Rattle.zed_drawing.specs.Steps.{Steps, Then}

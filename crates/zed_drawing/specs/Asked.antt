@@ -1,9 +1,8 @@
 -- What a command asks of its host.
 use Rattle.zed_drawing.specs.declared.error.DrawingError.{DrawingError}
-use Rattle.std.specs.Prelude.{◌≡◌, ◌≢◌, ◌⊎◌, ◌≤◌, ℕ, false, true, List, [], ◌∷◌, ◌++◌, map, Option, Some, None, Result, Ok, Err, MatchResult, IfErr}
-use Rattle.zed_host.specs.Calls.{Ask, Call, Printing, Reading, Writing, Leads, call, passed}
+use Rattle.std.specs.Prelude.{◌≡◌, ◌≢◌, ◌⊎◌, ◌≤◌, ℕ, false, true, List, [], ◌∷◌, ◌++◌, map, Result, MatchResult, IfErr}
+use Rattle.zed_host.specs.Calls.{Ask, Call, Printing, Writing, Leads, call, passed}
 use Rattle.zed_host.specs.Counting.{Rose}
-use Rattle.zed_host.specs.HostContents.{HostContents}
 use Rattle.zed_drawing.specs.Refusals.{file}
 
 -- files of these names are written, one after the other

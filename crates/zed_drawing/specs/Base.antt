@@ -3,7 +3,7 @@ use Rattle.zed_op.specs.declared.op.Edit.{Edit}
 use Rattle.zed_drawing.specs.declared.base.Presence.{Presence}
 use Rattle.zed_drawing.specs.declared.base.Presence.TheVariants.{Needed, Optional}
 use Rattle.zed_drawing.specs.declared.error.DrawingError.{DrawingError}
-use Rattle.std.specs.Prelude.{◌≡◌, ℕ, Bool, false, List, [], ◌∷◌, ◌++◌, codes, Option, Some, None, Result, Ok, Err, MatchBool}
+use Rattle.std.specs.Prelude.{◌≡◌, ℕ, Bool, false, List, [], ◌∷◌, ◌++◌, codes, Option, Some, None, Result, Ok, MatchBool}
 use Rattle.std.specs.Str.{bytes_eq}
 use Rattle.zed_host.specs.Calls.{Call, Reading, call}
 use Rattle.zed_host.specs.HostContents.{HostContents}

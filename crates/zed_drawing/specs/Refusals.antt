@@ -4,7 +4,7 @@ use Rattle.zed_take.specs.declared.error.TakeError.TheVariants as taking
 use Rattle.zed_files.specs.declared.refusal.Refusal.TheVariants as refusal
 use Rattle.zed_drawing.specs.declared.error.DrawingError.{DrawingError}
 use Rattle.zed_drawing.specs.declared.error.DrawingError.TheVariants.{Refused, NotTaken}
-use Rattle.std.specs.Prelude.{◌≡◌, Bool, true, false, Option, Some, None, Result, Ok, Err}
+use Rattle.std.specs.Prelude.{Bool, true, false, Option, Some, None, Result, Ok, Err}
 use Rattle.zed_files.specs.Refusals.{export_refusal}
 
 -- want of memory

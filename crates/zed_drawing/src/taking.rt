@@ -136,11 +136,7 @@ fn draw_alone(
 }
 
 // Joins copies of edits that were taken to a base.
-fn deliver_copies(
-    alloc: Global,
-    base: &mut Document,
-    edits: &Vec<Edit>,
-) -> Result<(), AllocError>
+fn deliver_copies(alloc: Global, base: &mut Document, edits: &Vec<Edit>) -> Result<(), AllocError>
     requires fit { AllFit edits.now.items }
     requires joins { Joins base.old.edits edits.now.items }
     requires sound { base.old.is_stale ≡ false }
@@ -202,9 +198,7 @@ fn add_to_both(
     let base_had = count_of(base);
     deliver_copies(alloc, base, &edits)?;
     deliver(document, edits)?;
-    beside_effect(
-        alloc, name, file, base_had, file_had, taken, base, document,
-    )
+    beside_effect(alloc, name, file, base_had, file_had, taken, base, document)
 }
 
 // The edits that are taken.

@@ -13,7 +13,8 @@ pub returns-in_err-effect-clause-ends : goal.returns-in_err-effect-clause-ends
 returns-in_err-effect-clause-ends g c = λ t at.
     let p = err_from_is_err_and c.from_residual.result c.from_residual.ensures.1 in
     let same : p.0 ≡ c.in_err-effect.field-0.0 = p.2 in
-    rw (p.1, same) (refused_ends _ (TakesFrom _ t c.args.presence c.args.base.now c.args.file.now c.args.replica c.args.world.now) _ t c.in_err-effect.field-0.0 _
+    rw (p.1, same) (refused_ends _ (TakesFrom _ t c.args.presence c.args.base.now c.args.file.now c.args.replica c.args.world.now)
+    (Did g.H.Host.called (TakeReads c.args.presence c.args.base.now c.args.file.now c.args.world.now) c.args.host.now c.take_to.new.host) t c.in_err-effect.field-0.0 _
     (c.in_err-effect.ensures.kept ∙ at) (c.in_err-effect.ensures.comes t at))
 
 pub returns-in_err-effect-clause-asked : goal.returns-in_err-effect-clause-asked

@@ -1,4 +1,4 @@
-use Rattle.std.proofs.Common.{◌≡◌, ◌∙◌, inl, inr, option_map, refl, tt}
+use Rattle.std.proofs.Common.{◌≡◌, refl}
 use Rattle.std.proofs.lemmas.Result.{err_from_is_err_and}
 use Rattle.zed_drawing.specs.Taking.{Draws, TakeReads, given_of}
 use Rattle.zed_drawing.proofs.Asking.{answered, halted_at_once, none_lost, tells_answered, tells_other}
