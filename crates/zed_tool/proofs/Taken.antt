@@ -25,7 +25,7 @@ use Rattle.zed_drawing.specs.Effects.{Effect}
 use Rattle.zed_drawing.specs.Files.{FileEdits, IsOpened, IsWorld, OfFile, OpensAs, ReadsAs, edits_at, world_told}
 use Rattle.zed_drawing.specs.Refusals.{take_refusal}
 use Rattle.zed_drawing.specs.Steps.{Steps, Then}
-use Rattle.zed_drawing.specs.Taking.{ComesToTake, Draws, Gathers, Given, IsTaken, TakesFrom, drawn, given}
+use Rattle.zed_drawing.specs.Taking.{ComesToTake, Draws, Gathers, Given, IsJoined, IsTaken, TakesFrom, drawn, given}
 use Rattle.zed_tool_words.specs.Commands.{Take}
 use Rattle.zed_tool.specs.Calm.{EndsCalmly, HasStatus, left_by}
 use Rattle.zed_tool.specs.Taking.{AsksToTake, TakesSet}
@@ -163,7 +163,7 @@ DrawsSet name file replica number own based shown r =
 
 draws_set : (name file : List ℕ) (replica number : ℕ) (own based : List Edit) (shown : Contents) (r : Result Effect DrawingError) → Agree own based
     → Draws name file replica (given (number, own) (Some based) shown) r → DrawsSet name file replica number own based shown r
-unfolding Draws
+unfolding Draws IsJoined
 draws_set name file replica number own based shown r agree draws =
     let joined : draws.0 ≡ Ok (union own based) = elim draws.1 [
       | inl both ↦ both.1
@@ -174,6 +174,7 @@ draws_set name file replica number own based shown r agree draws =
 taken_set : (name file : List ℕ) (t : HostContents) (replica number : ℕ) (own based : List Edit) (shown : Contents) (x : Result Effect DrawingError) (status : ℕ) (new : Option HostContents)
     → DrawsSet name file replica number own based shown x → HasStatus (left_by t x) t status new
     → TakesSet name file t replica number own based shown status new
+unfolding IsTaken
 taken_set name file t replica number own based shown x status new draws has = elim draws.1 [
   | inl taken ↦ (
       let is = then_ok _ draws.0 taken.0 x taken.2 draws.2 in
