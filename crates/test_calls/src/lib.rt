@@ -1,5 +1,5 @@
-//! Public calls of the lower crates, with each growth of memory refused in turn and by example: tests alone. They stand in a crate of
-//! their own since a crate with tests is proved a second time with them.
+//! Public calls of the lower crates, by example and with each growth of memory refused in turn:
+//! tests alone, in a crate of their own since a crate with tests is proved twice.
 #![tactic(auto)]
 
 #[cfg(test)]

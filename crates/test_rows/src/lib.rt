@@ -1,5 +1,5 @@
-//! What the programs share that go through files of rows: lines and their words, bytes as rows spell them, growths that are refused, and
-//! what is seen of rows held against what is to be seen.
+//! What the row programs share: lines and their words, bytes as rows spell them, growths that are
+//! refused, and results held against expectations.
 #![tactic(auto)]
 
 mod asked;

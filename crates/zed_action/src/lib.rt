@@ -1,4 +1,4 @@
-//! The actions of an author: what words say, and what is done to a document for them.
+//! The actions of `zzted edit`: what their words mean, and what they do to a document.
 #![tactic(auto)]
 
 mod acting;

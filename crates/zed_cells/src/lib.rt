@@ -1,4 +1,4 @@
-//! Registers, each with the stamp that wrote it, for writes in any order: the latest stays.
+//! The rule of registers, that the latest write stays, and the cells of a board.
 #![tactic(auto)]
 
 mod cells;

@@ -1,5 +1,4 @@
-//! One text of a world: its bytes in order, dead ones included, kept as runs.
-//! Edits come in any order, as long as what they name is there.
+//! One text as runs of bytes, deleted ones too, for edits in any order.
 #![tactic(auto)]
 
 mod block;

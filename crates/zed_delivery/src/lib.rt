@@ -1,4 +1,4 @@
-//! The live parts of a document, and the edits that wait for what isn't made yet.
+//! The body of a document: its live parts, the edits that wait, and what follows when one comes.
 #![tactic(auto)]
 
 mod body;

@@ -1,4 +1,4 @@
-//! Files on a disk that several commands write: each is found behind its links, held, and replaced whole.
+//! Files on a disk: found behind links, locked, and replaced as a whole.
 #![tactic(auto)]
 
 mod folder;

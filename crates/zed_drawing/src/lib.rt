@@ -1,5 +1,5 @@
-//! The commands for authors who draw with another editor: `open` writes the world of an edit file for it, and `take` takes what was drawn
-//! there back as edits.
+//! The commands for authors who draw with another editor: `open` writes the world of an edit file
+//! for it, and `take` takes what was drawn back as edits.
 #![tactic(auto)]
 
 mod base;

@@ -4,7 +4,7 @@ use Rattle.zed_types.specs.declared.names.BoardId.{BoardId}
 use Rattle.zed_types.specs.declared.names.StatId.{StatId}
 use Rattle.zed_types.specs.declared.tile.Tile.{Tile}
 use Rattle.zed_types.specs.declared.tile.Rectangle.{Rectangle}
-use Rattle.zed_types.specs.declared.tile.TheConstants.{TILES}
+use Rattle.zed_types.specs.Limits.{table_tiles}
 use Rattle.zed_types.specs.Board.{board_byte_index, board_flag_index, side_index, board_text_index}
 use Rattle.zed_types.specs.declared.property.BoardSetting.{BoardSetting}
 use Rattle.zed_types.specs.declared.property.BoardSetting.TheVariants.{Byte, Flag, TimeLimit, Rank, Exit, Text}
@@ -43,7 +43,7 @@ player_tile = record { element = 4; colour = 0x1f }
 unfoldable pub new_table : List Tile
 new_table =
     set_cells (record { left = 30; top = 12; right = 30; bottom = 12 }) player_tile
-    (set_cells (record { left = 2; top = 2; right = 59; bottom = 24 }) empty_tile (replicate TILES wall_tile))
+    (set_cells (record { left = 2; top = 2; right = 59; bottom = 24 }) empty_tile (replicate table_tiles wall_tile))
 
 -- the registers of a new board: 255 shots, the start at column 30 and row 12, rank 0, no exit and no message
 abbrev pub new_properties : List ℕ → Properties

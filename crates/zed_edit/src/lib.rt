@@ -1,4 +1,4 @@
-//! Edits: every kind of them, when one fits, what it names, what one author who makes it does, and the replay of a set of edits.
+//! What edits do: one author who makes them, and the replay of a set.
 #![tactic(auto)]
 
 mod author;

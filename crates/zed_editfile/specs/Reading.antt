@@ -20,7 +20,7 @@ use Rattle.zed_types.specs.declared.header.HeaderSetting.{HeaderSetting}
 use Rattle.zed_types.specs.declared.header.HeaderSetting.TheVariants as header
 use Rattle.zed_types.specs.declared.property.BoardSetting.{BoardSetting}
 use Rattle.zed_types.specs.declared.property.BoardSetting.TheVariants as board
-use Rattle.zed_types.specs.declared.property.TheConstants.BoardSetting.{TIME_LIMIT, RANK}
+use Rattle.zed_types.specs.Limits.{time_limit_property, rank_property}
 use Rattle.zed_types.specs.declared.stat_field.ThirdParameter.{ThirdParameter}
 use Rattle.zed_types.specs.declared.stat_field.ThirdParameter.TheVariants as third
 use Rattle.zed_types.specs.declared.stat_field.StatSetting.{StatSetting}
@@ -198,8 +198,8 @@ board_value_at version f bytes =
     by_kind (board_flag_of_field f) (λ k. mapped (board.Flag k) (boolean_at bytes)) (
     by_kind (side_of_field f) (λ k. mapped (board.Exit k) (optional_at board_name_at bytes)) (
     by_kind (board_text_of_field f) (λ k. mapped (board.Text k) (string_at bytes)) (
-    if f == TIME_LIMIT then mapped board.TimeLimit (integer_at bytes) else
-    if (f == RANK) && nat_le 2 version then mapped board.Rank (number_at 2 bytes) else Err (BadEdit Tag)))))
+    if f == time_limit_property then mapped board.TimeLimit (integer_at bytes) else
+    if (f == rank_property) && nat_le 2 version then mapped board.Rank (number_at 2 bytes) else Err (BadEdit Tag)))))
 
 -- a register of a board, under its number
 unfoldable pub board_setting_at : ℕ → List ℕ → Field BoardSetting

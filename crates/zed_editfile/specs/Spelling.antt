@@ -15,7 +15,7 @@ use Rattle.zed_types.specs.declared.header.HeaderSetting.{HeaderSetting}
 use Rattle.zed_types.specs.declared.header.HeaderSetting.TheVariants as header
 use Rattle.zed_types.specs.declared.property.BoardSetting.{BoardSetting}
 use Rattle.zed_types.specs.declared.property.BoardSetting.TheVariants as board
-use Rattle.zed_types.specs.declared.property.TheConstants.BoardSetting.{TIME_LIMIT, RANK}
+use Rattle.zed_types.specs.Limits.{time_limit_property, rank_property}
 use Rattle.zed_types.specs.declared.stat_field.ThirdParameter.{ThirdParameter}
 use Rattle.zed_types.specs.declared.stat_field.ThirdParameter.TheVariants as third
 use Rattle.zed_types.specs.declared.stat_field.StatSetting.{StatSetting}
@@ -103,10 +103,10 @@ header_setting (header.Flag k s) = (19 + flag_index k) ∷ string s
 abbrev pub board_setting : BoardSetting → List ℕ
 board_setting (board.Byte f n) = board_byte_field f ∷ n ∷ []
 board_setting (board.Flag f b) = board_flag_field f ∷ boolean b
-board_setting (board.TimeLimit n) = TIME_LIMIT ∷ integer n
+board_setting (board.TimeLimit n) = time_limit_property ∷ integer n
 board_setting (board.Exit d b) = side_field d ∷ optional board_name b
 board_setting (board.Text f s) = board_text_field f ∷ string s
-board_setting (board.Rank n) = RANK ∷ number 2 n
+board_setting (board.Rank n) = rank_property ∷ number 2 n
 
 -- a register of a stat
 abbrev pub stat_setting : StatSetting → List ℕ

@@ -1,4 +1,4 @@
-//! Edit files: how an edit is spelled, the writing of a file, and a reader that takes a file in any pieces.
+//! Edit files: the spelling of an edit, a writer, and a reader for files in any pieces.
 #![tactic(auto)]
 
 mod error;

@@ -1,6 +1,6 @@
 -- The headline: what authors who work apart can count on.
 use Rattle.std.specs.Prelude.{◌≡◌, ◌⊎◌, ℕ, ◌≤◌, false, List, Result, Ok, Err, IsOkAnd, MatchResult}
-use Rattle.zed_types.specs.declared.limits.TheConstants.{READ_BODY_LIMIT}
+use Rattle.zed_types.specs.Limits.{largest_body}
 use Rattle.zed_world.specs.Reading.{world_at}
 use Rattle.zed_op.specs.declared.op.Edit.{Edit}
 use Rattle.zed_op.specs.Set.{Agrees, AllFit, IsRising, set_of, union}
@@ -24,7 +24,7 @@ pub record AreAuthored (es : List Edit) : Type 0 where
 -- what is saved of the set of such edits is read as the exported world
 abbrev pub AuthoredIsRead : Type 0
 AuthoredIsRead = (limit : ℕ) (es : List Edit) (file : List ℕ)
-    → AreAuthored es → limit ≤ READ_BODY_LIMIT → saved limit (replay (set_of es)) ≡ Ok file → world_at file ≡ Ok (world_of (replay (set_of es)))
+    → AreAuthored es → limit ≤ largest_body → saved limit (replay (set_of es)) ≡ Ok file → world_at file ≡ Ok (world_of (replay (set_of es)))
 
 -- two replicas of one world, neither stale, that accepted the same edits, however they came by them
 pub record HaveAcceptedTheSame (d o : Replica) : Type 0 where

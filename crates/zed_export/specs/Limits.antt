@@ -1,6 +1,6 @@
 -- The limits of a world file, and what an export and a save answer.
 use Rattle.std.specs.Prelude.{◌≡◌, ◌⊎◌, true, false, ℕ, ◌+◌, ◌-◌, ◌^◌, ◌≤◌, min, nat_lt, if◌then◌else◌, List, [], ◌∷◌, length, Option, Some, None, Result, Ok, Err, MatchResult}
-use Rattle.zed_types.specs.declared.limits.TheConstants.{READ_BODY_LIMIT}
+use Rattle.zed_types.specs.Limits.{largest_body}
 use Rattle.zed_world.specs.declared.board.BoardData.{BoardData}
 use Rattle.zed_world.specs.Contents.{Contents}
 use Rattle.zed_world.specs.Reading.{world_at}
@@ -96,7 +96,7 @@ Answers view (Err e) r = r ≡ Err e
 abbrev pub SavedIsRead : Type 0
 SavedIsRead =
     (limit : ℕ) (p : Plain) (file : List ℕ)
-    → limit ≤ READ_BODY_LIMIT
+    → limit ≤ largest_body
     → HasNormalParts (world_of p)
     → saved limit p ≡ Ok file
     → world_at file ≡ Ok (world_of p)

@@ -1,4 +1,4 @@
-//! The export of a document: the world that it shows, the file of that world, or the first limit that it goes over.
+//! The export of a document: its world, the file of it, or the first limit that it exceeds.
 #![tactic(auto)]
 
 mod board;

@@ -1,4 +1,4 @@
-//! Edit files read through a host to a document, and what a command leaves in its host: its refusals, their lines, and its effect.
+//! What commands share: reading edit files into a document, refusals and their lines, writing.
 #![tactic(auto)]
 
 mod collect;

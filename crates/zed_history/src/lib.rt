@@ -1,5 +1,5 @@
-//! The history of a replica: its edits in stamp order. Others come in any order, and are kept in runs until it is closed; a place among
-//! them is found from where the last one was. What joins a history, where two clash, and which time comes next.
+//! A replica's edits in stamp order, though they come in any order. Late ones are kept in runs
+//! until the history is closed, and a place is found from where the last one was.
 #![tactic(auto)]
 
 mod batch;

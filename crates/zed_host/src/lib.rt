@@ -1,4 +1,4 @@
-//! The host of a program: whole files by name and the standard streams, which are handed in; and one over memory.
+//! The host of a program: files by name and the standard streams, handed in.
 #![tactic(auto)]
 
 mod host;

@@ -1,4 +1,4 @@
-//! Edits that wait for the things that they name.
+//! Edits that wait for what they name.
 #![tactic(auto)]
 
 mod error;

@@ -1,7 +1,7 @@
 -- What holds of every document that edits that fit make: but for the limits on what a world file can hold, it can stand in one.
 use Rattle.std.specs.Prelude.{◌≡◌, ◌≤◌, ℕ, true, false, List, [], ◌∷◌, length}
 use Rattle.std.specs.List.{AllByRecursion}
-use Rattle.zed_types.specs.declared.tile.TheConstants.{TILES}
+use Rattle.zed_types.specs.Limits.{table_tiles}
 use Rattle.zed_types.specs.Names.{same_board}
 use Rattle.zed_edit.specs.declared.plain.Header.{Header}
 use Rattle.zed_edit.specs.declared.plain.Board.{Board}
@@ -35,7 +35,7 @@ AreTexts (name ∷ message ∷ more ∷ texts) = ⊥
 -- a whole table, strings that a file has room for, and a player; the title isn't removed
 pub record IsRegularBoard (b : Board) : Type 0 where
   pub texts : AreTexts b.properties.texts
-  pub tiles : length b.tiles ≡ TILES
+  pub tiles : length b.tiles ≡ table_tiles
   pub player : HasPlayer b.stats
   pub title_stays : same_board b.id title ≡ true → b.removed ≡ false
 

@@ -1,7 +1,7 @@
 -- Documents in which each table of registers has all its places, and no player is removed.
 use Rattle.std.specs.Prelude.{◌≡◌, true, false, List, length}
 use Rattle.std.specs.List.{AllByRecursion}
-use Rattle.zed_types.specs.declared.tile.TheConstants.{TILES}
+use Rattle.zed_types.specs.Limits.{table_tiles}
 use Rattle.zed_op.specs.declared.op.Edit.{Edit}
 use Rattle.zed_op.specs.Sizes.{HaveSizes}
 use Rattle.zed_edit.specs.declared.plain.Header.{Header}
@@ -24,7 +24,7 @@ pub record IsWholeStat (s : Stat) : Type 0 where
 
 -- a whole table of tiles, three bytes, two flags, four exits and two texts
 pub record IsWholeBoard (b : Board) : Type 0 where
-  pub tiles : length b.tiles ≡ TILES
+  pub tiles : length b.tiles ≡ table_tiles
   pub bytes : length b.properties.bytes ≡ 3
   pub flags : length b.properties.flags ≡ 2
   pub exits : length b.properties.exits ≡ 4

@@ -1,5 +1,5 @@
-//! What holds of the replay, whatever the edits and however they came: laws on its definitions, each the contract of a function with
-//! nothing to do. A document that changes edit by edit stands on them.
+//! Laws on the replay: what holds of it, whatever the edits and however they came. Each is the
+//! contract of a function with an empty body.
 #![tactic(auto)]
 
 mod laws;

@@ -1,4 +1,4 @@
-//! Links: two-way streams of bytes that are handed in, over which replicas exchange their edits.
+//! Links: two-way streams of bytes, handed in, over which replicas exchange edits.
 #![tactic(auto)]
 
 mod error;

@@ -1,4 +1,5 @@
-//! Lines that tell the numbers of a world: its boards, the stats of a board, and the lines of a program. docs/LIST.md has their forms.
+//! Lines that tell the numbers of a world: its boards, the stats of a board, the lines of a
+//! program. docs/LIST.md has their forms.
 #![tactic(auto)]
 
 mod board_lines;

@@ -2,7 +2,7 @@
 use Rattle.std.specs.Prelude.{◌≡◌, ◌<◌, ◌||◌, ℕ, Bool, true, false, List, [], ◌∷◌, ◌++◌, length, map, slice_get, is_some, Some}
 use Rattle.std.specs.List.{AllByRecursion}
 use Rattle.zed_types.specs.declared.stamp.Stamp.{Stamp}
-use Rattle.zed_types.specs.declared.tile.TheConstants.{TILES}
+use Rattle.zed_types.specs.Limits.{table_tiles}
 use Rattle.zed_types.specs.declared.names.BoardId.{BoardId}
 use Rattle.zed_types.specs.declared.names.StatId.{StatId}
 use Rattle.zed_types.specs.Names.{same_board}
@@ -54,10 +54,10 @@ board_after s _ x = x
 
 -- each register of a board has the latest write of these edits, and so has each stat that they put on it
 pub record BoardShows (b : BoardId) (es : List Edit) (x : LiveBoard) : Type 0 where
-  pub whole : length x.cells ≡ TILES
+  pub whole : length x.cells ≡ table_tiles
   pub properties : PropertiesShow b es x.properties
   pub removed : x.removed ≡ latest_in (of_board b board_removed) es
-  pub cells : (i : ℕ) → i < TILES → slice_get x.cells i ≡ latest_in (of_board b (cell i)) es
+  pub cells : (i : ℕ) → i < table_tiles → slice_get x.cells i ≡ latest_in (of_board b (cell i)) es
   pub stats : StatsShow b es x.stats
 
 -- whether an edit is of a board: it changes it, or adds a stat to it

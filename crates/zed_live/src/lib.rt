@@ -1,5 +1,4 @@
-//! A live document: the registers of its header and of the properties of its boards, each with its latest write, put in
-//! edit by edit as they come.
+//! The live header and boards of a document: registers, each with its latest write.
 #![tactic(auto)]
 
 mod board;

@@ -1,4 +1,5 @@
-//! A line for each edit, in words: time, replica, what it does, what it names and sets. Different edits have different lines.
+//! A line for each edit, in words: time, replica, what it does, what it names and sets. Different
+//! edits have different lines.
 #![tactic(auto)]
 
 mod laws;

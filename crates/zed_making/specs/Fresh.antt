@@ -1,5 +1,5 @@
 -- The world of a new edit file.
-use Rattle.zed_types.specs.declared.limits.TheConstants.{READ_BODY_LIMIT}
+use Rattle.zed_types.specs.Limits.{largest_body}
 use Rattle.zed_types.specs.declared.tile.Tile.{Tile}
 use Rattle.zed_types.specs.Stamp.{genesis_stamp}
 use Rattle.zed_op.specs.declared.op.Op.TheVariants.{Genesis}
@@ -71,7 +71,7 @@ fresh_world name = record { header = fresh_header name; boards = title_of new_ta
 
 -- what was read, written again
 abbrev pub rewritten : Result Contents WorldError → Result (List ℕ) WorldError
-rewritten (Ok w) = written READ_BODY_LIMIT w
+rewritten (Ok w) = written largest_body w
 rewritten (Err e) = Err e
 
 -- the same, with the refusal of a command
@@ -91,7 +91,7 @@ taken_from (Some bytes) = refused_as (rewritten (world_at bytes))
 
 -- the bytes of a new world by its name
 abbrev pub made_by : Option (List ℕ) → Result (List ℕ) Refusal
-made_by name = refused_as (written READ_BODY_LIMIT (fresh_world (name_or_none name)))
+made_by name = refused_as (written largest_body (fresh_world (name_or_none name)))
 
 -- the edit that makes a world of these bytes
 abbrev pub genesis_of : List ℕ → Edit

@@ -1,4 +1,4 @@
-//! The commands that make edit files, `new` and `edit`, what `merge` comes to, and how a document is written.
+//! The commands that make edit files: `new`, `edit`, and what `merge` comes to.
 #![tactic(auto)]
 
 mod editing;

@@ -1,4 +1,4 @@
-//! Values under names, in the order of the names: what holds of them for whatever has a name, as boards, stats and texts.
+//! Values under names, in the order of the names.
 #![tactic(auto)]
 
 mod laws;

@@ -1,6 +1,4 @@
-//! Programs of objects as they run: where their directions lead, whether their conditions hold, what each command does to the
-//! board, and a turn of one, a chain of single instructions. Hands on what a user needs of boards in play and of programs as they
-//! are written.
+//! Programs of objects as they run: what each command does, and what a turn comes to.
 #![tactic(auto)]
 
 mod acting;

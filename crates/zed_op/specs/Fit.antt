@@ -2,8 +2,7 @@
 use Rattle.std.specs.Prelude.{ℕ, nat_le, Bool, true, not, ◌&&◌, ◌||◌, if◌then◌else◌, List, length, Option, Some, None, ◌≡◌}
 use Rattle.std.specs.List.{list_all}
 use Rattle.zed_types.specs.declared.stamp.Stamp.{Stamp}
-use Rattle.zed_types.specs.declared.limits.TheConstants.{READ_BODY_LIMIT}
-use Rattle.zed_types.specs.declared.stamp.TheConstants.Stamp.{LAST_TIME}
+use Rattle.zed_types.specs.Limits.{largest_body, greatest_time}
 use Rattle.zed_types.specs.declared.header.HeaderSetting.{HeaderSetting}
 use Rattle.zed_types.specs.declared.header.HeaderSetting.TheVariants.{WorldName, Flag as FlagSetting}
 use Rattle.zed_types.specs.declared.property.BoardText.{BoardText}
@@ -24,7 +23,7 @@ use Rattle.zed_op.specs.Names.{names_of, stamp_of}
 
 -- the stamps that authors give: time 2 to 2^48 - 1, replica 1 and up
 abbrev pub is_author_stamp : Stamp → Bool
-is_author_stamp s = nat_le 2 s.time && nat_le s.time LAST_TIME && nat_le 1 s.replica
+is_author_stamp s = nat_le 2 s.time && nat_le s.time greatest_time && nat_le 1 s.replica
 
 -- the stamps that there are
 abbrev pub is_stamp : Stamp → Bool
@@ -66,7 +65,7 @@ is_in_range (BoardAdd name) = is_at_most 50 name
 is_in_range (BoardRemove b) = not (same_board b title)
 is_in_range (SetBoard b setting) = is_property_in_range setting
 is_in_range (SetCells b r tile) = is_in_table r
-is_in_range (TextInsert t after bytes) = nat_le 1 (length bytes) && nat_le (length bytes) READ_BODY_LIMIT
+is_in_range (TextInsert t after bytes) = nat_le 1 (length bytes) && nat_le (length bytes) largest_body
 is_in_range (TextDelete t r) = nat_le r.first r.last
 is_in_range _ = true
 

@@ -1,4 +1,4 @@
-//! A playtest of a board: each step looks at the stats, which act by their elements.
+//! A playtest of a board: what each element does in a step.
 #![tactic(auto)]
 
 mod acts;

@@ -1,4 +1,4 @@
-//! The work of the program `zzted`, over any host.
+//! `zzted` over any host: which command runs, and what it leaves.
 #![tactic(auto)]
 
 mod limit;

@@ -1,4 +1,4 @@
-//! The tile runs of a board, as they stand in a world file of ZZT 3.2: a count, an element and a colour for each.
+//! The tile runs of a board in a world file.
 #![tactic(auto)]
 
 mod error;

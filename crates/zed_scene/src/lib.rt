@@ -1,5 +1,4 @@
-//! A board in play: its tiles, stats, programs, counters and flags, and what is done on it by whoever acts there: stats are taken
-//! away, moved, pushed, damaged and shot, and steps are chosen by words of chance.
+//! A board in play, and what is done on it: stats are moved, pushed, shot and removed.
 #![tactic(auto)]
 
 mod copying;

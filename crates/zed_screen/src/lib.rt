@@ -1,5 +1,4 @@
-//! Pictures of boards: a character and an attribute for each of the 80 by 25 places of the screen, for a board of a world and for
-//! a board in play, and such a picture as lines of text.
+//! Pictures of boards: 80 by 25 characters with attributes, and as lines of text.
 #![tactic(auto)]
 
 mod drawing;

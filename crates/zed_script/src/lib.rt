@@ -1,5 +1,4 @@
-//! Programs of objects as they are written: words, values, lines, directions, conditions, kinds, commands and labels, each read
-//! from the bytes of a program at a place. What they do on a board is told elsewhere.
+//! Programs of objects as they are written: what a program says at a place.
 #![tactic(auto)]
 
 mod commands;

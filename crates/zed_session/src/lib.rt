@@ -1,5 +1,4 @@
-//! The session of an editor: a document, the links over which it exchanges its edits, and a stage, which is a screen and a source of keys
-//! that are handed in, with the playtest that goes on there.
+//! A session: a document with links, and a stage on which a board is shown or played.
 #![tactic(auto)]
 
 mod boards;

@@ -1,4 +1,4 @@
-//! The stats of a board in the order of their names, each with its registers, for edits in any order.
+//! The stats of a board by name, with a register for each field.
 #![tactic(auto)]
 
 mod error;

@@ -1,4 +1,5 @@
-//! The host of a program over real files and streams, which finds, holds and replaces the files that a command writes.
+//! The host of a program over real files and streams: it finds, locks and replaces the files that a
+//! command writes.
 #![tactic(auto)]
 
 mod host;

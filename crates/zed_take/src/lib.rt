@@ -1,4 +1,5 @@
-//! What another editor changed in a world file, as edits: those that lead from a document to the world of the file.
+//! What another editor changed in a world file, as edits: they lead from a document to the world of
+//! the file.
 #![tactic(auto)]
 
 mod aligning;

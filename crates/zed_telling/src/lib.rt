@@ -1,4 +1,5 @@
-//! The commands that tell: `list`, the numbers of boards, stats and programs, and `log`, the edits of authors.
+//! The commands that tell: `list`, the numbers of boards, stats and programs, and `log`, the edits
+//! of authors.
 #![tactic(auto)]
 
 mod boards;

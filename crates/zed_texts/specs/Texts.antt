@@ -1,6 +1,6 @@
 -- The texts of a live document: their elements, put in edit by edit, and how their runs grow.
 use Rattle.std.specs.Prelude.{◌≡◌, ◌≤◌, ℕ, Bool, true, false, List, [], map, length, Option, Some, None}
-use Rattle.zed_types.specs.declared.limits.TheConstants.{READ_BODY_LIMIT}
+use Rattle.zed_types.specs.Limits.{largest_body}
 use Rattle.zed_types.specs.declared.stamp.Stamp.{Stamp}
 use Rattle.zed_types.specs.declared.names.TextId.{TextId}
 use Rattle.zed_types.specs.declared.text.TextByte.{TextByte}
@@ -95,4 +95,4 @@ bytes_of xs = map (λ x. x.byte) xs
 -- a text of the world as it is made: its bytes are alive, few enough, and numbered from 0
 abbrev pub IsOpened : Text → Type 0
 IsOpened x =
-    (x.elements ≡ run_from genesis_stamp 0 (bytes_of x.elements)) × (length x.elements ≤ READ_BODY_LIMIT)
+    (x.elements ≡ run_from genesis_stamp 0 (bytes_of x.elements)) × (length x.elements ≤ largest_body)

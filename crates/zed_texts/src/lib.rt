@@ -1,4 +1,4 @@
-//! The texts of a live document by their names, each kept as runs, put in edit by edit as they come.
+//! The live texts of a document, by name.
 #![tactic(auto)]
 
 mod laws;

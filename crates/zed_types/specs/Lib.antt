@@ -2,6 +2,7 @@ pub mod Board
 pub mod Elements
 pub mod Header
 pub mod Lending
+pub mod Limits
 pub mod Names
 pub mod Register
 pub mod Stamp

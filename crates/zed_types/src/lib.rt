@@ -1,5 +1,5 @@
-//! The words that every crate of the editor shares: stamps, the names of things, tiles, registers and what they are set to,
-//! the bytes of texts, and limits. Memory is taken by the copies of strings and settings, and by a list that grows.
+//! Words that all crates share: stamps, names, tiles, registers and their settings, texts, limits.
+//! Memory is taken by the copies of strings and settings, and by a list that grows.
 #![tactic(auto)]
 
 mod bytes;
@@ -20,7 +20,7 @@ pub use bytes::Bytes;
 pub use elements::{PLAYER, element};
 pub use header::{FlagSlot, HeaderNumber, HeaderSetting, KeyColour};
 pub use kind::{Element, Look, Push};
-pub use limits::{BOARDS_LIMIT, BODY_LIMIT, READ_BODY_LIMIT, STATS_LIMIT};
+pub use limits::{BOARDS_LIMIT, BODY_LIMIT, READ_BODY_LIMIT, STATS_LIMIT, numbers_of_formats};
 pub use names::{BoardId, ElemId, Name, StatId, TextId};
 pub use property::{BoardByte, BoardFlag, BoardSetting, BoardText, Side};
 pub use seq::Seq;

@@ -1,4 +1,23 @@
-//! The limits of a world file.
+//! The limits of a world file, and the law that the constants are the numbers of the formats.
+ghost use Rattle.std.specs.Prelude.{◌≡◌};
+ghost use Rattle.zed_types.specs.declared.property.TheConstants.BoardSetting.{RANK, TIME_LIMIT};
+ghost use Rattle.zed_types.specs.declared.stamp.TheConstants.Stamp.{LAST_TIME};
+ghost use Rattle.zed_types.specs.Limits.{
+  greatest_time,
+  largest_body,
+  most_boards,
+  most_stats,
+  player_element,
+  rank_property,
+  table_columns,
+  table_rows,
+  table_tiles,
+  time_limit_property,
+  usual_body,
+};
+
+use crate::elements::PLAYER;
+use crate::tile::{COLUMNS, ROWS, TILES};
 
 /// Most bytes of a board's body that ZZT's own tools take.
 pub const BODY_LIMIT: usize = 20_000;
@@ -11,3 +30,18 @@ pub const BOARDS_LIMIT: usize = 100;
 
 /// Most stats of a board beside the player.
 pub const STATS_LIMIT: usize = 150;
+
+/// Each constant is the number that definitions give to the formats and to their limits.
+pub fn numbers_of_formats()
+    ensures columns { COLUMNS ≡ table_columns }
+    ensures rows { ROWS ≡ table_rows }
+    ensures tiles { TILES ≡ table_tiles }
+    ensures boards { BOARDS_LIMIT ≡ most_boards }
+    ensures stats { STATS_LIMIT ≡ most_stats }
+    ensures usual { BODY_LIMIT ≡ usual_body }
+    ensures largest { READ_BODY_LIMIT ≡ largest_body }
+    ensures time { LAST_TIME ≡ greatest_time }
+    ensures time_limit { TIME_LIMIT ≡ time_limit_property }
+    ensures rank { RANK ≡ rank_property }
+    ensures player { PLAYER ≡ player_element }
+{}

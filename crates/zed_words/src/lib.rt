@@ -1,4 +1,4 @@
-//! The words of the command line: what they may be, which `clap` is told, and what they ask for.
+//! The command line of `zzted`: what `clap` is told, and which command the words ask for.
 #![tactic(auto)]
 
 mod grammar;

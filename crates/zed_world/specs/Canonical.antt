@@ -1,7 +1,7 @@
 -- Files that are what the writer makes.
 use Rattle.std.specs.Prelude.{◌≡◌, ℕ, Bool, false, List, Result, Ok, Err}
 use Rattle.std.specs.Str.{bytes_eq}
-use Rattle.zed_types.specs.declared.limits.TheConstants.{READ_BODY_LIMIT}
+use Rattle.zed_types.specs.Limits.{largest_body}
 use Rattle.zed_world.specs.declared.error.WorldError.{WorldError}
 use Rattle.zed_world.specs.Contents.{Contents}
 use Rattle.zed_world.specs.Reading.{world_at}
@@ -11,7 +11,7 @@ use Rattle.zed_world.specs.Writing.{written}
 pub record IsCanonical (bytes : List ℕ) : Type 0 where
   pub world : Contents
   pub read : world_at bytes ≡ Ok world
-  pub rewritten : written READ_BODY_LIMIT world ≡ Ok bytes
+  pub rewritten : written largest_body world ≡ Ok bytes
 
 -- what was written is just these bytes
 abbrev pub is_text_of : List ℕ → Result (List ℕ) WorldError → Bool
@@ -20,7 +20,7 @@ is_text_of bytes (Err e) = false
 
 -- what was read is written again as just these bytes
 abbrev pub is_rewritten : List ℕ → Result Contents WorldError → Bool
-is_rewritten bytes (Ok w) = is_text_of bytes (written READ_BODY_LIMIT w)
+is_rewritten bytes (Ok w) = is_text_of bytes (written largest_body w)
 is_rewritten bytes (Err e) = false
 
 -- the same as a test: a world file that is written again just as it was read

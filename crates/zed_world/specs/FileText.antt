@@ -1,7 +1,7 @@
 -- What a world file says, by where in it things stand.
 use Rattle.std.specs.Prelude.{◌≡◌, ℕ, suc, ℤ, pos, negsuc, ◌+◌, ◌-◌, ◌<◌, ◌≤◌, List, [], ◌∷◌, length, take, drop, slice_get, Option, Some, None, IfSome}
 use Rattle.byteorder.specs.Endian.{little_number}
-use Rattle.zed_types.specs.declared.limits.TheConstants.{READ_BODY_LIMIT}
+use Rattle.zed_types.specs.Limits.{largest_body}
 use Rattle.zed_runs.specs.Runs.{Runs}
 use Rattle.zed_world.specs.declared.stat.Code.{Code}
 use Rattle.zed_world.specs.declared.stat.Code.TheVariants as code
@@ -101,7 +101,7 @@ board_end bytes at = at + 2 + word_at bytes at
 
 -- A board stands at an offset.
 pub record IsBoard (boards : ℕ) (bytes : List ℕ) (at : ℕ) (b : BoardData) : Type 0 where
-  pub size : word_at bytes at ≤ READ_BODY_LIMIT
+  pub size : word_at bytes at ≤ largest_body
   pub within : board_end bytes at ≤ length bytes
   pub body : IsBody boards b (part bytes (at + 2) (word_at bytes at))
 

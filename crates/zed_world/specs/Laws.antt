@@ -1,7 +1,7 @@
 -- What the laws on world files promise.
 use Rattle.std.specs.Prelude.{◌≡◌, ◌↔◌, ◌≤◌, ◌+◌, ◌*◌, ℕ, true, List, ◌++◌, length, Ok}
 use Rattle.std.specs.List.{AllByRecursion}
-use Rattle.zed_types.specs.declared.limits.TheConstants.{READ_BODY_LIMIT}
+use Rattle.zed_types.specs.Limits.{largest_body}
 use Rattle.zed_world.specs.Contents.{Contents}
 use Rattle.zed_world.specs.Reading.{world_at}
 use Rattle.zed_world.specs.FileText.{IsFileText}
@@ -32,7 +32,7 @@ WrittenIsCanonical = (w : Contents) → HasNormalParts w → AllByRecursion HasS
 
 -- a canonical file has 512 bytes and at most 101 boards, each of two bytes and at most 32,767
 abbrev pub CanonicalIsShort : Type 0
-CanonicalIsShort = (bytes : List ℕ) → IsCanonical bytes → length bytes ≤ 512 + 101 * (2 + READ_BODY_LIMIT)
+CanonicalIsShort = (bytes : List ℕ) → IsCanonical bytes → length bytes ≤ 512 + 101 * (2 + largest_body)
 
 -- the test finds just the canonical files
 abbrev pub CanonicalIsTested : Type 0

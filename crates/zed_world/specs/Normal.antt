@@ -2,9 +2,8 @@
 use Rattle.std.specs.Prelude.{◌≡◌, ℕ, ℤ, ◌<◌, ◌≤◌, ◌^◌, true, List, [], ◌∷◌, ◌++◌, length, slice_get, Some, IfSome, Ok, FitsSigned}
 use Rattle.std.specs.List.{AllByRecursion}
 use Rattle.std.specs.Int.{w16}
-use Rattle.zed_types.specs.declared.limits.TheConstants.{READ_BODY_LIMIT}
+use Rattle.zed_types.specs.Limits.{largest_body, table_tiles}
 use Rattle.zed_types.specs.declared.tile.Tile.{Tile}
-use Rattle.zed_types.specs.declared.tile.TheConstants.{TILES}
 use Rattle.zed_world.specs.declared.header.Header.{Header}
 use Rattle.zed_world.specs.declared.stat.Code.{Code}
 use Rattle.zed_world.specs.declared.stat.Code.TheVariants as code
@@ -75,7 +74,7 @@ AreNormalStats boards stats tiles lower (s ∷ ss) = IsNormalStat boards stats t
 -- a board, in a world of so many boards
 pub record IsNormalBoard (boards : ℕ) (b : BoardData) : Type 0 where
   pub name : IsAtMost 50 b.name
-  pub tiles : length b.tiles ≡ TILES
+  pub tiles : length b.tiles ≡ table_tiles
   pub properties : IsNormalProperties boards b.properties
   pub some : 1 ≤ length b.stats
   pub few : length b.stats ≤ 151
@@ -95,7 +94,7 @@ pub record IsNormal (w : Contents) : Type 0 where
 
 -- the body that the writer makes of this board is one that may be read
 abbrev pub HasShortBody : BoardData → Type 0
-HasShortBody b = length (body_text b) ≤ READ_BODY_LIMIT
+HasShortBody b = length (body_text b) ≤ largest_body
 
 -- what the writer asks of a board
 pub record IsWritable (b : BoardData) : Type 0 where

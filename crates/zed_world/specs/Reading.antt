@@ -1,9 +1,8 @@
 -- What a world file says: from left to right, with the first fault that is met.
 use Rattle.std.specs.Prelude.{ℕ, zero, suc, ℤ, pos, negsuc, ◌+◌, not, ◌==◌, ◌≤◌, nat_lt, nat_le, if◌then◌else◌, List, [], ◌∷◌, ◌++◌, length, take, drop, slice_get, Option, Some, None, Result, Ok, Err, ◌≡◌, ◌⊎◌}
 use Rattle.byteorder.specs.Endian.{little_number}
-use Rattle.zed_types.specs.declared.limits.TheConstants.{READ_BODY_LIMIT}
+use Rattle.zed_types.specs.Limits.{largest_body, table_tiles}
 use Rattle.zed_types.specs.declared.tile.Tile.{Tile}
-use Rattle.zed_types.specs.declared.tile.TheConstants.{TILES}
 use Rattle.zed_types.specs.Steps.{◌>>=◌}
 use Rattle.zed_runs.specs.Reading.{tiles_at}
 use Rattle.zed_world.specs.declared.error.WorldError.{WorldError}
@@ -76,7 +75,7 @@ board_with boards name tiles rest =
 unfoldable pub board_at : ℕ → List ℕ → Result BoardData WorldError
 board_at boards body =
     if nat_lt (length body) 51 then Err Truncated else do
-      table ← found_or Truncated (tiles_at TILES (drop 51 body))
+      table ← found_or Truncated (tiles_at table_tiles (drop 51 body))
       board_with boards (string_at 50 body 0) table.0 table.1
 
 -- ---- the file
@@ -85,7 +84,7 @@ board_at boards body =
 unfoldable pub body_at : List ℕ → Result (List ℕ × List ℕ) WorldError
 body_at bytes =
     if nat_lt (length bytes) 2 then Err Truncated else
-    if nat_lt READ_BODY_LIMIT (little_number 2 bytes) then Err BadBoardSize else
+    if nat_lt largest_body (little_number 2 bytes) then Err BadBoardSize else
     if nat_lt (length (drop 2 bytes)) (little_number 2 bytes) then Err Truncated else Ok (take (little_number 2 bytes) (drop 2 bytes), drop (little_number 2 bytes) (drop 2 bytes))
 
 -- the next board, whatever those before it are, and what follows it

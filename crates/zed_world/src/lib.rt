@@ -1,4 +1,4 @@
-//! World files of ZZT 3.2: the values that stand in them, how they are read and how they are written. docs/FORMATS.md has the
+//! World files of ZZT 3.2: what they say, how they are read and written. docs/FORMATS.md has the
 //! layout.
 #![tactic(auto)]
 
