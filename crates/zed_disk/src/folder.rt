@@ -1,6 +1,7 @@
 //! How a file takes its place: whole, or not at all.
-ghost use Rattle.std.specs.Prelude.{◌≡◌, ◌⊎◌, ◌||◌, Bool, IfSome, OnErr, OnOk, None, Option, is_err, option_map};
+ghost use Rattle.std.specs.Prelude.{◌≡◌, ◌⊎◌, ◌||◌, [], ◌∷◌, ◌++◌, Bool, IfSome, List, OnErr, OnOk, None, Option, is_err, option_map};
 ghost use Rattle.zed_disk.specs.Held.{Held, IsUnwritten, IsWhole, StillTells, beside_of, kept_by, none_beside, renamed_by, replaced_by, seen_of, with_beside, with_empty, with_kept, with_more, with_place, with_settled, with_synced};
+ghost use Rattle.zed_disk.specs.Steps.{Create, Fill, Keep, Remove, Rename, Step, Sync, SyncPlace, Went, WentInto, making, placing};
 
 use std::io;
 
@@ -22,10 +23,14 @@ pub trait Folder {
     /// Whether a step of it failed.
     ghost has_failed: { Self → Bool };
 
+    /// The steps that were asked of it, in their order, or that this isn't told.
+    ghost steps: { Self → Option (List Step) };
+
     /// Makes the new file, empty, under a name that no other file has.
     fn create(&mut self) -> io::Result<()>
         ensures result { OnOk result (told self.new ≡ option_map with_empty (told self.old)) }
         ensures kept { option_map seen_of (told self.new) ≡ option_map seen_of (told self.old) }
+        ensures asked { Went (Create ∷ []) (steps self.old) (steps self.new) }
         ensures faults { has_failed self.new ≡ (is_err result || has_failed self.old) };
 
     /// Gives the new file its bytes.
@@ -33,18 +38,21 @@ pub trait Folder {
         ensures result { OnOk result
             (told self.new ≡ option_map (with_more bytes.now) (told self.old)) }
         ensures kept { option_map seen_of (told self.new) ≡ option_map seen_of (told self.old) }
+        ensures asked { Went (Fill bytes.now ∷ []) (steps self.old) (steps self.new) }
         ensures faults { has_failed self.new ≡ (is_err result || has_failed self.old) };
 
     /// Brings the new file onto the disk.
     fn sync(&mut self) -> io::Result<()>
         ensures result { OnOk result (told self.new ≡ option_map with_synced (told self.old)) }
         ensures kept { option_map seen_of (told self.new) ≡ option_map seen_of (told self.old) }
+        ensures asked { Went (Sync ∷ []) (steps self.old) (steps self.new) }
         ensures faults { has_failed self.new ≡ (is_err result || has_failed self.old) };
 
     /// Gives the file in the place a second name beside it, in place of an earlier file of that name, and brings that onto the disk.
     fn keep(&mut self) -> io::Result<()>
         ensures result { OnOk result (told self.new ≡ option_map with_kept (told self.old)) }
         ensures kept { OnErr result (StillTells (IsUnwritten Old.Kept) (told self.old) (told self.new)) }
+        ensures asked { Went (Keep ∷ []) (steps self.old) (steps self.new) }
         ensures faults { has_failed self.new ≡ (is_err result || has_failed self.old) };
 
     /// Puts the new file into the place. Whoever looks finds the old file before it, and the new one after it.
@@ -52,17 +60,20 @@ pub trait Folder {
         requires { IfSome (told self.old) IsWhole }
         ensures result { OnOk result (told self.new ≡ option_map with_place (told self.old)) }
         ensures kept { OnErr result (told self.new ≡ told self.old) }
+        ensures asked { Went (Rename ∷ []) (steps self.old) (steps self.new) }
         ensures faults { has_failed self.new ≡ (is_err result || has_failed self.old) };
 
     /// Removes the new file, if there is one.
     fn remove(&mut self)
         ensures result { told self.new ≡ option_map none_beside (told self.old) }
+        ensures asked { Went (Remove ∷ []) (steps self.old) (steps self.new) }
         ensures faults { has_failed self.new ≡ has_failed self.old };
 
     /// Brings onto the disk what stands in the place.
     fn sync_place(&mut self) -> io::Result<()>
         ensures result { OnOk result (told self.new ≡ option_map with_settled (told self.old)) }
         ensures kept { OnErr result (told self.new ≡ told self.old) }
+        ensures asked { Went (SyncPlace ∷ []) (steps self.old) (steps self.new) }
         ensures faults { has_failed self.new ≡ (is_err result || has_failed self.old) };
 }
 
@@ -72,6 +83,9 @@ fn make<F: Folder>(folder: &mut F, bytes: &[u8]) -> io::Result<()>
         ≡ option_map (λ h. with_synced (with_beside bytes.now h)) (F.told folder.old)) }
     ensures kept { option_map seen_of (F.told folder.new)
         ≡ option_map seen_of (F.told folder.old) }
+    ensures asked { OnOk result (Went (making bytes.now) (F.steps folder.old) (F.steps folder.new)) }
+    ensures stopped { OnErr result
+        (WentInto (making bytes.now) [] (F.steps folder.old) (F.steps folder.new)) }
     ensures faults { F.has_failed folder.new ≡ (is_err result || F.has_failed folder.old) }
 {
     folder.create()?;
@@ -85,6 +99,10 @@ fn take_place<F: Folder>(folder: &mut F, old: Old, bytes: &[u8]) -> io::Result<(
         ≡ option_map (λ h. renamed_by bytes.now (kept_by old h)) (F.told folder.old)) }
     ensures kept { OnErr result
         (StillTells (IsUnwritten old) (F.told folder.old) (F.told folder.new)) }
+    ensures asked { OnOk result
+        (Went (placing old bytes.now) (F.steps folder.old) (F.steps folder.new)) }
+    ensures stopped { OnErr result
+        (WentInto (placing old bytes.now) [] (F.steps folder.old) (F.steps folder.new)) }
     ensures faults { F.has_failed folder.new ≡ (is_err result || F.has_failed folder.old) }
 {
     make(folder, bytes)?;
@@ -98,7 +116,9 @@ fn take_place<F: Folder>(folder: &mut F, old: Old, bytes: &[u8]) -> io::Result<(
 /// Writes a file: afterwards it has these bytes, or is as it was. The old one is dropped or kept beside it; what was kept before stays where
 /// nothing else is asked for. It is refused where a step fails, and for nothing else. Then the new file is removed, and the file is as it
 /// was, but where only the last step failed, by which the place comes onto the disk; and where the old one was to be kept, what is kept
-/// is that, what was kept before, or nothing.
+/// is that, what was kept before, or nothing. Each step is asked for once, in this order: the new file is made, filled and brought onto the
+/// disk; the old one is kept, where that is asked for; the new one is renamed, and the place is brought onto the disk. After the first
+/// that fails the new file is removed, and nothing else is done.
 pub fn replace<F: Folder>(folder: &mut F, old: Old, bytes: &[u8]) -> io::Result<()>
     ensures result { OnOk result (F.told folder.new
         ≡ option_map (λ h. replaced_by bytes.now (kept_by old h)) (F.told folder.old)) }
@@ -108,6 +128,11 @@ pub fn replace<F: Folder>(folder: &mut F, old: Old, bytes: &[u8]) -> io::Result<
         ≡ option_map (λ h. renamed_by bytes.now (kept_by old h)) (F.told folder.old))) }
     ensures cleared { option_map beside_of (F.told folder.new)
         ≡ option_map (λ h. None) (F.told folder.old) }
+    ensures asked { OnOk result (Went (placing old bytes.now ++ SyncPlace ∷ [])
+        (F.steps folder.old) (F.steps folder.new)) }
+    ensures stopped { OnErr result
+        (WentInto (placing old bytes.now) (Remove ∷ []) (F.steps folder.old) (F.steps folder.new)
+        ⊎ Went (placing old bytes.now ++ SyncPlace ∷ []) (F.steps folder.old) (F.steps folder.new)) }
     ensures faults { F.has_failed folder.new ≡ (is_err result || F.has_failed folder.old) }
 {
     match take_place(folder, old, bytes) {

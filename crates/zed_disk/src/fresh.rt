@@ -134,6 +134,8 @@ fn keep_in(rt: &HostRuntime, found: &FoundFile, folder: &File) -> io::Result<()>
 impl Folder for RealFolder<'_> {
     ghost told = { λ _. None };
 
+    ghost steps = { λ _. None };
+
     ghost has_failed = { λ folder. folder.has_failed };
 
     fn create(&mut self) -> io::Result<()> {
