@@ -1,4 +1,4 @@
-//! Calls whose growths are refused in turn. Where scripts/growths loads no allocator that hears of it, nothing is refused, and each test
+//! Calls whose growths are refused in turn. Where scripts/tests/growths loads no allocator that hears of it, nothing is refused, and each test
 //! passes in its first turn.
 use std::alloc::Global;
 use std::test::Fail;

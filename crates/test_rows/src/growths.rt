@@ -1,4 +1,4 @@
-//! Asking for a growth of memory to be refused. Under the allocator that scripts/growths loads such requests are heard; under any other
+//! Asking for a growth of memory to be refused. Under the allocator that scripts/tests/growths loads such requests are heard; under any other
 //! they do nothing.
 use std::alloc::Global;
 
