@@ -1,6 +1,6 @@
 -- The times of edits, and those that are left for more.
 use Rattle.std.specs.Prelude.{ℕ, ◌+◌, max, nat_lt, Bool, List, [], ◌∷◌}
-use Rattle.zed_types.specs.Limits.{greatest_time}
+use Rattle.zed_types.specs.Limits.{last_time}
 use Rattle.zed_op.specs.declared.op.Edit.{Edit}
 
 -- the greatest time of some edits, 0 where there is none
@@ -14,4 +14,4 @@ next_time es = max 2 (greatest_time es + 1)
 
 -- whether fewer times are left than so many edits need
 abbrev pub is_spent : List Edit → ℕ → Bool
-is_spent es count = nat_lt (greatest_time + 1) (next_time es + count)
+is_spent es count = nat_lt (last_time + 1) (next_time es + count)

@@ -2,7 +2,7 @@
 use Rattle.std.specs.Prelude.{ℕ, nat_le, Bool, true, not, ◌&&◌, ◌||◌, if◌then◌else◌, List, length, Option, Some, None, ◌≡◌}
 use Rattle.std.specs.List.{list_all}
 use Rattle.zed_types.specs.declared.stamp.Stamp.{Stamp}
-use Rattle.zed_types.specs.Limits.{largest_body, greatest_time}
+use Rattle.zed_types.specs.Limits.{largest_body, last_time}
 use Rattle.zed_types.specs.declared.header.HeaderSetting.{HeaderSetting}
 use Rattle.zed_types.specs.declared.header.HeaderSetting.TheVariants.{WorldName, Flag as FlagSetting}
 use Rattle.zed_types.specs.declared.property.BoardText.{BoardText}
@@ -23,7 +23,7 @@ use Rattle.zed_op.specs.Names.{names_of, stamp_of}
 
 -- the stamps that authors give: time 2 to 2^48 - 1, replica 1 and up
 abbrev pub is_author_stamp : Stamp → Bool
-is_author_stamp s = nat_le 2 s.time && nat_le s.time greatest_time && nat_le 1 s.replica
+is_author_stamp s = nat_le 2 s.time && nat_le s.time last_time && nat_le 1 s.replica
 
 -- the stamps that there are
 abbrev pub is_stamp : Stamp → Bool

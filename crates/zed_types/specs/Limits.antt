@@ -30,8 +30,8 @@ abbrev pub largest_body : ℕ
 largest_body = 32767
 
 -- the greatest time of an edit file, which takes six bytes
-abbrev pub greatest_time : ℕ
-greatest_time = 281474976710655
+abbrev pub last_time : ℕ
+last_time = 281474976710655
 
 -- the number of the time limit among the board properties of an edit file
 abbrev pub time_limit_property : ℕ

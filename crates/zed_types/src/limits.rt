@@ -3,7 +3,7 @@ ghost use Rattle.std.specs.Prelude.{◌≡◌};
 ghost use Rattle.zed_types.specs.declared.property.TheConstants.BoardSetting.{RANK, TIME_LIMIT};
 ghost use Rattle.zed_types.specs.declared.stamp.TheConstants.Stamp.{LAST_TIME};
 ghost use Rattle.zed_types.specs.Limits.{
-  greatest_time,
+  last_time,
   largest_body,
   most_boards,
   most_stats,
@@ -40,7 +40,7 @@ pub fn numbers_of_formats()
     ensures stats { STATS_LIMIT ≡ most_stats }
     ensures usual { BODY_LIMIT ≡ usual_body }
     ensures largest { READ_BODY_LIMIT ≡ largest_body }
-    ensures time { LAST_TIME ≡ greatest_time }
+    ensures time { LAST_TIME ≡ last_time }
     ensures time_limit { TIME_LIMIT ≡ time_limit_property }
     ensures rank { RANK ≡ rank_property }
     ensures player { PLAYER ≡ player_element }
