@@ -44,7 +44,7 @@ fn put_kind(
     player: bool,
     seen: &mut String,
 ) -> Result<(), AllocError> {
-    let (found, end) = kind(alloc, program, at, player)?;
+    let (found, end) = kind(program, at, player);
     put_found(&found, end, seen)
 }
 

@@ -1,2 +1,3 @@
 pub mod Pushing
 pub mod Reach
+pub mod FlagLemmas

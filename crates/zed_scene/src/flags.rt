@@ -1,5 +1,5 @@
 //! Flags.
-ghost use Rattle.std.specs.Prelude.{◌≡◌, ◌<◌, IfOk, IfSome, OnOk, OnErr, [], if◌then◌else◌, length, position};
+ghost use Rattle.std.specs.Prelude.{◌≡◌, ◌≢◌, ◌<◌, IfOk, IfSome, OnOk, OnErr, [], if◌then◌else◌, length, position};
 ghost use Rattle.std.specs.Str.{bytes_eq};
 ghost use Rattle.zed_scene.specs.Flags.{cut, flagged, has_flag, is_free, unflagged, with_flags};
 
@@ -15,11 +15,16 @@ pub fn has_flag(flags: &[Bytes], word: &[u8]) -> bool
 }
 
 /// A word without its end past 20 bytes.
-fn cut(alloc: Global, word: &[u8]) -> Result<Bytes, AllocError>
-    ensures { IfOk result (λ b. b ≡ cut word.now) }
+fn cut(word: &[u8]) -> &[u8]
+    ensures { result.now ≡ cut word.now }
 {
-    let short = if word.len() > 20 { &word[..20] } else { word };
-    Ok(Bytes::new(Vec::from_slice(alloc, short)?))
+    if word.len() > 20 { &word[..20] } else { word }
+}
+
+fn copy_of(alloc: Global, word: &[u8]) -> Result<Bytes, AllocError>
+    ensures { IfOk result (λ b. b ≡ word.now) }
+{
+    Ok(Bytes::new(Vec::from_slice(alloc, word)?))
 }
 
 /// The first empty flag.
@@ -30,17 +35,21 @@ fn first_free(flags: &[Bytes]) -> Option<usize>
     flags.iter().position(|f| f.as_slice().is_empty())
 }
 
-/// Puts a word into the first empty flag, if none has it.
-#[tactic(auto, unfolding(crate::specs::Flags::flagged))]
-fn put_flag(flags: &mut Seq<Bytes>, word: Bytes)
-    ensures result { flags.new ≡ flagged word flags.old }
+/// Puts a word into the first empty flag, if none has it. Memory only where that changes a flag.
+#[tactic(auto, unfolding(crate::specs::Flags::flagged), using(crate::proofs::FlagLemmas::flag_changes))]
+fn put_flag(alloc: Global, flags: &mut Seq<Bytes>, word: &[u8]) -> Result<(), AllocError>
+    ensures result { OnOk result (flags.new ≡ flagged word.now flags.old) }
     ensures within { length flags.new ≡ length flags.old }
+    ensures kept { OnErr result (flags.new ≡ flags.old) }
+    ensures memory_only_when { OnErr result (flagged word.now flags.old ≢ flags.old) }
 {
-    if !has_flag(flags.as_slice(), word.as_slice()) {
+    if !has_flag(flags.as_slice(), word) {
         if let Some(i) = first_free(flags.as_slice()) {
-            flags.set(i, word);
+            let own = copy_of(alloc, word)?;
+            flags.set(i, own);
         }
     }
+    Ok(())
 }
 
 fn empty_if(flag: &mut Bytes, word: &[u8], empty: Bytes)
@@ -64,25 +73,23 @@ fn empty_flags(alloc: Global, flags: &mut [Bytes], word: &[u8])
 }
 
 impl Scene {
-    /// Puts a word, cut to 20 bytes, into the first empty flag, if none has it.
+    /// Puts a word, cut to 20 bytes, into the first empty flag, if none has it. Memory, with nothing changed, only where that
+    /// changes a flag.
     pub fn set_flag(&mut self, alloc: Global, word: &[u8]) -> Result<(), AllocError>
         ensures result { OnOk result
             (self.new ≡ with_flags (flagged (cut word.now) self.old.flags) self.old) }
         ensures kept { OnErr result (self.new ≡ self.old) }
+        ensures memory_only_when { OnErr result
+            (flagged (cut word.now) self.old.flags ≢ self.old.flags) }
     {
-        let short = cut(alloc, word)?;
-        put_flag(&mut self.flags, short);
-        Ok(())
+        put_flag(alloc, &mut self.flags, cut(word))
     }
 
-    /// Empties each flag that has a word, cut to 20 bytes.
-    pub fn clear_flag(&mut self, alloc: Global, word: &[u8]) -> Result<(), AllocError>
-        ensures result { OnOk result
-            (self.new ≡ with_flags (unflagged (cut word.now) self.old.flags) self.old) }
-        ensures kept { OnErr result (self.new ≡ self.old) }
+    /// Empties each flag that has a word, cut to 20 bytes. It takes no memory.
+    pub fn clear_flag(&mut self, alloc: Global, word: &[u8])
+        ensures result { self.new
+            ≡ with_flags (unflagged (cut word.now) self.old.flags) self.old }
     {
-        let short = cut(alloc, word)?;
-        empty_flags(alloc, self.flags.as_mut_slice(), short.as_slice());
-        Ok(())
+        empty_flags(alloc, self.flags.as_mut_slice(), cut(word));
     }
 }

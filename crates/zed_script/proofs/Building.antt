@@ -1,5 +1,5 @@
 -- What is built of an argument is one, where the argument is.
-use Rattle.std.proofs.Common.{◌≡◌, ◌∙◌, ℕ, Bool, true, false, ◌||◌, List, ap, sym, refl}
+use Rattle.std.proofs.Common.{◌≡◌, ◌∙◌, ℕ, Bool, true, false, ◌||◌, List, Result, Ok, Err, OnErr, ap, sym, refl}
 use Rattle.std.specs.Str.{bytes_eq}
 use Rattle.std.proofs.lemmas.Slice.Eq.{bytes_eq-Decides}
 
@@ -27,3 +27,8 @@ by_either false b one other e = other e
 -- a word that was found to be another
 pub by_word : {X : Type 0} (w x : List ℕ) → (w ≡ x → X) → bytes_eq w x ≡ true → X
 by_word w x found e = found ((bytes_eq-Decides w x).0 e)
+
+-- what a refusal wants is wanted by a call that hands it on
+pub on_err : {A E : Type 0} {X Y : Type 0} (r : Result A E) → (X → Y) → OnErr r X → OnErr r Y
+on_err (Ok a) f x = x
+on_err (Err e) f x = f x

@@ -1,9 +1,14 @@
 -- Conditions, word by word.
 use borrow.Author.Tests.{ltb-true, ltb-false}
 use Rattle.std.proofs.Common.{◌≡◌, ◌∙◌, ℕ, ◌<◌, Bool, true, false, not, List, [], length, Option, Some, None, refl, arith, sym, subst, nat_lt, codes}
+use Rattle.zed_script.specs.declared.conditions.Query.{Query}
 use Rattle.zed_script.specs.declared.conditions.Test.{Test}
-use Rattle.zed_script.specs.Text.{HasWord, word_end}
-use Rattle.zed_script.specs.Condition.{ConditionAt, PartAt, flipped, plain, negation}
+use Rattle.zed_script.specs.declared.conditions.Test.TheVariants.{Blocked, Flag}
+use Rattle.std.specs.Char.{to_ascii_uppercase}
+use Rattle.std.proofs.lemmas.List.{length-map}
+use Rattle.zed_script.specs.Heading.{DirectionTakes}
+use Rattle.zed_script.specs.Text.{upper, word_at, word_end}
+use Rattle.zed_script.specs.Condition.{ConditionAt, PartAt, QueryTakes, TestTakes, flipped, is_question, plain, negation}
 use Rattle.zed_script.proofs.TextLemmas.{empty_word}
 
 empty_is_no_not : [] ≡ codes "NOT" → ⊥
@@ -39,9 +44,19 @@ pub flipped_false : (a : Bool) → flipped a false ≡ a
 flipped_false true = refl
 flipped_false false = refl
 
--- NOT is no empty word
-pub not_named : (p : List ℕ) (at : ℕ) (o : Option Test) (m : ℕ) → PartAt p at o m → o ≡ None → HasWord p at
-not_named p at o m w h =
-    let P : Option Test → Type 0 = λ x. PartAt p at x m in
-    let Q : List ℕ → Type 0 = λ x. 0 < length x in
-    subst Q (sym (subst P h w).0) (omega arith)
+-- behind NOTs a test that takes memory
+pub test_takes : (p : List ℕ) (at to : ℕ) (negated : Bool) → ((b : Bool) (t : Test) (e : ℕ) → ConditionAt p to b t e → ConditionAt p at (flipped negated b) t e) → TestTakes p (word_at p to) (word_end p to) → QueryTakes p at
+test_takes p at to negated so_far (t, (end, (stands, keeps))) =
+    let make : Bool → Test → Query = λ b u. record { negated = b; test = u } in
+    (make (flipped negated false) t, (end, (so_far false t end (plain to t end stands), keeps)))
+
+-- a turned direction behind BLOCKED
+pub blocked_takes : (p w : List ℕ) (at : ℕ) → w ≡ codes "BLOCKED" → DirectionTakes p at → TestTakes p w at
+blocked_takes p w at said (h, (end, (stands, keeps))) = (Blocked h, (end, ((said, stands), keeps)))
+
+-- a word that no question is, written with bytes
+pub flag_takes : (p w : List ℕ) (at : ℕ) → is_question (upper w) ≡ false → 0 < length w → TestTakes p (upper w) at
+flag_takes p w at none named =
+    let long = length-map w to_ascii_uppercase in
+    let keeps : 0 < length (upper w) = omega arith in
+    (Flag (upper w), (at, ((none, refl, refl), keeps)))

@@ -3,9 +3,9 @@ use borrow.Author.Tests.{ltb-true, ltb-false}
 use Rattle.std.proofs.Common.{◌≡◌, ℕ, ◌<◌, Bool, true, false, List, [], Option, Some, None, refl, arith, ap, sym, subst, ◌∷◌, ◌∙◌, nat_lt}
 use Rattle.zed_script.specs.declared.heading.Turning.{Turning}
 use Rattle.zed_script.specs.declared.heading.Course.{Course}
-use Rattle.zed_script.specs.Text.{HasWord, word_at, word_end}
+use Rattle.zed_script.specs.Text.{word_at, word_end}
 use Rattle.zed_script.specs.Heading.{HeadingAt, IsPiece, turning_of}
-use Rattle.zed_script.proofs.TextLemmas.{empty_word, word_said}
+use Rattle.zed_script.proofs.TextLemmas.{empty_word}
 
 no_turning : turning_of [] ≡ None
 unfolding turning_of
@@ -32,6 +32,6 @@ first_piece p at o t d m ts c e w h rest = (w.turns ∙ h, (let P : ℕ → Type
 pub piece_moves : (p : List ℕ) (at : ℕ) (o : Option Turning) (t : Turning) (d : Option Course) (m : ℕ) → IsPiece p at o d m → o ≡ Some t → at < m
 piece_moves p at o t d m w h = let n = turning_moves p at t (w.turns ∙ h) in let e = w.ends in omega arith
 
--- a word that turns isn't empty
-pub piece_named : (p : List ℕ) (at : ℕ) (o : Option Turning) (t : Turning) (d : Option Course) (m : ℕ) → IsPiece p at o d m → o ≡ Some t → HasWord p at
-piece_named p at o t d m w h = word_said turning_of (word_at p at) t no_turning (w.turns ∙ h)
+-- a piece that turns is a word that does
+pub piece_turns : (p : List ℕ) (at : ℕ) (o : Option Turning) (t : Turning) (d : Option Course) (m : ℕ) → IsPiece p at o d m → o ≡ Some t → turning_of (word_at p at) ≡ Some t
+piece_turns p at o t d m w h = w.turns ∙ h

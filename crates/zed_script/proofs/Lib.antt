@@ -12,3 +12,4 @@ pub mod OneCommand
 pub mod KindLemmas
 pub mod CommandThere
 pub mod Ahead
+pub mod KeepingLemmas

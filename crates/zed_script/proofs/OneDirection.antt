@@ -1,10 +1,10 @@
 -- At each place stands one direction.
-use Rattle.std.proofs.Common.{◌≡◌, ◌∙◌, ℕ, zero, suc, ◌+◌, ◌≤◌, List, [], ◌∷◌, length, Option, Some, None, refl, sym, arith}
+use Rattle.std.proofs.Common.{◌≡◌, ◌∙◌, ℕ, zero, suc, ◌+◌, ◌<◌, ◌≤◌, List, [], ◌∷◌, ◌++◌, length, length-append, Option, Some, None, refl, sym, arith}
 use Rattle.zed_script.specs.declared.heading.Course.{Course}
 use Rattle.zed_script.specs.declared.heading.Heading.{Heading}
 use Rattle.zed_script.specs.declared.heading.Turning.{Turning}
 use Rattle.zed_script.specs.Text.{word_at, word_end}
-use Rattle.zed_script.specs.Heading.{DirectionAt, HeadingAt, course_of, turning_of}
+use Rattle.zed_script.specs.Heading.{DirectionAt, DirectionTakes, HeadingAt, course_of, turning_of}
 use Rattle.zed_script.proofs.HeadingLemmas.{turning_moves}
 use Rattle.zed_script.proofs.TextLemmas.{word_end_within}
 
@@ -54,3 +54,25 @@ pub direction_there : (p : List ℕ) (at : ℕ) → (h : Heading) × ((end : ℕ
 direction_there p at =
     let found = heading_there (length p) p at (omega arith) in
     (record { turns = found.0; course = found.1.0 }, (found.1.1.0, found.1.1.1))
+
+-- where a word turns, the direction has turns
+turned_there : (p : List ℕ) (at : ℕ) (t : Turning) → turning_of (word_at p at) ≡ Some t → DirectionTakes p at
+turned_there p at t e = by_turns (direction_there p at)
+  where
+    by_list : (ts : List Turning) (c : Option Course) (end : ℕ) → HeadingAt p at ts c end → 0 < length ts
+    by_list [] c end x = absurd (none_is_some t (sym x.0 ∙ e))
+    by_list (u ∷ us) c end x = omega arith
+
+    by_turns : (h : Heading) × ((end : ℕ) × DirectionAt p at h end) → DirectionTakes p at
+    by_turns (h, (end, stands)) = (h, (end, (stands, by_list h.turns h.course end stands)))
+
+-- the same behind other words that turn
+pub turned_on : (p : List ℕ) (at to : ℕ) (ts : List Turning) (t : Turning) → turning_of (word_at p to) ≡ Some t → ((us : List Turning) (c : Option Course) (end : ℕ) → HeadingAt p to us c end → HeadingAt p at (ts ++ us) c end) → DirectionTakes p at
+turned_on p at to ts t e so_far = by_rest (turned_there p to t e)
+  where
+    by_rest : DirectionTakes p to → DirectionTakes p at
+    by_rest (h, (end, (stands, keeps))) =
+        let more = length-append ts h.turns in
+        let make : List Turning → Option Course → Heading = λ us c. record { turns = us; course = c } in
+        let has : 0 < length (ts ++ h.turns) = omega arith in
+        (make (ts ++ h.turns) h.course, (end, (so_far h.turns h.course end stands, has)))

@@ -1,5 +1,5 @@
 -- Commands as a program writes them.
-use Rattle.std.specs.Prelude.{◌≡◌, ◌≢◌, ℕ, Bool, true, false, ◌||◌, ◌⊎◌, List, [], ◌∷◌, Option, Some, None, codes}
+use Rattle.std.specs.Prelude.{◌≡◌, ◌≢◌, ℕ, ◌<◌, Bool, true, false, ◌||◌, ◌⊎◌, List, [], ◌∷◌, length, Option, Some, None, codes}
 use Rattle.std.specs.Str.{bytes_eq}
 use Rattle.zed_script.specs.declared.heading.Heading.{Heading}
 use Rattle.zed_script.specs.declared.kinds.TileKind.{TileKind}
@@ -8,9 +8,9 @@ use Rattle.zed_script.specs.declared.commands.Counter.TheVariants.{Health, Ammo,
 use Rattle.zed_script.specs.declared.commands.OopCommand.{OopCommand}
 use Rattle.zed_script.specs.declared.commands.OopCommand.TheVariants.{Go, Try, Walk, Shoot, Set, Clear, If, Give, Take, End, EndGame, Idle, Restart, Send, Zap, Restore, Lock, Unlock, Become, Die, Put, Change, Cycle, Char, Bind, Nothing, Other}
 use Rattle.zed_script.specs.Text.{meaning_in, value_at, value_end, word_at, word_end}
-use Rattle.zed_script.specs.Heading.{DirectionAt}
+use Rattle.zed_script.specs.Heading.{DirectionAt, HeadingKeeps}
 use Rattle.zed_script.specs.Kind.{kind_at}
-use Rattle.zed_script.specs.Condition.{QueryAt}
+use Rattle.zed_script.specs.Condition.{QueryAt, TestKeeps}
 
 -- ---- the words of the table
 
@@ -113,3 +113,30 @@ abbrev pub CommandAt : List ℕ → ℕ → Option OopCommand → ℕ → Type 0
 CommandAt p at None end = (from : ℕ) × (BehindThen p at from × (word_at p from ≡ []) × (end ≡ word_end p from))
 CommandAt p at (Some c) end =
     (from : ℕ) × (BehindThen p at from × (word_at p from ≢ []) × CommandBehind p (word_at p from) (word_end p from) c end)
+
+-- ---- what of them takes memory
+
+-- a command has turns, a name or another word, which are kept in memory: a row each
+abbrev pub CommandKeeps : OopCommand → Type 0
+CommandKeeps (Go h) = HeadingKeeps h
+CommandKeeps (Try h) = HeadingKeeps h
+CommandKeeps (Walk h) = HeadingKeeps h
+CommandKeeps (Shoot h) = HeadingKeeps h
+CommandKeeps (Put h k) = HeadingKeeps h
+CommandKeeps (If q) = TestKeeps q.test
+CommandKeeps (Set n) = 0 < length n
+CommandKeeps (Clear n) = 0 < length n
+CommandKeeps (Send n) = 0 < length n
+CommandKeeps (Zap n) = 0 < length n
+CommandKeeps (Restore n) = 0 < length n
+CommandKeeps (Bind n) = 0 < length n
+CommandKeeps (Other n) = 0 < length n
+CommandKeeps _ = ⊥
+
+-- reading the command w, a word that ends at a place, takes memory
+abbrev pub BehindTakes : List ℕ → List ℕ → ℕ → Type 0
+BehindTakes p w at = (c : OopCommand) × ((end : ℕ) × (CommandBehind p w at c end × CommandKeeps c))
+
+-- reading the command at a place takes memory
+abbrev pub CommandTakes : List ℕ → ℕ → Type 0
+CommandTakes p at = (c : OopCommand) × ((end : ℕ) × (CommandAt p at (Some c) end × CommandKeeps c))

@@ -1,11 +1,11 @@
 -- Conditions as a program writes them.
-use Rattle.std.specs.Prelude.{◌≡◌, ℕ, Bool, true, false, not, ◌||◌, List, Option, Some, None, codes}
+use Rattle.std.specs.Prelude.{◌≡◌, ℕ, ◌<◌, Bool, true, false, not, ◌||◌, List, length, Option, Some, None, codes}
 use Rattle.std.specs.Str.{bytes_eq}
 use Rattle.zed_script.specs.declared.conditions.Query.{Query}
 use Rattle.zed_script.specs.declared.conditions.Test.{Test}
 use Rattle.zed_script.specs.declared.conditions.Test.TheVariants.{Aligned, Contact, Blocked, Any, Energized, Flag}
 use Rattle.zed_script.specs.Text.{word_at, word_end}
-use Rattle.zed_script.specs.Heading.{DirectionAt}
+use Rattle.zed_script.specs.Heading.{DirectionAt, HeadingKeeps}
 use Rattle.zed_script.specs.Kind.{kind_at}
 
 -- whether a word is one that begins a condition, and no flag
@@ -45,3 +45,17 @@ flipped false b = b
 -- a condition as a program writes it stands at a place and ends before another
 abbrev pub QueryAt : List ℕ → ℕ → Query → ℕ → Type 0
 QueryAt p at q end = ConditionAt p at q.negated q.test end
+
+-- a test has turns, or the word of a flag, which are kept in memory
+abbrev pub TestKeeps : Test → Type 0
+TestKeeps (Blocked h) = HeadingKeeps h
+TestKeeps (Flag word) = 0 < length word
+TestKeeps _ = ⊥
+
+-- reading the test behind a word, which ends at a place, takes memory
+abbrev pub TestTakes : List ℕ → List ℕ → ℕ → Type 0
+TestTakes p w at = (t : Test) × ((end : ℕ) × (TestBehind p w at t end × TestKeeps t))
+
+-- reading the condition at a place takes memory
+abbrev pub QueryTakes : List ℕ → ℕ → Type 0
+QueryTakes p at = (q : Query) × ((end : ℕ) × (QueryAt p at q end × TestKeeps q.test))

@@ -1,5 +1,5 @@
 -- Directions as a program writes them.
-use Rattle.std.specs.Prelude.{◌≡◌, ℕ, ◌||◌, if◌then◌else◌, List, [], ◌∷◌, Option, Some, None, codes}
+use Rattle.std.specs.Prelude.{◌≡◌, ℕ, ◌<◌, ◌||◌, if◌then◌else◌, List, [], ◌∷◌, length, Option, Some, None, codes}
 use Rattle.std.specs.Str.{bytes_eq}
 use Rattle.zed_script.specs.declared.heading.Course.{Course}
 use Rattle.zed_script.specs.declared.heading.Course.TheVariants.{North, South, East, West, Idle, Seek, Flow, Random, RandomNorthOrSouth, RandomNorthOrEast}
@@ -45,3 +45,11 @@ HeadingAt p at (t ∷ ts) course end =
 -- a direction stands at a place and ends before another
 abbrev pub DirectionAt : List ℕ → ℕ → Heading → ℕ → Type 0
 DirectionAt p at h end = HeadingAt p at h.turns h.course end
+
+-- a direction has turns, which are kept in memory
+abbrev pub HeadingKeeps : Heading → Type 0
+HeadingKeeps h = 0 < length h.turns
+
+-- reading the direction at a place takes memory
+abbrev pub DirectionTakes : List ℕ → ℕ → Type 0
+DirectionTakes p at = (h : Heading) × ((end : ℕ) × (DirectionAt p at h end × HeadingKeeps h))

@@ -1,12 +1,12 @@
 -- What stands at a place of a program, and its lines.
-use Rattle.std.specs.Prelude.{◌≡◌, ℕ, ◌+◌, ◌<◌, ◌≤◌, ◌||◌, ◌⊎◌, ◌==◌, if◌then◌else◌, List, [], ◌∷◌, length, slice_get, slice_range, Option, Some, None}
+use Rattle.std.specs.Prelude.{◌≡◌, ℕ, ◌+◌, ◌<◌, ◌≤◌, ◌||◌, ◌==◌, if◌then◌else◌, List, [], ◌∷◌, length, slice_get, slice_range, Option, Some, None}
 use Rattle.zed_script.specs.declared.lines.LineKind.{LineKind}
 use Rattle.zed_script.specs.declared.lines.LineKind.TheVariants.{End as EndKind, Skipped as SkippedKind, Blank as BlankKind, Step as StepKind, Attempt as AttemptKind, Command as CommandKind, Message as MessageKind}
 use Rattle.zed_script.specs.declared.lines.Instruction.{Instruction}
 use Rattle.zed_script.specs.declared.lines.Instruction.TheVariants.{End, Skipped, Blank, Step, Attempt, Command, Message}
 use Rattle.zed_script.specs.declared.lines.Line.{Line}
-use Rattle.zed_script.specs.Text.{HasWord, line_after, line_end}
-use Rattle.zed_script.specs.Heading.{DirectionAt}
+use Rattle.zed_script.specs.Text.{line_after, line_end}
+use Rattle.zed_script.specs.Heading.{DirectionAt, HeadingKeeps}
 
 -- what a byte begins: `:` 58, `'` 39, `@` 64, `/` 47, `?` 63, `#` 35
 abbrev pub begun_by : Option ℕ → LineKind
@@ -38,11 +38,16 @@ InstructionAt p at Command next = (begun_at p at ≡ CommandKind) × (next ≡ a
 InstructionAt p at (Message m) next =
     (begun_at p at ≡ MessageKind) × (m ≡ line_text p at) × (next ≡ line_after p at)
 
--- what stands at a place is copied where it is read: the line of a message, or a word behind the mark of a step
-abbrev pub Copies : List ℕ → ℕ → Type 0
-Copies p at =
-    (begun_at p at ≡ MessageKind)
-    ⊎ (((begun_at p at ≡ StepKind) ⊎ (begun_at p at ≡ AttemptKind)) × HasWord p (at + 1))
+-- an instruction has turns, or the line of a message, which are kept in memory
+abbrev pub InstructionKeeps : Instruction → Type 0
+InstructionKeeps (Step h) = HeadingKeeps h
+InstructionKeeps (Attempt h) = HeadingKeeps h
+InstructionKeeps (Message m) = Unit {0}
+InstructionKeeps _ = ⊥
+
+-- reading the instruction at a place takes memory
+abbrev pub InstructionTakes : List ℕ → ℕ → Type 0
+InstructionTakes p at = (i : Instruction) × ((next : ℕ) × (InstructionAt p at i next × InstructionKeeps i))
 
 -- the kind of a line that an instruction begins
 abbrev pub line_kind : Instruction → LineKind

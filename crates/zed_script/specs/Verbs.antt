@@ -10,11 +10,11 @@ use Rattle.zed_script.specs.declared.commands.Doing.{Doing}
 use Rattle.zed_script.specs.declared.commands.Doing.TheVariants.{Go, Try, Walk, Shoot, Put, If, Give, Take, Cycle, Char}
 use Rattle.zed_script.specs.declared.commands.Naming.{Naming}
 use Rattle.zed_script.specs.declared.commands.Naming.TheVariants.{Set, Clear, Send, Zap, Restore, Bind, Become, Change}
-use Rattle.zed_script.specs.Heading.{DirectionAt}
+use Rattle.zed_script.specs.Heading.{DirectionAt, DirectionTakes}
 use Rattle.zed_script.specs.Kind.{kind_at}
-use Rattle.zed_script.specs.Condition.{is_question}
+use Rattle.zed_script.specs.Condition.{QueryTakes, is_question}
 use Rattle.zed_script.specs.Command.{BehindThen, is_bare, is_deed, is_naming}
-use Rattle.zed_script.specs.Text.{word_at, word_end}
+use Rattle.zed_script.specs.Text.{HasWord, word_at, word_end}
 
 -- the word of a question
 abbrev pub question_word : Question → List ℕ
@@ -94,3 +94,19 @@ IsBare w (Some v) = w ≡ bare_word v
 -- a word, the first from a place on that isn't THEN, and where it ends
 abbrev pub NextWord : List ℕ → ℕ → List ℕ → ℕ → Type 0
 NextWord p at w end = (from : ℕ) × (BehindThen p at from × (w ≡ word_at p from) × (end ≡ word_end p from))
+
+-- reading what stands behind the word of a command that does, asks or counts takes memory
+abbrev pub DoingTakes : List ℕ → Doing → ℕ → Type 0
+DoingTakes p Go at = DirectionTakes p at
+DoingTakes p Try at = DirectionTakes p at
+DoingTakes p Walk at = DirectionTakes p at
+DoingTakes p Shoot at = DirectionTakes p at
+DoingTakes p Put at = DirectionTakes p at
+DoingTakes p If at = QueryTakes p at
+DoingTakes p _ at = ⊥
+
+-- reading what stands behind the word of a command that names something takes memory
+abbrev pub NamingTakes : List ℕ → Naming → ℕ → Type 0
+NamingTakes p Become at = ⊥
+NamingTakes p Change at = ⊥
+NamingTakes p _ at = HasWord p at

@@ -1,8 +1,9 @@
 //! Commands as a program writes them.
 ghost use Rattle.std.specs.Prelude.{◌≡◌, ◌≤◌, IfOk, OnErr, Some, length, max};
-ghost use Rattle.zed_script.specs.Command.{AimAt, AmountAt, CommandAt, CommandBehind, ExchangeAt, counter_of};
-ghost use Rattle.zed_script.specs.Text.{HasWord, upper};
-ghost use Rattle.zed_script.specs.Verbs.{IsBare, IsDoing, IsNaming, NextWord, bare_word, doing_word, naming_word};
+ghost use Rattle.zed_script.specs.Command.{AimAt, AmountAt, BehindTakes, CommandAt, CommandBehind, CommandTakes, ExchangeAt, counter_of};
+ghost use Rattle.zed_script.specs.Heading.{DirectionTakes};
+ghost use Rattle.zed_script.specs.Text.{upper};
+ghost use Rattle.zed_script.specs.Verbs.{DoingTakes, IsBare, IsDoing, IsNaming, NamingTakes, NextWord, bare_word, doing_word, naming_word};
 
 use crate::conditions::{Query, condition};
 use crate::heading::{Heading, direction};
@@ -224,25 +225,22 @@ fn aim_at(
     ensures result { IfOk result (λ r. AimAt program.now at r.0 r.1) }
     ensures within { IfOk result (λ r. r.1 ≤ max at (length program.now)) }
     ensures ends { IfOk result (λ r. at ≤ r.1) }
+    ensures memory_only_when { OnErr result (DirectionTakes program.now at) }
 {
     let (heading, end) = direction(alloc, program, at)?;
-    let (kind, last) = kind(alloc, program, end, false)?;
+    let (kind, last) = kind(program, end, false);
     Ok(((heading, kind), last))
 }
 
 /// Two kinds.
-fn exchange_at(
-    alloc: Global,
-    program: &[u8],
-    at: usize,
-) -> Result<((Option<TileKind>, Option<TileKind>), usize), AllocError>
-    ensures result { IfOk result (λ r. ExchangeAt program.now at r.0 r.1) }
-    ensures within { IfOk result (λ r. r.1 ≤ max at (length program.now)) }
-    ensures ends { IfOk result (λ r. at ≤ r.1) }
+fn exchange_at(program: &[u8], at: usize) -> ((Option<TileKind>, Option<TileKind>), usize)
+    ensures result { ExchangeAt program.now at result.0 result.1 }
+    ensures within { result.1 ≤ max at (length program.now) }
+    ensures ends { at ≤ result.1 }
 {
-    let (first, end) = kind(alloc, program, at, false)?;
-    let (second, last) = kind(alloc, program, end, false)?;
-    Ok(((first, second), last))
+    let (first, end) = kind(program, at, false);
+    let (second, last) = kind(program, end, false);
+    ((first, second), last)
 }
 
 /// The command of such a word, which ends at a place.
@@ -257,6 +255,7 @@ fn deed_behind(
     ensures result { IfOk result (λ r. CommandBehind program.now (upper word.now) at r.0 r.1) }
     ensures within { IfOk result (λ r. r.1 ≤ max at (length program.now)) }
     ensures ends { IfOk result (λ r. at ≤ r.1) }
+    ensures memory_only_when { OnErr result (DoingTakes program.now verb at) }
 {
     match verb {
         Doing::Go => {
@@ -314,6 +313,7 @@ fn naming_behind(
     ensures result { IfOk result (λ r. CommandBehind program.now (upper word.now) at r.0 r.1) }
     ensures within { IfOk result (λ r. r.1 ≤ max at (length program.now)) }
     ensures ends { IfOk result (λ r. at ≤ r.1) }
+    ensures memory_only_when { OnErr result (NamingTakes program.now verb at) }
 {
     match verb {
         Naming::Set => {
@@ -341,11 +341,11 @@ fn naming_behind(
             Ok((OopCommand::Bind(name), end))
         }
         Naming::Become => {
-            let (kind, end) = kind(alloc, program, at, false)?;
+            let (kind, end) = kind(program, at, false);
             Ok((OopCommand::Become(kind), end))
         }
         Naming::Change => {
-            let ((first, second), end) = exchange_at(alloc, program, at)?;
+            let ((first, second), end) = exchange_at(program, at);
             Ok((OopCommand::Change(first, second), end))
         }
     }
@@ -379,6 +379,7 @@ fn command_behind(
     ensures result { IfOk result (λ r. CommandBehind program.now (upper word.now) at r.0 r.1) }
     ensures within { IfOk result (λ r. r.1 ≤ max at (length program.now)) }
     ensures ends { IfOk result (λ r. at ≤ r.1) }
+    ensures memory_only_when { OnErr result (BehindTakes program.now (upper word.now) at) }
 {
     if let Some(verb) = doing_of(word) {
         return deed_behind(alloc, program, word, verb, at);
@@ -408,8 +409,8 @@ fn next_word(program: &[u8], at: usize) -> (&[u8], usize)
     }
 }
 
-#[tactic(auto, using(crate::proofs::CommandLemmas::word_before))]
-/// The command that stands at a place, or None where no word does, and the place behind it. THEN is passed over.
+/// The command that stands at a place, or None where no word does, and the place behind it. THEN is passed over. It takes memory
+/// only for turns, for a name, for the word of a flag, and for a word that is no command.
 pub fn next_command(
     alloc: Global,
     program: &[u8],
@@ -418,7 +419,7 @@ pub fn next_command(
     ensures result { IfOk result (λ r. CommandAt program.now at r.0 r.1) }
     ensures within { IfOk result (λ r. r.1 ≤ max at (length program.now)) }
     ensures ends { IfOk result (λ r. at ≤ r.1) }
-    ensures memory_only_when { OnErr result (HasWord program.now at) }
+    ensures memory_only_when { OnErr result (CommandTakes program.now at) }
 {
     let (word, end) = next_word(program, at);
     if word.is_empty() {

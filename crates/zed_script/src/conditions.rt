@@ -1,7 +1,8 @@
 //! Conditions as a program writes them.
-ghost use Rattle.std.specs.Prelude.{◌≡◌, ◌≤◌, ◌<◌, IfOk, OnErr, length, max};
-ghost use Rattle.zed_script.specs.Condition.{PartAt, PartBehind, QueryAt};
-ghost use Rattle.zed_script.specs.Text.{HasWord, upper};
+ghost use Rattle.std.specs.Prelude.{◌≡◌, ◌≤◌, IfOk, OnErr, length, max};
+ghost use Rattle.zed_script.specs.Condition.{PartAt, PartBehind, QueryAt, QueryTakes, TestTakes};
+ghost use Rattle.zed_script.specs.Text.{upper, word_at, word_end};
+ghost use Rattle.zed_script.specs.Heading.{DirectionTakes};
 ghost use Rattle.zed_script.specs.Verbs.{AnyAt, BlockedAt, IsQuestion, question_word};
 
 use crate::heading::{Heading, direction};
@@ -71,19 +72,20 @@ fn blocked_at(alloc: Global, program: &[u8], at: usize) -> Result<(Option<Test>,
     ensures result { IfOk result (λ r. BlockedAt program.now at r.0 r.1) }
     ensures within { IfOk result (λ r. r.1 ≤ max at (length program.now)) }
     ensures ends { IfOk result (λ r. at ≤ r.1) }
+    ensures memory_only_when { OnErr result (DirectionTakes program.now at) }
 {
     let (heading, end) = direction(alloc, program, at)?;
     Ok((Some(Test::Blocked(heading)), end))
 }
 
 /// The kind behind ANY.
-fn any_at(alloc: Global, program: &[u8], at: usize) -> Result<(Option<Test>, usize), AllocError>
-    ensures result { IfOk result (λ r. AnyAt program.now at r.0 r.1) }
-    ensures within { IfOk result (λ r. r.1 ≤ max at (length program.now)) }
-    ensures ends { IfOk result (λ r. at ≤ r.1) }
+fn any_at(program: &[u8], at: usize) -> (Option<Test>, usize)
+    ensures result { AnyAt program.now at result.0 result.1 }
+    ensures within { result.1 ≤ max at (length program.now) }
+    ensures ends { at ≤ result.1 }
 {
-    let (kind, end) = kind(alloc, program, at, true)?;
-    Ok((Some(Test::Any(kind)), end))
+    let (kind, end) = kind(program, at, true);
+    (Some(Test::Any(kind)), end)
 }
 
 /// The test that a question begins whose word ends at a place, or None where that is NOT.
@@ -98,14 +100,14 @@ fn asked_behind(
     ensures result { IfOk result (λ r. PartBehind program.now (upper word.now) at r.0 r.1) }
     ensures within { IfOk result (λ r. r.1 ≤ max at (length program.now)) }
     ensures ends { IfOk result (λ r. at ≤ r.1) }
-    ensures memory_only_when { OnErr result (0 < length (upper word.now)) }
+    ensures memory_only_when { OnErr result (TestTakes program.now (upper word.now) at) }
 {
     match question {
         Question::Not => Ok((None, at)),
         Question::Aligned => Ok((Some(Test::Aligned), at)),
         Question::Contact => Ok((Some(Test::Contact), at)),
         Question::Blocked => blocked_at(alloc, program, at),
-        Question::Any => any_at(alloc, program, at),
+        Question::Any => Ok(any_at(program, at)),
         Question::Energized => Ok((Some(Test::Energized), at)),
     }
 }
@@ -120,7 +122,7 @@ fn test_behind(
     ensures result { IfOk result (λ r. PartBehind program.now (upper word.now) at r.0 r.1) }
     ensures within { IfOk result (λ r. r.1 ≤ max at (length program.now)) }
     ensures ends { IfOk result (λ r. at ≤ r.1) }
-    ensures memory_only_when { OnErr result (0 < length (upper word.now)) }
+    ensures memory_only_when { OnErr result (TestTakes program.now (upper word.now) at) }
 {
     match question_of(word) {
         Some(question) => asked_behind(alloc, program, word, question, at),
@@ -133,18 +135,19 @@ fn test_at(alloc: Global, program: &[u8], at: usize) -> Result<(Option<Test>, us
     ensures result { IfOk result (λ r. PartAt program.now at r.0 r.1) }
     ensures within { IfOk result (λ r. r.1 ≤ max at (length program.now)) }
     ensures ends { IfOk result (λ r. at ≤ r.1) }
-    ensures memory_only_when { OnErr result (HasWord program.now at) }
+    ensures memory_only_when { OnErr result
+        (TestTakes program.now (word_at program.now at) (word_end program.now at)) }
 {
     let (word, end) = written_at(program, at);
     test_behind(alloc, program, word, end)
 }
 
-/// The condition that stands at a place, and the place behind it.
+/// The condition that stands at a place, and the place behind it. It takes memory only for turns and for the word of a flag.
 pub fn condition(alloc: Global, program: &[u8], at: usize) -> Result<(Query, usize), AllocError>
     ensures result { IfOk result (λ r. QueryAt program.now at r.0 r.1) }
     ensures within { IfOk result (λ r. r.1 ≤ max at (length program.now)) }
     ensures ends { IfOk result (λ r. at ≤ r.1) }
-    ensures memory_only_when { OnErr result (HasWord program.now at) }
+    ensures memory_only_when { OnErr result (QueryTakes program.now at) }
 {
     let mut negated = false;
     let mut to = at;

@@ -1,7 +1,7 @@
 //! Directions as a program writes them.
 ghost use Rattle.std.specs.Prelude.{◌≡◌, ◌≤◌, IfOk, OnErr, Some, length, max};
-ghost use Rattle.zed_script.specs.Heading.{DirectionAt, IsPiece, chosen_of, course_of, turning_of};
-ghost use Rattle.zed_script.specs.Text.{HasWord, upper};
+ghost use Rattle.zed_script.specs.Heading.{DirectionAt, DirectionTakes, IsPiece, chosen_of, course_of, turning_of};
+ghost use Rattle.zed_script.specs.Text.{upper};
 
 use crate::text::{says, written_at};
 use std::alloc::{AllocError, Global};
@@ -120,12 +120,12 @@ fn piece_at(program: &[u8], at: usize) -> Piece
     }
 }
 
-/// The direction that stands at a place, and the place behind it.
+/// The direction that stands at a place, and the place behind it. It takes memory only where the direction has turns.
 pub fn direction(alloc: Global, program: &[u8], at: usize) -> Result<(Heading, usize), AllocError>
     ensures result { IfOk result (λ r. DirectionAt program.now at r.0 r.1) }
     ensures within { IfOk result (λ r. r.1 ≤ max at (length program.now)) }
     ensures ends { IfOk result (λ r. at ≤ r.1) }
-    ensures memory_only_when { OnErr result (HasWord program.now at) }
+    ensures memory_only_when { OnErr result (DirectionTakes program.now at) }
 {
     let mut turns = Seq::new(alloc);
     let mut to = at;

@@ -1,10 +1,9 @@
 //! Kinds of tiles as a program writes them.
-ghost use Rattle.std.specs.Prelude.{◌≡◌, ◌≤◌, IfOk, OnErr, length, max};
+ghost use Rattle.std.specs.Prelude.{◌≡◌, ◌≤◌, length, max};
 ghost use Rattle.zed_script.specs.Kind.{allowed, colour_of, element_below, element_of, is_element, kind_at, kind_of, matches, tile_of};
-ghost use Rattle.zed_script.specs.Text.{HasWord};
+ghost use Rattle.zed_script.specs.Text.{upper};
 
-use crate::text::{is_word, word_at};
-use std::alloc::{AllocError, Global};
+use crate::text::{says, written_at};
 use zed_types::{PLAYER, Tile, element};
 
 /// A kind of tiles: an element, of one colour or of any.
@@ -44,21 +43,21 @@ impl TileKind {
 
 #[tactic(auto, unfolding(crate::specs::Kind::colour_of))]
 fn colour_of(word: &[u8]) -> Option<u8>
-    ensures { result ≡ colour_of word.now }
+    ensures { result ≡ colour_of (upper word.now) }
 {
-    if is_word(word, "BLUE") {
+    if says(word, "BLUE") {
         Some(9)
-    } else if is_word(word, "GREEN") {
+    } else if says(word, "GREEN") {
         Some(10)
-    } else if is_word(word, "CYAN") {
+    } else if says(word, "CYAN") {
         Some(11)
-    } else if is_word(word, "RED") {
+    } else if says(word, "RED") {
         Some(12)
-    } else if is_word(word, "PURPLE") {
+    } else if says(word, "PURPLE") {
         Some(13)
-    } else if is_word(word, "YELLOW") {
+    } else if says(word, "YELLOW") {
         Some(14)
-    } else if is_word(word, "WHITE") {
+    } else if says(word, "WHITE") {
         Some(15)
     } else {
         None
@@ -68,14 +67,14 @@ fn colour_of(word: &[u8]) -> Option<u8>
 /// Whether an element has this word.
 #[tactic(auto, unfolding(crate::specs::Kind::is_element))]
 fn is_element(word: &[u8], n: u8) -> bool
-    ensures { result ≡ is_element word.now n }
+    ensures { result ≡ is_element (upper word.now) n }
 {
-    is_word(word, element(n).word)
+    says(word, element(n).word)
 }
 
 /// The element below `n` that has this word.
 fn element_below(word: &[u8], n: u8) -> Option<u8>
-    ensures { result ≡ element_below n word.now }
+    ensures { result ≡ element_below n (upper word.now) }
 {
     if n == 0 {
         return None;
@@ -89,7 +88,7 @@ fn element_below(word: &[u8], n: u8) -> Option<u8>
 /// The element of this word; an empty word is of none.
 #[tactic(auto, unfolding(crate::specs::Kind::element_of))]
 fn element_of(word: &[u8]) -> Option<u8>
-    ensures { result ≡ element_of word.now }
+    ensures { result ≡ element_of (upper word.now) }
 {
     if word.is_empty() {
         None
@@ -110,7 +109,7 @@ fn allowed(kind: TileKind, player: bool) -> Option<TileKind>
 }
 
 fn kind_of(colour: Option<u8>, word: &[u8], player: bool) -> Option<TileKind>
-    ensures { result ≡ kind_of colour word.now player }
+    ensures { result ≡ kind_of colour (upper word.now) player }
 {
     match element_of(word) {
         Some(element) => allowed(TileKind { colour, element }, player),
@@ -118,26 +117,20 @@ fn kind_of(colour: Option<u8>, word: &[u8], player: bool) -> Option<TileKind>
     }
 }
 
-#[tactic(auto, unfolding(crate::specs::Kind::kind_at), using(crate::proofs::KindLemmas::coloured))]
+#[tactic(auto, unfolding(crate::specs::Kind::kind_at))]
 /// The kind that stands at a place, or None where none does, and the place behind its words. The player is a kind only where that
-/// is allowed.
-pub fn kind(
-    alloc: Global,
-    program: &[u8],
-    at: usize,
-    player: bool,
-) -> Result<(Option<TileKind>, usize), AllocError>
-    ensures result { IfOk result (λ r. r ≡ kind_at program.now at player) }
-    ensures within { IfOk result (λ r. r.1 ≤ max at (length program.now)) }
-    ensures ends { IfOk result (λ r. at ≤ r.1) }
-    ensures memory_only_when { OnErr result (HasWord program.now at) }
+/// is allowed. It takes no memory.
+pub fn kind(program: &[u8], at: usize, player: bool) -> (Option<TileKind>, usize)
+    ensures result { result ≡ kind_at program.now at player }
+    ensures within { result.1 ≤ max at (length program.now) }
+    ensures ends { at ≤ result.1 }
 {
-    let (first, end) = word_at(alloc, program, at)?;
-    match colour_of(first.as_slice()) {
+    let (first, end) = written_at(program, at);
+    match colour_of(first) {
         Some(colour) => {
-            let (second, last) = word_at(alloc, program, end)?;
-            Ok((kind_of(Some(colour), second.as_slice(), player), last))
+            let (second, last) = written_at(program, end);
+            (kind_of(Some(colour), second, player), last)
         }
-        None => Ok((kind_of(None, first.as_slice(), player), end)),
+        None => (kind_of(None, first, player), end),
     }
 }

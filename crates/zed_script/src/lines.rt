@@ -1,6 +1,6 @@
 //! Instructions and lines as a program writes them.
 ghost use Rattle.std.specs.Prelude.{◌≡◌, ◌<◌, ◌≤◌, IfOk, OnErr, length, max};
-ghost use Rattle.zed_script.specs.Line.{Copies, InstructionAt, IsAhead, LineAt, LinesFrom, line_text, begun_at, begun_by};
+ghost use Rattle.zed_script.specs.Line.{InstructionAt, InstructionTakes, IsAhead, LineAt, LinesFrom, line_text, begun_at, begun_by};
 
 use crate::heading::{Heading, direction};
 use crate::text::{line_after, line_end, part};
@@ -93,7 +93,8 @@ fn line_text(program: &[u8], at: usize) -> &[u8]
     part(program, at, line_end(program, at))
 }
 
-/// The instruction that stands at a place, and the place behind it: behind its line, its direction or its mark.
+/// The instruction that stands at a place, and the place behind it: behind its line, its direction or its mark. It takes memory only
+/// for the line of a message, and for turns.
 pub fn standing_at(
     alloc: Global,
     program: &[u8],
@@ -101,7 +102,7 @@ pub fn standing_at(
 ) -> Result<(Instruction, usize), AllocError>
     ensures result { IfOk result (λ r. InstructionAt program.now at r.0 r.1) }
     ensures ends { IfOk result (λ r. IsAhead r.0 at r.1 (length program.now)) }
-    ensures memory_only_when { OnErr result (Copies program.now at) }
+    ensures memory_only_when { OnErr result (InstructionTakes program.now at) }
 {
     if at >= program.len() {
         return Ok((Instruction::End, at));

@@ -1,6 +1,7 @@
 use Rattle.std.proofs.Common.{◌<◌, Bool, false, not, subst, arith}
 use Rattle.zed_script.specs.Condition.{ConditionAt}
-use Rattle.zed_script.proofs.ConditionLemmas.{first_not, flipped_false, flipped_not, last_test, not_moves, not_named}
+use Rattle.zed_script.proofs.ConditionLemmas.{first_not, flipped_false, flipped_not, last_test, not_moves, test_takes}
+use Rattle.std.proofs.lemmas.Result.{err_from_is_err_and}
 use Rattle.zed_script.proofs.conditions.condition.Goals as goal
 
 pub loop-test-smaller : goal.loop-test-smaller
@@ -18,7 +19,6 @@ loop-test-preserved c = record {
       (first_not c.args.program.now c.loop-test.to c.in_ok-test.test c.in_ok-test.end b t e c.in_ok-test.ensures.result c.in-None.is rest));
   within = (let a = c.in_ok-test.ensures.within in let b = c.loop-test.invariant.within in omega arith);
   after = (let a = c.in_ok-test.ensures.ends in omega arith);
-  named = λ _. c.loop-test.invariant.named (not_named c.args.program.now c.loop-test.to c.in_ok-test.test c.in_ok-test.end c.in_ok-test.ensures.result c.in-None.is);
 }
 
 pub returns-in-Some-clause-result : goal.returns-in-Some-clause-result
@@ -27,3 +27,9 @@ returns-in-Some-clause-result c =
     subst P (flipped_false c.loop-test.negated)
     (c.loop-test.invariant.so_far false c.in-Some.test c.in_ok-test.end
     (last_test c.args.program.now c.loop-test.to c.in_ok-test.test c.in-Some.test c.in_ok-test.end c.in_ok-test.ensures.result c.in-Some.is))
+
+pub returns-in_err-test-clause-memory_only_when : goal.returns-in_err-test-clause-memory_only_when
+returns-in_err-test-clause-memory_only_when c =
+    let p = err_from_is_err_and c.from_residual.result c.from_residual.ensures.1 in
+    rw p.1
+    (test_takes c.args.program.now c.args.at c.loop-test.to c.loop-test.negated c.loop-test.invariant.so_far c.in_err-test.ensures.memory_only_when)

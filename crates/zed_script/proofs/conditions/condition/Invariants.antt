@@ -1,7 +1,6 @@
 use Rattle.std.proofs.Common.{ℕ, ◌-◌, ◌≤◌, Bool, length, max}
 use Rattle.zed_script.specs.declared.conditions.Test.{Test}
 use Rattle.zed_script.specs.Condition.{ConditionAt, flipped}
-use Rattle.zed_script.specs.Text.{HasWord}
 use Rattle.zed_script.proofs.conditions.condition.Given as goal
 
 abbrev pub invariant-loop-test : goal.invariant-loop-test
@@ -9,7 +8,6 @@ invariant-loop-test l = record {
   so_far : (b : Bool) (t : Test) (e : ℕ) → ConditionAt l.program l.to b t e → ConditionAt l.program l.fn.at (flipped l.negated b) t e;
   within : l.to ≤ max l.fn.at (length l.program);
   after : l.fn.at ≤ l.to;
-  named : HasWord l.program l.to → HasWord l.program l.fn.at;
 }
 
 abbrev pub decreases-loop-test : goal.decreases-loop-test

@@ -3,7 +3,8 @@ use Rattle.std.proofs.lemmas.List.{append-nil}
 use Rattle.std.proofs.lemmas.Result.{err_from_is_err_and}
 use Rattle.zed_script.specs.declared.heading.Turning.{Turning}
 use Rattle.zed_script.specs.Heading.{HeadingAt}
-use Rattle.zed_script.proofs.HeadingLemmas.{first_piece, last_piece, piece_moves, piece_named}
+use Rattle.zed_script.proofs.HeadingLemmas.{first_piece, last_piece, piece_moves, piece_turns}
+use Rattle.zed_script.proofs.OneDirection.{turned_on}
 use Rattle.zed_script.proofs.heading.direction.Goals as goal
 
 pub loop-turning-smaller : goal.loop-turning-smaller
@@ -24,7 +25,6 @@ loop-turning-preserved c =
           (first_piece c.args.program.now c.loop-turning.to w.turning c.in-Some.turning w.course w.end ts d e c.piece_at-piece.ensures.result c.in-Some.is rest));
       within = (let a = c.piece_at-piece.ensures.within in let b = c.loop-turning.invariant.within in omega arith);
       after = (let a = c.piece_at-piece.ensures.ends in omega arith);
-      named = λ _. c.loop-turning.invariant.named (piece_named c.args.program.now c.loop-turning.to w.turning c.in-Some.turning w.course w.end c.piece_at-piece.ensures.result c.in-Some.is);
     }
 
 pub returns-in-None-clause-result : goal.returns-in-None-clause-result
@@ -40,5 +40,6 @@ returns-in_err-push-in-Some-clause-memory_only_when c =
     let w = c.piece_at-piece.result in
     let p = err_from_is_err_and c.from_residual.result c.from_residual.ensures.1 in
     rw p.1
-    (c.loop-turning.invariant.named
-    (piece_named c.args.program.now c.loop-turning.to w.turning c.in-Some.turning w.course w.end c.piece_at-piece.ensures.result c.in-Some.is))
+    (turned_on c.args.program.now c.args.at c.loop-turning.to c.loop-turning.turns c.in-Some.turning
+    (piece_turns c.args.program.now c.loop-turning.to w.turning c.in-Some.turning w.course w.end c.piece_at-piece.ensures.result c.in-Some.is)
+    c.loop-turning.invariant.so_far)

@@ -2,7 +2,6 @@ use Rattle.std.proofs.Common.{ℕ, ◌++◌, ◌-◌, ◌≤◌, List, Option, l
 use Rattle.zed_script.specs.declared.heading.Course.{Course}
 use Rattle.zed_script.specs.declared.heading.Turning.{Turning}
 use Rattle.zed_script.specs.Heading.{HeadingAt}
-use Rattle.zed_script.specs.Text.{HasWord}
 use Rattle.zed_script.proofs.heading.direction.Given as goal
 
 abbrev pub invariant-loop-turning : goal.invariant-loop-turning
@@ -10,7 +9,6 @@ invariant-loop-turning l = record {
   so_far : (ts : List Turning) (c : Option Course) (e : ℕ) → HeadingAt l.program l.to ts c e → HeadingAt l.program l.fn.at (l.turns ++ ts) c e;
   within : l.to ≤ max l.fn.at (length l.program);
   after : l.fn.at ≤ l.to;
-  named : HasWord l.program l.to → HasWord l.program l.fn.at;
 }
 
 abbrev pub decreases-loop-turning : goal.decreases-loop-turning
