@@ -15,11 +15,11 @@ use Rattle.zed_code.specs.Kept.{IsRun, total}
 use Rattle.zed_code.specs.Text.{alive_names}
 use Rattle.zed_code.proofs.Spelling.{bytes-count}
 
-alive-run : (s : Stamp) (n : ℕ) (bs : List ℕ) (rest : List TextByte) → alive (run_of s true n bs ++ rest) ≡ run_of s true n bs ++ alive rest
+pub alive-run : (s : Stamp) (n : ℕ) (bs : List ℕ) (rest : List TextByte) → alive (run_of s true n bs ++ rest) ≡ run_of s true n bs ++ alive rest
 alive-run s n [] rest = refl
 alive-run s n (b ∷ bs) rest = ap (λ xs. record { id = byte_of s n; byte = b; alive = true } ∷ xs) (alive-run s (n + 1) bs rest)
 
-dead-run : (s : Stamp) (n : ℕ) (bs : List ℕ) (rest : List TextByte) → alive (run_of s false n bs ++ rest) ≡ alive rest
+pub dead-run : (s : Stamp) (n : ℕ) (bs : List ℕ) (rest : List TextByte) → alive (run_of s false n bs ++ rest) ≡ alive rest
 dead-run s n [] rest = refl
 dead-run s n (b ∷ bs) rest = dead-run s (n + 1) bs rest
 

@@ -1,5 +1,5 @@
 -- Where a deletion begins, and what it looks at.
-use Rattle.std.proofs.Common.{◌≡◌, ℕ, List, length, take, ◌∙◌, sym, subst, arith}
+use Rattle.std.proofs.Common.{◌≡◌, ℕ, List, length, take, ◌∙◌, sym, subst, arith, Result, Ok, Err, OnErr}
 use Rattle.std.proofs.lemmas.List.{take_all}
 use Rattle.zed_types.specs.declared.names.ElemId.{ElemId}
 use Rattle.zed_types.specs.declared.text.ByteRange.{ByteRange}
@@ -32,3 +32,8 @@ none-before x old new n m e f same =
     let P : ℕ → Type 0 = λ k. NoneFrom x.stamp x.first (take k old) in
     let Q : List Run → Type 0 = λ qs. NoneFrom x.stamp x.first (take m qs) in
     subst Q (sym same) (subst P (sym (f ∙ e)) (none-sought x.stamp x.first old))
+
+-- what is said where memory is refused
+pub any_err : {A E P : Type 0} (r : Result A E) → P → OnErr r P
+any_err (Ok x) p = tt
+any_err (Err e) p = p

@@ -75,6 +75,19 @@ beyond x q r h behind = go r.alive (same_stamp r.stamp x.stamp) refl
         let first : q.first + q.len ≤ r.first = behind (both_same q.stamp r.stamp x.stamp parts.0 e) in
         not_less (low x r) (high x r) (omega (arith, parts.1, first))
 
+-- nor does anything in an empty range
+pub missed : (x : ByteRange) (r : Run) → x.last < x.first → touches x r ≡ false
+missed x r l = go r.alive (same_stamp r.stamp x.stamp)
+  where
+    go : (a s : Bool) → (a && (s && ltb (low x r) (high x r))) ≡ false
+    go false s = refl
+    go true false = refl
+    go true true = not_less (low x r) (high x r) (omega (arith, l))
+
+pub cut_empty : (x : ByteRange) (rs : List Run) → x.last < x.first → kill_runs x rs ≡ rs
+cut_empty x [] l = refl
+cut_empty x (r ∷ rs) l = rw (missed x r l) (ap (λ qs. r ∷ qs) (cut_empty x rs l))
+
 -- behind a run that reaches the end of a range nothing dies
 pub cut_done : (x : ByteRange) (q : Run) (rs : List Run) → reaches x q ≡ true → AllByRecursion (InOrder q) rs → kill_runs x rs ≡ rs
 cut_done x q [] h behind = refl

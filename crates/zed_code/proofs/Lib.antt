@@ -17,5 +17,7 @@ pub mod ReadBlocks
 pub mod Rests
 pub mod Deaths
 pub mod LiveBytes
+pub mod Names
 pub mod Touched
+pub mod Parting
 pub mod Passing

@@ -9,7 +9,7 @@ use Rattle.zed_code.specs.Blocks.{joined, list_at}
 use Rattle.zed_code.specs.Runs.{reaches, sought, touched, touches}
 use Rattle.zed_code.specs.Kept.{AllInOrder, InOrder, NoneFrom}
 use Rattle.zed_code.proofs.Joins.{joined-at, joined-cut, joined-drop, drop-none, none-sought}
-use Rattle.zed_code.proofs.Kills.{beyond, order-right, reach-touch, spared}
+use Rattle.zed_code.proofs.Kills.{beyond, order-right, reach-touch, spared, missed}
 
 -- what a run that passes counts
 abbrev one : Bool → ℕ
@@ -60,6 +60,11 @@ touched-nowhere x rs n e l =
     let N : List Run → Type 0 = λ qs. NoneFrom x.stamp x.first qs in
     let all : take (sought x.stamp x.first rs) rs ≡ rs = take_all (sought x.stamp x.first rs) rs (omega (arith, e, l)) in
     touched-front x rs (subst N all (none-sought x.stamp x.first rs))
+
+-- an empty range touches none
+pub touched-empty : (x : ByteRange) (rs : List Run) → x.last < x.first → touched x rs ≡ 0
+touched-empty x [] l = refl
+touched-empty x (r ∷ rs) l = let e : cond (touches x r) 1 0 ≡ 0 = ap one (missed x r l) in omega (arith, touched-cons x r rs, e, touched-empty x rs l)
 
 -- ---- over blocks
 

@@ -13,6 +13,6 @@ raised v n = min (v + n) greatest
 abbrev pub LooksAtLeast : ℕ → ℕ → ℕ → Type 0
 LooksAtLeast n old new = raised old n ≤ new
 
--- so many more runs were looked at: at most one more than n, and at least one, if there is one
+-- so many more runs were looked at: of n runs at most one more than n, and at least one; of none, none
 abbrev pub LooksAtSome : ℕ → ℕ → ℕ → Type 0
-LooksAtSome n old new = (k : ℕ) × (new ≡ raised old k) × (k ≤ n + 1) × (0 < n → 0 < k)
+LooksAtSome n old new = (k : ℕ) × (new ≡ raised old k) × (k ≤ n + min n 1) × (0 < n → 0 < k)

@@ -3,7 +3,7 @@
 ghost use Rattle.std.specs.Prelude.{◌≡◌, ◌∷◌, ◌++◌, ◌<◌, ◌≤◌, ◌+◌, ◌-◌, ℕ, true, length, map, take, drop, set, vec_len, vec_capacity, OnOk, OnErr};
 ghost use Rattle.std.specs.List.{AllByRecursion, list_any};
 ghost use Rattle.zed_code.specs.Blocks.{lists, list_at, runs_of, before_spot, IsIn, NoneEmpty, HasRoom};
-ghost use Rattle.zed_code.specs.Runs.{pieces, kill_runs, touched, reaches as is_reached};
+ghost use Rattle.zed_code.specs.Runs.{pieces, kill_runs, sought, touched, reaches as is_reached};
 ghost use Rattle.zed_code.specs.Kept.{IsSound, AllInOrder, NoneFrom, AreHints};
 ghost use Rattle.zed_code.specs.Found.{IsFound};
 ghost use Rattle.zed_code.specs.Visits.{raised, LooksAtSome, LooksAtLeast};
@@ -11,7 +11,7 @@ ghost use Rattle.zed_code.specs.Visits.{raised, LooksAtSome, LooksAtLeast};
 use crate::block::{Block, Spot};
 use crate::blocks::{reserve_from, split_full};
 use crate::error::CodeError;
-use crate::place::look;
+use crate::place::{look, look_once};
 use crate::run::Run;
 use crate::search::{Found, seek};
 use std::collections::BTreeMap;
@@ -146,8 +146,14 @@ pub(crate) fn mark_dead(
         (LooksAtSome (length (runs_of blocks.old.items)) visits.old visits.new) }
     ensures looks { OnOk result
         (LooksAtLeast (touched range (runs_of blocks.old.items)) visits.old visits.new) }
-    ensures memory_only_when { OnErr result (0 < length blocks.old.items) }
+    ensures memory_only_when { OnErr result ((range.first ≤ range.last)
+        × (sought range.stamp range.first (runs_of blocks.old.items)
+        < length (runs_of blocks.old.items))) }
 {
+    if range.last < range.first {
+        look_once(blocks, visits);
+        return Ok(());
+    }
     let first = ElemId::new(range.stamp, range.first);
     let at = seek(blocks, places, hints, found, first, visits)?;
     if at.block >= blocks.len() {

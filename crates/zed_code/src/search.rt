@@ -75,7 +75,8 @@ pub(crate) fn seek(
         × (k ≤ before_spot at (lists blocks.now) + 1) × (k ≤ length (runs_of blocks.now))
         × (0 < length (runs_of blocks.now) → 0 < k)) }
     ensures hints { AreHints hints.new.entries places.now (lists blocks.now) }
-    ensures memory_only_when { OnErr result (0 < length blocks.now) }
+    ensures memory_only_when { OnErr result (sought id.name.stamp id.name.index (runs_of blocks.now)
+        < length (runs_of blocks.now)) }
 {
     match found_of(found, id) {
         Some(last) => {
@@ -106,7 +107,8 @@ fn seek_by_hints(
         × (k ≤ before_spot at (lists blocks.now) + 1) × (k ≤ length (runs_of blocks.now))
         × (0 < length (runs_of blocks.now) → 0 < k)) }
     ensures hints { AreHints hints.new.entries places.now (lists blocks.now) }
-    ensures memory_only_when { OnErr result (0 < length blocks.now) }
+    ensures memory_only_when { OnErr result (sought id.name.stamp id.name.index (runs_of blocks.now)
+        < length (runs_of blocks.now)) }
 {
     let start = start_of(hints, places, blocks, id);
     let at = find(blocks, start, id.name.stamp, id.name.index, visits);

@@ -1,12 +1,12 @@
 //! A text as contracts see it.
 
-ghost use Rattle.std.specs.Prelude.{◌≡◌, ◌↔◌, IsTrue, ◌<◌, ◌≤◌, ◌+◌, ◌++◌, ◌^◌, vec_len, vec_capacity, length, [], false, true, map, OnOk, OnErr, IfOk, IfErr, Some, None, MatchOption, slice_get};
+ghost use Rattle.std.specs.Prelude.{◌≡◌, ◌↔◌, IsTrue, ◌<◌, ◌≤◌, ◌+◌, ◌-◌, ◌++◌, ◌^◌, vec_len, vec_capacity, length, [], false, true, map, OnOk, OnErr, IfOk, IfErr, Some, None, MatchOption, slice_get};
 ghost use Rattle.std.specs.List.{AllByRecursion, filter, list_any};
 ghost use Rattle.zed_types.specs.declared.limits.TheConstants.{READ_BODY_LIMIT};
 ghost use Rattle.zed_types.specs.Stamp.{before, genesis_stamp, same_stamp};
 ghost use Rattle.zed_types.specs.Names.{same_element};
 ghost use Rattle.zed_types.specs.Text.{run_from, put_late, kill, alive_bytes};
-ghost use Rattle.zed_code.specs.Text.{elements, StandsAfter, IsNewStamp, HasMore, alive_names, bytes_from};
+ghost use Rattle.zed_code.specs.Text.{elements, StandsAfter, IsNewStamp, HasMore, alive_names, names_between, has_from, bytes_from};
 ghost use Rattle.zed_code.specs.Runs.{if_any, whole};
 ghost use Rattle.zed_code.specs.Blocks.{lists, runs_of, NoneEmpty};
 ghost use Rattle.zed_code.specs.Looks.{looks_to_insert, looks_to_delete};
@@ -17,7 +17,7 @@ use crate::cut::mark_dead;
 use crate::error::CodeError;
 use crate::insertion::put;
 use crate::place::look_once;
-use crate::readers::{count_live, live_at, push_live};
+use crate::readers::{Positions, count_live, live_at, push_live, push_names};
 use crate::run::Run;
 use crate::same::spell_same;
 use crate::search::{Found, any_has, find_asked, found_of};
@@ -185,8 +185,8 @@ impl Text {
         Ok(())
     }
 
-    /// Marks bytes from..to, both included, of the insertion with a stamp dead. Memory leaves the text as it was. A text without
-    /// a byte takes none.
+    /// Marks bytes from..to, both included, of the insertion with a stamp dead. Memory leaves the text as it was. None is
+    /// taken where the range is empty, or the text has no byte of the insertion from its start on.
     pub fn delete(&mut self, stamp: Stamp, from: u32, to: u32) -> Result<(), CodeError>
         ensures ok { OnOk result (elements self.new
             ≡ kill (bytes_from stamp from to) (elements self.old)) }
@@ -196,7 +196,8 @@ impl Text {
             (LooksAtSome (length self.old.cutting) self.old.visits self.new.visits) }
         ensures looks { OnOk result (LooksAtLeast
             (looks_to_delete (bytes_from stamp from to) self.old.cutting) self.old.visits self.new.visits) }
-        ensures memory_only_when { OnErr result (0 < length self.old.cutting) }
+        ensures memory_only_when { OnErr result
+            ((from ≤ to) × (has_from stamp from (elements self.old) ≡ true)) }
     {
         let range = ByteRange {
             stamp,
@@ -293,6 +294,25 @@ impl Text {
             Some((run, i)) => Some(run.name(i)),
             None => None,
         }
+    }
+
+    /// Appends the names of the live bytes from a position to another, without that, in order; of those that there are. It walks
+    /// through the runs once. Refused with Memory, only where the vector has no room for so many names; nothing is appended then.
+    pub fn append_names(
+        &self,
+        from: usize,
+        to: usize,
+        out: &mut Vec<ElemId>,
+    ) -> Result<(), CodeError>
+        ensures ok { OnOk result
+            (out.new.items ≡ out.old.items ++ names_between from to (elements self.now)) }
+        ensures kept { OnErr result (out.new.items ≡ out.old.items) }
+        ensures memory_only_when { OnErr result
+            (vec_capacity out.old < vec_len out.old + (to - from)) }
+    {
+        out.reserve(to.saturating_sub(from))?;
+        push_names(out, &self.blocks, Positions { from, to });
+        Ok(())
     }
 
     /// The k-th live byte, if there are so many.

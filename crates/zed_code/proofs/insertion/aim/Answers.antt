@@ -27,7 +27,7 @@ pub returns-in_ok-at-in-Some-clause-visits : goal.returns-in_ok-at-in-Some-claus
 returns-in_ok-at-in-Some-clause-visits c =
     let k = c.in_ok-at-in-Some.ensures.visits in
     let m = c.aim_behind.ensures.visits in
-    (k.0 + m.0, m.1 ∙ ap (λ v. raised v m.0) k.1 ∙ raised-twice c.args.visits.now k.0 m.0, omega (arith, k.2, m.2), λ some. let l = k.4 some in omega (arith, l))
+    (k.0 + m.0, m.1 ∙ ap (λ v. raised v m.0) k.1 ∙ raised-twice c.args.visits.now k.0 m.0, omega (arith, k.2, k.3, m.2), λ some. let l = k.4 some in omega (arith, l))
 
 pub returns-in_ok-at-in-Some-clause-looks : goal.returns-in_ok-at-in-Some-clause-looks
 returns-in_ok-at-in-Some-clause-looks c =

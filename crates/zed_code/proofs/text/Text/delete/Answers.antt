@@ -1,23 +1,19 @@
-use Rattle.std.proofs.Common.{◌≡◌, ◌<◌, length, Result, Ok, Err, OnErr, refl, sym, subst, ap, ◌∙◌, arith}
+use Rattle.std.proofs.Common.{◌≡◌, true, refl, sym, subst, ap, ◌∙◌, arith}
 use Rattle.std.proofs.lemmas.List.{length-map}
 use Rattle.zed_types.specs.Text.{kill}
-use Rattle.zed_code.specs.Blocks.{lists, list_at, runs_of}
+use Rattle.zed_code.specs.Blocks.{runs_of}
 use Rattle.zed_code.specs.Runs.{kill_runs}
-use Rattle.zed_code.specs.Cutting.{piece_in}
+use Rattle.zed_code.specs.Cutting.{piece_in, spelled}
 use Rattle.zed_code.specs.Looks.{looks_to_delete}
 use Rattle.zed_code.specs.Pieces.{Shown}
 use Rattle.zed_code.specs.Visits.{LooksAtLeast}
-use Rattle.zed_code.specs.Text.{bytes_from}
+use Rattle.zed_code.specs.Text.{bytes_from, has_from}
 use Rattle.zed_code.proofs.PutBytes.{spelled-cutting, shown}
 use Rattle.zed_code.proofs.Killing.{kill_runs-spell, kill_runs-keep, length-kill_runs}
-use Rattle.zed_code.proofs.Hinting.{full-some}
-use Rattle.zed_code.proofs.Joins.{length-at, length-lists}
+use Rattle.zed_code.proofs.Deaths.{any_err}
+use Rattle.zed_code.proofs.Parting.{sought-from}
 use Rattle.zed_code.proofs.Passing.{looks-to-delete}
 use Rattle.zed_code.proofs.text.Text.delete.Goals as goal
-
-any_err : {A E P : Type 0} (r : Result A E) → P → OnErr r P
-any_err (Ok x) p = tt
-any_err (Err e) p = p
 
 pub invariant_of-self-2 : goal.invariant_of-self-2
 invariant_of-self-2 c =
@@ -55,11 +51,8 @@ returns-clause-looks c =
 
 pub returns-in_err-mark_dead-clause-memory_only_when : goal.returns-in_err-mark_dead-clause-memory_only_when
 returns-in_err-mark_dead-clause-memory_only_when c =
-    let ls = lists c.self.inside.blocks.items in
+    let store = c.self.inside.store.items in
     let runs = runs_of c.self.inside.blocks.items in
-    let there : 0 < length c.self.inside.blocks.items = c.in_err-mark_dead.ensures.memory_only_when in
-    let first : 0 < length (list_at 0 ls) = full-some ls 0 (omega (arith, there, length-lists c.self.inside.blocks.items)) c.self.invariant.full in
-    let all = length-at ls 0 (omega (arith, there, length-lists c.self.inside.blocks.items)) in
-    let count = length-map runs (piece_in c.self.inside.store.items) in
-    let P : Shown → Type 0 = λ t. 0 < length t.cutting in
-    any_err c.from_residual.result (subst P c.self.view_is (omega (arith, first, all, count)))
+    let there = c.in_err-mark_dead.ensures.memory_only_when in
+    let some : has_from c.args.stamp c.args.from (spelled store runs) ≡ true = sought-from store c.args.stamp c.args.from runs c.self.invariant.kept.each there.1 in
+    any_err c.from_residual.result (there.0, ap (has_from c.args.stamp c.args.from) (shown store runs _ c.args.self.now refl c.self.view_is) ∙ some)
