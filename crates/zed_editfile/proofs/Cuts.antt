@@ -1,5 +1,6 @@
 -- Where reading stops: at the front of a record, however many bytes follow, and what records are taken before it.
 use Rattle.std.proofs.Common.{◌≡◌, ℕ, zero, suc, ◌+◌, ◌^◌, ◌<◌, ◌≤◌, Bool, true, false, ltb, leb, ◌&&◌, List, [], ◌∷◌, ◌++◌, length, take, drop, Option, Some, None, Result, Ok, Err, refl, sym, ap, subst, ◌∙◌, append_assoc, ◌-◌, arith, ◌⊎◌, inl, inr}
+use Rattle.std.specs.Prelude.{IsOk}
 use Rattle.std.specs.List.{flat_map}
 use Rattle.std.proofs.lemmas.Bool.{ltb-true, ltb-false, lt-ltb, le-ltb, leb-true}
 use Rattle.std.proofs.lemmas.List.{append-nil, take_at, drop_at, take-append-drop, take-append-le, length-append, length-take, length-drop}
@@ -9,8 +10,8 @@ use Rattle.zed_op.specs.declared.op.Edit.{Edit}
 use Rattle.zed_editfile.specs.declared.error.EditFileError.{EditFileError}
 use Rattle.zed_editfile.specs.declared.error.EditFileError.TheVariants.{Memory, RecordLength}
 use Rattle.zed_editfile.specs.Spelling.{number, record_text, AreOf}
-use Rattle.zed_editfile.specs.Reading.{edit_at}
-use Rattle.zed_editfile.specs.Stream.{Stop, waits, fails, is_length, fault_of, body_at, record_stop, AreRecords, Frames, Gains}
+use Rattle.zed_editfile.specs.Reading.{edit_at, SpellsString}
+use Rattle.zed_editfile.specs.Stream.{Stop, waits, fails, is_length, fault_of, body_at, record_stop, AreRecords, Frames, Gains, HasLength, IsCutShort, MayWantMemory, MayWantMemoryBehind}
 use Rattle.zed_editfile.proofs.Numbers.{IsBytes, IsBytes-front, IsBytes-behind, length_number, number_is, number_back}
 use Rattle.zed_editfile.proofs.Edits.{edit_takes}
 
@@ -226,16 +227,48 @@ framed b rest body after n fits h r long e f =
 pub frame_after : (b body after : List ℕ) → Frames b body after → after ≡ drop (little_number 4 b) (drop 4 b)
 frame_after b body after f = sym (ap (λ (k : ℕ). drop k (drop 4 b)) (frame_number b body after f) ∙ ap (drop (length body)) (frame_behind b body after f) ∙ drop_at body after (length body) refl)
 
-pub frame_fault : (v : ℕ) (b body after : List ℕ) (e : EditFileError) → Frames b body after → (e ≡ Memory) ⊎ (edit_at v body ≡ Err e) → ((e ≡ Memory) × (0 < length b)) ⊎ (record_stop v b ≡ fails e)
-frame_fault v b body after e f h = elim h [ inl m ↦ inl (m, omega (arith, frame_shorter b body after f)) | inr r ↦ inr (frame_stop v b body after f ∙ ap fault_of r) ]
+-- memory may be wanted for what a whole record spells
+frame_wants : (v : ℕ) (b body after : List ℕ) → Frames b body after → IsOk (edit_at v body) ⊎ SpellsString v body → MayWantMemory v b
+frame_wants v b body after f w =
+    let whole = frame_whole b body after f in
+    let P : List ℕ → Type 0 = λ t. IsOk (edit_at v t) ⊎ SpellsString v t in
+    ((whole.long, whole.good), inr (subst P (sym (frame_body b body after f)) w))
 
--- where some bytes are, there are some with those behind them
-pub still_some : (k l : List ℕ) → 0 < length k → 0 < length (k ++ l)
-still_some k l h = omega (arith, h, length-append k l)
+pub frame_fault : (v : ℕ) (b body after : List ℕ) (e : EditFileError) → Frames b body after → ((e ≡ Memory) × SpellsString v body) ⊎ (edit_at v body ≡ Err e) → ((e ≡ Memory) × MayWantMemory v b) ⊎ (record_stop v b ≡ fails e)
+frame_fault v b body after e f h = elim h [ inl m ↦ inl (m.0, frame_wants v b body after f (inr m.1)) | inr r ↦ inr (frame_stop v b body after f ∙ ap fault_of r) ]
+
+is_ok : (r : Result Edit EditFileError) (e : Edit) → r ≡ Ok e → IsOk r
+is_ok (Ok x) e h = refl
+is_ok (Err d) e h = absurd cc
+
+pub frame_edit : (v : ℕ) (b body after : List ℕ) (e : Edit) → Frames b body after → edit_at v body ≡ Ok e → MayWantMemory v b
+frame_edit v b body after e f h = frame_wants v b body after f (inl (is_ok (edit_at v body) e h))
+
+-- a record that waits with more than its length is cut
+pub waits_wants : (v : ℕ) (b : List ℕ) → record_stop v b ≡ waits b → 4 ≤ length b → MayWantMemory v b
+waits_wants v b stop le = elim (waits_is v b b stop).1 [ inl short ↦ absurd (omega arith) | inr cut ↦ ((cut.long, cut.good), inl cut.cut) ]
+
+-- a good length stays, whatever follows
+pub length_stays : (k l : List ℕ) → HasLength k → HasLength (k ++ l)
+length_stays k l h = (omega (arith, h.0, length-append k l), ap is_length (same_number k l h.0) ∙ h.1)
+
+pub length_on : (total k l : List ℕ) → k ++ l ≡ total → HasLength k → HasLength total
+length_on total k l whole h = subst HasLength whole (length_stays k l h)
+
+pub behind_length : (v : ℕ) (kept bytes tail : List ℕ) → MayWantMemoryBehind v kept bytes tail → HasLength tail
+behind_length v kept bytes tail h = elim h [ inl began ↦ began.2 | inr wants ↦ wants.0 ]
 
 -- a fault of the front is one of the whole
-pub fault_on : (v : ℕ) (total k l : List ℕ) (e : EditFileError) → k ++ l ≡ total → ((e ≡ Memory) × (0 < length k)) ⊎ (record_stop v k ≡ fails e) → ((e ≡ Memory) × (0 < length total)) ⊎ (record_stop v total ≡ fails e)
-fault_on v total k l e whole h = elim h [ inl m ↦ inl (m.0, subst (λ (t : List ℕ). 0 < length t) whole (still_some k l m.1)) | inr r ↦ inr (ap (record_stop v) (sym whole) ∙ fault_stays v k l e r) ]
+pub fault_on : (v : ℕ) (total k l old : List ℕ) (e : EditFileError) → k ++ l ≡ total → 0 < length old → ((e ≡ Memory) × MayWantMemory v k) ⊎ (record_stop v k ≡ fails e) → ((e ≡ Memory) × (0 < length old) × HasLength total) ⊎ (record_stop v total ≡ fails e)
+fault_on v total k l old e whole some h = elim h [ inl m ↦ inl (m.0, some, length_on total k l whole m.1.0) | inr r ↦ inr (ap (record_stop v) (sym whole) ∙ fault_stays v k l e r) ]
+
+-- the same of a record that began in earlier pieces
+pub began_fault : (v : ℕ) (kept total : List ℕ) (e : EditFileError) → ((e ≡ Memory) × (0 < length kept) × HasLength total) ⊎ (record_stop v total ≡ fails e) → ((e ≡ Memory) × MayWantMemoryBehind v kept total total) ⊎ (record_stop v total ≡ fails e)
+began_fault v kept total e h = elim h [ inl m ↦ inl (m.0, inl (m.1, refl, m.2)) | inr r ↦ inr r ]
+
+-- and of one behind it
+pub behind_fault : (v : ℕ) (kept total tail : List ℕ) (e : EditFileError) → ((e ≡ Memory) × MayWantMemory v tail) ⊎ (record_stop v tail ≡ fails e) → ((e ≡ Memory) × MayWantMemoryBehind v kept total tail) ⊎ (record_stop v tail ≡ fails e)
+behind_fault v kept total tail e h = elim h [ inl m ↦ inl (m.0, inr m.1) | inr r ↦ inr r ]
 
 pub bad_on : (v : ℕ) (total k l : List ℕ) (e : EditFileError) → k ++ l ≡ total → (e ≡ RecordLength) × (4 ≤ length k) × (is_length (little_number 4 k) ≡ false) → record_stop v total ≡ fails e
 bad_on v total k l e whole h = ap (record_stop v) (sym whole) ∙ fault_stays v k l e (is_bad v k h.1 h.2 ∙ ap fails (sym h.0))

@@ -260,5 +260,5 @@ stopped left p stop fine (inl memory) cut = let both : Some Memory ≡ Some CutS
 stopped left p stop fine (inr is) cut = fine (stop_of p) is cut
 
 pub cut_is_told_at_the_end : CutIsToldAtTheEnd
-cut_is_told_at_the_end bytes found p (inl h) cut = stopped bytes p (head_stop p.asked bytes) (head p.asked bytes) h.stop cut
+cut_is_told_at_the_end bytes found p (inl h) cut = head p.asked bytes (stop_of p) h.stop cut
 cut_is_told_at_the_end bytes found p (inr h) cut = stopped h.tail p (record_stop p.version h.tail) (record_front p.version h.tail) h.stop cut

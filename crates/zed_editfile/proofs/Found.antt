@@ -8,8 +8,8 @@ use Rattle.zed_editfile.specs.declared.error.EditFileError.{EditFileError}
 use Rattle.zed_editfile.specs.declared.error.EditFileError.TheVariants.{Memory, Magic, NewVersion, OtherWorld, RecordLength}
 use Rattle.zed_editfile.specs.Spelling.{record_text, head_text, text_of, AreOf}
 use Rattle.zed_editfile.specs.Reading.{edit_at}
-use Rattle.zed_editfile.specs.Stream.{Stop, waits, fails, has_letters, is_other, is_version, is_length, fault_of, body_at, head_stop, record_stop, Progress, stop_of, IsTextOf, Reads, Feeds, AreRecords, EndsAt, Collects, Enters, Advances}
-use Rattle.zed_editfile.proofs.Cuts.{waits_is, fault_stays, still_some, flat_both, records_both, spelled_both, is_short}
+use Rattle.zed_editfile.specs.Stream.{Stop, waits, fails, has_letters, is_other, is_version, is_length, fault_of, body_at, head_stop, record_stop, Progress, stop_of, IsTextOf, Reads, Feeds, AreRecords, Collects, Enters, Advances, Gains, IsWaiting}
+use Rattle.zed_editfile.proofs.Cuts.{waits_is, fault_stays, length_stays, behind_length, no_gain, flat_both, records_both, spelled_both, is_short}
 use Rattle.zed_editfile.proofs.Heads.{head_stays, head_waits}
 
 -- ---- the forms of a stop
@@ -76,7 +76,7 @@ stays bytes x found p e g r = elim r [
         world = h.world;
         version = h.version;
         none = append-nil found ∙ h.none;
-        stop = elim h.stop [ inl m ↦ inl (m.0, still_some bytes x m.1) | inr s ↦ inr (head_ended p.asked bytes x (stop_of p) e s g) ];
+        stop = head_ended p.asked bytes x (stop_of p) e h.stop g;
       })
   | inr h ↦
       inr (record {
@@ -89,7 +89,7 @@ stays bytes x found p e g r = elim r [
         good = subst (λ (t : List Edit). AreRecords t) (sym (append-nil found)) h.good;
         spelled = subst (λ (t : List Edit). AreOf p.version t) (sym (append-nil found)) h.spelled;
         whole = ap (λ (t : List ℕ). t ++ x) h.whole ∙ append_assoc (text_of p.version h.number found) h.tail x ∙ ap (λ (t : List Edit). text_of p.version h.number t ++ (h.tail ++ x)) (sym (append-nil found));
-        stop = elim h.stop [ inl m ↦ inl (m.0, still_some h.tail x m.1) | inr s ↦ inr (record_ended p.version h.tail x (stop_of p) e s g) ];
+        stop = elim h.stop [ inl m ↦ inl (m.0, length_stays h.tail x m.1) | inr s ↦ inr (record_ended p.version h.tail x (stop_of p) e s g) ];
       })
 ]
 
@@ -117,18 +117,18 @@ moved asked world version s = record { asked = asked; world = world; version = v
 -- a reader in the head has all the bytes
 in_head : (asked : Option ℕ) (v : ℕ) (rest bytes : List ℕ) (found : List Edit) → Reads bytes found (at_rest asked None v rest) → (bytes ≡ rest) × (found ≡ []) × (v ≡ 0)
 in_head asked v rest bytes found r = elim r [
-  | inl h ↦ elim h.stop [ inl m ↦ let c : None ≡ Some Memory = m.0 in absurd cc | inr s ↦ ((head_waits asked bytes rest s).0, h.none, h.version) ]
+  | inl h ↦ ((head_waits asked bytes rest h.stop).0, h.none, h.version)
   | inr h ↦ let c : None ≡ Some h.number = h.world in absurd cc
 ]
 
-on_head : (asked : Option ℕ) (v : ℕ) (rest x : List ℕ) (before after : List Edit) (s : Stop) → after ≡ before → EndsAt (rest ++ x) s (head_stop asked (rest ++ x)) → Feeds x before after (at_rest asked None v rest) (moved asked None v s)
+on_head : (asked : Option ℕ) (v : ℕ) (rest x : List ℕ) (before after : List Edit) (s : Stop) → after ≡ before → head_stop asked (rest ++ x) ≡ some_stop s → Feeds x before after (at_rest asked None v rest) (moved asked None v s)
 on_head asked v rest x before after s same ends = record {
   edits = [];
   gained = same ∙ sym (append-nil before);
   good = tt;
   reads = λ bytes found r.
       let i = in_head asked v rest bytes found r in
-      inl (record { world = refl; version = i.2; none = append-nil found ∙ i.1; stop = elim ends [ inl m ↦ inl (m.0, subst (λ (t : List ℕ). 0 < length (t ++ x)) (sym i.0) m.1) | inr e ↦ inr (ap (λ (t : List ℕ). head_stop asked (t ++ x)) i.0 ∙ e) ] });
+      inl (record { world = refl; version = i.2; none = append-nil found ∙ i.1; stop = ap (λ (t : List ℕ). head_stop asked (t ++ x)) i.0 ∙ ends });
 }
 
 into_records : (asked : Option ℕ) (v w n : ℕ) (rest x : List ℕ) (before after : List Edit) (s : Stop) → Enters asked w n (rest ++ x) before after s → Feeds x before after (at_rest asked None v rest) (moved asked (Some n) w s)
@@ -151,11 +151,11 @@ into_records asked v w n rest x before after s e = record {
         good = subst (λ (t : List Edit). AreRecords (t ++ new)) (sym i.1) e.records.gains.good;
         spelled = subst (λ (t : List Edit). AreOf w (t ++ new)) (sym i.1) e.records.gains.spelled;
         whole = ap (λ (t : List ℕ). t ++ x) i.0 ∙ whole ∙ ap (λ (t : List Edit). text_of w n (t ++ new) ++ tail) (sym i.1);
-        stop = elim e.records.ends [ inl m ↦ inl m | inr e ↦ inr e ];
+        stop = elim e.records.ends [ inl m ↦ inl (m.0, behind_length w [] e.left tail m.1) | inr e ↦ inr e ];
       });
 }
 
-on_records : (asked : Option ℕ) (v m n : ℕ) (rest x : List ℕ) (before after : List Edit) (s : Stop) → n ≡ m → Collects v (rest ++ x) before after s → Feeds x before after (at_rest asked (Some m) v rest) (moved asked (Some n) v s)
+on_records : (asked : Option ℕ) (v m n : ℕ) (rest x : List ℕ) (before after : List Edit) (s : Stop) → n ≡ m → Collects v rest (rest ++ x) before after s → Feeds x before after (at_rest asked (Some m) v rest) (moved asked (Some n) v s)
 on_records asked v m n rest x before after s same c = record {
   edits = c.gains.edits;
   gained = c.gains.gained;
@@ -182,12 +182,12 @@ on_records asked v m n rest x before after s same c = record {
               good = records_both found new h.good c.gains.good;
               spelled = spelled_both v found new h.spelled c.gains.spelled;
               whole = ap (λ (t : List ℕ). t ++ x) h.whole ∙ append_assoc (text_of v k found) h.tail x ∙ ap (λ (t : List ℕ). text_of v k found ++ t) behind ∙ texts;
-              stop = elim c.ends [ inl m ↦ inl m | inr e ↦ inr e ];
+              stop = elim c.ends [ inl m ↦ inl (m.0, behind_length v rest (rest ++ x) c.tail m.1) | inr e ↦ inr e ];
             })
       ];
 }
 
-pub goes_on : (asked world next : Option ℕ) (v w : ℕ) (rest x : List ℕ) (before after : List Edit) (s : Stop) → Advances asked world next v w (rest ++ x) before after s → Feeds x before after (at_rest asked world v rest) (moved asked next w s)
+pub goes_on : (asked world next : Option ℕ) (v w : ℕ) (rest x : List ℕ) (before after : List Edit) (s : Stop) → Advances asked world next v w rest (rest ++ x) before after s → Feeds x before after (at_rest asked world v rest) (moved asked next w s)
 goes_on asked None None v w rest x before after s a =
     let P : ℕ → Type 0 = λ k. Feeds x before after (at_rest asked None v rest) (moved asked None k s) in
     subst P (sym a.0) (on_head asked v rest x before after s a.1 a.2)
@@ -197,6 +197,12 @@ goes_on asked (Some m) (Some n) v w rest x before after s a =
     let P : ℕ → Type 0 = λ k. Feeds x before after (at_rest asked (Some m) v rest) (moved asked (Some n) k s) in
     subst P (sym a.0) (on_records asked v m n rest x before after s a.1 a.2)
 
+-- without bytes a reader that waits stays where it is
+pub stands : (asked world : Option ℕ) (v : ℕ) (rest : List ℕ) (before : List Edit) → IsWaiting asked world v rest → Advances asked world world v v rest (rest ++ []) before before (record { rest = rest; fault = None })
+stands asked None v rest before w = (refl, refl, ap (head_stop asked) (append-nil rest) ∙ w)
+stands asked (Some n) v rest before w =
+    (refl, refl, record { tail = rest; gains = subst (λ (t : List ℕ). Gains v before before t rest) (sym (append-nil rest)) (no_gain v before before rest refl); ends = inr w })
+
 -- ---- the beginning and the end
 
 pub begins : (asked : Option ℕ) → head_stop asked [] ≡ waits []
@@ -204,7 +210,7 @@ unfolding head_stop
 begins asked = refl
 
 pub reads_nothing : (asked : Option ℕ) → Reads [] [] (at_rest asked None 0 [])
-reads_nothing asked = inl (record { world = refl; version = refl; none = refl; stop = inr (begins asked) })
+reads_nothing asked = inl (record { world = refl; version = refl; none = refl; stop = begins asked })
 
 pub no_record : (v : ℕ) → record_stop v [] ≡ waits []
 no_record v = is_short v [] (omega arith)

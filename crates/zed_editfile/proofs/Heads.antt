@@ -5,7 +5,7 @@ use Rattle.std.proofs.lemmas.List.{append-nil, take_all, length-append}
 use Rattle.byteorder.specs.Endian.{little_number}
 use Rattle.byteorder.specs.Numbers.{little_from-append}
 use Rattle.zed_editfile.specs.declared.error.EditFileError.{EditFileError}
-use Rattle.zed_editfile.specs.declared.error.EditFileError.TheVariants.{Memory, Magic, NewVersion, OtherWorld}
+use Rattle.zed_editfile.specs.declared.error.EditFileError.TheVariants.{Magic, NewVersion, OtherWorld}
 use Rattle.zed_editfile.specs.Spelling.{number, head_text}
 use Rattle.zed_editfile.specs.Stream.{Stop, waits, fails, has_letters, is_other, is_version, head_stop}
 use Rattle.zed_editfile.proofs.Numbers.{IsBytes, IsBytes-behind, length_number, number_is, number_below, number_back}
@@ -195,8 +195,8 @@ head_whole asked (a ∷ b ∷ c ∷ d ∷ t) fits le s = four_whole asked a b c 
 
 -- ---- as the code goes
 
-pub head_fault : (asked : Option ℕ) (total k l : List ℕ) (e : EditFileError) → k ++ l ≡ total → head_stop asked k ≡ fails e → ((e ≡ Memory) × (0 < length total)) ⊎ (head_stop asked total ≡ fails e)
-head_fault asked total k l e whole s = inr (ap (head_stop asked) (sym whole) ∙ head_stays asked k l e s)
+pub head_fault : (asked : Option ℕ) (total k l : List ℕ) (e : EditFileError) → k ++ l ≡ total → head_stop asked k ≡ fails e → head_stop asked total ≡ fails e
+head_fault asked total k l e whole s = ap (head_stop asked) (sym whole) ∙ head_stays asked k l e s
 
 pub head_short : (asked : Option ℕ) (total k l : List ℕ) → k ++ l ≡ total → (length k < 12 → l ≡ []) → head_stop asked k ≡ waits k → (k ≡ total) × (head_stop asked k ≡ waits k)
 head_short asked total k l whole none s = (sym (append-nil k) ∙ ap (λ (t : List ℕ). k ++ t) (sym (none (head_waits asked k k s).1)) ∙ whole, s)

@@ -14,3 +14,4 @@ pub mod Registers
 pub mod Lengths
 pub mod Putting
 pub mod Records
+pub mod Strings

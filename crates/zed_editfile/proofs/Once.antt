@@ -158,14 +158,14 @@ one_reading bytes es fs p q same m n a b = elim a [
   | inl x ↦
       elim b [
         | inl y ↦
-            let s = stopped bytes p m (head_stop p.asked bytes) x.stop in
-            let t = stopped bytes q n (head_stop q.asked bytes) y.stop in
+            let s = x.stop in
+            let t = y.stop in
             (x.none ∙ sym y.none, same_progress p q same (x.world ∙ sym y.world) (x.version ∙ sym y.version) (stop_is (stop_of p) (stop_of q) (sym s ∙ ap (λ (o : Option ℕ). head_stop o bytes) same ∙ t)))
-        | inr y ↦ absurd (none_is_not (stop_of p) (sym (head_is_whole p.asked bytes fs q (sym same) y) ∙ stopped bytes p m (head_stop p.asked bytes) x.stop))
+        | inr y ↦ absurd (none_is_not (stop_of p) (sym (head_is_whole p.asked bytes fs q (sym same) y) ∙ x.stop))
       ]
   | inr x ↦
       elim b [
-        | inl y ↦ absurd (none_is_not (stop_of q) (sym (head_is_whole q.asked bytes es p same x) ∙ stopped bytes q n (head_stop q.asked bytes) y.stop))
+        | inl y ↦ absurd (none_is_not (stop_of q) (sym (head_is_whole q.asked bytes es p same x) ∙ y.stop))
         | inr y ↦
             let s = stopped x.tail p m (record_stop p.version x.tail) x.stop in
             let t = stopped y.tail q n (record_stop q.version y.tail) y.stop in

@@ -35,17 +35,28 @@ use Rattle.zed_op.specs.declared.op.Op.{Op}
 use Rattle.zed_op.specs.declared.op.Op.TheVariants.{Genesis, SetHeader, BoardAdd, BoardRemove, SetBoard, SetCells, StatAdd, StatRemove, SetStat, TextAdd, TextInsert, TextDelete}
 use Rattle.zed_op.specs.declared.op.Edit.{Edit}
 use Rattle.zed_op.specs.Fit.{fault}
+use Rattle.zed_op.specs.Growth.{has_string}
 use Rattle.zed_editfile.specs.declared.error.EditFileError.{EditFileError}
 use Rattle.zed_editfile.specs.declared.error.EditFileError.TheVariants.{Memory, BadEdit}
 
--- What a function returned, seen by view, is what reading gives, unless memory ran out.
+-- what a function returned, seen by view, is what reading gives
 abbrev pub Gives : {X Y : Type 0} → (X → Y) → Result X EditFileError → Result Y EditFileError → Type 0
 Gives view (Ok x) read = read ≡ Ok (view x)
-Gives view (Err e) read = (e ≡ Memory) ⊎ (read ≡ Err e)
+Gives view (Err e) read = read ≡ Err e
+
+-- the same of a function that may want memory, which is so where its memory ran out
+abbrev pub GivesUnless : {X Y : Type 0} → Type 0 → (X → Y) → Result X EditFileError → Result Y EditFileError → Type 0
+GivesUnless wants view (Ok x) read = read ≡ Ok (view x)
+GivesUnless wants view (Err e) read = ((e ≡ Memory) × wants) ⊎ (read ≡ Err e)
 
 -- a field is a value and the bytes after it, or a fault
 abbrev pub Field : Type 0 → Type 0
 Field A = Result (A × List ℕ) EditFileError
+
+-- whether a field was read whose value is such
+abbrev pub reads_such : {A : Type 0} → (A → Bool) → Field A → Bool
+reads_such test (Ok x) = test x.0
+reads_such test (Err e) = false
 
 -- what a function makes of the value of a field
 abbrev pub mapped : {A B : Type 0} → (A → B) → Field A → Field B
@@ -311,6 +322,17 @@ unchecked_edit_at version bytes = do
   number ← byte_at made.1
   op ← op_at version number.0 number.1
   if length op.1 == 0 then Ok (record { stamp = made.0; op = op.0 }) else Err (BadEdit Long)
+
+-- the op in the body of a record, whatever is wrong with its edit
+unfoldable pub op_in : ℕ → List ℕ → Field Op
+op_in version body = do
+  made ← stamp_at body
+  number ← byte_at made.1
+  op_at version number.0 number.1
+
+-- the op is there with all its fields and has a string, which is copied before what else is wrong with the edit is seen
+abbrev pub SpellsString : ℕ → List ℕ → Type 0
+SpellsString version body = reads_such has_string (op_in version body) ≡ true
 
 -- the edit, if nothing is wrong with it
 abbrev pub unless_faulty : Option Cause → Edit → Result Edit EditFileError

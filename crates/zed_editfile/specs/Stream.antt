@@ -1,12 +1,12 @@
 -- What a reader of an edit file has found in the bytes so far.
-use Rattle.std.specs.Prelude.{◌≡◌, ◌⊎◌, ◌<◌, ◌^◌, ℕ, Bool, false, not, ◌&&◌, ◌||◌, ◌==◌, true, nat_le, nat_lt, nat_eq, if◌then◌else◌, List, [], ◌∷◌, ◌++◌, length, take, drop, slice_index, Option, Some, None, Result, Ok, Err}
+use Rattle.std.specs.Prelude.{◌≡◌, ◌⊎◌, ◌<◌, ◌≤◌, ◌^◌, ℕ, Bool, false, not, ◌&&◌, ◌||◌, ◌==◌, true, nat_le, nat_lt, nat_eq, if◌then◌else◌, List, [], ◌∷◌, ◌++◌, length, take, drop, slice_index, Option, Some, None, Result, Ok, Err, IsOk}
 use Rattle.std.specs.List.{flat_map, starts_with, AllByRecursion}
 use Rattle.byteorder.specs.Endian.{little_number}
 use Rattle.zed_op.specs.declared.op.Edit.{Edit}
 use Rattle.zed_op.specs.Fit.{Fits}
 use Rattle.zed_editfile.specs.declared.error.EditFileError.{EditFileError}
 use Rattle.zed_editfile.specs.declared.error.EditFileError.TheVariants.{Memory, Magic, NewVersion, OtherWorld, RecordLength, CutShort}
-use Rattle.zed_editfile.specs.Reading.{edit_at}
+use Rattle.zed_editfile.specs.Reading.{edit_at, SpellsString}
 use Rattle.zed_op.specs.Sizes.{HasSizes}
 use Rattle.zed_editfile.specs.Spelling.{number, spelling, record_text, head_text, text_of, AreOf}
 
@@ -95,6 +95,27 @@ pub record IsTextOf (world : ℕ) (es : List Edit) (bytes : List ℕ) : Type 0 w
   pub spelled : AreOf version es
   pub text : bytes ≡ text_of version world es
 
+-- ---- where memory may run out
+
+-- the length of a record is at the front of the bytes, and is one of those that there are
+abbrev pub HasLength : List ℕ → Type 0
+HasLength bytes = (4 ≤ length bytes) × (is_length (little_number 4 bytes) ≡ true)
+
+-- the bytes behind the length are fewer than it says
+abbrev pub IsCutShort : List ℕ → Type 0
+IsCutShort bytes = length (drop 4 bytes) < little_number 4 bytes
+
+-- The record at the front of the bytes may want memory: it has a good length, and it is cut, so that its bytes are to be kept; or it spells an edit;
+-- or what is wrong with that is seen behind a string. So memory never runs out in place of a bad length, a field that is cut, a wrong op or a wrong tag.
+abbrev pub MayWantMemory : ℕ → List ℕ → Type 0
+MayWantMemory version bytes =
+    HasLength bytes × (IsCutShort bytes ⊎ (IsOk (edit_at version (body_at bytes)) ⊎ SpellsString version (body_at bytes)))
+
+-- the same of the tail of some bytes of which the first were kept of earlier pieces; a record that began in these is kept until it is whole
+abbrev pub MayWantMemoryBehind : ℕ → List ℕ → List ℕ → List ℕ → Type 0
+MayWantMemoryBehind version kept bytes tail =
+    ((0 < length kept) × (tail ≡ bytes) × HasLength tail) ⊎ MayWantMemory version tail
+
 -- ---- the reader
 
 -- a reader: the world asked for, the world and the version once the head is whole (the version is 0 before), what came of a head or a record that isn't whole yet, and the fault that ended it
@@ -109,16 +130,16 @@ pub record Progress : Type 0 where
 abbrev pub stop_of : Progress → Stop
 stop_of p = record { rest = p.rest; fault = p.fault }
 
--- of bytes that are left the reader is where reading stops, or its memory ran out, and there are some
+-- of records that are left the reader is where reading stops; or its memory ran out, and the first of them has a good length
 abbrev pub Stops : List ℕ → Progress → Option Stop → Type 0
-Stops left p stop = ((p.fault ≡ Some Memory) × (0 < length left)) ⊎ (stop ≡ Some (stop_of p))
+Stops left p stop = ((p.fault ≡ Some Memory) × HasLength left) ⊎ (stop ≡ Some (stop_of p))
 
 -- the bytes are less than a good head
 pub record InHead (bytes : List ℕ) (edits : List Edit) (p : Progress) : Type 0 where
   pub world : p.world ≡ None
   pub version : p.version ≡ 0
   pub none : edits ≡ []
-  pub stop : Stops bytes p (head_stop p.asked bytes)
+  pub stop : head_stop p.asked bytes ≡ Some (stop_of p)
 
 -- the bytes are a good head, the records of these edits, and a tail where reading stops
 pub record InRecords (bytes : List ℕ) (edits : List Edit) (p : Progress) : Type 0 where
@@ -177,15 +198,11 @@ abbrev pub end_of : Result (Unit {0}) EditFileError → List ℕ → Stop
 end_of (Ok u) kept = record { rest = kept; fault = None }
 end_of (Err e) kept = record { rest = []; fault = Some e }
 
--- of bytes that are left the step ends where reading stops, or its memory ran out, and there are some
-abbrev pub EndsAt : List ℕ → Stop → Option Stop → Type 0
-EndsAt left s stop = ((s.fault ≡ Some Memory) × (0 < length left)) ⊎ (stop ≡ Some s)
-
--- the records at the front of the bytes were taken, up to where the step ends
-pub record Collects (version : ℕ) (bytes : List ℕ) (before after : List Edit) (s : Stop) : Type 0 where
+-- the records at the front of the bytes were taken, of which the first were kept, up to where the step ends: where reading stops, or where memory ran out
+pub record Collects (version : ℕ) (kept bytes : List ℕ) (before after : List Edit) (s : Stop) : Type 0 where
   pub tail : List ℕ
   pub gains : Gains version before after bytes tail
-  pub ends : EndsAt tail s (record_stop version tail)
+  pub ends : ((s.fault ≡ Some Memory) × MayWantMemoryBehind version kept bytes tail) ⊎ (record_stop version tail ≡ Some s)
 
 -- a good head is at the front of the bytes, and then records were taken
 pub record Enters (asked : Option ℕ) (version n : ℕ) (bytes : List ℕ) (before after : List Edit) (s : Stop) : Type 0 where
@@ -194,11 +211,16 @@ pub record Enters (asked : Option ℕ) (version n : ℕ) (bytes : List ℕ) (bef
   pub asked_for : is_other asked n ≡ false
   pub known : is_version version ≡ true
   pub head : bytes ≡ head_text version n ++ left
-  pub records : Collects version left before after s
+  pub records : Collects version [] left before after s
 
--- from a world and a version to a world and a version: still in the head, into the records, or on in the records
-abbrev pub Advances : Option ℕ → Option ℕ → Option ℕ → ℕ → ℕ → List ℕ → List Edit → List Edit → Stop → Type 0
-Advances asked None None v w bytes before after s = (w ≡ v) × (after ≡ before) × EndsAt bytes s (head_stop asked bytes)
-Advances asked None (Some n) v w bytes before after s = Enters asked w n bytes before after s
-Advances asked (Some m) None v w bytes before after s = ⊥
-Advances asked (Some m) (Some n) v w bytes before after s = (w ≡ v) × (n ≡ m) × Collects v bytes before after s
+-- from a world and a version to a world and a version, by bytes of which the first were kept: still in the head, where memory never runs out; into the records; or on
+-- in the records
+abbrev pub Advances : Option ℕ → Option ℕ → Option ℕ → ℕ → ℕ → List ℕ → List ℕ → List Edit → List Edit → Stop → Type 0
+Advances asked None None v w kept bytes before after s = (w ≡ v) × (after ≡ before) × (head_stop asked bytes ≡ Some s)
+Advances asked None (Some n) v w kept bytes before after s = Enters asked w n bytes before after s
+Advances asked (Some m) None v w kept bytes before after s = ⊥
+Advances asked (Some m) (Some n) v w kept bytes before after s = (w ≡ v) × (n ≡ m) × Collects v kept bytes before after s
+
+-- what a step makes of a reader without a fault, with the edits that a list gained
+abbrev pub Steps : List ℕ → List Edit → List Edit → Progress → Progress → Type 0
+Steps piece before after p q = Advances p.asked p.world q.world p.version q.version p.rest (p.rest ++ piece) before after (stop_of q)

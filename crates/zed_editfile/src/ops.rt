@@ -1,20 +1,21 @@
 //! Reading ops.
-ghost use Rattle.std.specs.Prelude.{◌≡◌};
-ghost use Rattle.zed_editfile.specs.Reading.{Gives, set_board_at, set_cells_at, stat_add_at, set_stat_at, text_insert_at, text_delete_at, op_at, unchecked_edit_at};
+ghost use Rattle.std.specs.Prelude.{◌≡◌, true};
+ghost use Rattle.zed_op.specs.Growth.{has_string};
+ghost use Rattle.zed_editfile.specs.Reading.{Gives, GivesUnless, SpellsString, reads_such, set_board_at, set_cells_at, stat_add_at, set_stat_at, text_insert_at, text_delete_at, op_at, unchecked_edit_at};
 
 use crate::error::EditFileError;
 use crate::fields::{
-    board_of, byte_of, optional_element_of, range_of, rectangle_of, stamp_of, stat_of, string_of,
+    board_of, byte_of, copy_of, optional_element_of, range_of, rectangle_of, stamp_of, stat_of, string_of,
     text_of, tile_of,
 };
 use crate::settings::{board_setting_of, header_setting_of, stat_fields_of, stat_setting_of};
 use std::alloc::Global;
 use zed_op::{Cause, Edit, Op};
-use zed_types::Bytes;
 
-#[tactic(auto, unfolding(crate::specs::Reading::set_board_at))]
+#[tactic(auto, unfolding(crate::specs::Reading::set_board_at), using(crate::proofs::Strings::set_board_has))]
 fn set_board_of(alloc: Global, version: u8, bytes: &[u8]) -> Result<(Op, &[u8]), EditFileError>
-    ensures { Gives (λ x. (x.0, x.1.now)) result (set_board_at version bytes.now) }
+    ensures { GivesUnless (reads_such has_string (set_board_at version bytes.now) ≡ true)
+        (λ x. (x.0, x.1.now)) result (set_board_at version bytes.now) }
 {
     let (board, rest) = board_of(bytes)?;
     let (setting, rest) = board_setting_of(alloc, version, rest)?;
@@ -52,11 +53,12 @@ fn set_stat_of(bytes: &[u8]) -> Result<(Op, &[u8]), EditFileError>
 /// The inserted bytes are all that is left.
 #[tactic(auto, unfolding(crate::specs::Reading::text_insert_at))]
 fn text_insert_of(alloc: Global, bytes: &[u8]) -> Result<(Op, &[u8]), EditFileError>
-    ensures { Gives (λ x. (x.0, x.1.now)) result (text_insert_at bytes.now) }
+    ensures { GivesUnless (reads_such has_string (text_insert_at bytes.now) ≡ true)
+        (λ x. (x.0, x.1.now)) result (text_insert_at bytes.now) }
 {
     let (text, rest) = text_of(bytes)?;
     let (after, rest) = optional_element_of(rest)?;
-    let inserted = Bytes::new(rest.to_vec(alloc)?);
+    let inserted = copy_of(alloc, rest)?;
     Ok((Op::TextInsert(text, after, inserted), &[]))
 }
 
@@ -70,12 +72,13 @@ fn text_delete_of(bytes: &[u8]) -> Result<(Op, &[u8]), EditFileError>
 }
 
 /// The op of a number in a version, by the fields behind it.
-#[tactic(auto, unfolding(crate::specs::Reading::op_at))]
+#[tactic(auto, unfolding(crate::specs::Reading::op_at), using(crate::proofs::Strings::set_header_has, crate::proofs::Strings::board_add_has))]
 fn op_of(alloc: Global, version: u8, number: u8, bytes: &[u8]) -> Result<(Op, &[u8]), EditFileError>
-    ensures { Gives (λ x. (x.0, x.1.now)) result (op_at version number bytes.now) }
+    ensures { GivesUnless (reads_such has_string (op_at version number bytes.now) ≡ true)
+        (λ x. (x.0, x.1.now)) result (op_at version number bytes.now) }
 {
     match number {
-        1 => Ok((Op::Genesis(Bytes::new(bytes.to_vec(alloc)?)), &[])),
+        1 => Ok((Op::Genesis(copy_of(alloc, bytes)?), &[])),
         2 => {
             let (setting, rest) = header_setting_of(alloc, bytes)?;
             Ok((Op::SetHeader(setting), rest))
@@ -104,13 +107,14 @@ fn op_of(alloc: Global, version: u8, number: u8, bytes: &[u8]) -> Result<(Op, &[
 }
 
 /// The edit that these bytes spell, whatever is wrong with it: a stamp, and an op of which nothing is left.
-#[tactic(auto, unfolding(crate::specs::Reading::unchecked_edit_at))]
+#[tactic(auto, unfolding(crate::specs::Reading::unchecked_edit_at, crate::specs::Reading::op_in))]
 pub(crate) fn unchecked_edit_of(
     alloc: Global,
     version: u8,
     bytes: &[u8],
 ) -> Result<Edit, EditFileError>
-    ensures { Gives (λ e. e) result (unchecked_edit_at version bytes.now) }
+    ensures { GivesUnless (SpellsString version bytes.now) (λ e. e) result
+        (unchecked_edit_at version bytes.now) }
 {
     let (stamp, rest) = stamp_of(bytes)?;
     let (number, rest) = byte_of(rest)?;

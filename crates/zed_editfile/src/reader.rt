@@ -1,10 +1,11 @@
 //! The reader of an edit file.
 ghost use Rattle.std.specs.Prelude.{◌≡◌, ◌⊎◌, ◌<◌, ℕ, List, [], Option, Some, None, IfSome, IsOk, OnOk, IfErr, Err, ◌++◌, length};
 ghost use Rattle.zed_op.specs.declared.op.Edit.{Edit};
-ghost use Rattle.zed_editfile.specs.Stream.{Reads, Feeds, AreRecords, IsTextOf, ending, verdict_of};
+ghost use Rattle.zed_editfile.specs.Stream.{Reads, Feeds, Steps, AreRecords, IsTextOf, ending, verdict_of};
 
 use crate::error::EditFileError;
 use crate::stream::advance;
+use smallvec::SmallVec;
 use std::alloc::Global;
 use std::marker::Model;
 use zed_op::Edit;
@@ -19,7 +20,7 @@ pub struct EditReader {
     asked: Option<u64>,
     world: Option<u64>,
     version: u8,
-    kept: Vec<u8>,
+    kept: SmallVec<u8, 12>,
     fault: Option<EditFileError>,
 }
 
@@ -44,7 +45,7 @@ impl EditReader {
             asked,
             world: None,
             version: 0,
-            kept: Vec::new(alloc),
+            kept: SmallVec::new(alloc),
             fault: None,
         }
     }
@@ -54,12 +55,17 @@ impl EditReader {
     /// A fault comes with the byte that shows it, after the edits before it: `Magic` at the first of three letters that
     /// differs, `NewVersion` at a version byte other than 1 and 2, `OtherWorld` at the last byte of a head with another number
     /// than the one asked for, `RecordLength` at the fourth byte of a length below 9 or above 4,194,304, `BadEdit` at the
-    /// end of a record that spells no edit that fits. `Memory` comes where a growth was refused, and only where
-    /// bytes are left of which no edit was read. After a fault, `Memory` too, each later call answers it again, and nothing changes. An
-    /// empty piece changes nothing, and takes no memory.
+    /// end of a record that spells no edit that fits. `Memory` comes where a growth was refused, and only behind the good
+    /// length of a record of which no edit was read: so it never comes in the head, nor in place of `RecordLength`. Where
+    /// the record began in this piece it comes in place of `BadEdit` only where that is seen behind a string, so never with
+    /// `Cause::Short`, `Cause::Op` or `Cause::Tag`. After a fault, `Memory` too, each later call answers it again, and
+    /// nothing changes. An empty piece changes nothing, and takes no memory.
     pub fn feed(&mut self, piece: &[u8], out: &mut Vec<Edit>) -> Result<(), EditFileError>
         // What was read of any bytes before, with the edits appended, is what is read of those bytes and the piece.
         ensures feeds { Feeds piece.now out.old.items out.new.items self.old self.new }
+        // By this piece alone, and where memory may run out in it.
+        ensures steps { self.old.fault ≡ None
+            → Steps piece.now out.old.items out.new.items self.old self.new }
         ensures asked { self.new.asked ≡ self.old.asked }
         ensures ok { OnOk result (self.new.fault ≡ None) }
         ensures err { IfErr result (λ e. self.new.fault ≡ Some e) }

@@ -2,8 +2,9 @@
 ghost use Rattle.std.specs.Prelude.{◌≡◌, ◌⊎◌, ◌++◌, ◌<◌, ◌≤◌, ℕ, List, length, drop, IfOk, IfErr, IfSome, IfNone, true, false};
 ghost use Rattle.byteorder.specs.Endian.{little_number};
 ghost use Rattle.zed_op.specs.Fit.{fault};
-ghost use Rattle.zed_editfile.specs.Reading.{Gives, edit_at, unless_faulty};
-ghost use Rattle.zed_editfile.specs.Stream.{Frames, Gains, waits, fails, is_length, record_stop};
+ghost use Rattle.zed_op.specs.Verdict.{HangsOnItsWorld};
+ghost use Rattle.zed_editfile.specs.Reading.{GivesUnless, SpellsString, edit_at, unless_faulty};
+ghost use Rattle.zed_editfile.specs.Stream.{Frames, Gains, MayWantMemory, waits, fails, is_length, record_stop};
 
 use crate::error::EditFileError;
 use crate::ops::unchecked_edit_of;
@@ -19,16 +20,17 @@ const MOST_BODY: usize = 4_194_304;
 
 /// An edit, if it fits.
 fn fitting(alloc: Global, edit: Edit) -> Result<Edit, EditFileError>
-    ensures { Gives (λ e. e) result (unless_faulty (fault edit) edit) }
+    ensures { GivesUnless (HangsOnItsWorld edit) (λ e. e) result (unless_faulty (fault edit) edit) }
 {
     check(alloc, &edit)?;
     Ok(edit)
 }
 
 /// The edit that the body of a record of a version spells, if it fits.
-#[tactic(auto, unfolding(crate::specs::Reading::edit_at))]
+#[tactic(auto, unfolding(crate::specs::Reading::edit_at), using(crate::proofs::Strings::world_has))]
 fn edit_of(alloc: Global, version: u8, body: &[u8]) -> Result<Edit, EditFileError>
-    ensures { Gives (λ e. e) result (edit_at version body.now) }
+    ensures { GivesUnless (SpellsString version body.now) (λ e. e) result
+        (edit_at version body.now) }
 {
     let edit = unchecked_edit_of(alloc, version, body)?;
     fitting(alloc, edit)
@@ -86,7 +88,7 @@ pub(crate) fn read_record<'a>(
     ensures none { IfOk result (λ rest. IfNone rest
         ((out.new.items ≡ out.old.items) × (record_stop version bytes.now ≡ waits bytes.now))) }
     ensures err { IfErr result (λ e. (out.new.items ≡ out.old.items)
-        × (((e ≡ EditFileError.Memory) × (0 < length bytes.now))
+        × (((e ≡ EditFileError.Memory) × MayWantMemory version bytes.now)
         ⊎ (record_stop version bytes.now ≡ fails e))) }
 {
     match split_record(bytes)? {
@@ -109,7 +111,7 @@ pub(crate) fn read_records<'a>(
         × (record_stop version tail.now ≡ waits tail.now)) }
     ensures err { IfErr result (λ e. (tail : List ℕ)
         × Gains version out.old.items out.new.items bytes.now tail
-        × (((e ≡ EditFileError.Memory) × (0 < length tail))
+        × (((e ≡ EditFileError.Memory) × MayWantMemory version tail)
         ⊎ (record_stop version tail ≡ fails e))) }
 {
     let mut rest = bytes;

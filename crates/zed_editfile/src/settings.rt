@@ -1,6 +1,7 @@
 //! Reading registers, each under its number.
-ghost use Rattle.std.specs.Prelude.{◌≡◌};
-ghost use Rattle.zed_editfile.specs.Reading.{Gives, mapped, byte_at, boolean_at, string_at, key_of, flag_of, header_value_at, header_setting_at, board_value_at, board_setting_at, stat_value_at, stat_setting_at, stat_fields_at};
+ghost use Rattle.std.specs.Prelude.{◌≡◌, true};
+ghost use Rattle.zed_types.specs.Strings.{has_bytes, header_has_string, board_has_string};
+ghost use Rattle.zed_editfile.specs.Reading.{Gives, GivesUnless, reads_such, mapped, byte_at, boolean_at, string_at, key_of, flag_of, header_value_at, header_setting_at, board_value_at, board_setting_at, stat_value_at, stat_setting_at, stat_fields_at};
 
 use crate::error::EditFileError;
 use crate::fields::{
@@ -50,13 +51,14 @@ fn flag_of(flag: u8) -> FlagSlot
     }
 }
 
-#[tactic(auto, unfolding(crate::specs::Reading::header_value_at))]
+#[tactic(auto, unfolding(crate::specs::Reading::header_value_at), using(crate::proofs::Strings::world_name_has, crate::proofs::Strings::flag_has))]
 fn header_value_of(
     alloc: Global,
     field: u8,
     bytes: &[u8],
 ) -> Result<(HeaderSetting, &[u8]), EditFileError>
-    ensures { Gives (λ x. (x.0, x.1.now)) result (header_value_at field bytes.now) }
+    ensures { GivesUnless (reads_such header_has_string (header_value_at field bytes.now) ≡ true)
+        (λ x. (x.0, x.1.now)) result (header_value_at field bytes.now) }
 {
     if let Some(number) = HeaderNumber::of_field(field) {
         let (value, rest) = integer_of(bytes)?;
@@ -90,7 +92,8 @@ pub(crate) fn header_setting_of(
     alloc: Global,
     bytes: &[u8],
 ) -> Result<(HeaderSetting, &[u8]), EditFileError>
-    ensures { Gives (λ x. (x.0, x.1.now)) result (header_setting_at bytes.now) }
+    ensures { GivesUnless (reads_such header_has_string (header_setting_at bytes.now) ≡ true)
+        (λ x. (x.0, x.1.now)) result (header_setting_at bytes.now) }
 {
     let (field, rest) = byte_of(bytes)?;
     header_value_of(alloc, field, rest)
@@ -112,13 +115,14 @@ fn board_flag_of(property: BoardFlag, bytes: &[u8]) -> Result<(BoardSetting, &[u
     Ok((BoardSetting::Flag(property, set), rest))
 }
 
+#[tactic(auto, using(crate::proofs::Strings::board_text_has))]
 fn board_text_of(
     alloc: Global,
     property: BoardText,
     bytes: &[u8],
 ) -> Result<(BoardSetting, &[u8]), EditFileError>
-    ensures { Gives (λ x. (x.0, x.1.now)) result
-        (mapped (BoardSetting.Text property) (string_at bytes.now)) }
+    ensures { let read = mapped (BoardSetting.Text property) (string_at bytes.now) in
+        GivesUnless (reads_such board_has_string read ≡ true) (λ x. (x.0, x.1.now)) result read }
 {
     let (text, rest) = string_of(alloc, bytes)?;
     Ok((BoardSetting::Text(property, text), rest))
@@ -131,7 +135,9 @@ fn board_value_of(
     field: u8,
     bytes: &[u8],
 ) -> Result<(BoardSetting, &[u8]), EditFileError>
-    ensures { Gives (λ x. (x.0, x.1.now)) result (board_value_at version field bytes.now) }
+    ensures { GivesUnless
+        (reads_such board_has_string (board_value_at version field bytes.now) ≡ true)
+        (λ x. (x.0, x.1.now)) result (board_value_at version field bytes.now) }
 {
     if let Some(property) = BoardByte::of_field(field) {
         return board_byte_of(property, bytes);
@@ -163,7 +169,8 @@ pub(crate) fn board_setting_of(
     version: u8,
     bytes: &[u8],
 ) -> Result<(BoardSetting, &[u8]), EditFileError>
-    ensures { Gives (λ x. (x.0, x.1.now)) result (board_setting_at version bytes.now) }
+    ensures { GivesUnless (reads_such board_has_string (board_setting_at version bytes.now) ≡ true)
+        (λ x. (x.0, x.1.now)) result (board_setting_at version bytes.now) }
 {
     let (property, rest) = byte_of(bytes)?;
     board_value_of(alloc, version, property, rest)

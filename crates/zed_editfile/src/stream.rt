@@ -1,12 +1,13 @@
 //! One step of a reader: a piece of a head, or of records.
-ghost use Rattle.std.specs.Prelude.{◌≡◌, ◌⊎◌, ◌++◌, ◌<◌, ◌≤◌, ◌^◌, ℕ, List, [], length, drop, slice_index, Some, None, OnOk, OnErr, IfOk, IfErr, IfSome, IfNone, false, true};
+ghost use Rattle.std.specs.Prelude.{◌≡◌, ◌⊎◌, ◌++◌, ◌+◌, ◌<◌, ◌≤◌, ◌^◌, ℕ, List, [], length, drop, slice_index, Some, None, OnOk, OnErr, IfOk, IfErr, IfSome, IfNone, false, true};
 ghost use Rattle.byteorder.specs.Endian.{little_number};
 ghost use Rattle.zed_editfile.specs.Spelling.{head_text};
-ghost use Rattle.zed_editfile.specs.Stream.{Gains, waits, fails, is_other, is_version, head_stop, record_stop, IsWaiting, Advances, end_of};
+ghost use Rattle.zed_editfile.specs.Stream.{Gains, HasLength, MayWantMemoryBehind, waits, fails, is_other, is_version, head_stop, record_stop, IsWaiting, Advances, end_of};
 
 use crate::error::EditFileError;
 use crate::reading::{length_of, read_record, read_records};
 use byteorder::{ByteOrder, LittleEndian};
+use smallvec::SmallVec;
 use std::alloc::{AllocError, Global};
 use zed_op::Edit;
 
@@ -51,24 +52,42 @@ fn head_of(asked: Option<u64>, head: &[u8]) -> Result<Option<(u8, u64)>, EditFil
     }
 }
 
+/// Appends bytes to those that are kept. A head takes no memory, nor does whatever is as short.
+fn keep(kept: &mut SmallVec<u8, 12>, bytes: &[u8]) -> Result<(), AllocError>
+    ensures all { OnOk result (kept.new.items ≡ kept.old.items ++ bytes.now) }
+    ensures memory_only_when { OnErr result
+        ((0 < length bytes.now) × (12 < length kept.old.items + length bytes.now)) }
+{
+    if bytes.is_empty() {
+        return Ok(());
+    }
+    let room = kept.capacity();
+    prove!(HEAD <= room);
+    kept.extend_from_slice(bytes)
+}
+
 /// Moves bytes from a piece to the end of `kept` until it has `size`, and answers those that are left.
-fn fill<'a>(kept: &mut Vec<u8>, size: usize, piece: &'a [u8]) -> Result<&'a [u8], AllocError>
+fn fill<'a>(
+    kept: &mut SmallVec<u8, 12>,
+    size: usize,
+    piece: &'a [u8],
+) -> Result<&'a [u8], AllocError>
     ensures all { IfOk result (λ left. kept.new.items ++ left.now ≡ kept.old.items ++ piece.now) }
     ensures size { OnOk result (length kept.old.items ≤ size → length kept.new.items ≤ size) }
     ensures none { IfOk result (λ left. length kept.new.items < size → left.now ≡ []) }
     ensures full { OnOk result (size ≤ length kept.old.items → kept.new.items ≡ kept.old.items) }
-    ensures memory_only_when { OnErr result (0 < length piece.now) }
+    ensures memory_only_when { OnErr result (12 < size) }
 {
     let count = size.saturating_sub(kept.len()).min(piece.len());
     let (front, left) = piece.split_at(count);
-    kept.extend_from_slice(front)?;
+    keep(kept, front)?;
     Ok(left)
 }
 
 /// Goes on with a head. Answers the version and the number of the world, once the head is whole, and what is left of the piece.
 fn take_head<'a>(
     asked: Option<u64>,
-    kept: &mut Vec<u8>,
+    kept: &mut SmallVec<u8, 12>,
     piece: &'a [u8],
 ) -> Result<(Option<(u8, u64)>, &'a [u8]), EditFileError>
     requires { head_stop asked kept.old.items ≡ waits kept.old.items }
@@ -79,12 +98,10 @@ fn take_head<'a>(
         (kept.new.items ≡ []) × (is_other asked h.1 ≡ false) × (h.1 < 2 ^ 64)
         × (is_version h.0 ≡ true)
         × (kept.old.items ++ piece.now ≡ head_text h.0 h.1 ++ x.1.now))) }
-    ensures err { IfErr result (λ e.
-        ((e ≡ EditFileError.Memory) × (0 < length (kept.old.items ++ piece.now)))
-        ⊎ (head_stop asked (kept.old.items ++ piece.now) ≡ fails e)) }
+    ensures err { IfErr result (λ e. head_stop asked (kept.old.items ++ piece.now) ≡ fails e) }
 {
     let left = fill(kept, HEAD, piece)?;
-    match head_of(asked, kept)? {
+    match head_of(asked, kept.as_slice())? {
         None => Ok((None, left)),
         Some(head) => {
             kept.clear();
@@ -97,7 +114,7 @@ fn take_head<'a>(
 fn take_cut<'a>(
     alloc: Global,
     version: u8,
-    kept: &mut Vec<u8>,
+    kept: &mut SmallVec<u8, 12>,
     piece: &'a [u8],
     out: &mut Vec<Edit>,
 ) -> Result<Option<&'a [u8]>, EditFileError>
@@ -108,18 +125,19 @@ fn take_cut<'a>(
         × (kept.new.items ≡ kept.old.items ++ piece.now)
         × (record_stop version kept.new.items ≡ waits kept.new.items))) }
     ensures err { IfErr result (λ e. (out.new.items ≡ out.old.items)
-        × (((e ≡ EditFileError.Memory) × (0 < length (kept.old.items ++ piece.now)))
+        × (((e ≡ EditFileError.Memory) × (0 < length kept.old.items)
+        × HasLength (kept.old.items ++ piece.now))
         ⊎ (record_stop version (kept.old.items ++ piece.now) ≡ fails e))) }
 {
     if kept.is_empty() {
         return Ok(Some(piece));
     }
     let piece = fill(kept, 4, piece)?;
-    match length_of(kept)? {
+    match length_of(kept.as_slice())? {
         None => Ok(None),
         Some(len) => {
             let left = fill(kept, 4 + len, piece)?;
-            match read_record(alloc, version, kept, out)? {
+            match read_record(alloc, version, kept.as_slice(), out)? {
                 None => Ok(None),
                 Some(_) => {
                     kept.clear();
@@ -134,7 +152,7 @@ fn take_cut<'a>(
 fn take_records(
     alloc: Global,
     version: u8,
-    kept: &mut Vec<u8>,
+    kept: &mut SmallVec<u8, 12>,
     piece: &[u8],
     out: &mut Vec<Edit>,
 ) -> Result<(), EditFileError>
@@ -144,14 +162,15 @@ fn take_records(
         × (record_stop version kept.new.items ≡ waits kept.new.items)) }
     ensures err { IfErr result (λ e. (tail : List ℕ)
         × Gains version out.old.items out.new.items (kept.old.items ++ piece.now) tail
-        × (((e ≡ EditFileError.Memory) × (0 < length tail))
+        × (((e ≡ EditFileError.Memory)
+        × MayWantMemoryBehind version kept.old.items (kept.old.items ++ piece.now) tail)
         ⊎ (record_stop version tail ≡ fails e))) }
 {
     match take_cut(alloc, version, kept, piece, out)? {
         None => Ok(()),
         Some(left) => {
             let tail = read_records(alloc, version, left, out)?;
-            kept.extend_from_slice(tail)?;
+            keep(kept, tail)?;
             Ok(())
         }
     }
@@ -163,13 +182,14 @@ pub(crate) fn advance(
     asked: Option<u64>,
     world: &mut Option<u64>,
     version: &mut u8,
-    kept: &mut Vec<u8>,
+    kept: &mut SmallVec<u8, 12>,
     piece: &[u8],
     out: &mut Vec<Edit>,
 ) -> Result<(), EditFileError>
     requires { IsWaiting asked world.old version.old kept.old.items }
     ensures advances { Advances asked world.old world.new version.old version.new
-        (kept.old.items ++ piece.now) out.old.items out.new.items (end_of result kept.new.items) }
+        kept.old.items (kept.old.items ++ piece.now) out.old.items out.new.items
+        (end_of result kept.new.items) }
     ensures waits { OnOk result (IsWaiting asked world.new version.new kept.new.items) }
 {
     match *world {

@@ -1,5 +1,5 @@
 -- What the words of the command line ask for.
-use Rattle.std.specs.Prelude.{ℕ, Bool, true, not, List, [], ◌∷◌, ◌&&◌, ◌^◌, ◌==◌, Option, Some, None, codes, length, map, nat_lt, if◌then◌else◌, option_and_then, option_map}
+use Rattle.std.specs.Prelude.{ℕ, ◌<◌, Bool, true, not, List, [], ◌∷◌, ◌&&◌, ◌^◌, ◌==◌, Option, Some, None, codes, length, map, nat_lt, if◌then◌else◌, option_and_then, option_map, string_bytes}
 use Rattle.std.specs.List.{list_all}
 use Rattle.std.specs.Str.{bytes_eq}
 use Rattle.std.specs.Str.Parse.{digits_value, without_leading_plus}
@@ -12,6 +12,8 @@ use Rattle.zed_words.specs.declared.profile.Profile.{Profile}
 use Rattle.zed_words.specs.declared.profile.Profile.TheVariants.{Usual, Big}
 use Rattle.zed_words.specs.declared.words.Command.{Command as Spoken}
 use Rattle.zed_words.specs.declared.words.Command.TheVariants as spoken
+use Rattle.zed_words.specs.declared.words.ParseError.{ParseError}
+use Rattle.zed_words.specs.declared.words.ParseError.TheVariants as parse
 use Rattle.zed_words.specs.Grammar.{zzted_app}
 
 -- a command with its words
@@ -113,3 +115,8 @@ command_of (word ∷ words) = unless_refused (fault_of zzted_app (word ∷ words
 abbrev pub is_plain : Text → Bool
 is_plain [] = true
 is_plain (byte ∷ bytes) = not (byte == 45)
+
+-- the words are refused, with a text for the user that isn't empty
+abbrev pub IsRefusedAloud : ParseError → Type 0
+IsRefusedAloud parse.Memory = ⊥
+IsRefusedAloud (parse.Refused text) = 0 < length (string_bytes text)

@@ -4,7 +4,7 @@ ghost use Rattle.clap.specs.Walk.{all_of, first_of, one_of};
 ghost use Rattle.clap.specs.Words.{FailsBy, fault_of, found_of, rows_of, subcommand_of, subcommand_rows_of};
 ghost use Rattle.zed_words.specs.declared.words.ParseError.TheVariants.{Memory};
 ghost use Rattle.zed_words.specs.Grammar.{zzted_app};
-ghost use Rattle.zed_words.specs.Commands.{subcommand_asks, check_of, edit_of, meaning_of, merge_of, new_of, number_of, play_of, profile_of as profile_for, save_of, show_of, command_of};
+ghost use Rattle.zed_words.specs.Commands.{subcommand_asks, check_of, edit_of, meaning_of, IsRefusedAloud, merge_of, new_of, number_of, play_of, profile_of as profile_for, save_of, show_of, command_of};
 
 use crate::grammar::zzted_command;
 use crate::profile::Profile;
@@ -64,9 +64,12 @@ pub enum Command<'a> {
 #[derive(Debug, Drop)]
 pub enum ParseError {
     Memory,
-    /// The words are refused, with the text for the user.
+    /// The words are refused, with the text for the user, which is never empty.
     Refused(String),
 }
+
+/// What the user is told where clap has no text.
+const NO_COMMAND: &str = "error: these words are no command\n";
 
 impl From<AllocError> for ParseError {
     ghost from_gives = { λ _ e. e ≡ Memory };
@@ -287,14 +290,28 @@ fn stored_command<'a>(alloc: Global) -> Result<Command<'a>, AllocError>
     })
 }
 
+// The refusal of words, with a text for the user.
+fn refused(alloc: Global, text: String) -> Result<ParseError, AllocError>
+    ensures { IfOk result IsRefusedAloud }
+{
+    if text.is_empty() {
+        return Ok(ParseError::Refused(String::from_str(
+            alloc, NO_COMMAND,
+        )?));
+    }
+    Ok(ParseError::Refused(text))
+}
+
 /// Reads the words after the program's name.
 ///
 /// # Errors
-/// `Refused` exactly where the words are not those of a command, with clap's text; a request for help counts as one.
+/// `Refused` only where the words are not those of a command, with clap's text, which isn't empty; a request for help
+/// counts as one. `Memory` may come in its place, since the text takes memory.
 pub fn parse<'a>(alloc: Global, words: &'a [String]) -> Result<Command<'a>, ParseError>
     ensures { MatchResult result
         (λ a. command_of (map string_bytes words.entry.now) ≡ Some (meaning_of a))
-        (λ e. (e ≡ ParseError.Memory) ⊎ (command_of (map string_bytes words.entry.now) ≡ None)) }
+        (λ e. (e ≡ ParseError.Memory)
+        ⊎ ((command_of (map string_bytes words.entry.now) ≡ None) × IsRefusedAloud e)) }
 {
     if words.is_empty() {
         return Ok(stored_command(alloc)?);
@@ -302,13 +319,13 @@ pub fn parse<'a>(alloc: Global, words: &'a [String]) -> Result<Command<'a>, Pars
     match matches_in(alloc, words) {
         Ok(matches) => match command_named(alloc, &matches)? {
             Some(command) => Ok(command),
-            None => Err(ParseError::Refused(String::new(alloc))),
+            None => Err(refused(alloc, String::new(alloc))?),
         },
         Err(error) => match error.kind() {
             ErrorKind::OutOfMemory => Err(ParseError::Memory),
             _ => {
                 let text = error.to_string(alloc)?;
-                Err(ParseError::Refused(text))
+                Err(refused(alloc, text)?)
             }
         },
     }

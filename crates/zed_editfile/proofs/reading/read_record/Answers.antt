@@ -1,6 +1,6 @@
-use Rattle.std.proofs.Common.{arith, refl}
+use Rattle.std.proofs.Common.{arith, refl, inl}
 use Rattle.std.proofs.lemmas.Result.{err_from_is_err_and}
-use Rattle.zed_editfile.proofs.Cuts.{frame_fault, frame_after, frame_shorter, one_gain}
+use Rattle.zed_editfile.proofs.Cuts.{frame_fault, frame_edit, frame_after, frame_shorter, one_gain}
 use Rattle.zed_editfile.proofs.reading.read_record.Goals as goal
 
 pub returns-in_err-edit_of-in-Some-clause-err : goal.returns-in_err-edit_of-in-Some-clause-err
@@ -16,3 +16,10 @@ returns-in_ok-push-in-Some-clause-some c =
       frame_after c.args.bytes.now c.in-Some.body.now c.in-Some.rest.now frame,
       frame_shorter c.args.bytes.now c.in-Some.body.now c.in-Some.rest.now frame,
     )
+
+pub returns-in_err-push-in-Some-clause-err : goal.returns-in_err-push-in-Some-clause-err
+returns-in_err-push-in-Some-clause-err c =
+    let p = err_from_is_err_and c.from_residual-in_err-push-in-Some.result c.from_residual-in_err-push-in-Some.ensures.1 in
+    let frame = rw c.in-Some.is at c.in_ok-split_record.ensures.some in
+    let wants = frame_edit c.args.version c.args.bytes.now c.in-Some.body.now c.in-Some.rest.now c.in_ok-edit_of-in-Some.field-0 frame c.in_ok-edit_of-in-Some.ensures in
+    rw (p.1, p.2) (c.in_err-push-in-Some.ensures.items, inl (refl, wants))

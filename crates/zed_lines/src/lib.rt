@@ -1,0 +1,6 @@
+//! A short line of text, which takes no memory.
+#![tactic(auto)]
+
+mod line;
+
+pub use line::Line;
