@@ -1,13 +1,15 @@
 -- Turns that take no memory.
 use borrow.Author.Tests.{ltb-false}
-use Rattle.std.proofs.Common.{◌≡◌, ◌∙◌, ◌≤◌, ℕ, zero, suc, arith, Bool, true, false, cond, nat_lt, length, slice_get, List, [], ◌∷◌, Option, Some, None, refl, sym, ap, subst}
+use Rattle.std.proofs.Common.{◌≡◌, ◌∙◌, ◌≤◌, ◌⊎◌, inl, inr, ℕ, zero, suc, arith, Bool, true, false, cond, nat_lt, length, slice_get, List, [], ◌∷◌, Option, Some, None, refl, sym, ap, subst}
 use Rattle.zed_scene.specs.declared.stat.Stat.{Stat}
 use Rattle.zed_scene.specs.Scene.{Scene, program_of, running_stat, stat_of}
-use Rattle.zed_script.specs.declared.lines.Instruction.TheVariants.{End}
-use Rattle.zed_script.specs.Line.{InstructionAt, begun_at}
+use Rattle.zed_script.specs.declared.lines.Instruction.{Instruction}
+use Rattle.zed_script.specs.declared.lines.Instruction.TheVariants.{End, Skipped, Blank, Step, Attempt, Command as CommandLine, Message}
+use Rattle.zed_script.specs.declared.lines.LineKind.TheVariants.{End as EndKind, Step as StepKind, Attempt as AttemptKind, Message as MessageKind}
+use Rattle.zed_script.specs.Line.{InstructionAt, InstructionKeeps}
 use Rattle.zed_oop.specs.declared.turning.Reading.{Reading}
 use Rattle.zed_oop.specs.declared.turning.Reading.TheVariants.{Instructing}
-use Rattle.zed_oop.specs.Turn.{ChainTakes, Does, ReadingTakes, State, TurnTakes, ends, goes, counts, instructs, is_copied, over, position_of, start_of, takes_behind, takes_further, takes_here, to_place}
+use Rattle.zed_oop.specs.Turn.{ChainTakes, Does, InstructionWants, ReadingTakes, State, TurnTakes, ends, goes, counts, instructs, over, position_of, start_of, takes_behind, takes_further, takes_here, to_place}
 use Rattle.zed_oop.proofs.OneTurn.{does_one}
 
 -- where an instruction ends the turn and takes none, the chain takes none
@@ -39,15 +41,28 @@ ended_takes_none s i ws ended takes =
     let none : position_of (running_stat t.scene) ≡ None = ap position_of (running_at_start s i ws) ∙ ended in
     ends_takes_none 33 Instructing t t (over Instructing t none) (stands_somewhere Instructing t none) takes
 
+-- at the end of a program nothing takes memory
+end_takes_none : (at : ℕ) (i : Instruction) (next : ℕ) (a : Stat) (t : State) → InstructionAt [] at i next → InstructionKeeps i ⊎ InstructionWants i a t → ⊥
+end_takes_none at End next a t x (inl w) = w
+end_takes_none at End next a t x (inr w) = w
+end_takes_none at Skipped next a t x (inl w) = w
+end_takes_none at Skipped next a t x (inr w) = w
+end_takes_none at Blank next a t x (inl w) = w
+end_takes_none at Blank next a t x (inr w) = w
+end_takes_none at CommandLine next a t x (inl w) = w
+end_takes_none at CommandLine next a t x (inr w) = w
+end_takes_none at (Message m) next a t x w = let e : EndKind ≡ MessageKind = x.0 in absurd (cc)
+end_takes_none at (Step h) next a t x w = let e : EndKind ≡ StepKind = x.0 in absurd (cc)
+end_takes_none at (Attempt h) next a t x w = let e : EndKind ≡ AttemptKind = x.0 in absurd (cc)
+
 -- a stat without a program reads its end
 reads_end : (t : State) (a : Stat) → running_stat t.scene ≡ Some a → a.program ≡ None → ReadingTakes Instructing t → ⊥
-reads_end t a is none (b, (at, ((o, p), w))) =
+reads_end t a is none (b, (at, ((o, p), (i, (next, (stands, w)))))) =
     let both : Some a ≡ Some b = sym is ∙ o in
     let same : b ≡ a = cc in
-    let P : Stat → Type 0 = λ x. is_copied (begun_at (program_of t.scene x.program) at) ≡ true in
-    let Q : Option ℕ → Type 0 = λ x. is_copied (begun_at (program_of t.scene x) at) ≡ true in
-    let copied : false ≡ true = subst Q none (subst P same w) in
-    absurd (cc)
+    let P : Stat → Type 0 = λ x. InstructionAt (program_of t.scene x.program) at i next in
+    let Q : Option ℕ → Type 0 = λ x. InstructionAt (program_of t.scene x) at i next in
+    end_takes_none at i next b t (subst Q none (subst P same stands)) w
 
 none_takes_none_at : (o : Option ℕ) (t : State) (a : Stat) → running_stat t.scene ≡ Some a → a.position ≡ o → a.program ≡ None → ChainTakes 33 Instructing t → ⊥
 none_takes_none_at None t a is place none takes =

@@ -1,9 +1,9 @@
 -- What each command does: a row each.
-use Rattle.std.specs.Prelude.{◌≡◌, ◌⊎◌, ℕ, pos, Bool, true, false, ◌&&◌, nat_le, if◌then◌else◌, List, Option, Some, None, Result, MatchResult}
+use Rattle.std.specs.Prelude.{◌≡◌, ◌≢◌, ◌⊎◌, ℕ, pos, Bool, true, false, ◌&&◌, nat_le, if◌then◌else◌, List, Option, Some, None, Result, MatchResult}
 use Rattle.zed_types.specs.declared.tile.Place.{Place}
 use Rattle.zed_oop.specs.declared.programs.Relabelling.TheVariants.{Hide, Show}
 use Rattle.zed_oop.specs.declared.performing.Motion.{Motion}
-use Rattle.zed_oop.specs.declared.performing.Motion.TheVariants.{Go as GoAlong, Try as TryAlong, Walk as WalkAlong, Shoot as ShootAlong, Put as PutAlong}
+use Rattle.zed_oop.specs.declared.performing.Motion.TheVariants.{Go as GoAlong, Try as TryAlong, Walk as WalkAlong, Put as PutAlong}
 use Rattle.zed_oop.specs.declared.acting.Next.{Next}
 use Rattle.zed_oop.specs.declared.acting.Next.TheVariants.{Skip, Stay, Command as CommandNext, SkipAndEnd, End as EndNext, Error}
 use Rattle.zed_scene.specs.declared.stat.Stat.{Stat}
@@ -24,7 +24,8 @@ use Rattle.zed_oop.specs.Leading.{led}
 use Rattle.zed_oop.specs.Making.{became, bound, converted, put_ahead}
 use Rattle.zed_scene.specs.Removing.{with_health}
 use Rattle.zed_oop.specs.Sending.{Sent, has_colon, relabelled, sent}
-use Rattle.zed_scene.specs.Shooting.{shot}
+use Rattle.zed_scene.specs.Places.{ahead}
+use Rattle.zed_scene.specs.Shooting.{lets_fly, shot}
 use Rattle.zed_oop.specs.Testing.{holds}
 use Rattle.zed_scene.specs.Words.{Drawn, ◌>>=◌}
 
@@ -98,12 +99,16 @@ abbrev pub put_kind : Place → Option TileKind → Step → Scene → Outcome
 put_kind here None d s = (Error, s)
 put_kind here (Some k) d s = (Skip, put_ahead here d k s)
 
+-- by SHOOT a shot flies along a step; the turn ends
+abbrev pub shoots : Stat → Step → Scene → Outcome
+shoots a d s = (SkipAndEnd, (shot a.place d Creature s).1)
+
 -- the command that began with the `#` at `start`, of the stat a
 unfoldable pub effect : OopCommand → ℕ → Stat → Scene → List ℕ → Drawn Outcome
 effect (Go h) start a s ws = along h (λ d t. after_go start (try_move a.place d t)) a s ws
 effect (Try h) start a s ws = along h (λ d t. after_try (try_move a.place d t)) a s ws
 effect (Walk h) start a s ws = along h (λ d t. (Skip, with_step d t)) a s ws
-effect (Shoot h) start a s ws = along h (λ d t. (SkipAndEnd, (shot a.place d Creature t).1)) a s ws
+effect (Shoot h) start a s ws = along h (shoots a) a s ws
 effect (Put h k) start a s ws = along h (put_kind a.place k) a s ws
 effect (If q) start a s ws = with_drawn if_true s (holds q a s ws)
 effect (Set w) start a s ws = Some (skips (with_flags (flagged (cut w) s.flags) s), ws)
@@ -128,15 +133,36 @@ effect (Bind w) start a s ws = Some (bound_or_skip (bound w s), ws)
 effect Nothing start a s ws = Some (skips s, ws)
 effect (Other w) start a s ws = Some (messaged_or_error (has_colon w) (sent w s), ws)
 
--- what a command that has a direction does along its step, which only the contracts of its code cite
+-- what a command that has a direction, and is no shot, does along its step, which only the contracts of its code cite
 abbrev pub done_along : Motion → ℕ → Stat → Step → Scene → Outcome
 done_along GoAlong start a d s = after_go start (try_move a.place d s)
 done_along TryAlong start a d s = after_try (try_move a.place d s)
 done_along WalkAlong start a d s = (Skip, with_step d s)
-done_along ShootAlong start a d s = (SkipAndEnd, (shot a.place d Creature s).1)
 done_along (PutAlong k) start a d s = put_kind a.place k d s
+
+-- a call did this and left these words, or told that a word is lacking
+abbrev pub Plays : {X : Type 0} → Result X SceneError → Scene → List ℕ → Drawn (X × Scene) → Type 0
+Plays result s left drawn =
+    MatchResult result (λ x. drawn ≡ Some ((x, s), left)) (λ e. (e ≡ NoWords) × (drawn ≡ None))
 
 -- a call did this and left these words, or told that a word is lacking, or that memory was refused
 abbrev pub Performs : {X : Type 0} → Result X SceneError → Scene → List ℕ → Drawn (X × Scene) → Type 0
 Performs result s left drawn =
     MatchResult result (λ x. drawn ≡ Some ((x, s), left)) (λ e. (e ≡ Memory) ⊎ ((e ≡ NoWords) × (drawn ≡ None)))
+
+-- ---- want of memory
+
+-- a shot along the step to which a direction leads adds a bullet
+abbrev pub ShotTakes : Heading → Stat → Scene → List ℕ → Type 0
+ShotTakes h a s ws =
+    (d : Step) × ((left : List ℕ) × ((led h.turns h.course a s ws ≡ Some (Some d, left)) × (lets_fly (ahead a.place d) s ≡ true)))
+
+-- what a command does takes memory: SHOOT for a bullet, and SET for a word that changes a flag
+abbrev pub EffectTakes : OopCommand → Stat → Scene → List ℕ → Type 0
+EffectTakes (Shoot h) a s ws = ShotTakes h a s ws
+EffectTakes (Set w) a s ws = flagged (cut w) s.flags ≢ s.flags
+EffectTakes _ a s ws = ⊥
+
+-- the error is told of a command that asks for what there isn't
+abbrev pub IsError : Drawn Outcome → Type 0
+IsError drawn = (s : Scene) × ((left : List ℕ) × (drawn ≡ Some ((Error, s), left)))

@@ -19,13 +19,10 @@ use Rattle.zed_scene.specs.Scene.{Scene, program_of, running_stat, there}
 use Rattle.zed_scene.specs.declared.step.Step.{Step as Way}
 use Rattle.zed_oop.specs.Acting.{with_position, skip_line}
 use Rattle.zed_scene.specs.Trying.{try_move}
-use Rattle.zed_script.specs.Command.{CommandAt}
-use Rattle.zed_oop.specs.Effect.{effect}
+use Rattle.zed_script.specs.Command.{CommandAt, CommandKeeps}
+use Rattle.zed_oop.specs.Effect.{EffectTakes, IsError, effect}
 use Rattle.zed_oop.specs.Leading.{led}
-use Rattle.zed_script.specs.declared.lines.LineKind.{LineKind}
-use Rattle.zed_script.specs.declared.lines.LineKind.TheVariants.{Step as StepKind, Attempt as AttemptKind, Message as MessageKind}
-use Rattle.zed_script.specs.Line.{InstructionAt, begun_at}
-use Rattle.zed_script.specs.Text.{HasWord}
+use Rattle.zed_script.specs.Line.{InstructionAt, InstructionKeeps}
 use Rattle.zed_scene.specs.Words.{Drawn}
 
 -- a turn in the middle: the board, the words of chance that are left, and the messages so far
@@ -150,23 +147,35 @@ Turn s i ws e = Chain 33 Instructing (start_of s i ws) e
 
 -- ---- want of memory
 
--- a message is copied, and so are the words of a step, or the error of one without words is told
-abbrev pub is_copied : LineKind → Bool
-is_copied MessageKind = true
-is_copied StepKind = true
-is_copied AttemptKind = true
-is_copied _ = false
+-- a direction leads nowhere, of which the error is told
+abbrev pub IsAstray : Heading → Stat → State → Type 0
+IsAstray h a t = (left : List ℕ) × (led h.turns h.course a t.scene t.left ≡ Some (None, left))
 
--- what is read at a place of a program takes memory: such a line, or the word of a command
-abbrev pub Takes : Reading → List ℕ → ℕ → Type 0
-Takes Instructing p at = is_copied (begun_at p at) ≡ true
-Takes (Commanding start) p at = HasWord p at
+-- doing an instruction takes memory: a message is told, or the error of a step that leads nowhere
+abbrev pub InstructionWants : Instruction → Stat → State → Type 0
+InstructionWants (Message m) a t = Unit {0}
+InstructionWants (Step h) a t = IsAstray h a t
+InstructionWants (Attempt h) a t = IsAstray h a t
+InstructionWants _ a t = ⊥
 
--- what the running stat reads takes memory
+-- doing a command takes memory, for what it does or for the error of one that asks for what there isn't
+abbrev pub CommandWants : Option OopCommand → ℕ → Stat → State → Type 0
+CommandWants None start a t = ⊥
+CommandWants (Some c) start a t = EffectTakes c a t.scene t.left ⊎ IsError (effect c start a t.scene t.left)
+
+-- what is read at a place of a program, or doing it, takes memory
+abbrev pub Takes : Reading → Stat → ℕ → State → Type 0
+Takes Instructing a at t =
+    (i : Instruction) × ((next : ℕ) × (InstructionAt (program_of t.scene a.program) at i next × (InstructionKeeps i ⊎ InstructionWants i a t)))
+Takes (Commanding start) a at t =
+    (c : OopCommand) × ((next : ℕ) × (CommandAt (program_of t.scene a.program) at (Some c) next
+    × (CommandKeeps c ⊎ CommandWants (Some c) start a (to_place (Some next) t))))
+
+-- what the running stat reads, or doing it, takes memory
 abbrev pub ReadingTakes : Reading → State → Type 0
-ReadingTakes r t = (a : Stat) × ((at : ℕ) × (Stands t.scene a at × Takes r (program_of t.scene a.program) at))
+ReadingTakes r t = (a : Stat) × ((at : ℕ) × (Stands t.scene a at × Takes r a at t))
 
--- in a chain of instructions, with at most so many command words, something is read that takes memory
+-- in a chain of instructions, with at most so many command words, something is read or done that takes memory
 pub data ChainTakes : ℕ → Reading → State → Type 0 where
   takes_here : (n : ℕ) (r : Reading) (t : State) → ReadingTakes r t → ChainTakes (suc n) r t
   takes_further : (n : ℕ) (r q : Reading) (t u : State) → Does r t (goes q u) → ChainTakes (suc n) q u → ChainTakes (suc n) r t

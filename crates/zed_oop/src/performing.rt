@@ -1,8 +1,8 @@
 //! What each command does.
-ghost use Rattle.std.specs.Prelude.{◌≡◌, ◌&&◌, IfOk, Some, nat_le, pos, if◌then◌else◌};
+ghost use Rattle.std.specs.Prelude.{◌≡◌, ◌&&◌, Err, Some, nat_le, pos, if◌then◌else◌};
 ghost use Rattle.zed_scene.specs.Trying.{try_move};
 ghost use Rattle.zed_oop.specs.Acting.{with_cycle, with_p1};
-ghost use Rattle.zed_oop.specs.Effect.{Performs, along, bound_or_skip, done_along, change, effect, after_go, known_or_error, messaged, messaged_or_error, or_command, put_kind, skips, after_try};
+ghost use Rattle.zed_oop.specs.Effect.{EffectTakes, Performs, Plays, ShotTakes, along, bound_or_skip, done_along, change, effect, after_go, known_or_error, messaged, messaged_or_error, or_command, put_kind, shoots, skips, after_try};
 ghost use Rattle.zed_oop.specs.Holding.{given, taken_from};
 ghost use Rattle.zed_oop.specs.Making.{became, bound};
 ghost use Rattle.zed_scene.specs.Removing.{with_health};
@@ -17,7 +17,7 @@ use crate::making::{become_kind, bind, convert, put_ahead};
 use crate::programs::{Relabelling, relabel_all};
 use crate::sending::send;
 use crate::testing::holds;
-use std::alloc::{AllocError, Global};
+use std::alloc::Global;
 use zed_scene::{Counters, Scene, SceneError, Shooter, Stat, Step, Words};
 use zed_script::{Counter, Heading, OopCommand, Query, TileKind};
 use zed_types::Place;
@@ -28,13 +28,12 @@ const EMPTY: TileKind = TileKind {
     element: 0,
 };
 
-/// A command that has a direction.
+/// A command that has a direction and is no shot.
 #[derive(Clone, Copy, Debug)]
 enum Motion {
     Go,
     Try,
     Walk,
-    Shoot,
     Put(Option<TileKind>),
 }
 
@@ -72,32 +71,21 @@ fn finish_put(scene: &mut Scene, from: Place, kind: Option<TileKind>, step: Step
 }
 
 /// What such a command does along a step.
-fn go_along(
-    scene: &mut Scene,
-    motion: Motion,
-    start: usize,
-    stat: Stat,
-    step: Step,
-) -> Result<Next, AllocError>
-    ensures { IfOk result (λ n.
-        done_along motion start stat step scene.old ≡ (n, scene.new)) }
+fn go_along(scene: &mut Scene, motion: Motion, start: usize, stat: Stat, step: Step) -> Next
+    ensures { done_along motion start stat step scene.old ≡ (result, scene.new) }
 {
     match motion {
-        Motion::Go => Ok(finish_go(scene, start, stat.place, step)),
-        Motion::Try => Ok(finish_try(scene, stat.place, step)),
+        Motion::Go => finish_go(scene, start, stat.place, step),
+        Motion::Try => finish_try(scene, stat.place, step),
         Motion::Walk => {
             set_step(scene, step);
-            Ok(Next::Skip)
+            Next::Skip
         }
-        Motion::Shoot => {
-            let _shot = scene.shoot(stat.place, step, Shooter::Creature)?;
-            Ok(Next::SkipAndEnd)
-        }
-        Motion::Put(kind) => Ok(finish_put(scene, stat.place, kind, step)),
+        Motion::Put(kind) => finish_put(scene, stat.place, kind, step),
     }
 }
 
-/// Does a command that has a direction.
+/// Does a command that has a direction and is no shot.
 fn do_along(
     scene: &mut Scene,
     heading: &Heading,
@@ -106,12 +94,34 @@ fn do_along(
     stat: Stat,
     words: &mut Words,
 ) -> Result<Next, SceneError>
-    ensures { Performs result scene.new words.new
+    ensures { Plays result scene.new words.new
         (along heading.now (λ d t. done_along motion start stat d t) stat scene.old words.old) }
 {
     match led(scene, heading, stat, words)? {
-        Some(step) => Ok(go_along(scene, motion, start, stat, step)?),
+        Some(step) => Ok(go_along(scene, motion, start, stat, step)),
         None => Ok(Next::Error),
+    }
+}
+
+/// Shoots. Memory only for a bullet that is added.
+fn do_shoot(
+    scene: &mut Scene,
+    heading: &Heading,
+    stat: Stat,
+    words: &mut Words,
+) -> Result<Next, SceneError>
+    ensures result { Performs result scene.new words.new
+        (along heading.now (shoots stat) stat scene.old words.old) }
+    ensures memory_only_when { result ≡ Err SceneError.Memory
+        → ShotTakes heading.now stat scene.old words.old }
+{
+    match led(scene, heading, stat, words) {
+        Ok(Some(step)) => {
+            let _shot = scene.shoot(stat.place, step, Shooter::Creature)?;
+            Ok(Next::SkipAndEnd)
+        }
+        Ok(None) => Ok(Next::Error),
+        Err(error) => Err(error),
     }
 }
 
@@ -123,7 +133,7 @@ fn do_if(
     stat: Stat,
     words: &mut Words,
 ) -> Result<Next, SceneError>
-    ensures { Performs result scene.new words.new
+    ensures { Plays result scene.new words.new
         (effect (If query.now) start stat scene.old words.old) }
 {
     match holds(scene, query, stat, words)? {
@@ -255,7 +265,8 @@ fn do_bind(scene: &mut Scene, word: &[u8]) -> Next
     }
 }
 
-/// Does the command that began with the `#` at `start`, for the stat whose turn it is.
+/// Does the command that began with the `#` at `start`, for the stat whose turn it is. Memory only for a bullet, and for a word
+/// that changes a flag.
 #[tactic(auto, unfolding(crate::specs::Effect::effect))]
 pub(crate) fn perform(
     scene: &mut Scene,
@@ -265,14 +276,16 @@ pub(crate) fn perform(
     stat: Stat,
     words: &mut Words,
 ) -> Result<Next, SceneError>
-    ensures { Performs result scene.new words.new
+    ensures result { Performs result scene.new words.new
         (effect command.now start stat scene.old words.old) }
+    ensures memory_only_when { result ≡ Err SceneError.Memory
+        → EffectTakes command.now stat scene.old words.old }
 {
     match command {
         OopCommand::Go(heading) => do_along(scene, heading, Motion::Go, start, stat, words),
         OopCommand::Try(heading) => do_along(scene, heading, Motion::Try, start, stat, words),
         OopCommand::Walk(heading) => do_along(scene, heading, Motion::Walk, start, stat, words),
-        OopCommand::Shoot(heading) => do_along(scene, heading, Motion::Shoot, start, stat, words),
+        OopCommand::Shoot(heading) => do_shoot(scene, heading, stat, words),
         OopCommand::Put(heading, kind) => {
             do_along(scene, heading, Motion::Put(*kind), start, stat, words)
         }
@@ -282,7 +295,7 @@ pub(crate) fn perform(
             Ok(Next::Skip)
         }
         OopCommand::Clear(word) => {
-            scene.clear_flag(alloc, word.as_slice())?;
+            scene.clear_flag(alloc, word.as_slice());
             Ok(Next::Skip)
         }
         OopCommand::Give(counter, value) => Ok(do_give(scene, *counter, *value)),

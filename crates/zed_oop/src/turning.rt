@@ -1,9 +1,8 @@
 //! A turn of a program.
-ghost use Rattle.std.specs.Prelude.{◌≡◌, ◌≤◌, ◌-◌, length, ◌++◌, ◌∷◌, [], ℕ, List, OnOk, IfOk, Err, None, codes, is_some, true};
-ghost use Rattle.zed_oop.specs.Turn.{Comes, DoesStep, HasTurn, IsNearer, ReadingTakes, RunTakes, Runs, StepsTo, TurnTakes, TurnsTo, after, commanded, ends, finished, instructed, is_copied, settled, state, stepped};
+ghost use Rattle.std.specs.Prelude.{◌≡◌, ◌≤◌, ◌-◌, length, ◌++◌, ◌∷◌, [], ℕ, List, OnOk, OnErr, IfOk, Some, Err, None, codes};
+ghost use Rattle.zed_oop.specs.Turn.{CommandWants, Comes, DoesStep, HasTurn, InstructionWants, IsAstray, IsNearer, ReadingTakes, RunTakes, Runs, StepsTo, TurnTakes, TurnsTo, after, commanded, ends, finished, instructed, settled, state, stepped, to_place};
 ghost use Rattle.zed_oop.specs.Acting.{with_position};
 ghost use Rattle.zed_scene.specs.Trying.{try_move};
-ghost use Rattle.zed_script.specs.Line.{line_kind};
 
 use crate::acting::{Next, set_position, skip_line};
 use crate::leading::led;
@@ -78,14 +77,22 @@ fn do_step(
     words: &mut Words,
     lines: &mut Seq<Bytes>,
 ) -> Result<(), SceneError>
-    ensures { DoesStep result heading.now stat again next
+    ensures result { DoesStep result heading.now stat again next
         (state scene.old words.old lines.old) (state scene.new words.new lines.new) }
+    ensures memory_only_when { result ≡ Err SceneError.Memory
+        → IsAstray heading.now stat (state scene.old words.old lines.old) }
 {
-    match led(scene, heading, stat, words)? {
-        Some(step) => finish_step(scene, stat.place, step, again, next),
-        None => fail(alloc, scene, lines)?,
+    match led(scene, heading, stat, words) {
+        Ok(Some(step)) => {
+            finish_step(scene, stat.place, step, again, next);
+            Ok(())
+        }
+        Ok(None) => {
+            fail(alloc, scene, lines)?;
+            Ok(())
+        }
+        Err(error) => Err(error),
     }
-    Ok(())
 }
 
 /// Goes on behind an instruction.
@@ -103,7 +110,7 @@ fn instruct(
         (instructed instruction at next stat (state scene.old words.old lines.old))
         (state scene.new words.new lines.new) }
     ensures memory_only_when { result ≡ Err SceneError.Memory
-        → is_copied (line_kind instruction) ≡ true }
+        → InstructionWants instruction stat (state scene.old words.old lines.old) }
 {
     match instruction {
         Instruction::End => {
@@ -146,9 +153,10 @@ fn settle(
     next: Next,
     lines: &mut Seq<Bytes>,
 ) -> Result<After, AllocError>
-    ensures { (ws : List ℕ) → IfOk result (λ a.
+    ensures result { (ws : List ℕ) → IfOk result (λ a.
         settled start next (state scene.old ws lines.old)
         ≡ after a (state scene.new ws lines.new)) }
+    ensures memory_only_when { OnErr result (next ≡ Next.Error) }
 {
     match next {
         Next::Skip => {
@@ -183,14 +191,16 @@ fn command_with(
     ensures result { Comes result
         (commanded command start next stat (state scene.old words.old lines.old))
         (state scene.new words.new lines.new) }
-    ensures memory_only_when { result ≡ Err SceneError.Memory → is_some command ≡ true }
+    ensures memory_only_when { result ≡ Err SceneError.Memory → CommandWants command start stat
+        (to_place (Some next) (state scene.old words.old lines.old)) }
 {
     set_position(scene, Some(next));
     match command {
         None => Ok(After::Goes(Reading::Instructing)),
         Some(command) => {
             let how = perform(scene, alloc, &command, start, stat, words)?;
-            Ok(settle(alloc, scene, start, how, lines)?)
+            let after = settle(alloc, scene, start, how, lines)?;
+            Ok(after)
         }
     }
 }

@@ -3,7 +3,7 @@ use Rattle.std.specs.Option.{option_copied}
 use Rattle.zed_oop.specs.Turn.{over, position_of, state}
 use Rattle.zed_oop.proofs.TurnLemmas.{command_done, instruction_done}
 use Rattle.zed_oop.proofs.RoomLemmas.{command_nearer, instruction_nearer}
-use Rattle.zed_oop.proofs.Taking.{command_takes}
+use Rattle.zed_oop.proofs.Taking.{command_reading_takes, command_takes, following_takes, reading_takes}
 use Rattle.zed_oop.proofs.turning.one_step.Goals as goal
 
 pub returns-in-None-clause-steps : goal.returns-in-None-clause-steps
@@ -52,3 +52,24 @@ returns-in_ok-command-in-Commanding-clause-memory_only_when c = λ e.
     c.in-Commanding.start c.program-in-Commanding.result.now c.in_ok-command-in-Commanding.command c.in_ok-command-in-Commanding.next
     c.in-Commanding.is (sym c.running_stat_ref.ensures.result ∙ ap option_copied c.in-Some.is) c.in-Some-position.is c.program-in-Commanding.ensures.result
     c.in_ok-command-in-Commanding.ensures.result (c.command_with.ensures.memory_only_when e)
+
+pub returns-in_err-command-in-Commanding-clause-memory_only_when : goal.returns-in_err-command-in-Commanding-clause-memory_only_when
+returns-in_err-command-in-Commanding-clause-memory_only_when c = λ e.
+    command_reading_takes c.args.reading (state c.args.scene.now c.args.words.now c.args.lines.now) c.in-Some.stat.now c.in-Some-position.at
+    c.in-Commanding.start c.program-in-Commanding.result.now
+    c.in-Commanding.is (sym c.running_stat_ref.ensures.result ∙ ap option_copied c.in-Some.is) c.in-Some-position.is c.program-in-Commanding.ensures.result
+    c.in_err-command-in-Commanding.ensures.memory_only_when
+
+pub returns-in_err-instruction-in-Instructing-clause-memory_only_when : goal.returns-in_err-instruction-in-Instructing-clause-memory_only_when
+returns-in_err-instruction-in-Instructing-clause-memory_only_when c = λ e.
+    reading_takes c.args.reading (state c.args.scene.now c.args.words.now c.args.lines.now) c.in-Some.stat.now c.in-Some-position.at
+    c.program.result.now
+    c.in-Instructing.is (sym c.running_stat_ref.ensures.result ∙ ap option_copied c.in-Some.is) c.in-Some-position.is c.program.ensures.result
+    c.in_err-instruction-in-Instructing.ensures.memory_only_when
+
+pub returns-in_ok-instruction-in-Instructing-clause-memory_only_when : goal.returns-in_ok-instruction-in-Instructing-clause-memory_only_when
+returns-in_ok-instruction-in-Instructing-clause-memory_only_when c = λ e.
+    following_takes c.args.reading (state c.args.scene.now c.args.words.now c.args.lines.now) c.in-Some.stat.now c.in-Some-position.at
+    c.program.result.now c.in_ok-instruction-in-Instructing.instruction c.in_ok-instruction-in-Instructing.next
+    c.in-Instructing.is (sym c.running_stat_ref.ensures.result ∙ ap option_copied c.in-Some.is) c.in-Some-position.is c.program.ensures.result
+    c.in_ok-instruction-in-Instructing.ensures.result (c.instruct.ensures.memory_only_when e)
