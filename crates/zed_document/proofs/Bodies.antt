@@ -19,7 +19,7 @@ use Rattle.zed_laws.specs.Laws.{HeldAreRemembered}
 use Rattle.zed_delivery.specs.declared.body.Body.{Body}
 use Rattle.zed_delivery.specs.declared.take.Taken.{Taken}
 use Rattle.zed_delivery.specs.Shows.{BodyShows}
-use Rattle.zed_delivery.specs.Taking.{CalmEditsHoldTheSame, ComesTo, IsApart, IsNewTo, ShowsOneMore, Tells, is_held, woken}
+use Rattle.zed_delivery.specs.Taking.{CalmEditsHoldTheSame, ComesTo, IsApart, IsEmpty, IsNewTo, ShowsOneMore, Tells, is_held, woken}
 use Rattle.zed_delivery.specs.TakingAll.{AllComeTo, AreNewTo, RisingAreApart, ShowsAll}
 use Rattle.zed_history.specs.Batch.{AreNew}
 use Rattle.zed_history.specs.Finding.{edit_with}
@@ -98,17 +98,19 @@ one_more remembered calm rises fit e es was now stale b c t k sound new fits siz
       rising = rises e es k.rising;
       held = stamps_now remembered calm e es was now b c t come fits k.held (shows es come) tells renewed;
       shown = λ _. shows es come;
+      emptied = λ bad. absurd (cc);
     }
 
 -- where it isn't taken after all, the stamps kept are those before
 pub not_kept : (e : Edit) (es : List Edit) (was mid now : List Stamp) (stale : Bool) (b c : Body) (t : Taken) → IsKept es was stale b → edit_with e.stamp es ≡ None
-    → mid ≡ (if t.held then insert_key stamp_cmp was e.stamp else was) → now ≡ (if t.held then remove_key (is_at (stamp_cmp e.stamp)) mid else mid) → IsKept es now true c
-not_kept e es was mid now stale b c t k new put out = record {
+    → mid ≡ (if t.held then insert_key stamp_cmp was e.stamp else was) → now ≡ (if t.held then remove_key (is_at (stamp_cmp e.stamp)) mid else mid) → IsEmpty c → IsKept es now true c
+not_kept e es was mid now stale b c t k new put out none = record {
   fit = k.fit;
   sizes = k.sizes;
   rising = k.rising;
   held = go t.held put out ∙ k.held;
   shown = λ bad. absurd (cc);
+  emptied = λ _. none;
 }
   where
     fresh : is_among was e.stamp ≡ false
@@ -156,4 +158,5 @@ many_more remembered law rises fit more es was stale b c stamps k sound rising f
       rising = rises es more k.rising;
       held = listed ∙ ap stamps_of all.waiting ∙ remembered (union es more);
       shown = λ _. all;
+      emptied = λ bad. absurd (cc);
     }

@@ -1,29 +1,46 @@
--- Edits that are made one after the other.
-use Rattle.std.proofs.Common.{◌≡◌, ◌⊎◌, inl, inr, List, [], ◌∷◌, ◌++◌, None, Result, Ok, Err, ap, sym, ◌∙◌, append-nil, subst}
-use Rattle.std.specs.Prelude.{IfErr}
+-- Edits that can be done one after the other.
+use Rattle.std.proofs.Common.{◌≡◌, true, List, [], ◌∷◌, ◌++◌, ap, sym, ◌∙◌, append-nil, append_assoc}
+use Rattle.std.specs.List.{AllByRecursion}
+use Rattle.zed_types.specs.declared.stamp.Stamp.{Stamp}
+use Rattle.zed_types.specs.Stamp.{before}
 use Rattle.zed_op.specs.declared.op.Edit.{Edit}
-use Rattle.zed_op.specs.Fit.{fault}
-use Rattle.zed_op.specs.Set.{with_edit}
-use Rattle.zed_history.specs.Finding.{edit_with}
-use Rattle.zed_document.specs.declared.error.DocumentError.{DocumentError}
-use Rattle.zed_document.specs.declared.error.DocumentError.TheVariants.{Memory}
-use Rattle.zed_document.specs.Authoring.{AnswersToDo, AnswersFault}
-use Rattle.zed_document.specs.Stretches.{IsNext}
+use Rattle.zed_op.specs.Set.{AllFit, IsRising, union}
+use Rattle.zed_history.specs.Finding.{AllBelow}
+use Rattle.zed_document.specs.Stretches.{CanFollow}
 use Rattle.zed_document.proofs.Authored.{last-edit}
-use Rattle.zed_history.proofs.Spots.{edit_with-past}
-use Rattle.zed_document.proofs.TypedTexts.{to-fault}
 
-pub next-answers : (es : List Edit) (e : Edit) (r : Result Edit DocumentError) → IsNext es e → (r ≡ Err Memory) ⊎ AnswersToDo (fault e) es e r → (r ≡ Err Memory) ⊎ (r ≡ Ok e)
-next-answers es e r n (inl h) = inl h
-next-answers es e r n (inr h) =
-    let free : edit_with e.stamp es ≡ None = ap (edit_with e.stamp) (sym (append-nil es)) ∙ edit_with-past e.stamp es [] n.0 in
-    let a : AnswersFault (fault e) e r = to-fault (fault e) es e r n.2 free h in
-    inr (subst (λ f. AnswersFault f e r) n.1 a)
+module _ (P : Edit → Type 0) where
+  front : (xs ys : List Edit) → AllByRecursion P (xs ++ ys) → AllByRecursion P xs
+  front [] ys h = tt
+  front (x ∷ xs) ys h = (h.0, front xs ys h.1)
 
-pub next-last : (es : List Edit) (e : Edit) → IsNext es e → with_edit e es ≡ es ++ e ∷ []
-next-last es e n = last-edit e es n.0
+  end : (xs ys : List Edit) → AllByRecursion P (xs ++ ys) → AllByRecursion P ys
+  end [] ys h = h
+  end (x ∷ xs) ys h = end xs ys h.1
 
-pub next-only : (r : Result Edit DocumentError) (e : Edit) → (r ≡ Err Memory) ⊎ (r ≡ Ok e) → IfErr r (λ x. x ≡ Memory)
-next-only (Ok f) e h = tt
-next-only (Err x) e (inl h) = cc
-next-only (Err x) e (inr h) = absurd (cc)
+-- they fit
+pub follow-fit : (es fs : List Edit) → CanFollow es fs → AllFit fs
+follow-fit es [] h = tt
+follow-fit es (f ∷ fs) h = let n = h.0 in (n.1, follow-fit (es ++ f ∷ []) fs h.1)
+
+-- an edit that comes before all that come after some comes before those that follow these
+later : (f : Edit) (es gs : List Edit) → ((s : Stamp) → AllBelow s es → before f.stamp s ≡ true) → CanFollow es gs → AllByRecursion (λ g. before f.stamp g.stamp ≡ true) gs
+later f es [] low h = tt
+later f es (g ∷ gs) low h =
+    let n = h.0 in
+    (low g.stamp n.0, later f (es ++ g ∷ []) gs (λ s below. low s (front (λ e. before e.stamp s ≡ true) es (g ∷ []) below)) h.1)
+
+-- their stamps rise
+pub follow-rising : (es fs : List Edit) → CanFollow es fs → IsRising fs
+follow-rising es [] h = tt
+follow-rising es (f ∷ fs) h = (
+  later f (es ++ f ∷ []) fs (λ s below. (end (λ e. before e.stamp s ≡ true) es (f ∷ []) below).0) h.1,
+  follow-rising (es ++ f ∷ []) fs h.1,
+)
+
+-- a set with them has them at its end
+pub follow-joined : (es fs : List Edit) → CanFollow es fs → union es fs ≡ es ++ fs
+follow-joined es [] h = sym (append-nil es)
+follow-joined es (f ∷ fs) h =
+    let n = h.0 in
+    ap (λ xs. union xs fs) (last-edit f es n.0) ∙ follow-joined (es ++ f ∷ []) fs h.1 ∙ append_assoc es (f ∷ []) fs

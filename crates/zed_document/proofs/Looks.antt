@@ -261,7 +261,7 @@ most-one t n xs ys s grow few =
         let g1 : Grows true (Some x) (Some y.1) = subst (λ b. Grows b (Some x) (Some y.1)) q g in
         let same : t ≡ y.0 = same_text-true t y.0 q in
         let few1 : HasFew n (Some x) = subst (HasFew n) h (subst (λ u. HasFew n (text_in u xs)) same few) in
-        let l : raised x.visits g1.1.0 - x.visits ≤ 2 * n + 2 = few-looks (length x.cutting) x.visits g1.1.0 n few1.0 g1.1.2 in
+        let l : raised x.visits g1.1.0 - x.visits ≤ 2 * n + 2 = few-looks (length x.cutting) x.visits g1.1.0 n few1.0 (omega (arith, g1.1.2)) in
         rw (q, g1.1.1) l
     go y false q (Some x) h g =
         let g1 : x ≡ y.1 = subst (λ b. Grows b (Some x) (Some y.1)) q g in

@@ -2,15 +2,15 @@
 
 // Bytes that an author deletes from a text.
 
-ghost use Rattle.std.specs.Prelude.{◌≡◌, ◌≢◌, ◌≤◌, ◌<◌, ◌⊎◌, ◌++◌, ◌∷◌, ◌-◌, ◌+◌, ◌==◌, ◌&&◌, [], ℕ, false, true, is_ok, length, option_map, slice_get, take, Some, Err, IfOk, IfErr, OnOk, OnErr, IsOkAnd, MatchBool, if◌then◌else◌};
+ghost use Rattle.std.specs.Prelude.{◌≡◌, ◌≢◌, ◌≤◌, ◌<◌, ◌⊎◌, ◌++◌, ◌∷◌, ◌-◌, ◌+◌, ◌==◌, ◌&&◌, [], false, true, is_ok, length, option_map, slice_get, Some, Err, IfOk, IfErr, OnOk, OnErr, IsOkAnd, MatchBool};
 ghost use Rattle.zed_edit.specs.Document.{has, text as text_shown, elements as elements_of};
 ghost use Rattle.zed_op.specs.declared.thing.Thing.TheVariants.{Text as the_text};
-ghost use Rattle.zed_op.specs.Set.{AllFit, IsRising};
+ghost use Rattle.zed_op.specs.Set.{AllFit, IsRising, union};
 ghost use Rattle.zed_edit.specs.Replay.{replay};
 ghost use Rattle.zed_history.specs.Clock.{is_spent};
 ghost use Rattle.zed_types.specs.Text.{alive};
 ghost use Rattle.zed_document.specs.Authoring.{AnswersDeletion, MayTakeMemoryToDelete, deletions, deletions_of, is_part, part, stretches, stretches_of, without, alone as one_byte};
-ghost use Rattle.zed_document.specs.Stretches.{IsNext, CanFollow, ends_before as goes_behind, stretched, with_last, begun as begun_by};
+ghost use Rattle.zed_document.specs.Stretches.{CanFollow, ends_before as goes_behind, stretched, with_last, begun as begun_by};
 ghost use Rattle.zed_document.specs.Counts.{NoCountFalls};
 ghost use Rattle.zed_document.specs.Reading.{has_text};
 
@@ -167,6 +167,14 @@ fn deletions_follow(edits: &[Edit], replica: u16, text: TextId, from: usize, to:
     made_things_stay();
 }
 
+/// Edits that can be done one after the other are later than all before them, so that they are joined to these at their end.
+fn followers_are_joined(edits: &[Edit], more: &[Edit])
+    requires { CanFollow edits.now more.now }
+    ensures fit { AllFit more.now }
+    ensures rising { IsRising more.now }
+    ensures joined { union edits.now more.now ≡ edits.now ++ more.now }
+{}
+
 impl Document {
     /// The deletions of a part of a text. Memory is the last of the refusals.
     fn deletions(
@@ -216,42 +224,26 @@ impl Document {
         Ok(edits_of(self.alloc(), time, replica, text, &ranges)?)
     }
 
-    /// Makes edits one after the other, each of which can be done when its turn comes.
+    /// Makes edits that can be done one after the other, all or, for want of memory, none.
     fn make_all(&mut self, edits: &[Edit]) -> Result<(), DocumentError>
         requires sound { self.old.is_stale ≡ false }
         requires follow { CanFollow self.old.edits edits.now }
         ensures edits { OnOk result (self.new.edits ≡ self.old.edits ++ edits.now) }
-        ensures front { OnErr result
-            ((n : ℕ) × (self.new.edits ≡ self.old.edits ++ take n edits.now)) }
+        ensures kept { OnErr result (self.new.edits ≡ self.old.edits) }
+        ensures refused { OnErr result (self.new.is_stale ≡ false → self.new ≡ self.old) }
         ensures err { IfErr result (λ e. e ≡ DocumentError.Memory) }
         ensures world { self.new.world ≡ self.old.world }
         ensures sound { OnOk result (self.new.is_stale ≡ false) }
         ensures visits { OnOk result (NoCountFalls self.old.counts self.new.counts) }
     {
-        for edit in edits {
-            let _ = self.make_next(edit.copy()?)?;
-        }
-        Ok(())
-    }
-
-    /// Makes an edit that comes after all others and can be done.
-    fn make_next(&mut self, edit: Edit) -> Result<Edit, DocumentError>
-        requires sound { self.old.is_stale ≡ false }
-        requires next { IsNext self.old.edits edit }
-        ensures edits { self.new.edits
-            ≡ (if is_ok result then self.old.edits ++ edit ∷ [] else self.old.edits) }
-        ensures err { IfErr result (λ e. e ≡ DocumentError.Memory) }
-        ensures world { self.new.world ≡ self.old.world }
-        ensures sound { OnOk result (self.new.is_stale ≡ false) }
-        ensures visits { OnOk result (NoCountFalls self.old.counts self.new.counts) }
-    {
-        self.make(edit)
+        followers_are_joined(self.edits(), edits);
+        self.take_in(edits)
     }
 
     /// Deletes the alive bytes of a text from one position to another, without the last: one edit for each longest stretch of one
     /// insertion with indices that rise by one. In this order: Stale; NoSuch where the text wasn't made; OutOfRange where the range is
-    /// empty or ends over the length; ClockSpent where fewer times are left than edits are needed; Memory, after which the first of
-    /// these edits may be made and the document may be stale.
+    /// empty or ends over the length; ClockSpent where fewer times are left than edits are needed; Memory. The set of edits is as
+    /// before on each of them. After Memory the document may be stale; else it is as before.
     ///
     /// The caller gives a replica of at least 1.
     pub fn delete_text(
@@ -269,8 +261,9 @@ impl Document {
             (self.new.edits ≡ self.old.edits ++ deletions_of self.old.edits replica text from to) }
         ensures shows { OnOk result (text_shown (replay self.new.edits) text
             ≡ without from to (text_shown (replay self.old.edits) text)) }
-        ensures err { result ≡ Err DocumentError.Memory → (n : ℕ) × (self.new.edits
-            ≡ self.old.edits ++ take n (deletions_of self.old.edits replica text from to)) }
+        ensures err { is_ok result ≡ false → self.new.edits ≡ self.old.edits }
+        ensures refused { result ≡ Err DocumentError.Memory
+            → self.new.is_stale ≡ false → self.new ≡ self.old }
         ensures kept { is_ok result ≡ false → (result ≢ Err DocumentError.Memory)
             → self.new ≡ self.old }
         ensures world { self.new.world ≡ self.old.world }

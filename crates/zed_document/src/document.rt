@@ -1,11 +1,14 @@
 //! A document: the edits that a replica accepted, and what they make.
 ghost use Rattle.std.specs.Prelude.{◌≡◌, ◌≢◌, ◌≤◌, ◌⊎◌, ◌<◌, [], ◌∷◌, if◌then◌else◌, length, insert, is_ok, true, false, None, Ok, Err, OnOk, OnErr, IfOk, IfErr, IsOkAnd, MatchOption, ◌↔◌};
+ghost use Rattle.zed_history.specs.Batch.{AreNew};
+ghost use Rattle.zed_op.specs.Set.{IsRising, stamps_of, union};
 
 use crate::delivered::{Delivered, State};
 use crate::error::{DocumentError, unless_clash};
 use crate::held::{HeldStamps, waiting};
 use crate::visits::{visits_at, visits_before, visits_since};
-use std::alloc::Global;
+use std::alloc::{AllocError, Global};
+use std::collections::BTreeSet;
 use std::marker::Model;
 use zed_delivery::{
     Body, calm_edits_hold_the_same, empty_bodies_show_none, rising_edits_are_apart,
@@ -14,6 +17,7 @@ use zed_edit::{Edit, check};
 use zed_history::{Batch, copies_new_to, gather, join, least_clash, spot_of};
 use zed_laws::held_edits_are_remembered;
 use zed_op::{edit_has_sizes, edits_have_sizes, rising_lists_are_sets, sets_rise, sets_stay_fit};
+use zed_inbox::Inbox;
 use zed_types::{Stamp, TextId};
 use zed_view::{View, parts_show_the_replay};
 
@@ -26,7 +30,8 @@ pub struct Document {
     /// The stamps of the edits that are held. It changes at the end of a call alone, so that it is right in a stale
     /// document too.
     pub(crate) held: HeldStamps,
-    /// What the edits make, and those that wait; of a stale document anything.
+    /// What the edits make, and those that wait. Where want of memory leaves the document stale, it is given up, so that a repair
+    /// has its room.
     pub(crate) body: Body,
     pub(crate) is_stale: bool,
 }
@@ -48,8 +53,27 @@ impl Model for Document {
     ghost invariant = { λ d. IsKept d.edits.items d.held d.is_stale d.body };
 }
 
+/// Joins edits of new stamps to a log, and tells the stamps of those that wait. Memory leaves the log as it was.
+fn enter(
+    alloc: Global,
+    inbox: &Inbox,
+    log: &mut Vec<Edit>,
+    edits: Vec<Edit>,
+) -> Result<BTreeSet<Stamp>, AllocError>
+    requires log_rising { IsRising log.old.items }
+    requires rising { IsRising edits.items }
+    requires new { AreNew log.old.items edits.items }
+    ensures waiting { IfOk result (λ stamps. stamps.keys ≡ stamps_of inbox.now) }
+    ensures ok { OnOk result (log.new.items ≡ union log.old.items edits.items) }
+    ensures kept { OnErr result (log.new.items ≡ log.old.items) }
+{
+    let stamps = waiting(alloc, inbox)?;
+    join(log, edits)?;
+    Ok(stamps)
+}
+
 impl Document {
-    ghost use Rattle.zed_history.specs.Batch.{AreNew, HasNew, JoinOn};
+    ghost use Rattle.zed_history.specs.Batch.{HasNew, JoinOn};
     ghost use Rattle.zed_history.specs.Clash.{new_to};
     ghost use Rattle.zed_history.specs.Finding.{edit_with};
     ghost use Rattle.zed_document.specs.Held.{held_stamps, is_among as is_one_of};
@@ -57,7 +81,7 @@ impl Document {
     ghost use Rattle.zed_document.specs.Delivery.{Answers, AnswersAt, AnswersEach, MayTakeMemoryFor, TellsNew};
     ghost use Rattle.zed_edit.specs.Replay.{replay};
     ghost use Rattle.zed_op.specs.Fit.{Fits};
-    ghost use Rattle.zed_op.specs.Set.{AllFit, IsRising, union, with_edit};
+    ghost use Rattle.zed_op.specs.Set.{AllFit, with_edit};
     ghost use Rattle.zed_op.specs.Sizes.{HaveSizes};
     ghost use Rattle.zed_document.specs.Merge.{AnswersMerge, below};
     ghost use Rattle.zed_types.specs.declared.stamp.Stamp.{Stamp as TheStamp};
@@ -95,11 +119,12 @@ impl Document {
         self.edits.as_slice()
     }
 
-    /// What the document shows. Stale where it is stale.
+    /// What the document shows. Stale where it is stale: such a document keeps its edits, and nothing of what they make.
     pub fn view(&self) -> Result<View<'_>, DocumentError>
         ensures stale { (result ≡ Err DocumentError.Stale) ↔ (self.now.is_stale ≡ true) }
         ensures err { IfErr result (λ e. e ≡ DocumentError.Stale) }
         ensures shows { IfOk result (λ v. v ≡ replay self.now.edits) }
+        ensures emptied { OnErr result (self.now.counts ≡ []) }
     {
         if self.is_stale {
             return Err(DocumentError::Stale);
@@ -237,7 +262,10 @@ impl Document {
         self.is_stale = true;
         let mut woken = Vec::new(alloc);
         let taken = self.body.take(alloc, &edit, &mut woken)?;
-        self.held.follow(edit.stamp, taken.held)?;
+        let Ok(()) = self.held.follow(edit.stamp, taken.held) else {
+            self.body = Body::new(alloc);
+            return Err(DocumentError::Memory);
+        };
         self.held.wake(taken.woken, &woken, &self.body.inbox);
         self.edits.insert(place, edit).unwrap();
         self.is_stale = false;
@@ -300,7 +328,7 @@ impl Document {
     }
 
     /// Takes in copies of the edits of another log that have stamps of their own.
-    fn take_in(&mut self, other: &[Edit]) -> Result<(), DocumentError>
+    pub(crate) fn take_in(&mut self, other: &[Edit]) -> Result<(), DocumentError>
         requires sound { self.old.is_stale ≡ false }
         requires fit { AllFit other.now }
         requires rising { IsRising other.now }
@@ -364,8 +392,10 @@ impl Document {
         // until all is done; what fails midway leaves it so
         self.is_stale = true;
         self.body.take_all(alloc, &edits)?;
-        let stamps = waiting(alloc, &self.body.inbox)?;
-        join(&mut self.edits, edits)?;
+        let Ok(stamps) = enter(alloc, &self.body.inbox, &mut self.edits, edits) else {
+            self.body = Body::new(alloc);
+            return Err(DocumentError::Memory);
+        };
         self.held.replace(stamps);
         self.is_stale = false;
         Ok(())

@@ -140,9 +140,13 @@ impl Intake {
         let mut woken = Vec::new(alloc);
         let taken = self.body.take(alloc, &edit, &mut woken)?;
         let stamp = edit.stamp;
-        self.held.follow(stamp, taken.held)?;
+        let Ok(()) = self.held.follow(stamp, taken.held) else {
+            self.body = Body::new(alloc);
+            return Err(DocumentError::Memory);
+        };
         let Ok(()) = self.log.add(edit) else {
             self.held.undo(stamp, taken.held);
+            self.body = Body::new(alloc);
             return Err(DocumentError::Memory);
         };
         self.held.wake(taken.woken, &woken, &self.body.inbox);

@@ -20,4 +20,4 @@ pub use document::Document;
 pub use error::DocumentError;
 pub use intake::Intake;
 pub use laws::{deliveries_come_to_sets, edits_decide, merging_is_of_sets};
-pub use zed_view::{View, append_text};
+pub use zed_view::{View, append_names, append_text};

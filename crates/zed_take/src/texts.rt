@@ -4,7 +4,7 @@ use crate::lines::between;
 use crate::plan::Plan;
 use crate::plan_error::PlanError;
 use std::alloc::{AllocError, Global};
-use zed_document::View;
+use zed_document::{View, append_names};
 use zed_op::Op;
 use zed_types::{ByteRange, Bytes, ElemId, TextId};
 
@@ -12,11 +12,31 @@ fn bytes_of(alloc: Global, bytes: &[u8]) -> Result<Bytes, AllocError> {
     Ok(Bytes::new(Vec::from_slice(alloc, bytes)?))
 }
 
+// The names of the live bytes of a text, which is so long.
+fn names_of(
+    alloc: Global,
+    view: &View,
+    text: TextId,
+    length: usize,
+) -> Result<Vec<ElemId>, AllocError> {
+    let mut names = Vec::new(alloc);
+    append_names(view, text, 0, length, &mut names)?;
+    Ok(names)
+}
+
+// The name of the byte before a place, none at the head.
+fn name_before(names: &[ElemId], place: usize) -> Option<ElemId> {
+    if place == 0 {
+        return None;
+    }
+    names.get(place - 1).copied()
+}
+
 // Plans to put bytes behind the one before a place.
 fn plan_insert(
     alloc: Global,
     plan: &mut Plan,
-    view: &View,
+    names: &[ElemId],
     text: TextId,
     place: usize,
     bytes: &[u8],
@@ -24,11 +44,7 @@ fn plan_insert(
     if bytes.is_empty() {
         return Ok(());
     }
-    let after = if place == 0 {
-        None
-    } else {
-        view.name_at(text, place - 1)
-    };
+    let after = name_before(names, place);
     plan.add(Op::TextInsert(text, after, bytes_of(alloc, bytes)?))?;
     Ok(())
 }
@@ -64,16 +80,16 @@ fn plan_range(plan: &mut Plan, text: TextId, range: Option<ByteRange>) -> Result
 // Plans to delete the live bytes between two places: one edit for each stretch of bytes of one insertion. Dead ones between them stay dead.
 fn plan_delete(
     plan: &mut Plan,
-    view: &View,
+    names: &[ElemId],
     text: TextId,
     from: usize,
     to: usize,
 ) -> Result<(), PlanError> {
     let mut range: Option<ByteRange> = None;
     for place in from..to {
-        if let Some(name) = view.name_at(text, place) {
+        if let Some(name) = names.get(place) {
             let joined = match range {
-                Some(before) => longer(before, name),
+                Some(before) => longer(before, *name),
                 None => None,
             };
             if joined.is_none() {
@@ -81,7 +97,7 @@ fn plan_delete(
             }
             range = match joined {
                 Some(more) => Some(more),
-                None => Some(only(name)),
+                None => Some(only(*name)),
             };
         }
     }
@@ -91,14 +107,14 @@ fn plan_delete(
 fn plan_change(
     alloc: Global,
     plan: &mut Plan,
-    view: &View,
+    names: &[ElemId],
     text: TextId,
     change: Change,
     new: &[u8],
 ) -> Result<(), PlanError> {
     let bytes = between(new, change.start, change.end);
-    plan_insert(alloc, plan, view, text, change.from, bytes)?;
-    plan_delete(plan, view, text, change.from, change.to)
+    plan_insert(alloc, plan, names, text, change.from, bytes)?;
+    plan_delete(plan, names, text, change.from, change.to)
 }
 
 /// Plans to make a text of the document read so.
@@ -111,8 +127,12 @@ pub(crate) fn plan_text(
     after: &[u8],
 ) -> Result<(), PlanError> {
     let changes = changes(alloc, before, after)?;
+    if changes.is_empty() {
+        return Ok(());
+    }
+    let names = names_of(alloc, view, text, before.len())?;
     for change in &changes {
-        plan_change(alloc, plan, view, text, *change, after)?;
+        plan_change(alloc, plan, &names, text, *change, after)?;
     }
     Ok(())
 }

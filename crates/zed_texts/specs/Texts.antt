@@ -1,5 +1,5 @@
 -- The texts of a live document: their elements, put in edit by edit, and how their runs grow.
-use Rattle.std.specs.Prelude.{◌≡◌, ◌≤◌, ℕ, Bool, true, false, List, [], map, length, Option, Some, None}
+use Rattle.std.specs.Prelude.{◌≡◌, ◌≤◌, ◌<◌, is_some, ℕ, Bool, true, false, List, [], map, length, Option, Some, None}
 use Rattle.zed_types.specs.Limits.{largest_body}
 use Rattle.zed_types.specs.declared.stamp.Stamp.{Stamp}
 use Rattle.zed_types.specs.declared.names.TextId.{TextId}
@@ -11,7 +11,7 @@ use Rattle.zed_op.specs.declared.op.Op.TheVariants.{Genesis, TextAdd, TextInsert
 use Rattle.zed_edit.specs.declared.plain.Text.{Text}
 use Rattle.zed_laws.specs.Making.{made_texts}
 use Rattle.zed_code.specs.Pieces.{Shown}
-use Rattle.zed_code.specs.Text.{elements, StandsAfter, IsNewStamp, HasMore}
+use Rattle.zed_code.specs.Text.{elements, has_from, StandsAfter, IsNewStamp, HasMore}
 use Rattle.zed_types.specs.Stamp.{genesis_stamp}
 use Rattle.zed_code.specs.Visits.{LooksAtSome}
 use Rattle.zed_texts.specs.ByName.{ByName, text_in, add_all, change}
@@ -50,13 +50,14 @@ IsReady s (TextInsert t after bytes) xs =
     × IsNewStamp s (elements_or_none (text_in t xs))
 IsReady s _ xs = Unit {0}
 
--- whether an op makes or changes texts
-abbrev pub is_of_texts : Op → Bool
-is_of_texts (Genesis bytes) = true
-is_of_texts TextAdd = true
-is_of_texts (TextInsert t after bytes) = true
-is_of_texts (TextDelete t range) = true
-is_of_texts _ = false
+-- putting an edit in takes memory where it makes texts, puts bytes into a text that is there, or names bytes that its text has
+abbrev pub MayTakeMemory : Op → Elements → Type 0
+MayTakeMemory (Genesis bytes) xs = Unit {0}
+MayTakeMemory TextAdd xs = Unit {0}
+MayTakeMemory (TextInsert t after bytes) xs = (is_some (text_in t xs) ≡ true) × (0 < length bytes)
+MayTakeMemory (TextDelete t range) xs =
+    (range.first ≤ range.last) × (has_from range.stamp range.first (elements_or_none (text_in t xs)) ≡ true)
+MayTakeMemory _ xs = ⊥
 
 -- whether an op changes the text of a name
 abbrev pub changes_text : TextId → Op → Bool

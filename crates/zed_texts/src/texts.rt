@@ -8,9 +8,9 @@ ghost use Rattle.zed_types.specs.Text.{run_from, put_late, kill};
 ghost use Rattle.zed_op.specs.Fit.{Fits};
 ghost use Rattle.zed_edit.specs.Replay.{made_by};
 ghost use Rattle.zed_laws.specs.Making.{made_texts};
-ghost use Rattle.zed_code.specs.Text.{StandsAfter, IsNewStamp};
+ghost use Rattle.zed_code.specs.Text.{has_from, StandsAfter, IsNewStamp};
 ghost use Rattle.zed_texts.specs.ByName.{text_in, add as added, add_all as all_added, change};
-ghost use Rattle.zed_texts.specs.Texts.{elements_of, named, elements_or_none, texts_after, IsReady, is_of_texts, changes_text, AllGrow, IsOpened};
+ghost use Rattle.zed_texts.specs.Texts.{elements_of, named, elements_or_none, texts_after, IsReady, MayTakeMemory, changes_text, AllGrow, IsOpened};
 ghost use Rattle.zed_texts.specs.Looks.{looks_of};
 
 use crate::made::all_as_made;
@@ -139,14 +139,16 @@ impl LiveTexts {
     }
 
     /// Puts an edit in, whenever it comes: changes the text that it is of, if that is there, or adds the texts that it makes.
-    /// Memory leaves the texts as they were.
+    /// Memory leaves the texts as they were. None is taken by an edit of another thing, by one of a text that isn't there, or by a
+    /// deletion of bytes that its text doesn't have.
     pub fn take(&mut self, alloc: Global, edit: &Edit) -> Result<(), AllocError>
         requires fits { Fits edit.now }
         requires ready { IsReady edit.now.stamp edit.now.op (elements_of self.old) }
         ensures ok { OnOk result (elements_of self.new
             ≡ texts_after edit.now.stamp edit.now.op (elements_of self.old)) }
         ensures kept { OnErr result (self.new ≡ self.old) }
-        ensures memory_only_when { OnErr result (is_of_texts edit.now.op ≡ true) }
+        ensures memory_only_when { OnErr result
+            (MayTakeMemory edit.now.op (elements_of self.old)) }
         ensures runs { OnOk result
             (AllGrow (λ t. changes_text t edit.now.op) self.old self.new) }
     {
@@ -181,6 +183,8 @@ impl LiveTexts {
             (elements_of self.old)) }
         ensures kept { OnErr result (self.new ≡ self.old) }
         ensures runs { OnOk result (AllGrow (λ t. same_text id t) self.old self.new) }
+        ensures memory_only_when { OnErr result
+            ((is_some (text_in id (elements_of self.old)) ≡ true) × (0 < length bytes.now)) }
     {
         if let Some(i) = seek(&self.entries, self.last, id) {
             if let Some(text) = self.entries.get_index_mut(i) {
@@ -198,6 +202,8 @@ impl LiveTexts {
             ≡ change id (kill range) (elements_of self.old)) }
         ensures kept { OnErr result (self.new ≡ self.old) }
         ensures runs { OnOk result (AllGrow (λ t. same_text id t) self.old self.new) }
+        ensures memory_only_when { OnErr result ((range.first ≤ range.last) × (has_from range.stamp
+            range.first (elements_or_none (text_in id (elements_of self.old))) ≡ true)) }
     {
         if let Some(i) = seek(&self.entries, self.last, id) {
             if let Some(text) = self.entries.get_index_mut(i) {

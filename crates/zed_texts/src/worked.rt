@@ -1,9 +1,9 @@
 //! How one text is changed, and by how many its count of runs looked at rises.
 
-ghost use Rattle.std.specs.Prelude.{◌≡◌, ◌≤◌, ◌+◌, length, IfOk, OnOk, OnErr};
+ghost use Rattle.std.specs.Prelude.{◌≡◌, ◌≤◌, ◌<◌, ◌+◌, true, length, IfOk, OnOk, OnErr};
 ghost use Rattle.zed_types.specs.declared.limits.TheConstants.{READ_BODY_LIMIT};
 ghost use Rattle.zed_types.specs.Text.{run_from, put_late, kill};
-ghost use Rattle.zed_code.specs.Text.{elements, StandsAfter, IsNewStamp};
+ghost use Rattle.zed_code.specs.Text.{elements, has_from, StandsAfter, IsNewStamp};
 ghost use Rattle.zed_texts.specs.Texts.{IsWorked};
 
 use std::alloc::AllocError;
@@ -25,6 +25,7 @@ pub(crate) fn put_into(
     ensures kept { OnErr result (text.new ≡ text.old) }
     ensures runs { OnOk result (IsWorked text.old text.new) }
     ensures visits { IfOk result (λ n. text.new.visits ≡ text.old.visits + n) }
+    ensures memory_only_when { OnErr result (0 < length bytes.now) }
 {
     let before = text.visits();
     text.insert(after, stamp, bytes)?;
@@ -37,6 +38,8 @@ pub(crate) fn kill_in(text: &mut Text, range: ByteRange) -> Result<u64, AllocErr
     ensures kept { OnErr result (text.new ≡ text.old) }
     ensures runs { OnOk result (IsWorked text.old text.new) }
     ensures visits { IfOk result (λ n. text.new.visits ≡ text.old.visits + n) }
+    ensures memory_only_when { OnErr result ((range.first ≤ range.last)
+        × (has_from range.stamp range.first (elements text.old) ≡ true)) }
 {
     let before = text.visits();
     text.delete(range.stamp, range.first, range.last)?;

@@ -1,7 +1,8 @@
 -- The text of a name, in live texts and in those that they show: its elements, and whether it is there.
-use Rattle.std.proofs.Common.{◌≡◌, ◌∙◌, ◌||◌, Bool, true, false, cond, List, [], ◌∷◌, Some, None, refl, ap, sym}
+use Rattle.std.proofs.Common.{◌≡◌, ◌∙◌, ℕ, ◌||◌, Bool, true, false, cond, List, [], ◌∷◌, Some, None, refl, ap, sym}
 use Rattle.std.specs.List.{list_any}
 use Rattle.std.specs.Option.{is_some}
+use Rattle.zed_types.specs.declared.names.ElemId.{ElemId}
 use Rattle.zed_types.specs.declared.names.TextId.{TextId}
 use Rattle.zed_types.specs.declared.text.TextByte.{TextByte}
 use Rattle.zed_types.specs.Names.{same_text}
@@ -9,7 +10,8 @@ use Rattle.zed_types.proofs.StampOrder.{same_text-true, same_text-itself}
 use Rattle.zed_edit.specs.declared.plain.Text.{Text}
 use Rattle.zed_edit.specs.Document.{find_text, elements_in}
 use Rattle.zed_code.specs.Pieces.{Shown}
-use Rattle.zed_code.specs.Text.{elements}
+use Rattle.zed_code.specs.Text.{elements, names_between}
+use Rattle.zed_code.proofs.Names.{part-none}
 use Rattle.zed_names.proofs.Found.{apart}
 use Rattle.zed_texts.specs.ByName.{text_name, text_in}
 use Rattle.zed_texts.specs.Texts.{Texts, elements_of}
@@ -39,6 +41,10 @@ of_some_text t ys v h = elements-shown t ys ∙ ap spelled h
 
 pub of_no_text : (t : TextId) (ys : Texts) → text_in t ys ≡ None → elements_in (find_text t (shown_texts (elements_of ys))) ≡ []
 of_no_text t ys h = elements-shown t ys ∙ ap spelled h
+
+-- nor has it names
+pub no_names : (t : TextId) (ys : Texts) (from to : ℕ) → text_in t ys ≡ None → names_between from to (elements_in (find_text t (shown_texts (elements_of ys)))) ≡ []
+no_names t ys from to h = ap (names_between from to) (of_no_text t ys h) ∙ part-none ElemId from to
 
 -- whether it is there
 pub is_made : (t : TextId) (ys : Texts) → is_some (text_in t ys) ≡ list_any (λ x. same_text x.id t) (shown_texts (elements_of ys))

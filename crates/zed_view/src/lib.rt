@@ -9,7 +9,7 @@ mod reading;
 mod same;
 mod view;
 
-pub use appending::append_text;
+pub use appending::{append_names, append_text};
 pub use first::first_boards_have_the_first_numbers;
 pub use laws::parts_show_the_replay;
 pub use view::View;

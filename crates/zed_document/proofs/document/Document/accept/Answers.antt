@@ -27,7 +27,7 @@ wake-requires c = λ some.
     let new : edit_with c.args.edit.stamp c.self.inside.edits.items ≡ None = ap (edit_with c.args.edit.stamp) v ∙ c.requires.new in
     let come = comes c.args.edit c.self.inside.edits.items c.self.inside.held c.self.inside.is_stale c.self.inside.body c.self.invariant f new in
     rest_waits c.held_edits_are_remembered.ensures c.args.edit c.self.inside.edits.items c.self.inside.held c.follow.new.self c.self.inside.body c.take.new.self c.in_ok-taken.taken
-    come c.requires.fits c.self.invariant.held (c.in_ok-taken.ensures.ok c.self.inside.edits.items come) c.in_ok-taken.ensures.tells c.in_ok-follow.ensures.ok some
+    come c.requires.fits c.self.invariant.held (c.in_ok-taken.ensures.ok c.self.inside.edits.items come) c.in_ok-taken.ensures.tells c.in-Ok.ensures.ok some
 
 pub invariant_of-self-2 : goal.invariant_of-self-2
 invariant_of-self-2 c =
@@ -36,7 +36,7 @@ invariant_of-self-2 c =
     let new : edit_with c.args.edit.stamp c.self.inside.edits.items ≡ None = ap (edit_with c.args.edit.stamp) v ∙ c.requires.new in
     let items : c.insert.new.self.items ≡ insert c.self.inside.edits.items c.args.place c.args.edit = search rules in
     let is : with_edit c.args.edit c.self.inside.edits.items ≡ c.insert.new.self.items = rw v (c.requires.belongs ∙ sym (items ∙ ap (λ es. insert es c.args.place c.args.edit) v)) in
-    let renewed = is_renewed c.in_ok-taken.taken c.args.edit c.take.new.self.inbox c.self.inside.held c.follow.new.self c.wake.new.self c.in_ok-taken.taken.woken refl c.in_ok-follow.ensures.ok c.wake.ensures.some c.wake.ensures.none in
+    let renewed = is_renewed c.in_ok-taken.taken c.args.edit c.take.new.self.inbox c.self.inside.held c.follow.new.self c.wake.new.self c.in_ok-taken.taken.woken refl c.in-Ok.ensures.ok c.wake.ensures.some c.wake.ensures.none in
     let kept = one_more c.held_edits_are_remembered.ensures c.calm_edits_hold_the_same.ensures c.sets_rise.ensures.edit c.sets_stay_fit.ensures.edit
     c.args.edit c.self.inside.edits.items c.self.inside.held c.wake.new.self c.self.inside.is_stale c.self.inside.body c.take.new.self c.in_ok-taken.taken
     c.self.invariant f new c.requires.fits (c.edit_has_sizes.ensures c.requires.fits) c.in_ok-taken.ensures.ok c.in_ok-taken.ensures.tells renewed in

@@ -26,10 +26,10 @@ invariant_of-self-2 c =
     let new : AreNew c.self.inside.edits.items c.args.edits.items = subst (λ es. AreNew es c.args.edits.items) (sym v) c.requires.new in
     let sizes : HaveSizes c.args.edits.items = subst HaveSizes c.deref.ensures.value c.edits_have_sizes.ensures in
     let shows : ShowsAll c.args.edits.items c.self.inside.body c.take_all.new.self = subst (λ es. ShowsAll es c.self.inside.body c.take_all.new.self) c.deref-2.ensures.value c.in_ok-take_all.ensures.ok in
-    let joined : c.join.new.log.items ≡ union c.self.inside.edits.items c.args.edits.items = c.in_ok-join.ensures.ok in
+    let joined : c.enter.new.log.items ≡ union c.self.inside.edits.items c.args.edits.items = c.in-Ok.ensures.ok in
     let kept = many_more c.held_edits_are_remembered.ensures c.rising_edits_are_apart.ensures c.sets_rise.ensures.union c.sets_stay_fit.ensures.union
     c.args.edits.items c.self.inside.edits.items c.self.inside.held c.self.inside.is_stale c.self.inside.body c.take_all.new.self c.replace.new.self
-    c.self.invariant f c.requires.rising c.requires.fit sizes new shows (c.replace.ensures ∙ c.in_ok-stamps.ensures) in
+    c.self.invariant f c.requires.rising c.requires.fit sizes new shows (c.replace.ensures ∙ c.in-Ok.ensures.waiting) in
     subst (λ es. IsKept es c.replace.new.self false c.take_all.new.self) (sym joined) kept
 
 pub returns-then-is_empty-clause-visits : goal.returns-then-is_empty-clause-visits

@@ -1,16 +1,17 @@
 -- The text of the name is found by its place, and written back there.
-use Rattle.std.proofs.Common.{◌≡◌, ◌∙◌, ◌+◌, min, IsSorted, ap, sym, subst, is_some}
+use Rattle.std.proofs.Common.{◌≡◌, ◌∙◌, ◌+◌, true, min, IsSorted, ap, sym, subst, is_some}
 use Rattle.indexmap.proofs.CallerLemmas.{keys-with_value_at}
 use Rattle.indexmap.specs.IndexMap.{set_value_at}
 use Rattle.zed_types.specs.Text.{kill}
 use Rattle.zed_types.specs.Names.{same_text}
+use Rattle.zed_code.specs.Text.{has_from}
 use Rattle.zed_texts.specs.Looks.{greatest_sum, looks_of}
-use Rattle.zed_texts.specs.ByName.{text_cmp, text_name, change}
-use Rattle.zed_texts.specs.Texts.{Texts, elements_of, AllGrow}
+use Rattle.zed_texts.specs.ByName.{text_cmp, text_in, text_name, change}
+use Rattle.zed_texts.specs.Texts.{Texts, elements_of, elements_or_none, AllGrow}
 use Rattle.zed_names.proofs.Changed.{unchanged}
 use Rattle.zed_texts.proofs.Answered.{any_err}
 use Rattle.zed_texts.proofs.Looks.{looks-rise}
-use Rattle.zed_texts.proofs.TextElements.{changed-elements, changed-grow, none-elements, none-grow}
+use Rattle.zed_texts.proofs.TextElements.{elements-at, changed-elements, changed-grow, none-elements, none-grow}
 use Rattle.zed_texts.proofs.texts.LiveTexts.delete.Goals as goal
 
 pub invariant_of-self : goal.invariant_of-self
@@ -54,3 +55,11 @@ pub returns-in_default-clause-runs : goal.returns-in_default-clause-runs
 returns-in_default-clause-runs c =
     let none = sym c.seek.ensures.found ∙ ap is_some c.in_default.is in
     subst (λ (ys : Texts). AllGrow (λ t. same_text c.args.id t) ys ys) c.self.view_is (none-grow c.args.id c.self.inside.entries.entries none)
+
+pub returns-in_err-looked-clause-memory_only_when : goal.returns-in_err-looked-clause-memory_only_when
+returns-in_err-looked-clause-memory_only_when c =
+    let has = has_from c.args.range.stamp c.args.range.first in
+    let m = c.in_err-looked.ensures.memory_only_when in
+    let here = elements-at c.args.id c.self.inside.entries.entries c.in-Some.i c.in-Some-get_index_mut.text.now c.in-Some.ensures.index c.in-Some-get_index_mut.ensures.value in
+    let there : has (elements_or_none (text_in c.args.id (elements_of c.self.inside.entries.entries))) ≡ true = ap has here ∙ m.1 in
+    any_err c.from_residual.result (m.0, subst (λ ys. has (elements_or_none (text_in c.args.id (elements_of ys))) ≡ true) c.self.view_is there)

@@ -1,9 +1,10 @@
 -- The text of the name is found by its place, and written back there.
-use Rattle.std.proofs.Common.{◌≡◌, ◌∙◌, ◌+◌, min, IsSorted, ap, sym, subst, is_some}
+use Rattle.std.proofs.Common.{◌≡◌, ◌∙◌, ◌+◌, true, min, IsSorted, ap, sym, subst, is_some}
+use Rattle.std.specs.Option.{option_map}
 use Rattle.indexmap.proofs.CallerLemmas.{keys-with_value_at}
 use Rattle.indexmap.specs.IndexMap.{set_value_at}
 use Rattle.zed_types.specs.Text.{run_from, put_late}
-use Rattle.zed_code.specs.Text.{StandsAfter, IsNewStamp}
+use Rattle.zed_code.specs.Text.{elements, StandsAfter, IsNewStamp}
 use Rattle.zed_types.specs.Names.{same_text}
 use Rattle.zed_texts.specs.Looks.{greatest_sum, looks_of}
 use Rattle.zed_texts.specs.ByName.{text_cmp, text_name, change, text_in}
@@ -11,7 +12,7 @@ use Rattle.zed_texts.specs.Texts.{Texts, elements_of, elements_or_none, AllGrow}
 use Rattle.zed_names.proofs.Changed.{unchanged}
 use Rattle.zed_texts.proofs.Answered.{any_err}
 use Rattle.zed_texts.proofs.Looks.{looks-rise}
-use Rattle.zed_texts.proofs.TextElements.{elements-at, changed-elements, changed-grow, none-elements, none-grow}
+use Rattle.zed_texts.proofs.TextElements.{elements-at, found-at, in-elements, changed-elements, changed-grow, none-elements, none-grow}
 use Rattle.zed_texts.proofs.texts.LiveTexts.insert.Goals as goal
 
 pub put_into-requires-clause-there : goal.put_into-requires-clause-there
@@ -65,3 +66,10 @@ pub returns-in_default-clause-runs : goal.returns-in_default-clause-runs
 returns-in_default-clause-runs c =
     let none = sym c.seek.ensures.found ∙ ap is_some c.in_default.is in
     subst (λ (ys : Texts). AllGrow (λ t. same_text c.args.id t) ys ys) c.self.view_is (none-grow c.args.id c.self.inside.entries.entries none)
+
+pub returns-in_err-looked-clause-memory_only_when : goal.returns-in_err-looked-clause-memory_only_when
+returns-in_err-looked-clause-memory_only_when c =
+    let ys = c.self.inside.entries.entries in
+    let found = found-at c.args.id ys c.in-Some.i c.in-Some-get_index_mut.text.now c.in-Some.ensures.index c.in-Some-get_index_mut.ensures.value in
+    let there : is_some (text_in c.args.id (elements_of ys)) ≡ true = ap is_some (in-elements c.args.id ys ∙ ap (option_map elements) found) in
+    any_err c.from_residual.result (subst (λ zs. is_some (text_in c.args.id (elements_of zs)) ≡ true) c.self.view_is there, c.in_err-looked.ensures.memory_only_when)
