@@ -37,15 +37,15 @@ invariant_of-self-2 c =
     let kept = one_more c.held_edits_are_remembered.ensures c.calm_edits_hold_the_same.ensures c.sets_rise.ensures.edit c.sets_stay_fit.ensures.edit
     c.args.edit c.self.inside.log c.self.inside.held c.wake.new.self c.self.inside.is_stale c.self.inside.body c.take.new.self c.in_ok-taken.taken
     c.self.invariant f new c.requires.fits (c.edit_has_sizes.ensures c.requires.fits) c.in_ok-taken.ensures.ok c.in_ok-taken.ensures.tells renewed in
-    subst (λ es. IsKept es c.wake.new.self false c.take.new.self) (sym c.in-Ok-2.ensures.ok) kept
+    subst (λ es. IsKept es c.wake.new.self false c.take.new.self) (sym c.in-Ok-add.ensures.ok) kept
 
-pub invariant_of-self-in_default-2 : goal.invariant_of-self-in_default-2
-invariant_of-self-in_default-2 c =
+pub invariant_of-self-in_default-add : goal.invariant_of-self-in_default-add
+invariant_of-self-in_default-add c =
     let v : c.self.inside.log ≡ c.args.self.now.edits = ap (λ (r : Replica). r.edits) c.self.view_is in
     let new : edit_with c.args.edit.stamp c.self.inside.log ≡ None = ap (edit_with c.args.edit.stamp) v ∙ c.requires.new in
-    let kept = not_kept c.args.edit c.self.inside.log c.self.inside.held c.follow.new.self c.undo.new.self c.self.inside.is_stale c.self.inside.body c.new.result c.in_ok-taken.taken c.self.invariant new c.in-Ok.ensures.ok c.undo.ensures (c.new.ensures.live, c.new.ensures.texts, c.new.ensures.inbox) in
+    let kept = not_kept c.args.edit c.self.inside.log c.self.inside.held c.follow.new.self c.undo.new.self c.self.inside.is_stale c.self.inside.body c.new-in_default-add.result c.in_ok-taken.taken c.self.invariant new c.in-Ok.ensures.ok c.undo.ensures (c.new-in_default-add.ensures.live, c.new-in_default-add.ensures.texts, c.new-in_default-add.ensures.inbox) in
     let same : c.add.new.self ≡ c.self.inside.log = search rules in
-    subst (λ es. IsKept es c.undo.new.self true c.new.result) (sym same) kept
+    subst (λ es. IsKept es c.undo.new.self true c.new-in_default-add.result) (sym same) kept
 
 pub returns-clause-tells : goal.returns-clause-tells
 returns-clause-tells c =
