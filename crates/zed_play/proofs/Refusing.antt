@@ -18,4 +18,4 @@ step_refused key p q ws e x none told (inr (lacks, looks)) =
     let P : SceneError → Type 0 = λ s. refused s p ≡ (x, q) in
     let now : refused NoWords p ≡ (x, q) = subst P lacks told in
     let R : PlayError × Playtest → Type 0 = λ r. Steps (Err r.0) key p ws r.1 in
-    subst R now (none, (None, (looks, refl)), refl)
+    subst R now (none, ((None, (looks, refl)), refl))
