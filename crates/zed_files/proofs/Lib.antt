@@ -5,3 +5,4 @@ pub mod Failures
 pub mod FileEnds
 pub mod OffStage
 pub mod Streams
+pub mod Settled

@@ -22,6 +22,11 @@ IsCollected s r =
     ((c : Stamp) × IsFirstClash s.edits c × (r ≡ Err (Clash c)))
     ⊎ (Agrees s.edits × (r ≡ set_unless s.refusal s.edits))
 
+-- what comes first of a clash and the refusal of a file
+abbrev pub first_refusal : Option Stamp → Option Refusal → Option Refusal
+first_refusal (Some s) refusal = Some (Clash s)
+first_refusal None refusal = refusal
+
 -- what the files of these names come to
 abbrev pub IsStreamIn : Type 0 → HostContents → List (List ℕ) → Stream → Type 0
 IsStreamIn failed t names s =

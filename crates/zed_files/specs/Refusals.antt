@@ -87,6 +87,11 @@ export_refusal e = session_refusal (told.export_refusal e)
 abbrev pub link_refusal : LinkError → Refusal
 link_refusal e = session_refusal (linked.link_refusal e)
 
+-- where this is refused, so is that, with the same refusal, whether memory is lacking or not
+abbrev pub TellsRefusal : {X Y : Type 0} → Result Y Refusal → Result X Refusal → Type 0
+TellsRefusal (Ok y) result = Unit {0}
+TellsRefusal (Err e) result = result ≡ Err e
+
 -- whether an answer tells of a host that failed
 abbrev pub is_file_refusal : {X : Type 0} → Result X Refusal → Bool
 is_file_refusal (Err File) = true

@@ -4,7 +4,7 @@ ghost use Rattle.zed_op.specs.declared.op.Edit.{Edit as TheEdit};
 ghost use Rattle.zed_op.specs.Set.{AllFit};
 ghost use Rattle.zed_files.specs.Asked.{Asks, reading, refusal_in};
 ghost use Rattle.zed_files.specs.Files.{IsFile, edits_then, end_of as no_world};
-ghost use Rattle.zed_files.specs.Collected.{CameTo, Collects, IsStreamIn};
+ghost use Rattle.zed_files.specs.Collected.{CameTo, Collects, IsStreamIn, first_refusal};
 ghost use Rattle.zed_files.specs.Texts.{texts_of};
 ghost use Rattle.zed_files.specs.Faults.{NoneForgotten, TellsFailures};
 ghost use Rattle.zed_files.specs.Refusals.{IsOffStage, is_file_refusal};
@@ -126,6 +126,18 @@ fn read_all<H: Host>(alloc: Global, host: &mut H, names: &[&str]) -> Result<Gath
     Ok(gathered)
 }
 
+// What gathered files come to. All that takes memory came before, so that a clash and the refusal of a file are told whatever is lacking.
+fn settled(gathered: Gathered) -> Result<Document, Refusal>
+    ensures refusal { refusal_in result ≡ first_refusal gathered.clash gathered.refusal }
+    ensures document { IfOk result (λ d. d ≡ gathered.document) }
+{
+    match (gathered.clash, gathered.refusal) {
+        (Some(stamp), _) => Err(Refusal::Clash(stamp)),
+        (None, Some(refusal)) => Err(refusal),
+        (None, None) => Ok(gathered.document),
+    }
+}
+
 /// The document of edit files.
 ///
 /// # Errors
@@ -144,9 +156,5 @@ pub fn load<H: Host>(alloc: Global, host: &mut H, names: &[&str]) -> Result<Docu
 {
     let gathered = read_all(alloc, host, names)?;
     deliveries_come_to_sets();
-    match (gathered.clash, gathered.refusal) {
-        (Some(stamp), _) => Err(Refusal::Clash(stamp)),
-        (None, Some(refusal)) => Err(refusal),
-        (None, None) => Ok(gathered.document),
-    }
+    settled(gathered)
 }

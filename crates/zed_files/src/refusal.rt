@@ -1,5 +1,5 @@
 //! Why a command was not carried out, and the lines that the program prints.
-ghost use Rattle.std.specs.Prelude.{◌≡◌, IfOk, IfSome, None, string_bytes, true};
+ghost use Rattle.std.specs.Prelude.{◌≡◌, ◌≤◌, length, IfOk, IfSome, None, string_bytes, true};
 ghost use Rattle.zed_files.specs.declared.refusal.Refusal.TheVariants.{BadEdit, File, Memory};
 ghost use Rattle.zed_files.specs.Refusals.{action_refusal, document_refusal, export_refusal, file_refusal, link_refusal, session_refusal, world_refusal};
 ghost use Rattle.zed_files.specs.Lines.{bytes_line, edits_line, has_numbers, held_line, line_of as line_for};
@@ -12,6 +12,7 @@ use zed_edit::Cause;
 use zed_editfile::EditFileError;
 use zed_export::ExportError;
 use zed_host::WriteError;
+use zed_lines::Line;
 use zed_link::LinkError;
 use zed_session::SessionError;
 use zed_types::Stamp;
@@ -212,7 +213,8 @@ impl From<AllocError> for Refusal {
 
 // The line of an edit that doesn't fit.
 fn bad_edit_line(cause: Cause) -> &'static str
-    ensures { result.now ≡ line_for (BadEdit cause) }
+    ensures line { result.now ≡ line_for (BadEdit cause) }
+    ensures short { length result.now ≤ 64 }
 {
     match cause {
         Cause::Short => "zzted: BadEdit Short\n",
@@ -230,6 +232,7 @@ fn bad_edit_line(cause: Cause) -> &'static str
 pub fn plain_line(refusal: &Refusal) -> Option<&'static str>
     ensures line { IfSome result (λ text. text.now ≡ line_for refusal.now) }
     ensures none { result ≡ None → has_numbers refusal.now ≡ true }
+    ensures short { IfSome result (λ text. length text.now ≤ 64) }
 {
     let text = match *refusal {
         Refusal::Memory => "zzted: Memory\n",
@@ -268,23 +271,24 @@ pub fn plain_line(refusal: &Refusal) -> Option<&'static str>
     Some(text)
 }
 
-/// The line for the standard error: `zzted: `, the name of the refusal, and its numbers or cause, each after a space.
-pub fn line_of(alloc: Global, refusal: &Refusal) -> Result<String, AllocError>
-    ensures { IfOk result (λ text. string_bytes text ≡ line_for refusal.now) }
+/// The line for the standard error: `zzted: `, the name of the refusal, and its numbers or cause, each after a space. It takes
+/// no memory, so that it can always be told.
+pub fn line_of(alloc: Global, refusal: &Refusal) -> Line
+    ensures { result ≡ line_for refusal.now }
 {
     match *refusal {
         Refusal::Clash(stamp) => {
             let Stamp { time, replica } = stamp;
-            format!(in alloc; "zzted: Clash {time} {replica}\n")
+            Line::of_numbers(alloc, "zzted: Clash ", time, replica as u64)
         }
-        Refusal::BoardsOver(boards) => format!(in alloc; "zzted: BoardsOver {boards}\n"),
-        Refusal::StatsOver { board, stats } => format!(in alloc;
-            "zzted: StatsOver {board} {stats}\n"
-        ),
-        Refusal::BoardOver { board, bytes } => format!(in alloc;
-            "zzted: BoardOver {board} {bytes}\n"
-        ),
-        _ => String::from_str(alloc, plain_line(refusal).unwrap_or("")),
+        Refusal::BoardsOver(boards) => Line::of_number(alloc, "zzted: BoardsOver ", boards as u64),
+        Refusal::StatsOver { board, stats } => {
+            Line::of_numbers(alloc, "zzted: StatsOver ", board as u64, stats as u64)
+        }
+        Refusal::BoardOver { board, bytes } => {
+            Line::of_numbers(alloc, "zzted: BoardOver ", board as u64, bytes as u64)
+        }
+        _ => Line::of_text(alloc, plain_line(refusal).unwrap_or("")),
     }
 }
 

@@ -7,7 +7,8 @@ use smallvec::SmallVec;
 use std::alloc::Global;
 use std::marker::Model;
 
-/// A line that is made from left to right, of at most 64 bytes, which stand in the value itself. Contracts see its bytes.
+/// A line that is made from left to right, of at most 64 bytes, which stand in the value itself.
+/// Contracts see its bytes.
 #[derive(Drop)]
 pub struct Line {
     bytes: SmallVec<u8, 64>,

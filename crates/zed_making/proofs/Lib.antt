@@ -1,4 +1,5 @@
 pub mod Endings
+pub mod Lacking
 pub mod OffStage
 pub mod Opened
 pub mod Others

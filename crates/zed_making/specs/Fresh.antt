@@ -11,10 +11,10 @@ use Rattle.zed_world.specs.declared.board.BoardData.{BoardData}
 use Rattle.zed_world.specs.declared.stat.StatData.{StatData}
 use Rattle.zed_files.specs.declared.refusal.Refusal.{Refusal}
 use Rattle.zed_files.specs.declared.refusal.Refusal.TheVariants.{File}
-use Rattle.std.specs.Prelude.{ℕ, pos, false, List, [], ◌∷◌, codes, replicate, take, Option, Some, None, Result, Ok, Err, ◌≡◌}
+use Rattle.std.specs.Prelude.{ℕ, pos, false, List, [], ◌∷◌, codes, replicate, take, Option, Some, None, Result, Ok, Err, ◌≡◌, ◌⊎◌}
 use Rattle.zed_edit.specs.Board.{new_table}
 use Rattle.zed_world.specs.Contents.{Contents, standing}
-use Rattle.zed_world.specs.Reading.{world_at}
+use Rattle.zed_world.specs.Reading.{BeginsAWorld, world_at}
 use Rattle.zed_world.specs.Writing.{written}
 use Rattle.zed_files.specs.Refusals.{world_refusal}
 use Rattle.zed_editfile.specs.Spelling.{file_text}
@@ -92,6 +92,11 @@ taken_from (Some bytes) = refused_as (rewritten (world_at bytes))
 -- the bytes of a new world by its name
 abbrev pub made_by : Option (List ℕ) → Result (List ℕ) Refusal
 made_by name = refused_as (written largest_body (fresh_world (name_or_none name)))
+
+-- a file that is taken as a world may want memory: its front is that of one, or all of it is read. So what is wrong with the front is told,
+-- whether memory is lacking or not
+abbrev pub MayWantMemory : List ℕ → Type 0
+MayWantMemory bytes = BeginsAWorld bytes ⊎ ((w : Contents) × (world_at bytes ≡ Ok w))
 
 -- the edit that makes a world of these bytes
 abbrev pub genesis_of : List ℕ → Edit

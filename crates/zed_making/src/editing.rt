@@ -1,9 +1,10 @@
 //! An action of an author on an edit file.
-ghost use Rattle.std.specs.Prelude.{[], ◌∷◌, ◌≡◌, ◌⊎◌, Err, IfErr, IfOk, MatchResult, Ok, Some, false};
+ghost use Rattle.std.specs.Prelude.{[], ◌∷◌, ◌≡◌, ◌≤◌, ◌⊎◌, Err, IfErr, IfOk, MatchResult, Ok, Some, false};
 ghost use Rattle.zed_op.specs.Set.{Agrees, AllFit, set_of};
 ghost use Rattle.zed_types.specs.declared.stamp.Stamp.{Stamp as TheStamp};
 ghost use Rattle.zed_document.specs.Delivery.{IsFirstClash};
-ghost use Rattle.zed_making.specs.Edited.{ComesToEdit, HasEdits, IsEdited, IsOpened, OpensAs};
+ghost use Rattle.zed_action.specs.Deeds.{WordsMayTake};
+ghost use Rattle.zed_making.specs.Edited.{ComesToEdit, HasEdits, IsActed, IsEdited, IsOpened, OpensAs};
 ghost use Rattle.zed_files.specs.Asked.{Asks, reading, refusal_in, writing};
 ghost use Rattle.zed_files.specs.Effects.{Ends};
 ghost use Rattle.zed_files.specs.Texts.{texts_of};
@@ -69,6 +70,26 @@ fn open<H: Host>(alloc: Global, host: &mut H, file: &str) -> Result<Document, Re
     opened(alloc, bytes.as_slice())
 }
 
+// A document after an action of a replica. Memory is lacking only where the words, and what they do, may take some.
+fn acted(
+    alloc: Global,
+    document: Document,
+    replica: u16,
+    words: &[&str],
+) -> Result<Document, Refusal>
+    requires sound { document.is_stale ≡ false }
+    requires replica { 1 ≤ replica }
+    ensures { MatchResult result
+        (λ d. IsActed replica (texts_of words.now)
+        (Ok (document.world, document.edits)) (Ok (d.world, d.edits)))
+        (λ e. ((e ≡ Refusal.Memory) × WordsMayTake document replica (texts_of words.now))
+        ⊎ IsActed replica (texts_of words.now) (Ok (document.world, document.edits)) (Err e)) }
+{
+    let mut document = document;
+    act(alloc, &mut document, replica, words)?;
+    Ok(document)
+}
+
 // The document of a file, after an action of a replica.
 fn edited<H: Host>(
     alloc: Global,
@@ -91,9 +112,8 @@ fn edited<H: Host>(
     if replica == 0 {
         return Err(Refusal::BadEdit(Cause::Stamp));
     }
-    let mut document = open(alloc, host, file)?;
-    act(alloc, &mut document, replica, words)?;
-    Ok(document)
+    let document = open(alloc, host, file)?;
+    acted(alloc, document, replica, words)
 }
 
 /// Does an action as a replica, and rewrites the file.

@@ -4,7 +4,7 @@ ghost use Rattle.zed_types.specs.declared.limits.TheConstants.{READ_BODY_LIMIT a
 ghost use Rattle.zed_edit.specs.Board.{new_table as table};
 ghost use Rattle.zed_editfile.specs.Spelling.{file_text};
 ghost use Rattle.zed_world.specs.Canonical.{IsCanonical};
-ghost use Rattle.zed_making.specs.Fresh.{ComesToNew, fresh_header, fresh_properties, fresh_world, genesis_of, made_by, refused_as, rewritten, title_of, IsFirstWorld};
+ghost use Rattle.zed_making.specs.Fresh.{ComesToNew, fresh_header, fresh_properties, fresh_world, genesis_of, made_by, refused_as, rewritten, title_of, IsFirstWorld, MayWantMemory};
 ghost use Rattle.zed_world.specs.Writing.{written};
 ghost use Rattle.zed_world.specs.Reading.{world_at};
 ghost use Rattle.zed_files.specs.Asked.{Asks, named, reading, refusal_in, writing};
@@ -12,7 +12,7 @@ ghost use Rattle.zed_files.specs.Effects.{Ends};
 ghost use Rattle.zed_files.specs.Texts.{text_in};
 ghost use Rattle.zed_host.specs.Counting.{Rose};
 ghost use Rattle.zed_files.specs.Faults.{TellsFailures};
-ghost use Rattle.zed_files.specs.Refusals.{IsOffStage};
+ghost use Rattle.zed_files.specs.Refusals.{IsOffStage, TellsRefusal};
 ghost use Rattle.zed_host.specs.HostContents.{HostContents};
 
 use std::alloc::{AllocError, Global};
@@ -126,6 +126,7 @@ fn text_of(alloc: Global, world: &World) -> Result<Vec<u8>, Refusal>
     ensures result { MatchResult result
         (λ bytes. refused_as (written most world.now) ≡ Ok bytes.items)
         (λ e. (e ≡ Refusal.Memory) ⊎ (refused_as (written most world.now) ≡ Err e)) }
+    ensures limits { TellsRefusal (refused_as (written most world.now)) result }
     ensures canonical { IfOk result (λ bytes. IsCanonical bytes.items) }
 {
     let bytes = write_world(alloc, world, READ_BODY_LIMIT)?;
@@ -137,6 +138,7 @@ fn written_again(alloc: Global, bytes: &[u8]) -> Result<Vec<u8>, Refusal>
     ensures result { MatchResult result
         (λ text. refused_as (rewritten (world_at bytes.now)) ≡ Ok text.items)
         (λ e. (e ≡ Refusal.Memory) ⊎ (refused_as (rewritten (world_at bytes.now)) ≡ Err e)) }
+    ensures memory_only_when { IfErr result (λ e. e ≡ Refusal.Memory → MayWantMemory bytes.now) }
     ensures canonical { IfOk result (λ text. IsCanonical text.items) }
 {
     let world = read_world(alloc, bytes)?;

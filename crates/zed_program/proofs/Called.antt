@@ -1,12 +1,14 @@
 -- Which devices a run called.
 use Rattle.zed_files.specs.declared.refusal.Refusal.{Refusal}
-use Rattle.std.proofs.Common.{◌≡◌, Bool, true, false, ℕ, List, Option, Some, None, Result, Ok, Err, ap, refl, inl, inr}
-use Rattle.std.specs.Prelude.{⊤, ◌⊎◌, IfErr}
+use Rattle.std.proofs.Common.{◌≡◌, Bool, true, false, ℕ, List, Option, Some, None, Result, Ok, Err, ap, refl, subst, sym, inl, inr}
+use Rattle.std.specs.Prelude.{⊤, ◌⊎◌, IfErr, IsSome}
+use Rattle.zed_words.specs.declared.words.ParseError.{ParseError}
+use Rattle.zed_words.specs.declared.words.ParseError.TheVariants as parse
 use Rattle.zed_session.specs.Devices.{Foretold}
 use Rattle.zed_session.specs.Links.{LinkSeen}
 use Rattle.zed_program.specs.Called.{CallsDevices, ShowsOnce, calls_links, calls_screen}
-use Rattle.zed_program.specs.Outcome.{status_of}
-use Rattle.zed_words.specs.Commands.{Command, Save, Check, New, Edit as EditFile, Merge, Show, Play}
+use Rattle.zed_program.specs.Outcome.{SaysWhy, status_of}
+use Rattle.zed_words.specs.Commands.{Command, IsRefusedAloud, Save, Check, New, Edit as EditFile, Merge, Show, Play}
 use Rattle.zed_host.specs.Calls.{Call}
 use Rattle.zed_worlds.specs.Shown.{CallsOnce, IsOfPlay, is_of_playing}
 
@@ -41,6 +43,25 @@ pub none_called_yet : (command : Option Command) (links : List LinkSeen) (foreto
     → CallsDevices command 1 links links foretold foretold L S K
 none_called_yet command links foretold L S K l s k =
     record { pulls = inr (refl, l); links = λ _. l; shows = words_lack command foretold foretold S s; screen = λ _. s; keys = λ _. k }
+
+-- the words asked for nothing, or memory was lacking for them
+pub none_called_for : (command : Option Command) (error : ParseError) (status : ℕ) (text : List ℕ) (links : List LinkSeen) (foretold : Option (List Bool)) (L S K : Type 0) → L → S → K
+    → (error ≡ parse.Memory) ⊎ ((command ≡ None) × IsRefusedAloud error) → SaysWhy error status text → CallsDevices command status links links foretold foretold L S K
+none_called_for command parse.Memory status text links foretold L S K l s k why says =
+    subst (λ n. CallsDevices command n links links foretold foretold L S K) (sym says.0) (none_called_yet command links foretold L S K l s k)
+none_called_for command (parse.Refused t) status text links foretold L S K l s k why says = elim why [
+  | inl memory ↦ absurd (cc)
+  | inr none ↦ subst (λ c. CallsDevices c status links links foretold foretold L S K) (sym none.0) (none_called None status links foretold L S K l s k refl refl)
+]
+
+-- which status is answered then
+pub status_for : (command : Option Command) (error : ParseError) (status : ℕ) (text : List ℕ) → (error ≡ parse.Memory) ⊎ ((command ≡ None) × IsRefusedAloud error) → SaysWhy error status text
+    → (IsSome command → (status ≡ 0) ⊎ (status ≡ 1)) × (command ≡ None → (status ≡ 2) ⊎ (status ≡ 1))
+status_for command parse.Memory status text why says = (λ some. inr says.0, λ none. inr says.0)
+status_for command (parse.Refused t) status text why says = (
+  λ some. elim why [ inl memory ↦ absurd (cc) | inr none ↦ absurd (let no = subst IsSome none.0 some in cc) ],
+  λ none. inl says.0,
+)
 
 -- a board was shown once, or that failed, or the screen was not called
 pub shown_once : (result : Result ⊤ Refusal) (old new : Option (List Bool)) (kept : Type 0) → CallsOnce result old new kept

@@ -2,17 +2,19 @@
 use Rattle.zed_host.specs.declared.host.WriteError.{WriteError}
 use Rattle.zed_files.specs.declared.refusal.Refusal.{Refusal}
 use Rattle.zed_files.specs.declared.refusal.Refusal.TheVariants.{File, Memory, TooManyTurns}
-use Rattle.std.proofs.Common.{◌≡◌, ◌≤◌, ◌∙◌, ℕ, List, length, arith, Option, Some, None, Result, Ok, Err, OnErr, OnOk, ap, is_err, refl, subst, inl, inr}
-use Rattle.std.specs.Prelude.{⊤, Bool, IfSome}
+use Rattle.std.proofs.Common.{◌≡◌, ◌≤◌, ◌<◌, ◌∙◌, ℕ, List, length, sym, arith, Option, Some, None, Result, Ok, Err, OnErr, OnOk, ap, is_err, refl, subst, inl, inr}
+use Rattle.std.specs.Prelude.{⊤, ◌⊎◌, Bool, IfSome}
+use Rattle.zed_words.specs.declared.words.ParseError.{ParseError}
+use Rattle.zed_words.specs.declared.words.ParseError.TheVariants as parse
 use Rattle.zed_program.specs.Devices.{Devices}
 use Rattle.zed_program.specs.Limit.{limit_of}
-use Rattle.zed_words.specs.Commands.{Command, Save, Check, New, Edit as EditFile, Merge, Show, Play}
+use Rattle.zed_words.specs.Commands.{Command, IsRefusedAloud, Save, Check, New, Edit as EditFile, Merge, Show, Play}
 use Rattle.zed_host.specs.Counting.{Counts, NothingFailed, Rose}
 use Rattle.zed_host.specs.HostContents.{HalfComplained, HostContents, StillTells, with_complaint}
 use Rattle.zed_files.specs.Lines.{line_of}
 use Rattle.zed_host.proofs.Counts.{no_rise}
 use Rattle.zed_files.proofs.Failures.{memory_is_other}
-use Rattle.zed_program.specs.Outcome.{ComesTo, EndsCalmly, EndsRun, HasLacked, HasStatus, HasTurned, IsComplained, IsTold, RefusedRun}
+use Rattle.zed_program.specs.Outcome.{ComesTo, EndsCalmly, EndsRun, HasLacked, HasStatus, HasTurned, IsComplained, IsTold, RefusedRun, SaysWhy}
 use Rattle.zed_files.specs.Effects.{Effect, Ends, IsRefused, after}
 use Rattle.zed_session.specs.Links.{LinkSeen}
 use Rattle.zed_op.specs.declared.op.Edit.{Edit}
@@ -97,7 +99,7 @@ lacks_idle failed before (Play profile board chance files) t = inl refl
 -- want of memory, whatever was asked for
 pub memory_run : (before : Devices) (command : Option Command) (t : HostContents) (old now : ℕ) (counted : Type 0) (new : Option HostContents) → old ≤ now
     → IsComplained (Rose old now) (line_of Memory) t new → EndsRun before before command t old now counted 1 new
-memory_run before None t old now counted new up told = inr (refl, told)
+memory_run before None t old now counted new up told = (line_of Memory, inr (refl, refl), told)
 memory_run before (Some command) t old now counted new up told =
     inr (
       refl,
@@ -106,13 +108,26 @@ memory_run before (Some command) t old now counted new up told =
         left = t;
         middle = old;
         refused = inl (refl, inl refl);
-        told = (line_of Memory, inl refl, told);
+        told = told;
         rises = (omega arith, up);
         file_only_when = λ is. absurd (memory_is_other Memory refl is);
         turns_only_when = λ is. absurd (cc);
         memory_only_when = λ is. lacks_idle (Rose old old) before command t;
       },
     )
+
+-- words that ask for nothing, or for which memory was lacking
+pub words_run : (before : Devices) (command : Option Command) (error : ParseError) (t : HostContents) (old now : ℕ) (counted : Type 0) (status : ℕ) (text : List ℕ) (new : Option HostContents) → old ≤ now
+    → (error ≡ parse.Memory) ⊎ ((command ≡ None) × IsRefusedAloud error) → SaysWhy error status text → IsComplained (Rose old now) text t new → EndsRun before before command t old now counted status new
+words_run before command parse.Memory t old now counted status text new up why says told =
+    let Says : List ℕ → Type 0 = λ line. IsComplained (Rose old now) line t new in
+    subst (λ n. EndsRun before before command t old now counted n new) (sym says.0) (memory_run before command t old now counted new up (subst Says says.1 told))
+words_run before command (parse.Refused s) t old now counted status text new up why says told = elim why [
+  | inl memory ↦ absurd (cc)
+  | inr none ↦
+      let some : 0 < length text = subst (λ (x : List ℕ). 0 < length x) (sym says.1) none.1 in
+      subst (λ c. EndsRun before before c t old now counted status new) (sym none.0) (text, inl (says.0, some), told)
+]
 
 told_calmly : (old now : ℕ) (text : List ℕ) (t : HostContents) (new : Option HostContents) → NothingFailed old now → IsComplained (Rose old now) text t new → new ≡ Some (with_complaint text t)
 told_calmly old now text t new calm told = elim told [ inl is ↦ is | inr failed ↦ absurd (no_rise old now now (omega arith) calm failed.0) ]
@@ -125,17 +140,15 @@ refused_calmly before after command t old now counted new calm run =
     let low = calm.1 in
     let later : NothingFailed run.middle now = (omega arith, omega arith) in
     let never : Rose old run.middle → ⊥ = no_rise old run.middle now second calm in
-    let told = told_calmly run.middle now run.told.0 run.left new later run.told.2 in
+    let line : List ℕ = line_of run.refusal in
+    let told = told_calmly run.middle now line run.left new later run.told in
     elim run.refused [
       | inr failed ↦ absurd (never failed.0)
       | inl left ↦ (
-          let at : new ≡ Some (with_complaint run.told.0 t) = told ∙ ap (λ u. Some (with_complaint run.told.0 u)) left.0 in
-          elim run.told.1 [
-            | inr memory ↦ inr (refl, at ∙ ap (λ line. Some (with_complaint line t)) memory.1)
-            | inl line ↦ elim left.1 [
-              | inl memory ↦ inr (refl, at ∙ ap (λ line. Some (with_complaint line t)) (line ∙ ap line_of memory))
-              | inr comes ↦ inl (Err run.refusal, comes_so before after (Rose old run.middle) ⊥ command t (Err run.refusal) never comes, (refl, at ∙ ap (λ line. Some (with_complaint line t)) line))
-            ]
+          let at : new ≡ Some (with_complaint line t) = told ∙ ap (λ u. Some (with_complaint line u)) left.0 in
+          elim left.1 [
+            | inl memory ↦ inr (refl, at ∙ ap (λ e. Some (with_complaint (line_of e) t)) memory)
+            | inr comes ↦ inl (Err run.refusal, comes_so before after (Rose old run.middle) ⊥ command t (Err run.refusal) never comes, (refl, at))
           ])
     ]
 

@@ -3,7 +3,8 @@ use Rattle.zed_files.specs.declared.refusal.Refusal.{Refusal}
 use Rattle.std.specs.Prelude.{◌≡◌, ◌⊎◌, ℕ, Bool, List, [], ◌∷◌, Option, Some, None}
 use Rattle.zed_files.specs.Asked.{Asks, named, reading, writing}
 use Rattle.zed_host.specs.Calls.{Ask, Call, Complaining, Printing, call}
-use Rattle.zed_program.specs.Outcome.{IsLineOf}
+use Rattle.zed_files.specs.Lines.{line_of}
+use Rattle.zed_program.specs.Outcome.{SaysRefused}
 use Rattle.zed_words.specs.Commands.{Command, Save, Check, New, Edit as EditFile, Merge, Show, Play}
 
 -- the reads of a command, in their order
@@ -32,7 +33,7 @@ ComplainsOf called text old new = (failed : Bool) × called old (call (Complaini
 
 -- the same of the line of a refusal
 abbrev pub Complains : {H : Type 0} → (H → Call → H → Type 0) → Refusal → H → H → Type 0
-Complains called e old new = (line : List ℕ) × IsLineOf e line × ComplainsOf called line old new
+Complains called e old new = ComplainsOf called (line_of e) old new
 
 -- with status 0 all calls of the command and no others; with status 1 those that were made before it was refused, and the one that tells of
 -- the refusal. Where words are refused, the one that tells of that
@@ -40,4 +41,4 @@ abbrev pub RunAsks : {H : Type 0} → (H → Call → H → Type 0) → Option C
 RunAsks called (Some command) status old new =
     ((status ≡ 0) × Asks called (reads_of command) (last_of command) None old new)
     ⊎ ((status ≡ 1) × ((e : Refusal) × (mid : _) × Asks called (reads_of command) (last_of command) (Some e) old mid × Complains called e mid new))
-RunAsks called None status old new = (text : List ℕ) × ComplainsOf called text old new
+RunAsks called None status old new = (text : List ℕ) × SaysRefused status text × ComplainsOf called text old new

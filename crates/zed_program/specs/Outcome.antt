@@ -1,10 +1,12 @@
 -- What a command leaves in its host, and what `run` does. `failed` says that the device failed meanwhile.
 use Rattle.zed_files.specs.declared.refusal.Refusal.{Refusal}
 use Rattle.zed_files.specs.declared.refusal.Refusal.TheVariants.{File, Memory, TooManyTurns}
-use Rattle.std.specs.Prelude.{◌≡◌, ◌≤◌, ◌⊎◌, ℕ, true, List, Option, Some, None, Result, Ok, Err, length, ⊤}
+use Rattle.std.specs.Prelude.{◌≡◌, ◌≤◌, ◌<◌, ◌⊎◌, ℕ, List, Option, Some, None, Result, Ok, Err, length, string_bytes, ⊤}
 use Rattle.zed_program.specs.Devices.{Devices}
 use Rattle.zed_program.specs.Limit.{limit_of}
-use Rattle.zed_files.specs.Lines.{has_numbers, line_of}
+use Rattle.zed_files.specs.Lines.{line_of}
+use Rattle.zed_words.specs.declared.words.ParseError.{ParseError}
+use Rattle.zed_words.specs.declared.words.ParseError.TheVariants as parse
 use Rattle.zed_host.specs.Counting.{Rose}
 use Rattle.zed_host.specs.HostContents.{HalfComplained, HostContents, StillTells, with_complaint}
 use Rattle.zed_words.specs.Commands.{Command, Save, Check, New, Edit as EditFile, Merge, Show, Play}
@@ -30,13 +32,18 @@ abbrev pub IsComplained : Type 0 → List ℕ → HostContents → Option HostCo
 IsComplained failed text t new =
     (new ≡ Some (with_complaint text t)) ⊎ (failed × StillTells (HalfComplained text t) new)
 
--- the line of a refusal; where it has numbers memory may run out for it, and then its line says so
-abbrev pub IsLineOf : Refusal → List ℕ → Type 0
-IsLineOf e line = (line ≡ line_of e) ⊎ ((has_numbers e ≡ true) × (line ≡ line_of Memory))
-
--- the user is told of a refusal
+-- the user is told of a refusal, by its line
 abbrev pub IsTold : Type 0 → Refusal → HostContents → Option HostContents → Type 0
-IsTold failed e t new = (line : List ℕ) × IsLineOf e line × IsComplained failed line t new
+IsTold failed e t new = IsComplained failed (line_of e) t new
+
+-- what is told of why words ask for nothing, and the status: a text that isn't empty where they are refused, and that memory ran out where it did
+abbrev pub SaysWhy : ParseError → ℕ → List ℕ → Type 0
+SaysWhy parse.Memory status text = (status ≡ 1) × (text ≡ line_of Memory)
+SaysWhy (parse.Refused why) status text = (status ≡ 2) × (text ≡ string_bytes why)
+
+-- the same of words that are refused, whether memory ran out for their text or not
+abbrev pub SaysRefused : ℕ → List ℕ → Type 0
+SaysRefused status text = ((status ≡ 2) × (0 < length text)) ⊎ ((status ≡ 1) × (text ≡ line_of Memory))
 
 -- what is so where a command is refused for too many turns: a link of a merge made as many reads as a pull may make
 abbrev pub HasTurned : Devices → Devices → Command → Type 0
@@ -74,14 +81,13 @@ pub record RefusedRun (before after : Devices) (command : Command) (t : HostCont
   pub memory_only_when : refusal ≡ Memory → HasLacked (Rose old middle) before after command t
 
 -- a command is carried out with status 0, or refused with status 1. Words that are refused change no
--- file; the status is 2, or 1 where memory ran out
+-- file; the status is 2, with a text that isn't empty, or 1 where memory ran out
 abbrev pub EndsRun : Devices → Devices → Option Command → HostContents → ℕ → ℕ → Type 0 → ℕ → Option HostContents → Type 0
 EndsRun before after (Some command) t old now counted status new =
     ((x : Effect) × ComesTo (Rose old now) before after command t (Ok x) × (status ≡ 0) × (new ≡ Some (left_by x t)))
     ⊎ ((status ≡ 1) × RefusedRun before after command t old now counted new)
 EndsRun before after None t old now counted status new =
-    ((status ≡ 2) × ((text : List ℕ) × IsComplained (Rose old now) text t new))
-    ⊎ ((status ≡ 1) × IsComplained (Rose old now) (line_of Memory) t new)
+    (text : List ℕ) × SaysRefused status text × IsComplained (Rose old now) text t new
 
 -- the status, and what a host that didn't fail holds then
 abbrev pub HasStatus : Result Effect Refusal → HostContents → ℕ → Option HostContents → Type 0

@@ -6,11 +6,11 @@ ghost use Rattle.zed_session.specs.Links.{seen};
 ghost use Rattle.zed_files.specs.Files.{joined};
 ghost use Rattle.zed_program.specs.Joining.{AsksToMerge, MergesSet};
 ghost use Rattle.zed_files.specs.Asked.{Asks, refusal_in};
-ghost use Rattle.zed_program.specs.Asked.{Complains, RunAsks, last_of, reads_of};
+ghost use Rattle.zed_program.specs.Asked.{Complains, ComplainsOf, RunAsks, last_of, reads_of};
 ghost use Rattle.zed_program.specs.Called.{CallsDevices, IdleUnlessPlayed, LacksLinks, PullsLinks};
 ghost use Rattle.zed_program.specs.Devices.{devices};
 ghost use Rattle.zed_program.specs.Faults.{TellsFault};
-ghost use Rattle.zed_program.specs.Outcome.{EndsCalmly, EndsCommand, EndsRun, IsTold, status_of};
+ghost use Rattle.zed_program.specs.Outcome.{EndsCalmly, EndsCommand, EndsRun, IsComplained, IsTold, SaysWhy, status_of};
 ghost use Rattle.zed_program.specs.Saving.{AsksToSave, SavedReadsBack, SavesSet};
 ghost use Rattle.zed_host.specs.Counting.{Counts, NothingFailed, Rose};
 ghost use Rattle.zed_files.specs.Faults.{NoneForgotten, TellsFailures};
@@ -27,7 +27,7 @@ use std::alloc::Global;
 use zed_document::deliveries_come_to_sets;
 use zed_editfile::one_reading;
 use zed_export::saved_is_read;
-use zed_files::{Refusal, line_of, plain_line};
+use zed_files::{Refusal, line_of};
 use zed_host::Host;
 use zed_link::{Link, deliveries_go_on, files_are_pulled};
 use zed_making::{edit, make_new};
@@ -45,13 +45,30 @@ fn complain_of<H: Host>(alloc: Global, host: &mut H, refusal: &Refusal)
     ensures asked { Complains H.called refusal.now host.old host.new }
     ensures failures { NoneForgotten H.faults H.failed host.old host.new }
 {
-    let _ = match plain_line(refusal) {
-        Some(text) => host.complain(text.as_bytes()),
-        None => match line_of(alloc, refusal) {
-            Ok(text) => host.complain(text.as_bytes()),
-            Err(_) => host.complain(MEMORY_LINE),
-        },
-    };
+    let line = line_of(alloc, refusal);
+    let _ = host.complain(line.as_slice());
+}
+
+// Tells why words ask for nothing, and answers the status.
+fn tell_words<H: Host>(host: &mut H, error: &ParseError) -> u8
+    ensures told { (t : HostContents) → H.contents host.old ≡ Some t
+        → let failed = Rose (H.faults host.old) (H.faults host.new) in
+        (text : List ℕ) × SaysWhy error.now result text
+        × IsComplained failed text t (H.contents host.new) }
+    ensures asked { (text : List ℕ) × SaysWhy error.now result text
+        × ComplainsOf H.called text host.old host.new }
+    ensures failures { NoneForgotten H.faults H.failed host.old host.new }
+{
+    match error {
+        ParseError::Memory => {
+            let _ = host.complain(MEMORY_LINE);
+            1
+        }
+        ParseError::Refused(text) => {
+            let _ = host.complain(text.as_bytes());
+            2
+        }
+    }
 }
 
 fn act<H: Host>(
@@ -193,14 +210,7 @@ fn run_words<H: Host>(
                 1
             }
         },
-        Err(ParseError::Memory) => {
-            let _ = host.complain(MEMORY_LINE);
-            1
-        }
-        Err(ParseError::Refused(text)) => {
-            let _ = host.complain(text.as_bytes());
-            2
-        }
+        Err(error) => tell_words(host, &error),
     }
 }
 

@@ -1,3 +1,4 @@
+pub mod Boards
 pub mod Chances
 pub mod Endings
 pub mod Idle

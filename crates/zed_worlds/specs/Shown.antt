@@ -47,6 +47,20 @@ abbrev pub OfSet : {X : Type 0} → Type 0 → ℕ → Result (List Edit) Refusa
 OfSet Idle limit (Err e) n Does r = (r ≡ Err e) × Idle
 OfSet Idle limit (Ok es) n Does r = OfWorld Idle (exported limit (replay es)) n Does r
 
+-- the board, or that there is none
+abbrev pub board_or_none : Option BoardData → Result BoardData Refusal
+board_or_none None = Err NoBoard
+board_or_none (Some board) = Ok board
+
+-- the board of this number of a world, or of the limit that the world is over
+abbrev pub board_of_world : Result Contents ExportError → ℕ → Result BoardData Refusal
+board_of_world (Err e) n = Err (export_refusal e)
+board_of_world (Ok w) n = board_or_none (slice_get w.boards n)
+
+-- the board of this number of the world of a set of edits, or the first refusal
+abbrev pub board_in : ℕ → List Edit → ℕ → Result BoardData Refusal
+board_in limit es n = board_of_world (exported limit (replay es)) n
+
 -- what is told of a board that is shown, on a stage as it was before and is then: the screen was called once, and shows its picture, if it tells what
 -- it shows; or that call failed
 abbrev pub IsShown : Stage → Stage → OnBoard (Unit {0})

@@ -8,9 +8,9 @@ ghost use Rattle.zed_files.specs.Faults.{TellsFailures};
 ghost use Rattle.zed_host.specs.HostContents.{HostContents};
 ghost use Rattle.zed_worlds.specs.Told.{message_line, standing_line, told_of};
 ghost use Rattle.zed_files.specs.Asked.{Asks, reading, refusal_in};
-ghost use Rattle.zed_worlds.specs.Shown.{EndsPlaying, IsOfPlay, IsPlayedOf, PlaysOn, chances_in, is_of_playing};
+ghost use Rattle.zed_worlds.specs.Shown.{EndsPlaying, IsOfPlay, IsPlayedOf, PlaysOn, board_in, chances_in, is_of_playing};
 ghost use Rattle.zed_worlds.specs.Stage.{stage};
-ghost use Rattle.zed_files.specs.Refusals.{is_key_fault, is_screen_fault};
+ghost use Rattle.zed_files.specs.Refusals.{TellsRefusal, is_key_fault, is_screen_fault};
 ghost use Rattle.zed_files.specs.Texts.{texts_of};
 
 use std::alloc::{AllocError, Global};
@@ -90,7 +90,8 @@ fn told(alloc: Global, play: &Play) -> Result<Vec<u8>, AllocError>
     Ok(text)
 }
 
-// Plays a board of a document's world, until the playtest ends or no key is left, and tells of it.
+// Plays a board of a document's world, until the playtest ends or no key is left, and tells of it. Where there is no such board, that is told
+// whatever is lacking.
 fn play_board(
     alloc: Global,
     document: &Document,
@@ -110,6 +111,7 @@ fn play_board(
         (λ text. PlaysOn before after limit (Ok document.now.edits) board words.now (Ok text.items))
         (λ e. ((e ≡ Refusal.Memory) × (after ≡ before))
         ⊎ PlaysOn before after limit (Ok document.now.edits) board words.now (Err e)) }
+    ensures no_board { TellsRefusal (board_in limit document.now.edits board) result }
     ensures idle { IfErr result (λ e. (is_of_playing e ≡ true)
         ⊎ ((screen.new ≡ screen.old) × (keys.new ≡ keys.old))) }
     ensures key_faults { Counts (is_key_fault result)

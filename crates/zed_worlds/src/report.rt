@@ -4,6 +4,7 @@ ghost use Rattle.std.specs.List.{flat_map};
 ghost use Rattle.zed_types.specs.declared.limits.TheConstants.{READ_BODY_LIMIT};
 ghost use Rattle.zed_world.specs.Writing.{HasText, world_text};
 ghost use Rattle.zed_worlds.specs.Told.{counts_line, warning_line};
+ghost use Rattle.zed_files.specs.Refusals.{TellsRefusal};
 ghost use Rattle.zed_worlds.specs.Made.{file_of, report_on};
 
 use std::alloc::{AllocError, Global};
@@ -12,7 +13,7 @@ use zed_export::{Warning, export, warnings};
 use zed_files::Refusal;
 use zed_world::{World, write_world};
 
-/// The world file of a document, of at most so many bytes a body.
+/// The world file of a document, of at most so many bytes a body. A limit that it is over is told whatever is lacking.
 pub(crate) fn world_file(
     alloc: Global,
     document: &Document,
@@ -20,7 +21,8 @@ pub(crate) fn world_file(
 ) -> Result<Vec<u8>, Refusal>
     requires sound { document.now.is_stale ≡ false }
     requires limit { limit ≤ READ_BODY_LIMIT }
-    ensures { MatchResult result
+    ensures limits { TellsRefusal (file_of limit document.now.edits) result }
+    ensures file { MatchResult result
         (λ bytes. file_of limit document.now.edits ≡ Ok bytes.items)
         (λ e. (e ≡ Refusal.Memory) ⊎ (file_of limit document.now.edits ≡ Err e)) }
 {
@@ -77,11 +79,13 @@ fn size_of(alloc: Global, world: &World, limit: usize) -> Result<usize, Refusal>
     }
 }
 
-/// The warnings of a document's world, one a line, and then its counts, where no body has more bytes than the limit.
+/// The warnings of a document's world, one a line, and then its counts, where no body has more bytes than the limit. A limit that it is
+/// over is told whatever is lacking.
 pub(crate) fn report(alloc: Global, document: &Document, limit: usize) -> Result<Vec<u8>, Refusal>
     requires sound { document.now.is_stale ≡ false }
     requires limit { limit ≤ READ_BODY_LIMIT }
-    ensures { MatchResult result
+    ensures limits { TellsRefusal (report_on limit document.now.edits) result }
+    ensures report { MatchResult result
         (λ text. report_on limit document.now.edits ≡ Ok text.items)
         (λ e. (e ≡ Refusal.Memory) ⊎ (report_on limit document.now.edits ≡ Err e)) }
 {

@@ -7,7 +7,7 @@ ghost use Rattle.zed_host.specs.HostContents.{HostContents};
 ghost use Rattle.zed_files.specs.Asked.{Asks, reading, refusal_in, writing};
 ghost use Rattle.zed_files.specs.Effects.{Ends};
 ghost use Rattle.zed_files.specs.Faults.{TellsFailures};
-ghost use Rattle.zed_files.specs.Refusals.{IsOffStage};
+ghost use Rattle.zed_files.specs.Refusals.{IsOffStage, TellsRefusal};
 ghost use Rattle.zed_files.specs.Texts.{texts_of};
 ghost use Rattle.zed_worlds.specs.Made.{ComesToCheck, ComesToSave, IsMade, export_as};
 
@@ -35,7 +35,8 @@ fn export_as(
 ) -> Result<Vec<u8>, Refusal>
     requires sound { document.now.is_stale ≡ false }
     requires limit { limit ≤ READ_BODY_LIMIT }
-    ensures { MatchResult result
+    ensures limits { TellsRefusal (export_as form limit document.now.edits) result }
+    ensures made { MatchResult result
         (λ bytes. export_as form limit document.now.edits ≡ Ok bytes.items)
         (λ e. (e ≡ Refusal.Memory) ⊎ (export_as form limit document.now.edits ≡ Err e)) }
 {

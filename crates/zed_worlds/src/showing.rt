@@ -6,10 +6,10 @@ ghost use Rattle.zed_files.specs.Faults.{TellsFailures};
 ghost use Rattle.zed_host.specs.HostContents.{HostContents};
 ghost use Rattle.zed_files.specs.Asked.{Asks, reading, refusal_in};
 ghost use Rattle.zed_files.specs.Effects.{Ends};
-ghost use Rattle.zed_files.specs.Refusals.{is_key_fault, is_screen_fault};
+ghost use Rattle.zed_files.specs.Refusals.{TellsRefusal, is_key_fault, is_screen_fault};
 ghost use Rattle.zed_files.specs.Texts.{texts_of};
 ghost use Rattle.zed_play.specs.declared.key.Key.{Key};
-ghost use Rattle.zed_worlds.specs.Shown.{CallsOnce, ComesToShow, ShowsOn};
+ghost use Rattle.zed_worlds.specs.Shown.{CallsOnce, ComesToShow, ShowsOn, board_in};
 ghost use Rattle.zed_worlds.specs.Stage.{stage};
 
 use std::alloc::Global;
@@ -18,7 +18,7 @@ use zed_files::{Refusal, load};
 use zed_host::Host;
 use zed_session::{Screen, show_board};
 
-// Shows a board of a document's world at a limit.
+// Shows a board of a document's world at a limit. Where there is none, that is told whatever is lacking.
 fn show_on(
     alloc: Global,
     document: &Document,
@@ -35,6 +35,7 @@ fn show_on(
         (λ _. ShowsOn before after limit (Ok document.now.edits) board (Ok tt))
         (λ e. (e ≡ Refusal.Memory)
         ⊎ ShowsOn before after limit (Ok document.now.edits) board (Err e)) }
+    ensures no_board { TellsRefusal (board_in limit document.now.edits board) result }
     ensures once { CallsOnce result
         (screen_foretells screen.old) (screen_foretells screen.new) (screen.new ≡ screen.old) }
     ensures err { is_key_fault result ≡ false }

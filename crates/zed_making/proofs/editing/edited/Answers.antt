@@ -1,25 +1,20 @@
-use Rattle.std.proofs.Common.{◌≡◌, ◌∙◌, sym}
+use Rattle.std.proofs.Common.{◌≡◌}
 use Rattle.std.proofs.lemmas.Result.{err_from_is_err_and}
 use Rattle.zed_files.specs.Texts.{texts_of}
-use Rattle.zed_making.proofs.Opened.{edited_done, edited_not_opened, edited_refused}
-use Rattle.zed_files.specs.Refusals.{action_refusal}
-use Rattle.zed_files.proofs.Failures.{action_is_other, handed_on, other_on}
-use Rattle.zed_files.proofs.OffStage.{action_off, off_on}
+use Rattle.zed_making.proofs.Opened.{acted_or_lacks, acted_such, edited_not_opened, edited_so}
+use Rattle.zed_files.specs.declared.refusal.Refusal.TheVariants.{File}
+use Rattle.zed_files.specs.Refusals.{IsOffStage}
+use Rattle.zed_files.proofs.Failures.{action_is_other, handed_on, other_tells}
+use Rattle.zed_files.proofs.OffStage.{action_off, made_off, off_on}
 use Rattle.std.proofs.Common.{[], ◌∷◌}
 use Rattle.zed_files.specs.Asked.{reading}
-use Rattle.zed_files.proofs.Asked.{refused_after}
+use Rattle.zed_files.proofs.Asked.{answer_after}
 use Rattle.zed_making.proofs.editing.edited.Goals as goal
-
-pub returns-in_err-act-clause-edited : goal.returns-in_err-act-clause-edited
-returns-in_err-act-clause-edited g c = λ t at.
-    let p = err_from_is_err_and c.from_residual-in_err-act.result c.from_residual-in_err-act.ensures.1 in
-    rw p.1 (edited_refused _ t c.args.file.now c.args.replica (texts_of c.args.words.now) c.in_ok-document.document c.in_err-act.field-0.0 p.0 c.if-replica-eq0.false c.in_ok-document.ensures.sound
-    (c.in_ok-document.ensures.opened t at) p.2 c.in_err-act.ensures.ends)
 
 pub returns-clause-edited : goal.returns-clause-edited
 returns-clause-edited g c = λ t at.
-    edited_done _ t c.args.file.now c.args.replica (texts_of c.args.words.now) c.in_ok-document.document c.act.new.document c.if-replica-eq0.false c.in_ok-document.ensures.sound
-    (c.in_ok-document.ensures.opened t at) c.act.ensures.world c.in_ok-act.ensures.ends
+    edited_so _ t c.args.file.now c.args.replica (texts_of c.args.words.now) c.in_ok-document.document c.acted.result c.if-replica-eq0.false
+    (c.in_ok-document.ensures.opened t at) c.acted.ensures
 
 pub returns-in_err-document-clause-edited : goal.returns-in_err-document-clause-edited
 returns-in_err-document-clause-edited g c = λ t at.
@@ -32,9 +27,11 @@ pub returns-in_err-document-clause-failures : goal.returns-in_err-document-claus
 returns-in_err-document-clause-failures g c =
     handed_on g.H.Host.faults g.H.Host.failed c.from_residual.result c.in_err-document.field-0.0 _ _ c.from_residual.ensures.1 c.in_err-document.ensures.failures
 
-pub returns-in_err-act-clause-failures : goal.returns-in_err-act-clause-failures
-returns-in_err-act-clause-failures g c =
-    other_on g.H.Host.faults g.H.Host.failed c.from_residual-in_err-act.result (action_refusal c.in_err-act.field-0.0) _ _ c.from_residual-in_err-act.ensures.1 (action_is_other c.in_err-act.field-0.0) c.in_ok-document.ensures.failures.0
+pub returns-clause-failures : goal.returns-clause-failures
+returns-clause-failures g c =
+    other_tells g.H.Host.faults g.H.Host.failed _ _ c.acted.result _ _ c.in_ok-document.ensures.failures.0
+    (acted_or_lacks c.args.replica (texts_of c.args.words.now) c.in_ok-document.document c.acted.result c.acted.ensures)
+    (λ e is. acted_such (λ e. e ≡ File → ⊥) c.args.replica (texts_of c.args.words.now) c.in_ok-document.document e action_is_other is)
 
 pub returns-in_err-document-clause-asked : goal.returns-in_err-document-clause-asked
 returns-in_err-document-clause-asked g c =
@@ -42,16 +39,18 @@ returns-in_err-document-clause-asked g c =
     let same : p.0 ≡ c.in_err-document.field-0.0 = p.2 in
     rw (p.1, same) c.in_err-document.ensures.asked
 
-pub returns-in_err-act-clause-asked : goal.returns-in_err-act-clause-asked
-returns-in_err-act-clause-asked g c =
-    let p = err_from_is_err_and c.from_residual-in_err-act.result c.from_residual-in_err-act.ensures.1 in
-    rw p.1 (refused_after g.H.Host.called (reading (c.args.file.now ∷ [])) [] p.0 _ _ (λ is. action_is_other c.in_err-act.field-0.0 (sym p.2 ∙ is)) c.in_ok-document.ensures.asked)
+pub returns-clause-asked : goal.returns-clause-asked
+returns-clause-asked g c =
+    answer_after _ _ g.H.Host.called (reading (c.args.file.now ∷ [])) c.acted.result _ _ c.in_ok-document.ensures.asked
+    (acted_or_lacks c.args.replica (texts_of c.args.words.now) c.in_ok-document.document c.acted.result c.acted.ensures)
+    (λ e is. acted_such (λ e. e ≡ File → ⊥) c.args.replica (texts_of c.args.words.now) c.in_ok-document.document e action_is_other is)
 
 -- no screen is told of, and no source of keys
 pub returns-in_err-document-clause-err : goal.returns-in_err-document-clause-err
 returns-in_err-document-clause-err g c =
     off_on c.from_residual.result c.in_err-document.field-0.0 c.from_residual.ensures.1 c.in_err-document.ensures.err
 
-pub returns-in_err-act-clause-err : goal.returns-in_err-act-clause-err
-returns-in_err-act-clause-err g c =
-    off_on c.from_residual-in_err-act.result (action_refusal c.in_err-act.field-0.0) c.from_residual-in_err-act.ensures.1 (action_off c.in_err-act.field-0.0)
+pub returns-clause-err : goal.returns-clause-err
+returns-clause-err g c =
+    made_off _ _ c.acted.result (acted_or_lacks c.args.replica (texts_of c.args.words.now) c.in_ok-document.document c.acted.result c.acted.ensures)
+    (λ e is. acted_such IsOffStage c.args.replica (texts_of c.args.words.now) c.in_ok-document.document e action_off is)

@@ -14,6 +14,7 @@ use Rattle.zed_files.proofs.OffStage.{keys_uncounted, off_on, screen_uncounted}
 use Rattle.zed_worlds.proofs.Idle.{key_of_playing, of_playing, unbegun}
 use Rattle.zed_worlds.proofs.OffStage.{keys_on, screen_on, unbegun_off}
 use Rattle.zed_worlds.proofs.Stepping.{at_start, none_more, one_more}
+use Rattle.zed_worlds.proofs.Boards.{passed_board, refused_board}
 use Rattle.zed_worlds.proofs.playing.play_board.Goals as goal
 
 -- it doesn't begin
@@ -250,3 +251,34 @@ returns-in_err-told-2-clause-key_faults g c =
 pub returns-in_err-told-2-clause-screen_faults : goal.returns-in_err-told-2-clause-screen_faults
 returns-in_err-told-2-clause-screen_faults g c =
     screen_uncounted c.from_residual-in_err-told-2.result _ _ (off_on c.from_residual-in_err-told-2.result Memory c.from_residual-in_err-told-2.ensures.1 (refl, refl)) (c.in_ok-used.ensures.screen_faults ∙ c.loop.invariant.screen_calm)
+
+-- ---- where there is no such board, that is told
+pub returns-in_err-start-clause-no_board : goal.returns-in_err-start-clause-no_board
+returns-in_err-start-clause-no_board g c =
+    let p = err_from_is_err_and c.from_residual.result c.from_residual.ensures.1 in
+    let same : p.0 ≡ session_refusal c.in_err-start.field-0.0 = p.2 in
+    rw (p.1, same) (refused_board _ c.args.board _ c.in_err-start.field-0.0 (rw (shown_of c.args.limit c.args.document.now c.requires.sound) at c.in_err-start.ensures.result))
+
+pub returns-in_err-used-clause-no_board : goal.returns-in_err-used-clause-no_board
+returns-in_err-used-clause-no_board g c =
+    passed_board _ c.args.board _ c.in_ok-start.field-0 _ (rw (shown_of c.args.limit c.args.document.now c.requires.sound) at c.in_ok-start.ensures.result)
+
+pub returns-in_default-used-clause-no_board : goal.returns-in_default-used-clause-no_board
+returns-in_default-used-clause-no_board g c =
+    passed_board _ c.args.board _ c.in_ok-start.field-0 _ (rw (shown_of c.args.limit c.args.document.now c.requires.sound) at c.in_ok-start.ensures.result)
+
+pub returns-then-is_some-clause-no_board : goal.returns-then-is_some-clause-no_board
+returns-then-is_some-clause-no_board g c =
+    passed_board _ c.args.board _ c.in_ok-start.field-0 _ (rw (shown_of c.args.limit c.args.document.now c.requires.sound) at c.in_ok-start.ensures.result)
+
+pub returns-clause-no_board : goal.returns-clause-no_board
+returns-clause-no_board g c =
+    passed_board _ c.args.board _ c.in_ok-start.field-0 _ (rw (shown_of c.args.limit c.args.document.now c.requires.sound) at c.in_ok-start.ensures.result)
+
+pub returns-in_err-told-clause-no_board : goal.returns-in_err-told-clause-no_board
+returns-in_err-told-clause-no_board g c =
+    passed_board _ c.args.board _ c.in_ok-start.field-0 _ (rw (shown_of c.args.limit c.args.document.now c.requires.sound) at c.in_ok-start.ensures.result)
+
+pub returns-in_err-told-2-clause-no_board : goal.returns-in_err-told-2-clause-no_board
+returns-in_err-told-2-clause-no_board g c =
+    passed_board _ c.args.board _ c.in_ok-start.field-0 _ (rw (shown_of c.args.limit c.args.document.now c.requires.sound) at c.in_ok-start.ensures.result)

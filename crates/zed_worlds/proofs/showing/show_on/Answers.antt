@@ -2,6 +2,7 @@ use Rattle.std.proofs.Common.{◌≡◌, ◌∙◌, ap, inl, inr, refl}
 use Rattle.std.proofs.lemmas.Result.{err_from_is_err_and}
 use Rattle.zed_files.specs.Refusals.{session_refusal}
 use Rattle.zed_worlds.specs.Stage.{Stage, stage}
+use Rattle.zed_worlds.proofs.Boards.{passed_board, refused_board}
 use Rattle.zed_worlds.proofs.OffStage.{keys_off_on, screen_on, unshown_off}
 use Rattle.zed_worlds.proofs.Played.{not_on_screen, on_screen, shown_of}
 use Rattle.zed_worlds.proofs.showing.show_on.Goals as goal
@@ -52,3 +53,14 @@ pub returns-in_err-show_board-clause-err : goal.returns-in_err-show_board-clause
 returns-in_err-show_board-clause-err g c =
     keys_off_on c.from_residual.result (session_refusal c.in_err-show_board.field-0.0) c.from_residual.ensures.1
     (unshown_off _ c.args.board _ _ c.in_err-show_board.field-0.0 c.in_err-show_board.ensures.result)
+
+-- where there is no such board, that is told
+pub returns-in_err-show_board-clause-no_board : goal.returns-in_err-show_board-clause-no_board
+returns-in_err-show_board-clause-no_board g c =
+    let p = err_from_is_err_and c.from_residual.result c.from_residual.ensures.1 in
+    let same : p.0 ≡ session_refusal c.in_err-show_board.field-0.0 = p.2 in
+    rw (p.1, same) (refused_board _ c.args.board _ c.in_err-show_board.field-0.0 (rw (shown_of c.args.limit c.args.document.now c.requires.sound) at c.in_err-show_board.ensures.result))
+
+pub returns-clause-no_board : goal.returns-clause-no_board
+returns-clause-no_board g c =
+    passed_board _ c.args.board _ c.in_ok-show_board.field-0 _ (rw (shown_of c.args.limit c.args.document.now c.requires.sound) at c.in_ok-show_board.ensures.result)
