@@ -271,6 +271,13 @@ pub fn plain_line(refusal: &Refusal) -> Option<&'static str>
     Some(text)
 }
 
+// The same number, of 64 bits.
+fn widened(number: u16) -> u64
+    ensures { result ≡ number }
+{
+    u64::from(number)
+}
+
 /// The line for the standard error: `zzted: `, the name of the refusal, and its numbers or cause, each after a space. It takes
 /// no memory, so that it can always be told.
 pub fn line_of(alloc: Global, refusal: &Refusal) -> Line
@@ -279,7 +286,7 @@ pub fn line_of(alloc: Global, refusal: &Refusal) -> Line
     match *refusal {
         Refusal::Clash(stamp) => {
             let Stamp { time, replica } = stamp;
-            Line::of_numbers(alloc, "zzted: Clash ", time, replica as u64)
+            Line::of_numbers(alloc, "zzted: Clash ", time, widened(replica))
         }
         Refusal::BoardsOver(boards) => Line::of_number(alloc, "zzted: BoardsOver ", boards as u64),
         Refusal::StatsOver { board, stats } => {

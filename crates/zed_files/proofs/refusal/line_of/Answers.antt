@@ -1,9 +1,10 @@
-use Rattle.std.proofs.Common.{◌∷◌, [], ◌++◌, ◌∙◌, ap, sym, codes, append_assoc}
+use Rattle.std.proofs.Common.{ℕ, ◌∷◌, [], ◌++◌, ◌∙◌, ap, sym, codes, append_assoc}
 use Rattle.std.specs.Fmt.{decimal}
 use Rattle.zed_files.proofs.refusal.line_of.Goals as goal
 
 pub returns-in-Clash : goal.returns-in-Clash
 returns-in-Clash c = rw c.in-Clash.is (c.of_numbers.ensures
+    ∙ ap (λ (n : ℕ). codes "zzted: Clash " ++ (decimal c.in-Clash.stamp.time ++ 32 ∷ (decimal n ++ 10 ∷ []))) c.widened.ensures
     ∙ ap (λ t. codes "zzted: Clash " ++ t) (sym (append_assoc (decimal c.in-Clash.stamp.time) (32 ∷ decimal c.in-Clash.stamp.replica) (10 ∷ []))))
 
 pub returns-in-StatsOver : goal.returns-in-StatsOver
