@@ -231,3 +231,22 @@ piece_refused late d old mid now a b c n p q m counts piece read es e left withi
 pub took : (d : Replica) (piece : List ℕ) (before es : List Edit) (p q : Progress) (r : Answer) (left : List Edit) → before ≡ [] → Feeds piece before es p q → TakesPiece d es q r left
     → (es : List Edit) × Feeds piece [] es p q × TakesPiece d es q r left
 took d piece before es p q r left none feeds takes = (es, subst (λ b. Feeds piece b es p q) none feeds, takes)
+
+-- as many reads were made as may be
+pub turns_over : (d : Replica) (old now : Option LinkEnds) (a b n : ℕ) (p : Progress) (m : Replica) (counts : Pulled) → n ≡ most_reads
+    → Going d old now a b n p m counts → Pull d old now a b (Err TooManyTurns) m.edits
+turns_over d old now a b n p m counts all going = record {
+  handed = going.handed;
+  pieces = n;
+  reads = n;
+  edits = going.found;
+  reader = p;
+  asks = going.asks;
+  spells = going.spells;
+  size = going.size;
+  made = refl;
+  counted = going.made;
+  link = (going.link, all);
+  memory_only_when = λ bad. absurd (let it : refused TooManyTurns ≡ refused Memory = bad in cc);
+  document = (going.calm, going.all);
+}

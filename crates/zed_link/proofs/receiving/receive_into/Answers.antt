@@ -5,7 +5,7 @@ use Rattle.zed_link.specs.Refusals.{file_refusal}
 use Rattle.zed_link.specs.Pull.{most_reads}
 use Rattle.zed_link.proofs.EndsLaws.{one_within}
 use Rattle.zed_link.proofs.Falls.{falls_more}
-use Rattle.zed_link.proofs.Outcomes.{ends_cut, ends_well, goes_on, piece_refused, read_failed, refused, room}
+use Rattle.zed_link.proofs.Outcomes.{ends_cut, ends_well, goes_on, piece_refused, read_failed, refused, room, turns_over}
 use Rattle.zed_link.proofs.Paces.{piece_keeps_pace}
 use Rattle.zed_link.proofs.receiving.receive_into.Goals as goal
 
@@ -103,3 +103,8 @@ returns-in_err-take_piece-clause-visits g c = λ other.
     falls_more _ _ _ c.loop-reads.invariant.falls (c.in_err-take_piece.ensures.visits (λ bad.
     let lack : c.in_err-take_piece.field-0.0 ≡ Memory = cc in
     other (p.1 ∙ ap refused (same ∙ lack))))
+
+pub returns-clause-pull : goal.returns-clause-pull
+returns-clause-pull g c =
+    let all : c.loop-reads.reads ≡ most_reads = search rules in
+    turns_over c.args.intake.now _ _ _ _ c.loop-reads.reads c.loop-reads.reader c.loop-reads.intake c.loop-reads.pulled all c.loop-reads.invariant.going
