@@ -29,17 +29,17 @@ unfolding written
 has_no_refusal w within = rw within refl
 
 -- where a body is over the limit, that is told
-over_by : (text : Result (List ℕ) WorldError) (bytes : List ℕ) (e : WorldError) (told : Refusal) → told ≡ world_refusal e → (e ≡ world.Memory) ⊎ (text ≡ Err e)
-    → (e ≡ world.Memory → text ≡ Ok bytes) → TellsRefusal (refused_as text) (Err told)
-over_by (Ok x) bytes e told is why within = tt
-over_by (Err x) bytes e told is why within = elim why [
+over_by : (X : Type 0) (text : Result (List ℕ) WorldError) (bytes : List ℕ) (e : WorldError) (told : Refusal) → told ≡ world_refusal e → (e ≡ world.Memory) ⊎ (text ≡ Err e)
+    → (e ≡ world.Memory → text ≡ Ok bytes) → TellsRefusal {X = X} (refused_as text) (Err told)
+over_by X (Ok x) bytes e told is why within = tt
+over_by X (Err x) bytes e told is why within = elim why [
   | inl lacks ↦ absurd (let no = within lacks in cc)
   | inr over ↦ (let same : x ≡ e = cc in ap (λ y. Err y) (is ∙ ap world_refusal (sym same)))
 ]
 
-pub over_told : (w : Contents) (e : WorldError) (told : Refusal) → told ≡ world_refusal e → (e ≡ world.Memory) ⊎ (written READ_BODY_LIMIT w ≡ Err e)
-    → (e ≡ world.Memory → HasText READ_BODY_LIMIT w) → TellsRefusal (refused_as (written READ_BODY_LIMIT w)) (Err told)
-over_told w e told is why within = over_by (written READ_BODY_LIMIT w) (world_text w) e told is why (λ lacks. has_no_refusal w (within lacks))
+pub over_told : (X : Type 0) (w : Contents) (e : WorldError) (told : Refusal) → told ≡ world_refusal e → (e ≡ world.Memory) ⊎ (written READ_BODY_LIMIT w ≡ Err e)
+    → (e ≡ world.Memory → HasText READ_BODY_LIMIT w) → TellsRefusal {X = X} (refused_as (written READ_BODY_LIMIT w)) (Err told)
+over_told X w e told is why within = over_by X (written READ_BODY_LIMIT w) (world_text w) e told is why (λ lacks. has_no_refusal w (within lacks))
 
 text_by : {X : Type 0} (text : Result (List ℕ) WorldError) (bytes : List ℕ) (result : Result X Refusal) → text ≡ Ok bytes → TellsRefusal (refused_as text) result
 text_by (Ok x) bytes result is = tt

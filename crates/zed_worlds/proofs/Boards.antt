@@ -13,16 +13,16 @@ use Rattle.zed_session.specs.Refusals as told
 use Rattle.zed_files.specs.Refusals.{TellsRefusal, session_refusal}
 use Rattle.zed_worlds.specs.Shown.{board_of_world, board_or_none}
 
-no_board : {X Y : Type 0} (header : Header) (board : Option BoardData) (Does : BoardOf → Result X SessionError → Type 0) (e : SessionError)
+no_board : {X : Type 0} (Y : Type 0) (header : Header) (board : Option BoardData) (Does : BoardOf → Result X SessionError → Type 0) (e : SessionError)
     → InSession header board Does (Err e) → TellsRefusal {X = Y} (board_or_none board) (Err (session_refusal e))
-no_board header (Some board) Does e is = tt
-no_board header None Does e is = let same : e ≡ session.NoBoard = cc in ap (λ x. Err (session_refusal x)) same
+no_board Y header (Some board) Does e is = tt
+no_board Y header None Does e is = let same : e ≡ session.NoBoard = cc in ap (λ x. Err (session_refusal x)) same
 
 -- a refused call
-pub refused_board : {X Y : Type 0} (world : Result Contents ExportError) (n : ℕ) (Does : BoardOf → Result X SessionError → Type 0) (e : SessionError)
+pub refused_board : {X : Type 0} (Y : Type 0) (world : Result Contents ExportError) (n : ℕ) (Does : BoardOf → Result X SessionError → Type 0) (e : SessionError)
     → Answers world n Does (Err e) → TellsRefusal {X = Y} (board_of_world world n) (Err (session_refusal e))
-refused_board (Ok w) n Does e is = no_board w.header (slice_get w.boards n) Does e is
-refused_board (Err x) n Does e is = let same : e ≡ told.export_refusal x = cc in ap (λ y. Err (session_refusal y)) same
+refused_board Y (Ok w) n Does e is = no_board Y w.header (slice_get w.boards n) Does e is
+refused_board Y (Err x) n Does e is = let same : e ≡ told.export_refusal x = cc in ap (λ y. Err (session_refusal y)) same
 
 board_there : {X Y : Type 0} (header : Header) (board : Option BoardData) (Does : BoardOf → Result X SessionError → Type 0) (u : X) (result : Result Y Refusal)
     → InSession header board Does (Ok u) → TellsRefusal (board_or_none board) result

@@ -257,7 +257,7 @@ pub returns-in_err-start-clause-no_board : goal.returns-in_err-start-clause-no_b
 returns-in_err-start-clause-no_board g c =
     let p = err_from_is_err_and c.from_residual.result c.from_residual.ensures.1 in
     let same : p.0 ≡ session_refusal c.in_err-start.field-0.0 = p.2 in
-    rw (p.1, same) (refused_board _ c.args.board _ c.in_err-start.field-0.0 (rw (shown_of c.args.limit c.args.document.now c.requires.sound) at c.in_err-start.ensures.result))
+    rw (p.1, same) (refused_board _ _ c.args.board _ c.in_err-start.field-0.0 (rw (shown_of c.args.limit c.args.document.now c.requires.sound) at c.in_err-start.ensures.result))
 
 pub returns-in_err-used-clause-no_board : goal.returns-in_err-used-clause-no_board
 returns-in_err-used-clause-no_board g c =

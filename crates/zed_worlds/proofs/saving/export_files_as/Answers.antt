@@ -20,7 +20,7 @@ returns-in_err-document-clause-made g c = λ t at.
 pub returns-clause-made : goal.returns-clause-made
 returns-clause-made g c = λ t at.
     made_result _ c.export_as.result t (texts_of c.args.files.now) (export_as c.args.form c.args.limit) c.in_ok-document.document.edits
-    (c.in_ok-document.ensures.collected t at) c.export_as.ensures
+    (c.in_ok-document.ensures.collected t at) c.export_as.ensures.made
 
 pub returns-in_err-document-clause-failures : goal.returns-in_err-document-clause-failures
 returns-in_err-document-clause-failures g c =
@@ -28,7 +28,7 @@ returns-in_err-document-clause-failures g c =
 
 pub returns-clause-failures : goal.returns-clause-failures
 returns-clause-failures g c =
-    other_tells g.H.Host.faults g.H.Host.failed _ _ c.export_as.result _ _ c.in_ok-document.ensures.failures.0 c.export_as.ensures (exported_is_other c.args.form c.args.limit c.in_ok-document.document.edits)
+    other_tells g.H.Host.faults g.H.Host.failed _ _ c.export_as.result _ _ c.in_ok-document.ensures.failures.0 c.export_as.ensures.made (exported_is_other c.args.form c.args.limit c.in_ok-document.document.edits)
 
 pub returns-in_err-document-clause-asked : goal.returns-in_err-document-clause-asked
 returns-in_err-document-clause-asked g c =
@@ -38,7 +38,7 @@ returns-in_err-document-clause-asked g c =
 
 pub returns-clause-asked : goal.returns-clause-asked
 returns-clause-asked g c =
-    answer_after _ _ g.H.Host.called (reading (texts_of c.args.files.now)) c.export_as.result _ _ c.in_ok-document.ensures.asked c.export_as.ensures (exported_is_other c.args.form c.args.limit c.in_ok-document.document.edits)
+    answer_after _ _ g.H.Host.called (reading (texts_of c.args.files.now)) c.export_as.result _ _ c.in_ok-document.ensures.asked c.export_as.ensures.made (exported_is_other c.args.form c.args.limit c.in_ok-document.document.edits)
 
 -- no screen is told of, and no source of keys
 pub returns-in_err-document-clause-err : goal.returns-in_err-document-clause-err
@@ -46,4 +46,4 @@ returns-in_err-document-clause-err g c =
     off_on c.from_residual.result c.in_err-document.field-0.0 c.from_residual.ensures.1 c.in_err-document.ensures.err
 
 pub returns-clause-err : goal.returns-clause-err
-returns-clause-err g c = made_off _ _ c.export_as.result c.export_as.ensures (exported_off c.args.form c.args.limit c.in_ok-document.document.edits)
+returns-clause-err g c = made_off _ _ c.export_as.result c.export_as.ensures.made (exported_off c.args.form c.args.limit c.in_ok-document.document.edits)

@@ -59,7 +59,7 @@ pub returns-in_err-show_board-clause-no_board : goal.returns-in_err-show_board-c
 returns-in_err-show_board-clause-no_board g c =
     let p = err_from_is_err_and c.from_residual.result c.from_residual.ensures.1 in
     let same : p.0 ≡ session_refusal c.in_err-show_board.field-0.0 = p.2 in
-    rw (p.1, same) (refused_board _ c.args.board _ c.in_err-show_board.field-0.0 (rw (shown_of c.args.limit c.args.document.now c.requires.sound) at c.in_err-show_board.ensures.result))
+    rw (p.1, same) (refused_board _ _ c.args.board _ c.in_err-show_board.field-0.0 (rw (shown_of c.args.limit c.args.document.now c.requires.sound) at c.in_err-show_board.ensures.result))
 
 pub returns-clause-no_board : goal.returns-clause-no_board
 returns-clause-no_board g c =
