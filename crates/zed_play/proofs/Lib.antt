@@ -5,3 +5,4 @@ pub mod Keeping
 pub mod Numbering
 pub mod Uniqueness
 pub mod StepThere
+pub mod Refusing

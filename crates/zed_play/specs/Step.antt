@@ -89,6 +89,11 @@ Step key p ws o = (d : Drawn Game) × (Looks (asked key p) 1024 (from_first p.ga
 
 -- ---- what calls answer
 
+-- what is told of a step that isn't made, and the playtest after it: nothing changes where a word is lacking, and it fails for memory
+abbrev pub refused : SceneError → Playtest → PlayError × Playtest
+refused NoWords p = (PlayNoWords, p)
+refused Memory p = (PlayMemory, record p { ending = Some Failed })
+
 -- one look: whether there was a stat, and then how the chain goes on
 abbrev pub LooksOn : Result Bool SceneError → Asked → Game → List ℕ → Game → List ℕ → Type 0
 LooksOn (Ok false) k g ws h left = (n : ℕ) → Looks k (suc n) g ws (Some (h, left))

@@ -1,5 +1,5 @@
 //! The message lines that a playtest keeps.
-ghost use Rattle.std.specs.Prelude.{◌≡◌, ◌≤◌, [], ◌∷◌, ◌++◌, IfOk, OnOk, length, slice_get, option_copied};
+ghost use Rattle.std.specs.Prelude.{◌≡◌, ◌≤◌, ◌<◌, [], ◌∷◌, ◌++◌, IfOk, OnOk, OnErr, length, slice_get, option_copied};
 ghost use Rattle.zed_play.specs.Game.{kept};
 
 use circular_buffer::HeapCircularBuffer;
@@ -57,9 +57,10 @@ impl Messages {
         let _gone = self.lines.push_back(line);
     }
 
-    /// Copies of these lines come after those that are kept, as far as there is room.
+    /// Copies of these lines come after those that are kept, as far as there is room. Memory only where there is a line.
     pub(crate) fn push_all(&mut self, lines: &[Bytes]) -> Result<(), AllocError>
         ensures result { OnOk result (self.new ≡ kept (self.old ++ lines.now)) }
+        ensures memory_only_when { OnErr result (0 < length lines.now) }
     {
         for line in lines {
             self.push(line.copy()?);

@@ -2,7 +2,7 @@
 ghost use Rattle.std.specs.Prelude.{◌≡◌, Err, None, IfOk};
 ghost use Rattle.zed_play.specs.Game.{Answers};
 ghost use Rattle.zed_play.specs.Playtest.{IsTick};
-ghost use Rattle.zed_play.specs.Step.{Looks, Steps, asked, closed_with, from_first, next_tick};
+ghost use Rattle.zed_play.specs.Step.{Looks, Steps, asked, closed_with, from_first, next_tick, refused};
 
 use crate::ending::{Ending, ending_by};
 use crate::error::PlayError;
@@ -96,6 +96,19 @@ impl Play {
         self.tick = next_tick(self.tick);
     }
 
+    /// What is told of a step that isn't made: NoWords with nothing changed, or Memory, with which the playtest ends as failed.
+    fn refuse(&mut self, error: SceneError) -> PlayError
+        ensures { refused error self.old ≡ (result, self.new) }
+    {
+        match error {
+            SceneError::NoWords => PlayError::NoWords,
+            SceneError::Memory => {
+                self.ending = Some(Ending::Failed);
+                PlayError::Memory
+            }
+        }
+    }
+
     /// Makes a step by a key, and tells how many words of chance it used. The refusals, the first that applies: Over where the
     /// playtest has ended and NoWords where the step lacks a word, both with nothing changed; Memory where a growth was refused,
     /// with which the playtest has ended as failed.
@@ -115,11 +128,7 @@ impl Play {
                 self.close();
                 Ok(words.len().saturating_sub(left.left()))
             }
-            Err(SceneError::NoWords) => Err(PlayError::NoWords),
-            Err(SceneError::Memory) => {
-                self.ending = Some(Ending::Failed);
-                Err(PlayError::Memory)
-            }
+            Err(error) => Err(self.refuse(error)),
         }
     }
 }
