@@ -4,7 +4,7 @@ ghost use Rattle.clap.specs.Words.{app_of, new_app, rule_of, shape_of, with_rule
 ghost use Rattle.clap.specs.declared.builder.command.Command.TheViews.{out-Command};
 ghost use Rattle.zed_tool_words.specs.Grammar.{cell_rule, flag_rule, lint_shape, list_shape, log_shape, number_option, number_rule, open_shape, option_rule, program_shape, required_rule, set_shape, several_rule, show_shape, take_shape, time_option, tool_app, top_app, trailing_rule};
 
-use crate::version::VERSION;
+use crate::release::VERSION;
 use clap::{Arg, ArgAction, Command};
 use std::alloc::{AllocError, Global};
 
@@ -297,11 +297,7 @@ fn show_command<'a>(alloc: Global) -> Result<Command<'a>, AllocError>
     )?;
     with_argument(
         command,
-        flag_argument(
-            alloc,
-            "svg",
-            "Print an SVG picture; it isn't told with --plain",
-        ),
+        flag_argument(alloc, "svg", "Print a picture, an SVG file"),
     )
 }
 
@@ -313,7 +309,7 @@ fn lint_command<'a>(alloc: Global) -> Result<Command<'a>, AllocError>
     let command = bare_command(
         alloc,
         "lint",
-        "List what is likely wrong in the world of edit files, a line each",
+        "List what ZZT, or who plays, would stumble over in the world of edit files, a line each",
     );
     let command = with_argument(command, files_argument(alloc))?;
     with_argument(
@@ -334,7 +330,7 @@ fn set_command<'a>(alloc: Global) -> Result<Command<'a>, AllocError>
     let command = bare_command(
         alloc,
         "set",
-        "Set what words name in the world of an edit file, as an edit of an author",
+        "Set a register of the world, a property of a board or a field of a stat in an edit file, as an edit of an author",
     );
     let command = with_argument(
         command,
@@ -350,7 +346,7 @@ fn set_command<'a>(alloc: Global) -> Result<Command<'a>, AllocError>
         trailing_argument(
             alloc,
             "WORDS",
-            "What is set, and to what; a number below 0 is written with its hyphen",
+            "What is set, and to what: world ammo 10, board 1 exit north 2, stat 1 3 cycle -1; of a wrong word it is told what may be in its place",
         ),
     )
 }
