@@ -5,8 +5,4 @@ pub mod OpenWords
 pub mod TakeWords
 pub mod LogWords
 pub mod ListWords
-pub mod ShowWords
-pub mod LintWords
-pub mod SetWords
-pub mod ProgramWords
 pub mod HelpWords

@@ -1,5 +1,5 @@
 -- What the words of the command line ask for.
-use Rattle.std.specs.Prelude.{◌≡◌, ◌&&◌, ℕ, Bool, true, false, List, [], ◌∷◌, Option, Some, None, codes, length, map, nat_le, nat_lt, if◌then◌else◌, option_and_then, option_map}
+use Rattle.std.specs.Prelude.{◌≡◌, ◌&&◌, ℕ, Bool, List, [], ◌∷◌, Option, Some, None, codes, length, map, nat_le, nat_lt, if◌then◌else◌, option_and_then, option_map}
 use Rattle.std.specs.Char.{is_ascii_digit}
 use Rattle.std.specs.List.{list_all}
 use Rattle.std.specs.Str.{bytes_eq}
@@ -7,79 +7,40 @@ use Rattle.clap.specs.Walk.{Row, Text, all_of, first_of, one_of}
 use Rattle.clap.specs.Simple.{subcommand_of}
 use Rattle.clap.specs.Faults.{fault_of}
 use Rattle.clap.specs.Kinds.{IsAmong, Kinds}
-use Rattle.clap.specs.declared.error.kind.ErrorKind.TheVariants.{DisplayHelp, DisplayVersion}
+use Rattle.clap.specs.declared.error.kind.ErrorKind.TheVariants.{DisplayHelp}
 use Rattle.zed_words.specs.Commands.{number_of}
 use Rattle.zed_tool_words.specs.declared.asked.Forcing.{Forcing}
 use Rattle.zed_tool_words.specs.declared.asked.Forcing.TheVariants.{Careful, Forced}
-use Rattle.zed_tool_words.specs.declared.asked.Form.{Form}
-use Rattle.zed_tool_words.specs.declared.asked.Form.TheVariants.{Coloured, Plain, Svg}
-use Rattle.zed_tool_words.specs.declared.asked.Length.{Length}
-use Rattle.zed_tool_words.specs.declared.asked.Length.TheVariants.{Short, Full}
 use Rattle.zed_tool_words.specs.declared.asked.Listing.{Listing}
 use Rattle.zed_tool_words.specs.declared.asked.Listing.TheVariants.{Boards, Stats, Program}
-use Rattle.zed_tool_words.specs.declared.asked.Strictness.{Strictness}
-use Rattle.zed_tool_words.specs.declared.asked.Strictness.TheVariants.{Lenient, Strict}
 use Rattle.zed_tool_words.specs.declared.asked.Command.{Command as Spoken}
 use Rattle.zed_tool_words.specs.declared.asked.Command.TheVariants as spoken
 use Rattle.zed_tool_words.specs.declared.words.ParseError.{ParseError}
-use Rattle.zed_tool_words.specs.declared.words.ParseError.TheVariants.{Memory, Refused, Help, Version}
+use Rattle.zed_tool_words.specs.declared.words.ParseError.TheVariants.{Memory, Refused, Help}
 use Rattle.zed_tool_words.specs.Grammar.{tool_app}
 
 -- a command with its words
 pub data Command : Type 0 where
   Open : (until : Option ℕ) → (forcing : Forcing) → (file : Text) → (world : Text) → Command
   Take : (base : Option Text) → (file : Text) → (replica : ℕ) → (world : Text) → Command
-  Log : (length : Length) → (board : Option ℕ) → (cell : Option (ℕ × ℕ × ℕ)) → (replica : Option ℕ) → (since : Option ℕ) → (files : List Text) → Command
+  Log : (board : Option ℕ) → (cell : Option (ℕ × ℕ × ℕ)) → (replica : Option ℕ) → (since : Option ℕ) → (files : List Text) → Command
   Lists : (listing : Listing) → (files : List Text) → Command
-  Show : (form : Form) → (board : ℕ) → (files : List Text) → Command
-  Lint : (strictness : Strictness) → (files : List Text) → Command
-  Set : (file : Text) → (replica : ℕ) → (words : List Text) → Command
-  ProgramOf : (board : ℕ) → (stat : ℕ) → (files : List Text) → Command
-  SetProgram : (file : Text) → (replica : ℕ) → (board : ℕ) → (stat : ℕ) → (text : Text) → Command
 
 -- what a command of the code says
 abbrev pub meaning_of : Spoken → Command
 meaning_of (spoken.Open until forcing file world) = Open until forcing file.now world.now
 meaning_of (spoken.Take base file replica world) = Take (option_map (λ s. s.now) base) file.now replica world.now
-meaning_of (spoken.Log length board cell replica since files) = Log length board cell replica since (map (λ s. s.now) files.items)
+meaning_of (spoken.Log board cell replica since files) = Log board cell replica since (map (λ s. s.now) files.items)
 meaning_of (spoken.List listing files) = Lists listing (map (λ s. s.now) files.items)
-meaning_of (spoken.Show form board files) = Show form board (map (λ s. s.now) files.items)
-meaning_of (spoken.Lint strictness files) = Lint strictness (map (λ s. s.now) files.items)
-meaning_of (spoken.Set file replica words) = Set file.now replica (map (λ s. s.now) words.items)
-meaning_of (spoken.Program board stat files) = ProgramOf board stat (map (λ s. s.now) files.items)
-meaning_of (spoken.SetProgram file replica board stat text) = SetProgram file.now replica board stat text.now
 
--- whether this is the word that a flag has
-abbrev pub is_true : Option Text → Bool
-is_true None = false
-is_true (Some word) = bytes_eq word (codes "true")
+-- by the word of `--force`, which is there as a default too
+abbrev pub forcing_by : Option Text → Forcing
+forcing_by None = Careful
+forcing_by (Some word) = if bytes_eq word (codes "true") then Forced else Careful
 
--- whether the flag of this name is there; where it isn't, its word is `false`
-abbrev pub has_flag : Text → List Row → Bool
-has_flag name rows = is_true (first_of name rows)
-
--- what `--force` says
+-- whether `--force` is there
 abbrev pub forcing_of : List Row → Forcing
-forcing_of rows = if has_flag (codes "force") rows then Forced else Careful
-
--- what `--full` says
-abbrev pub length_of : List Row → Length
-length_of rows = if has_flag (codes "full") rows then Full else Short
-
--- what `--strict` says
-abbrev pub strictness_of : List Row → Strictness
-strictness_of rows = if has_flag (codes "strict") rows then Strict else Lenient
-
--- by whether `--plain` is there, and `--svg`: not both
-abbrev pub form_by : Bool → Bool → Option Form
-form_by false false = Some Coloured
-form_by true false = Some Plain
-form_by false true = Some Svg
-form_by true true = None
-
--- the form that is asked for
-abbrev pub form_of : List Row → Option Form
-form_of rows = form_by (has_flag (codes "plain") rows) (has_flag (codes "svg") rows)
+forcing_of rows = forcing_by (first_of (codes "force") rows)
 
 -- the number of the option of this name, of so many bits, if it is there
 abbrev pub option_number : ℕ → Text → List Row → Option ℕ
@@ -116,7 +77,7 @@ cell_asked (Some words) = option_map (λ cell. Some cell) (cell_by words)
 -- for `log`
 abbrev pub log_of : List Row → Option Command
 log_of rows = option_and_then (λ cell. option_map (λ files.
-    Log (length_of rows) (option_number 16 (codes "board") rows) cell (option_number 16 (codes "replica") rows) (option_number 64 (codes "since") rows) files)
+    Log (option_number 16 (codes "board") rows) cell (option_number 16 (codes "replica") rows) (option_number 64 (codes "since") rows) files)
     (all_of (codes "FILES") rows)) (cell_asked (all_of (codes "cell") rows))
 
 -- a word of decimal digits alone
@@ -146,60 +107,13 @@ list_words (word ∷ words) =
 abbrev pub list_of : List Row → Option Command
 list_of rows = option_and_then list_words (all_of (codes "WORDS") rows)
 
--- for `show`
-abbrev pub show_of : List Row → Option Command
-show_of rows = option_and_then (λ form. option_and_then (λ board. option_map (λ files.
-    Show form board files) (all_of (codes "FILES") rows)) (option_number 16 (codes "BOARD") rows)) (form_of rows)
-
--- for `lint`
-abbrev pub lint_of : List Row → Option Command
-lint_of rows = option_map (λ files. Lint (strictness_of rows) files) (all_of (codes "FILES") rows)
-
--- for `set`
-abbrev pub set_of : List Row → Option Command
-set_of rows = option_and_then (λ file. option_and_then (λ replica. option_map (λ words.
-    Set file replica words)
-    (all_of (codes "WORDS") rows)) (option_number 16 (codes "REPLICA") rows)) (first_of (codes "FILE") rows)
-
--- behind the numbers of a board and of a stat: files, of which there is one at least
-abbrev pub program_files : ℕ → ℕ → List Text → Option Command
-program_files board stat [] = None
-program_files board stat (file ∷ files) = Some (ProgramOf board stat (file ∷ files))
-
--- behind the number of a board: that of a stat, and files
-abbrev pub program_board : ℕ → List Text → Option Command
-program_board board [] = None
-program_board board (word ∷ words) = option_and_then (λ stat. program_files board stat words) (number_of 16 word)
-
--- behind `program`: both numbers, and files
-abbrev pub program_words : List Text → Option Command
-program_words [] = None
-program_words (word ∷ words) = option_and_then (λ board. program_board board words) (number_of 16 word)
-
--- with `--set`: a file, the number of a replica, both numbers, and the file of a text
-abbrev pub set_program_words : List Text → Option Command
-set_program_words (file ∷ r ∷ b ∷ s ∷ text ∷ []) =
-    option_and_then (λ replica. option_and_then (λ board. option_map (λ stat.
-    SetProgram file replica board stat text) (number_of 16 s)) (number_of 16 b)) (number_of 16 r)
-set_program_words words = None
-
--- for `program`
-abbrev pub program_of : List Row → Option Command
-program_of rows = option_and_then (λ words.
-    if has_flag (codes "set") rows then set_program_words words else program_words words)
-    (all_of (codes "WORDS") rows)
-
 -- by the name of the subcommand
 abbrev pub subcommand_asks : Text × List Row → Option Command
 subcommand_asks p =
     if bytes_eq p.0 (codes "open") then open_of p.1
     else (if bytes_eq p.0 (codes "take") then take_of p.1
     else (if bytes_eq p.0 (codes "log") then log_of p.1
-    else (if bytes_eq p.0 (codes "list") then list_of p.1
-    else (if bytes_eq p.0 (codes "show") then show_of p.1
-    else (if bytes_eq p.0 (codes "lint") then lint_of p.1
-    else (if bytes_eq p.0 (codes "set") then set_of p.1
-    else (if bytes_eq p.0 (codes "program") then program_of p.1 else None)))))))
+    else (if bytes_eq p.0 (codes "list") then list_of p.1 else None)))
 
 -- what is asked for where `clap` finds no fault
 abbrev pub unless_refused : Kinds → Option Command → Option Command
@@ -218,17 +132,8 @@ AsksHelp words = fault_of tool_app words ≡ DisplayHelp ∷ []
 abbrev pub MayAskHelp : List Text → Type 0
 MayAskHelp words = IsAmong DisplayHelp (fault_of tool_app words)
 
--- the words ask for the version, as `--version` does
-abbrev pub AsksVersion : List Text → Type 0
-AsksVersion words = fault_of tool_app words ≡ DisplayVersion ∷ []
-
--- `clap` may answer with the version
-abbrev pub MayAskVersion : List Text → Type 0
-MayAskVersion words = IsAmong DisplayVersion (fault_of tool_app words)
-
--- why words ask for nothing: they are refused, or ask for help or for the version; want of memory says nothing of them
+-- why words ask for nothing: they are refused, or ask for help; want of memory says nothing of them
 abbrev pub AsksNothing : List Text → ParseError → Type 0
 AsksNothing words Memory = Unit {0}
-AsksNothing words (Refused text) = (command_of words ≡ None) × (¬ (AsksHelp words)) × (¬ (AsksVersion words))
+AsksNothing words (Refused text) = (command_of words ≡ None) × (¬ (AsksHelp words))
 AsksNothing words (Help text) = (command_of words ≡ None) × MayAskHelp words
-AsksNothing words Version = (command_of words ≡ None) × MayAskVersion words

@@ -1,4 +1,3 @@
 pub mod Commands
 pub mod Grammar
 pub mod Laws
-pub mod Version

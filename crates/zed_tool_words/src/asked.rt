@@ -9,35 +9,6 @@ pub enum Forcing {
     Forced,
 }
 
-/// How a picture of a board is written.
-#[derive(Clone, Copy)]
-pub enum Form {
-    /// In colours, for a terminal.
-    Coloured,
-    /// As plain text: `--plain`.
-    Plain,
-    /// As an SVG picture: `--svg`.
-    Svg,
-}
-
-/// How much of the line of a world is printed.
-#[derive(Clone, Copy)]
-pub enum Length {
-    /// Its bytes are left out.
-    Short,
-    /// All of it: `--full`.
-    Full,
-}
-
-/// Whether what is found in a world makes a command fail.
-#[derive(Clone, Copy)]
-pub enum Strictness {
-    /// It doesn't.
-    Lenient,
-    /// It does: `--strict`.
-    Strict,
-}
-
 /// What of a world is listed.
 #[derive(Clone, Copy)]
 pub enum Listing {
@@ -70,7 +41,6 @@ pub enum Command<'a> {
     },
     /// The edits of files are to be listed: those alone that pass each filter that is there.
     Log {
-        length: Length,
         board: Option<u16>,
         /// The number of a board, then X from 1 to 60 and Y from 1 to 25.
         cell: Option<(u16, u16, u16)>,
@@ -82,36 +52,5 @@ pub enum Command<'a> {
     List {
         listing: Listing,
         files: Vec<&'a str>,
-    },
-    /// The board of this number of the world of edit files is to be shown.
-    Show {
-        form: Form,
-        board: u16,
-        files: Vec<&'a str>,
-    },
-    /// What is wrong in the world of edit files is to be listed.
-    Lint {
-        strictness: Strictness,
-        files: Vec<&'a str>,
-    },
-    /// What these words say is to be set in an edit file, as edits of an author.
-    Set {
-        file: &'a str,
-        replica: u16,
-        words: Vec<&'a str>,
-    },
-    /// The program of a stat in the world of edit files is to be printed.
-    Program {
-        board: u16,
-        stat: u16,
-        files: Vec<&'a str>,
-    },
-    /// The text of a file is to be the program of a stat in an edit file, as edits of an author.
-    SetProgram {
-        file: &'a str,
-        replica: u16,
-        board: u16,
-        stat: u16,
-        text: &'a str,
     },
 }

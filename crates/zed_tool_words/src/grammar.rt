@@ -1,10 +1,9 @@
 //! What the words of the command line may be.
-ghost use Rattle.std.specs.Prelude.{◌≡◌, codes, false, IfOk};
+ghost use Rattle.std.specs.Prelude.{◌≡◌, false, IfOk};
 ghost use Rattle.clap.specs.Words.{app_of, new_app, rule_of, shape_of, with_rule, with_subcommand};
 ghost use Rattle.clap.specs.declared.builder.command.Command.TheViews.{out-Command};
-ghost use Rattle.zed_tool_words.specs.Grammar.{cell_rule, flag_rule, lint_shape, list_shape, log_shape, number_option, number_rule, open_shape, option_rule, program_shape, required_rule, set_shape, several_rule, show_shape, take_shape, time_option, tool_app, top_app, trailing_rule};
+ghost use Rattle.zed_tool_words.specs.Grammar.{cell_rule, force_rule, list_shape, log_shape, number_option, open_shape, option_rule, replica_rule, required_rule, several_rule, take_shape, time_option, tool_app, top_app};
 
-use crate::release::VERSION;
 use clap::{Arg, ArgAction, Command};
 use std::alloc::{AllocError, Global};
 
@@ -54,42 +53,24 @@ fn number_argument<'a>(alloc: Global, name: &'a str, value: &'a str, help: &'a s
     option_argument(alloc, name, value, help).value_parser(clap::value_parser!(u16))
 }
 
-// A name with two hyphens, without a value.
-fn flag_argument<'a>(alloc: Global, name: &'a str, help: &'a str) -> Arg<'a>
-    ensures rule { rule_of result ≡ flag_rule name.entry.now }
+fn force_argument<'a>(alloc: Global) -> Arg<'a>
+    ensures rule { rule_of result ≡ force_rule }
     ensures local { result.global ≡ false }
 {
-    Arg::new(alloc, name)
-        .long(name)
+    Arg::new(alloc, "force")
+        .long("force")
         .action(ArgAction::SetTrue)
-        .help(help)
-}
-
-// A number that must be there.
-fn number_word<'a>(alloc: Global, name: &'a str, help: &'a str) -> Arg<'a>
-    ensures rule { rule_of result ≡ number_rule name.entry.now }
-    ensures local { result.global ≡ false }
-{
-    required_argument(alloc, name, help).value_parser(clap::value_parser!(u16))
-}
-
-// One word or more, of which all but the first may begin with a hyphen.
-fn trailing_argument<'a>(alloc: Global, name: &'a str, help: &'a str) -> Arg<'a>
-    ensures rule { rule_of result ≡ trailing_rule name.entry.now }
-    ensures local { result.global ≡ false }
-{
-    several_argument(alloc, name, help).trailing_var_arg(true)
+        .help("Write over a world file that was drawn in and not taken")
 }
 
 fn replica_argument<'a>(alloc: Global) -> Arg<'a>
-    ensures rule { rule_of result ≡ number_rule (codes "REPLICA") }
+    ensures rule { rule_of result ≡ replica_rule }
     ensures local { result.global ≡ false }
 {
-    number_word(
-        alloc,
-        "REPLICA",
-        "The author's own number, 1 to 65535; no other author of the world has it",
-    )
+    Arg::new(alloc, "REPLICA")
+        .help("The author's own number, 1 to 65535; no other author of the world has it")
+        .required(true)
+        .value_parser(clap::value_parser!(u16))
 }
 
 fn cell_argument<'a>(alloc: Global) -> Arg<'a>
@@ -100,18 +81,6 @@ fn cell_argument<'a>(alloc: Global) -> Arg<'a>
         .long("cell")
         .value_names(&["B", "X", "Y"])
         .help("List only edits of this cell of board B: X is 1 to 60, Y 1 to 25")
-}
-
-// Edit files that are read.
-fn files_argument<'a>(alloc: Global) -> Arg<'a>
-    ensures rule { rule_of result ≡ several_rule (codes "FILES") }
-    ensures local { result.global ≡ false }
-{
-    several_argument(
-        alloc,
-        "FILES",
-        "Edit files, in the order in which they are read; stdin is standard input",
-    )
 }
 
 // A command of this name, without arguments.
@@ -160,14 +129,7 @@ fn open_command<'a>(alloc: Global) -> Result<Command<'a>, AllocError>
             "Write the world as it was at this time, without the edits of later ones",
         ),
     )?;
-    with_argument(
-        command,
-        flag_argument(
-            alloc,
-            "force",
-            "Write over a world file that was drawn in and not taken",
-        ),
-    )
+    with_argument(command, force_argument(alloc))
 }
 
 /// `take [--base BASE] FILE REPLICA WORLD`
@@ -204,7 +166,7 @@ fn take_command<'a>(alloc: Global) -> Result<Command<'a>, AllocError>
     )
 }
 
-/// `log [--full] [--board B] [--cell B X Y] [--replica R] [--since TIME] FILES...`
+/// `log [--board B] [--cell B X Y] [--replica R] [--since TIME] FILES...`
 fn log_command<'a>(alloc: Global) -> Result<Command<'a>, AllocError>
     ensures shape { IfOk result (λ c. shape_of c ≡ log_shape) }
     ensures local { IfOk result (λ c. (out-Command c).has_globals ≡ false) }
@@ -214,13 +176,12 @@ fn log_command<'a>(alloc: Global) -> Result<Command<'a>, AllocError>
         "log",
         "List the edits of edit files, a line each: when, by whom and what, and whether it still holds",
     );
-    let command = with_argument(command, files_argument(alloc))?;
     let command = with_argument(
         command,
-        flag_argument(
+        several_argument(
             alloc,
-            "full",
-            "Print the line of a world in full, with all its bytes",
+            "FILES",
+            "Edit files, in the order in which they are read; stdin is standard input",
         ),
     )?;
     let command = with_argument(
@@ -272,122 +233,14 @@ fn list_command<'a>(alloc: Global) -> Result<Command<'a>, AllocError>
     )
 }
 
-/// `show [--plain | --svg] BOARD FILES...`
-fn show_command<'a>(alloc: Global) -> Result<Command<'a>, AllocError>
-    ensures shape { IfOk result (λ c. shape_of c ≡ show_shape) }
-    ensures local { IfOk result (λ c. (out-Command c).has_globals ≡ false) }
-{
-    let command = bare_command(
-        alloc,
-        "show",
-        "Show a board of the world of edit files as ZZT shows it: in colours for a terminal, as plain text, or as a picture",
-    );
-    let command = with_argument(
-        command,
-        number_word(
-            alloc,
-            "BOARD",
-            "The number of the board, 0 for the title; list tells the numbers",
-        ),
-    )?;
-    let command = with_argument(command, files_argument(alloc))?;
-    let command = with_argument(
-        command,
-        flag_argument(alloc, "plain", "Print text alone, without colours"),
-    )?;
-    with_argument(
-        command,
-        flag_argument(alloc, "svg", "Print a picture, an SVG file"),
-    )
-}
-
-/// `lint [--strict] FILES...`
-fn lint_command<'a>(alloc: Global) -> Result<Command<'a>, AllocError>
-    ensures shape { IfOk result (λ c. shape_of c ≡ lint_shape) }
-    ensures local { IfOk result (λ c. (out-Command c).has_globals ≡ false) }
-{
-    let command = bare_command(
-        alloc,
-        "lint",
-        "List what ZZT, or who plays, would stumble over in the world of edit files, a line each",
-    );
-    let command = with_argument(command, files_argument(alloc))?;
-    with_argument(
-        command,
-        flag_argument(
-            alloc,
-            "strict",
-            "Fail with status 1 where a line is printed",
-        ),
-    )
-}
-
-/// `set FILE REPLICA WORDS...`
-fn set_command<'a>(alloc: Global) -> Result<Command<'a>, AllocError>
-    ensures shape { IfOk result (λ c. shape_of c ≡ set_shape) }
-    ensures local { IfOk result (λ c. (out-Command c).has_globals ≡ false) }
-{
-    let command = bare_command(
-        alloc,
-        "set",
-        "Set a register of the world, a property of a board or a field of a stat in an edit file, as an edit of an author",
-    );
-    let command = with_argument(
-        command,
-        required_argument(
-            alloc,
-            "FILE",
-            "The edit file, which is read and written again",
-        ),
-    )?;
-    let command = with_argument(command, replica_argument(alloc))?;
-    with_argument(
-        command,
-        trailing_argument(
-            alloc,
-            "WORDS",
-            "What is set, and to what: world ammo 10, board 1 exit north 2, stat 1 3 cycle -1; of a wrong word it is told what may be in its place",
-        ),
-    )
-}
-
-/// `program B S FILES...`, or `program --set FILE REPLICA B S TEXT`
-fn program_command<'a>(alloc: Global) -> Result<Command<'a>, AllocError>
-    ensures shape { IfOk result (λ c. shape_of c ≡ program_shape) }
-    ensures local { IfOk result (λ c. (out-Command c).has_globals ≡ false) }
-{
-    let command = bare_command(
-        alloc,
-        "program",
-        "Print the program of a stat: program B S FILES; or put the text of a file in its place, as edits of an author: program --set FILE REPLICA B S TEXT",
-    );
-    let command = with_argument(
-        command,
-        several_argument(
-            alloc,
-            "WORDS",
-            "The numbers of a board (0 for the title) and of a stat on it (0 for the player), which list tells, and edit files; with --set an edit file, the author's own number, both numbers, and the file of a text",
-        ),
-    )?;
-    with_argument(
-        command,
-        flag_argument(
-            alloc,
-            "set",
-            "Put the text of a file in the place of the program",
-        ),
-    )
-}
-
 // The program without its commands.
 fn top_command<'a>(alloc: Global) -> Result<Command<'a>, AllocError>
     ensures { IfOk result (λ c. app_of c ≡ top_app) }
 {
     Command::new(alloc, "zztool")
         .about(
-            "Shows, lists and checks the worlds of zzted edit files, sets what is in them, opens them to another editor and takes back what was drawn",
+            "Opens the world of a zzted edit file to another editor, takes back what was drawn, and lists edits and worlds",
         )
-        .version(VERSION)
         .no_binary_name(true)
         .arg_required_else_help(true)
         .bin_name("zztool")
@@ -410,9 +263,5 @@ pub(crate) fn tool_command<'a>(alloc: Global) -> Result<Command<'a>, AllocError>
     let program = with_command(program, open_command(alloc)?)?;
     let program = with_command(program, take_command(alloc)?)?;
     let program = with_command(program, log_command(alloc)?)?;
-    let program = with_command(program, list_command(alloc)?)?;
-    let program = with_command(program, show_command(alloc)?)?;
-    let program = with_command(program, lint_command(alloc)?)?;
-    let program = with_command(program, set_command(alloc)?)?;
-    with_command(program, program_command(alloc)?)
+    with_command(program, list_command(alloc)?)
 }

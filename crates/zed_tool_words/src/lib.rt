@@ -5,14 +5,8 @@ mod asked;
 mod grammar;
 mod laws;
 mod listed;
-mod programs;
-mod release;
 mod words;
 
-pub use asked::{Command, Forcing, Form, Length, Listing, Strictness};
-pub use laws::{
-    help_words, plain_words_lint, plain_words_list, plain_words_log, plain_words_open,
-    plain_words_program, plain_words_set, plain_words_show, plain_words_take, version_words,
-};
-pub use release::version;
+pub use asked::{Command, Forcing, Listing};
+pub use laws::{help_words, plain_words_list, plain_words_log, plain_words_open, plain_words_take};
 pub use words::{ParseError, parse};

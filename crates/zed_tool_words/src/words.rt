@@ -4,12 +4,11 @@ ghost use Rattle.clap.specs.Walk.{all_of, first_of, one_of};
 ghost use Rattle.clap.specs.Words.{FailsBy, fault_of, found_of, rows_of, subcommand_of, subcommand_rows_of};
 ghost use Rattle.zed_tool_words.specs.declared.words.ParseError.TheVariants.{Memory};
 ghost use Rattle.zed_tool_words.specs.Grammar.{tool_app};
-ghost use Rattle.zed_tool_words.specs.Commands.{AsksNothing, command_of, forcing_of, form_of, has_flag as has_that_flag, length_of, lint_of, list_of, log_of, meaning_of, open_of, option_number, program_of, set_of, show_of, strictness_of, subcommand_asks, take_of};
+ghost use Rattle.zed_tool_words.specs.Commands.{AsksNothing, command_of, forcing_of, list_of, log_of, meaning_of, open_of, option_number, subcommand_asks, take_of};
 
-use crate::asked::{Command, Forcing, Form, Length, Strictness};
+use crate::asked::{Command, Forcing};
 use crate::grammar::tool_command;
 use crate::listed::{cell_in, listed};
-use crate::programs::{program, program_to_set};
 use clap::error::ErrorKind;
 use clap::{ArgMatches, Error};
 use std::alloc::{AllocError, Global};
@@ -20,12 +19,6 @@ const NO_CELL: &str =
 const NO_FILES: &str =
     "error: 'list' takes at most two numbers up to 65535, and a file behind them\n\nFor more information, try '--help'.\n";
 
-const TWO_FORMS: &str =
-    "error: '--plain' and '--svg' can't both be there\n\nFor more information, try '--help'.\n";
-
-const NO_PROGRAM: &str =
-    "error: 'program' takes the numbers of a board and of a stat, up to 65535, and a file behind them; with '--set' FILE REPLICA B S TEXT\n\nFor more information, try '--help'.\n";
-
 /// Why the words ask for nothing.
 #[derive(Debug, Drop)]
 pub enum ParseError {
@@ -34,8 +27,6 @@ pub enum ParseError {
     Refused(String),
     /// Help is asked for, which is this text.
     Help(String),
-    /// The version is asked for.
-    Version,
 }
 
 impl From<AllocError> for ParseError {
@@ -53,58 +44,13 @@ fn word_in<'a>(matches: &ArgMatches<'a>, name: &str) -> Option<&'a str>
     matches.get_str(name)
 }
 
-// Whether the flag of this name is there.
-fn has_flag(matches: &ArgMatches<'_>, name: &str) -> bool
-    ensures { result ≡ has_that_flag name.now (rows_of (found_of matches.now)) }
-{
-    match word_in(matches, name) {
-        Some("true") => true,
-        _ => false,
-    }
-}
-
 // Whether the words write over what was drawn.
 fn forcing_in(matches: &ArgMatches<'_>) -> Forcing
     ensures { result ≡ forcing_of (rows_of (found_of matches.now)) }
 {
-    if has_flag(matches, "force") {
-        Forcing::Forced
-    } else {
-        Forcing::Careful
-    }
-}
-
-// How much of the line of a world is printed.
-fn length_in(matches: &ArgMatches<'_>) -> Length
-    ensures { result ≡ length_of (rows_of (found_of matches.now)) }
-{
-    if has_flag(matches, "full") {
-        Length::Full
-    } else {
-        Length::Short
-    }
-}
-
-// Whether what is found makes the command fail.
-fn strictness_in(matches: &ArgMatches<'_>) -> Strictness
-    ensures { result ≡ strictness_of (rows_of (found_of matches.now)) }
-{
-    if has_flag(matches, "strict") {
-        Strictness::Strict
-    } else {
-        Strictness::Lenient
-    }
-}
-
-// The form of a picture; `None` where two are asked for.
-fn form_in(matches: &ArgMatches<'_>) -> Option<Form>
-    ensures { result ≡ form_of (rows_of (found_of matches.now)) }
-{
-    match (has_flag(matches, "plain"), has_flag(matches, "svg")) {
-        (false, false) => Some(Form::Coloured),
-        (true, false) => Some(Form::Plain),
-        (false, true) => Some(Form::Svg),
-        (true, true) => None,
+    match word_in(matches, "force") {
+        Some("true") => Forcing::Forced,
+        _ => Forcing::Careful,
     }
 }
 
@@ -170,7 +116,6 @@ fn log_in<'a>(alloc: Global, matches: &ArgMatches<'a>) -> Result<Option<Command<
     ensures { IfOk result (λ a.
         option_map meaning_of a ≡ log_of (rows_of (found_of matches.now))) }
 {
-    let length = length_in(matches);
     let board = number_in(matches, "board");
     let replica = number_in(matches, "replica");
     let since = time_in(matches, "since");
@@ -178,7 +123,6 @@ fn log_in<'a>(alloc: Global, matches: &ArgMatches<'a>) -> Result<Option<Command<
     if let (Some(cell), Some(files)) = (cell, words_in(matches, "FILES")) {
         let files = Vec::from_slice(alloc, files)?;
         Ok(Some(Command::Log {
-            length,
             board,
             cell,
             replica,
@@ -196,73 +140,6 @@ fn list_in<'a>(alloc: Global, matches: &ArgMatches<'a>) -> Result<Option<Command
 {
     match words_in(matches, "WORDS") {
         Some(words) => listed(alloc, words),
-        None => Ok(None),
-    }
-}
-
-fn show_in<'a>(alloc: Global, matches: &ArgMatches<'a>) -> Result<Option<Command<'a>>, AllocError>
-    ensures { IfOk result (λ a.
-        option_map meaning_of a ≡ show_of (rows_of (found_of matches.now))) }
-{
-    let form = form_in(matches);
-    let board = number_in(matches, "BOARD");
-    let files = words_in(matches, "FILES");
-    if let (Some(form), Some(board), Some(files)) = (form, board, files) {
-        let files = Vec::from_slice(alloc, files)?;
-        Ok(Some(Command::Show { form, board, files }))
-    } else {
-        Ok(None)
-    }
-}
-
-fn lint_in<'a>(alloc: Global, matches: &ArgMatches<'a>) -> Result<Option<Command<'a>>, AllocError>
-    ensures { IfOk result (λ a.
-        option_map meaning_of a ≡ lint_of (rows_of (found_of matches.now))) }
-{
-    let strictness = strictness_in(matches);
-    match words_in(matches, "FILES") {
-        Some(files) => {
-            let files = Vec::from_slice(alloc, files)?;
-            Ok(Some(Command::Lint { strictness, files }))
-        }
-        None => Ok(None),
-    }
-}
-
-fn set_in<'a>(alloc: Global, matches: &ArgMatches<'a>) -> Result<Option<Command<'a>>, AllocError>
-    ensures { IfOk result (λ a.
-        option_map meaning_of a ≡ set_of (rows_of (found_of matches.now))) }
-{
-    let file = word_in(matches, "FILE");
-    let replica = number_in(matches, "REPLICA");
-    let words = words_in(matches, "WORDS");
-    if let (Some(file), Some(replica), Some(words)) = (file, replica, words) {
-        let words = Vec::from_slice(alloc, words)?;
-        Ok(Some(Command::Set {
-            file,
-            replica,
-            words,
-        }))
-    } else {
-        Ok(None)
-    }
-}
-
-fn program_in<'a>(
-    alloc: Global,
-    matches: &ArgMatches<'a>,
-) -> Result<Option<Command<'a>>, AllocError>
-    ensures { IfOk result (λ a.
-        option_map meaning_of a ≡ program_of (rows_of (found_of matches.now))) }
-{
-    match words_in(matches, "WORDS") {
-        Some(words) => {
-            if has_flag(matches, "set") {
-                Ok(program_to_set(words))
-            } else {
-                program(alloc, words)
-            }
-        }
         None => Ok(None),
     }
 }
@@ -285,14 +162,6 @@ fn command_named<'a>(
         log_in(alloc, inner)
     } else if name == "list" {
         list_in(alloc, inner)
-    } else if name == "show" {
-        show_in(alloc, inner)
-    } else if name == "lint" {
-        lint_in(alloc, inner)
-    } else if name == "set" {
-        set_in(alloc, inner)
-    } else if name == "program" {
-        program_in(alloc, inner)
     } else {
         Ok(None)
     }
@@ -310,8 +179,6 @@ fn matches_in<'a>(alloc: Global, words: &'a [String]) -> Result<ArgMatches<'a>, 
 fn no_command(alloc: Global, matches: &ArgMatches<'_>) -> Result<String, AllocError> {
     match matches.subcommand_name() {
         Some("list") => String::from_str(alloc, NO_FILES),
-        Some("show") => String::from_str(alloc, TWO_FORMS),
-        Some("program") => String::from_str(alloc, NO_PROGRAM),
         _ => String::from_str(alloc, NO_CELL),
     }
 }
@@ -319,8 +186,7 @@ fn no_command(alloc: Global, matches: &ArgMatches<'_>) -> Result<String, AllocEr
 /// Reads the words after the program's name.
 ///
 /// # Errors
-/// `Help`, with clap's text, where help is asked for; `Version` where the version is; `Refused`, with a text that says why, where the words
-/// are those of no command.
+/// `Help`, with clap's text, where help is asked for; `Refused`, with a text that says why, where the words are those of no command.
 pub fn parse<'a>(alloc: Global, words: &'a [String]) -> Result<Command<'a>, ParseError>
     ensures { MatchResult result
         (λ a. command_of (map string_bytes words.entry.now) ≡ Some (meaning_of a))
@@ -337,7 +203,6 @@ pub fn parse<'a>(alloc: Global, words: &'a [String]) -> Result<Command<'a>, Pars
                 let text = error.to_string(alloc)?;
                 Err(ParseError::Help(text))
             }
-            ErrorKind::DisplayVersion => Err(ParseError::Version),
             _ => {
                 let text = error.to_string(alloc)?;
                 Err(ParseError::Refused(text))
