@@ -1,7 +1,0 @@
-mod Adding
-mod Copies
-mod Digits
-mod Filling
-mod Lacking
-mod Opening
-mod Stripping
