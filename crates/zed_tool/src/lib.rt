@@ -1,7 +1,9 @@
 //! The work of the program `zztool`, over any host.
 #![tactic(auto)]
 
+mod answers;
 mod asked;
+mod error;
 mod lines;
 mod program;
 
