@@ -24,13 +24,15 @@ use Rattle.zed_set_words.specs.declared.wish.Wish.{Wish}
 use Rattle.zed_set_words.specs.Rows.{wish_of}
 use Rattle.zed_set.specs.Setting.{ComesToSet}
 use Rattle.zed_programs.specs.Printed.{printed}
-use Rattle.zed_programs.specs.Setting.{ComesToSet as ComesToSetProgram}
+use Rattle.zed_programs.specs.Setting.{ComesToSet as ComesToSetProgram, SetReads}
 use Rattle.zed_tool_words.specs.declared.asked.Strictness.{Strictness}
 use Rattle.zed_tool_words.specs.declared.asked.Strictness.TheVariants.{Lenient, Strict}
 use Rattle.zed_showing.specs.Shown.{ComesToShow}
 use Rattle.zed_drawing.specs.Effects.{Effect as Drawn, Ends, IsRefused, after as drawn_by}
-use Rattle.zed_drawing.specs.Opening.{ComesToOpen}
-use Rattle.zed_drawing.specs.Taking.{ComesToTake}
+use Rattle.zed_drawing.specs.Asked.{Did}
+use Rattle.zed_drawing.specs.Base.{base_word, presence_of}
+use Rattle.zed_drawing.specs.Opening.{ComesToOpen, OpenReads}
+use Rattle.zed_drawing.specs.Taking.{ComesToTake, TakeReads}
 use Rattle.zed_tool_words.specs.Grammar.{tool_app}
 use Rattle.zed_tool_words.specs.Version.{version_text}
 use Rattle.zed_tool_words.specs.Commands.{AsksHelp, AsksVersion, Command, Open, Take, Log, Lists, Show, Lint, Set, ProgramOf, SetProgram, command_of, subcommand_asks, unless_refused}
@@ -161,10 +163,10 @@ set_stopped p t file replica words (Err bad) e left never is = (is.1, inr (ap (�
 done : {H : Type 0} (called : H → Call → H → Type 0) (p : Type 0) (command : Command) (old new : H) (t : HostContents) (status : ℕ) (left : Option HostContents) → (p → ⊥)
     → EndsCommand called p command old new t (Ok status) left → IsDone (ComesTo ⊥ t command) status left
 done called p (Open until forcing file world) old new t status left never is =
-    drawn_done file p (ComesToOpen p t until (forcing_of forcing) file world) (ComesToOpen ⊥ t until (forcing_of forcing) file world) _ t is.0 status left
+    drawn_done file p (ComesToOpen p t until (forcing_of forcing) file world) (ComesToOpen ⊥ t until (forcing_of forcing) file world) (Did called (OpenReads (forcing_of forcing) file world) old new) t is.0 status left
     (λ x. open_so p ⊥ t until (forcing_of forcing) file world x never) is.1 is.2
 done called p (Take base file replica world) old new t status left never is =
-    drawn_done file p (ComesToTake p t base file replica world) (ComesToTake ⊥ t base file replica world) _ t is.0 status left
+    drawn_done file p (ComesToTake p t base file replica world) (ComesToTake ⊥ t base file replica world) (Did called (TakeReads (presence_of base) (base_word base world) file world) old new) t is.0 status left
     (λ x. take_so p ⊥ t base file replica world x never) is.1 is.2
 done called p (Log length board cell replica since files) old new t status left never is =
     let tell = log_of (length_of length) (filter_of board cell replica since) in
@@ -182,16 +184,16 @@ done called p (ProgramOf board stat files) old new t status left never is =
     let tell = printed board stat in
     told_done p (ComesToTell p t tell files) (ComesToTell ⊥ t tell files) t is.0 status left (λ x. tell_so p ⊥ t tell files x never) is.1 is.2
 done called p (SetProgram file replica board stat text) old new t status left never is =
-    drawn_done text p (ComesToSetProgram p t file replica board stat text) (ComesToSetProgram ⊥ t file replica board stat text) _ t is.0 status left
+    drawn_done text p (ComesToSetProgram p t file replica board stat text) (ComesToSetProgram ⊥ t file replica board stat text) (Did called (SetReads file text) old new) t is.0 status left
     (λ x. set_program_so p ⊥ t file replica board stat text x never) is.1 is.2
 
 stopped : {H : Type 0} (called : H → Call → H → Type 0) (p : Type 0) (command : Command) (old new : H) (t : HostContents) (e : Failure) (left : Option HostContents) → (p → ⊥)
     → EndsCommand called p command old new t (Err e) left → IsStopped t (ComesTo ⊥ t command) e left
 stopped called p (Open until forcing file world) old new t e left never is =
-    drawn_stopped file p (ComesToOpen p t until (forcing_of forcing) file world) (ComesToOpen ⊥ t until (forcing_of forcing) file world) _ t is.0 e left
+    drawn_stopped file p (ComesToOpen p t until (forcing_of forcing) file world) (ComesToOpen ⊥ t until (forcing_of forcing) file world) (Did called (OpenReads (forcing_of forcing) file world) old new) t is.0 e left
     (λ x. open_so p ⊥ t until (forcing_of forcing) file world x never) never is.1 is.2
 stopped called p (Take base file replica world) old new t e left never is =
-    drawn_stopped file p (ComesToTake p t base file replica world) (ComesToTake ⊥ t base file replica world) _ t is.0 e left
+    drawn_stopped file p (ComesToTake p t base file replica world) (ComesToTake ⊥ t base file replica world) (Did called (TakeReads (presence_of base) (base_word base world) file world) old new) t is.0 e left
     (λ x. take_so p ⊥ t base file replica world x never) never is.1 is.2
 stopped called p (Log length board cell replica since files) old new t e left never is =
     let tell = log_of (length_of length) (filter_of board cell replica since) in
@@ -209,7 +211,7 @@ stopped called p (ProgramOf board stat files) old new t e left never is =
     let tell = printed board stat in
     told_stopped p (ComesToTell p t tell files) (ComesToTell ⊥ t tell files) t is.0 e left (λ x. tell_so p ⊥ t tell files x never) never is.1 is.2
 stopped called p (SetProgram file replica board stat text) old new t e left never is =
-    drawn_stopped text p (ComesToSetProgram p t file replica board stat text) (ComesToSetProgram ⊥ t file replica board stat text) _ t is.0 e left
+    drawn_stopped text p (ComesToSetProgram p t file replica board stat text) (ComesToSetProgram ⊥ t file replica board stat text) (Did called (SetReads file text) old new) t is.0 e left
     (λ x. set_program_so p ⊥ t file replica board stat text x never) never is.1 is.2
 
 told_calmly : {H : Type 0} (h : Hosts H) (text : List ℕ) (t : HostContents) (old new : H) → NothingFailed (h.faults old) (h.faults new) → h.contents old ≡ Some t → Complained h text old new

@@ -13,7 +13,7 @@ returns-in-Open-clause-asked g c =
     rw c.in-Open.is (c.open.result, rw c.forcing_of.ensures at asked, c.drawn.ensures)
 
 pub returns-in-Open-clause-failures : goal.returns-in-Open-clause-failures
-returns-in-Open-clause-failures g c = drawn_tells g.H.Host.faults g.H.Host.failed _ c.open.result _ _ _ c.drawn.ensures c.open.ensures.failures
+returns-in-Open-clause-failures g c = drawn_tells g.H.Host.faults g.H.Host.failed c.in-Open.file.now c.open.result _ _ _ c.drawn.ensures c.open.ensures.failures
 
 pub returns-in-Take-clause-ends : goal.returns-in-Take-clause-ends
 returns-in-Take-clause-ends g c = λ t at. rw c.in-Take.is (c.take.result, c.take.ensures.ends t at, c.drawn-in-Take.ensures)
@@ -22,12 +22,12 @@ pub returns-in-Take-clause-asked : goal.returns-in-Take-clause-asked
 returns-in-Take-clause-asked g c = rw c.in-Take.is (c.take.result, c.take.ensures.asked, c.drawn-in-Take.ensures)
 
 pub returns-in-Take-clause-failures : goal.returns-in-Take-clause-failures
-returns-in-Take-clause-failures g c = drawn_tells g.H.Host.faults g.H.Host.failed _ c.take.result _ _ _ c.drawn-in-Take.ensures c.take.ensures.failures
+returns-in-Take-clause-failures g c = drawn_tells g.H.Host.faults g.H.Host.failed c.in-Take.file.now c.take.result _ _ _ c.drawn-in-Take.ensures c.take.ensures.failures
 
 pub returns-in-Log-clause-ends : goal.returns-in-Log-clause-ends
 returns-in-Log-clause-ends g c = λ t at.
     let ended = c.log.ensures.ends t at in
-    rw c.in-Log.is (c.log.result, rw (c.length_of.ensures, c.as_slice.ensures.value) at ended, c.told.ensures)
+    rw c.in-Log.is (c.log.result, rw (c.length_of-length.ensures, c.as_slice.ensures.value) at ended, c.told.ensures)
 
 pub returns-in-Log-clause-asked : goal.returns-in-Log-clause-asked
 returns-in-Log-clause-asked g c =
@@ -74,7 +74,7 @@ returns-in-Lint-clause-asked g c =
     rw c.in-Lint.is (c.lint.result, rw c.as_slice-in-Lint.ensures.value at asked, c.linted.ensures)
 
 pub returns-in-Lint-clause-failures : goal.returns-in-Lint-clause-failures
-returns-in-Lint-clause-failures g c = linted_tells g.H.Host.faults g.H.Host.failed _ c.lint.result _ _ _ c.linted.ensures c.lint.ensures.failures
+returns-in-Lint-clause-failures g c = linted_tells g.H.Host.faults g.H.Host.failed c.in-Lint.strictness c.lint.result _ _ _ c.linted.ensures c.lint.ensures.failures
 
 pub returns-in-Set-clause-ends : goal.returns-in-Set-clause-ends
 returns-in-Set-clause-ends g c = λ t at.
@@ -118,4 +118,4 @@ pub returns-in-SetProgram-clause-asked : goal.returns-in-SetProgram-clause-asked
 returns-in-SetProgram-clause-asked g c = rw c.in-SetProgram.is (c.set_program.result, c.set_program.ensures.asked, c.drawn-in-SetProgram.ensures)
 
 pub returns-in-SetProgram-clause-failures : goal.returns-in-SetProgram-clause-failures
-returns-in-SetProgram-clause-failures g c = drawn_tells g.H.Host.faults g.H.Host.failed _ c.set_program.result _ _ _ c.drawn-in-SetProgram.ensures c.set_program.ensures.failures
+returns-in-SetProgram-clause-failures g c = drawn_tells g.H.Host.faults g.H.Host.failed c.in-SetProgram.text.now c.set_program.result _ _ _ c.drawn-in-SetProgram.ensures c.set_program.ensures.failures
