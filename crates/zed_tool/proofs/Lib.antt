@@ -1,5 +1,5 @@
+pub mod Handing
 pub mod Made
 pub mod Steps
 pub mod Endings
 pub mod Taken
-pub mod Telling

@@ -7,9 +7,13 @@ use Rattle.zed_host.specs.Calls.{Call, Complaining, Leads, Printing, call, passe
 use Rattle.zed_host.specs.Counting.{NothingFailed}
 use Rattle.zed_host.proofs.Calls.{CountsFailures, CountsNoFault, calm_calls, leads_one, leads_then}
 use Rattle.zed_drawing.specs.Asked.{Asks, writing}
-use Rattle.zed_tool_words.specs.Commands.{Command, Open, Take, Log, Lists, command_of}
-use Rattle.zed_tool.specs.Commands.{AsksCommand, AsksTelling}
-use Rattle.zed_tool.specs.Outcome.{Complained, Hosts, Runs, RunsAs}
+use Rattle.zed_tool_words.specs.Commands.{Command, Open, Take, Log, Lists, Show, Lint, Set, ProgramOf, SetProgram, command_of}
+use Rattle.zed_tool.specs.Answers.{Answer, Handed, drawn_as}
+use Rattle.zed_set_words.specs.declared.bad.BadWord.{BadWord as WrongWord}
+use Rattle.zed_set_words.specs.declared.wish.Wish.{Wish}
+use Rattle.zed_set_words.specs.Rows.{wish_of}
+use Rattle.zed_tool.specs.Commands.{AsksCommand, AsksSet, AsksTold}
+use Rattle.zed_tool.specs.Outcome.{Complained, Hosts, Prints, Runs, RunsAs}
 
 -- such calls lead from the one state of a host to the other
 abbrev Made : {H : Type 0} → (H → Call → H → Type 0) → H → H → Type 0
@@ -23,40 +27,57 @@ drawing_made : {H : Type 0} (called : H → Call → H → Type 0) (Course : Lis
 drawing_made called Course Names (Ok u) old new asks = let did = asks.2 in (did.0 ++ passed (writing asks.0), did.2)
 drawing_made called Course Names (Err e) old new asks = let stopped = asks.2 in (stopped.1, stopped.3)
 
-telling_made : {H : Type 0} (called : H → Call → H → Type 0) (files : List (List ℕ)) (result : Result ⊤ DrawingError) (old new : H)
-    → AsksTelling called files result old new → Made called old new
-telling_made called files (Ok u) old new asks = (asks.0, asks.1)
-telling_made called files (Err e) old new asks = let told = asks.2 in (told.0, told.1)
+drawn_made : {H : Type 0} (called : H → Call → H → Type 0) (text : List ℕ) (Course : List Call → Type 0) (Names : List (List ℕ) → Type 0) (answer : Answer) (old new : H)
+    → Handed (drawn_as text) (λ r. Asks called Course Names r old new) answer → Made called old new
+drawn_made called text Course Names answer old new handed = drawing_made called Course Names handed.0 old new handed.1
 
-command_made : {H : Type 0} (called : H → Call → H → Type 0) (command : Command) (result : Result ⊤ DrawingError) (old new : H)
-    → AsksCommand called command result old new → Made called old new
-command_made called (Open until forcing file world) result old new asks = drawing_made called _ _ result old new asks
-command_made called (Take base file replica world) result old new asks = drawing_made called _ _ result old new asks
-command_made called (Log board cell replica since files) result old new asks = telling_made called files result old new asks
-command_made called (Lists listing files) result old new asks = telling_made called files result old new asks
+telling_made : {H : Type 0} (called : H → Call → H → Type 0) (files : List (List ℕ)) (answer : Answer) (old new : H) → AsksTold called files answer old new → Made called old new
+telling_made called files answer old new handed = let asks = handed.1 in (asks.0, asks.1)
+
+set_made : {H : Type 0} (called : H → Call → H → Type 0) (file : List ℕ) (words : List (List ℕ)) (wished : Result Wish WrongWord) (answer : Answer) (old new : H)
+    → AsksSet called file words wished answer old new → Made called old new
+set_made called file words (Ok wish) answer old new handed = let asks = handed.1 in (asks.0, asks.1)
+set_made called file words (Err bad) answer old new wrong = ([], wrong.1)
+
+command_made : {H : Type 0} (called : H → Call → H → Type 0) (command : Command) (answer : Answer) (old new : H) → AsksCommand called command answer old new → Made called old new
+command_made called (Open until forcing file world) answer old new asks = drawn_made called file _ _ answer old new asks
+command_made called (Take base file replica world) answer old new asks = drawn_made called file _ _ answer old new asks
+command_made called (Log length board cell replica since files) answer old new asks = telling_made called files answer old new asks
+command_made called (Lists listing files) answer old new asks = telling_made called files answer old new asks
+command_made called (Show form board files) answer old new asks = telling_made called files answer old new asks
+command_made called (Lint strictness files) answer old new handed = let asks = handed.1 in (asks.0, asks.1)
+command_made called (Set file replica words) answer old new asks = set_made called file words (wish_of words) answer old new asks
+command_made called (ProgramOf board stat files) answer old new asks = telling_made called files answer old new asks
+command_made called (SetProgram file replica board stat text) answer old new asks = drawn_made called text _ _ answer old new asks
 
 told_made : {H : Type 0} (h : Hosts H) (text : List ℕ) (old new : H) → Complained h text old new → Made h.called old new
 told_made h text old new told =
     let asked = told.asked in
     (call (Complaining text) asked.0 ∷ [], leads_one h.called (call (Complaining text) asked.0) old new asked.1)
 
+prints_made : {H : Type 0} (h : Hosts H) (text : List ℕ) (status : ℕ) (old new : H) → Prints h text status old new → Made h.called old new
+prints_made h text status old new prints = elim prints [
+  | inl printed ↦ (call Printing false ∷ [], leads_one h.called (call Printing false) old new printed.1.asked)
+  | inr failed ↦ (
+      let rest = failed.1 in
+      let tells = rest.2 in
+      let first : Made h.called old rest.0 = (call Printing true ∷ [], leads_one h.called (call Printing true) old rest.0 rest.1.asked) in
+      then_made h.called old rest.0 new first (told_made h tells.0 rest.0 new tells.2))
+]
+
 as_made : {H : Type 0} (h : Hosts H) (words : List Text) (command : Option Command) (status : ℕ) (old new : H) → RunsAs h words command status old new → Made h.called old new
 as_made h words (Some command) status old new runs = elim runs [
-  | inl done ↦ command_made h.called command (Ok tt) old new done.1.asked
+  | inl done ↦ command_made h.called command (Ok status) old new done.asked
   | inr refused ↦ (
       let rest = refused.1 in
       let tells = rest.3 in
       then_made h.called old rest.1 new (command_made h.called command (Err rest.0) old rest.1 rest.2.asked) (told_made h tells.0 rest.1 new tells.2))
 ]
 as_made h words None status old new runs = elim runs [
-  | inl refused ↦ (let told = refused.2 in told_made h told.0 old new told.1)
+  | inl refused ↦ (let told = refused.3 in told_made h told.0 old new told.1)
   | inr other ↦ elim other [
-    | inl helped ↦ (let printed = helped.2 in (call Printing false ∷ [], leads_one h.called (call Printing false) old new printed.1.asked))
-    | inr failed ↦ (
-        let rest = failed.2 in
-        let tells = rest.3 in
-        let first : Made h.called old rest.1 = (call Printing true ∷ [], leads_one h.called (call Printing true) old rest.1 rest.2.asked) in
-        then_made h.called old rest.1 new first (told_made h tells.0 rest.1 new tells.2))
+    | inl helped ↦ (let printed = helped.1 in prints_made h printed.0 status old new printed.1)
+    | inr versioned ↦ prints_made h _ status old new versioned.1
   ]
 ]
 

@@ -172,16 +172,16 @@ draws_set name file replica number own based shown r agree draws =
     then_ok _ draws.0 (union own based) r joined draws.2
 
 taken_set : (name file : List ℕ) (t : HostContents) (replica number : ℕ) (own based : List Edit) (shown : Contents) (x : Result Effect DrawingError) (status : ℕ) (new : Option HostContents)
-    → DrawsSet name file replica number own based shown x → HasStatus (left_by t x) t status new
+    → DrawsSet name file replica number own based shown x → HasStatus (left_by file t x) t status new
     → TakesSet name file t replica number own based shown status new
 unfolding IsTaken
 taken_set name file t replica number own based shown x status new draws has = elim draws.1 [
   | inl taken ↦ (
       let is = then_ok _ draws.0 taken.0 x taken.2 draws.2 in
-      inl (taken.0, taken.1, subst (λ x. HasStatus (left_by t x) t status new) is has))
+      inl (taken.0, taken.1, subst (λ x. HasStatus (left_by file t x) t status new) is has))
   | inr none ↦ (
       let is = then_err _ draws.0 (take_refusal none.0) x none.2 draws.2 in
-      inr (inl (none.0, none.1, subst (λ x. HasStatus (left_by t x) t status new) is has)))
+      inr (inl (none.0, none.1, subst (λ x. HasStatus (left_by file t x) t status new) is has)))
 ]
 
 draws_of : WrittenIsRead → (words : List (List ℕ)) (t : HostContents) (name file : List ℕ) (replica number : ℕ) (own based : List Edit) (shown : Contents) (x : Result Effect DrawingError)

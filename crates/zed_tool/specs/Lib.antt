@@ -1,3 +1,4 @@
+pub mod Answers
 pub mod Calm
 pub mod Commands
 pub mod Lines

@@ -1,15 +1,14 @@
 -- What `run` does.
-use Rattle.zed_drawing.specs.declared.error.DrawingError.{DrawingError}
-use Rattle.std.specs.Prelude.{◌≡◌, ◌≤◌, ◌⊎◌, ℕ, Bool, true, false, List, Option, Some, None, Result, Ok, Err, ⊤}
+use Rattle.std.specs.Prelude.{◌≡◌, ◌≤◌, ◌⊎◌, ℕ, Bool, true, false, List, Option, Some, None, Ok, Err, IfErr}
 use Rattle.clap.specs.Walk.{Text}
 use Rattle.zed_host.specs.Calls.{Call, Complaining, Printing, call}
 use Rattle.zed_host.specs.Counting.{Rose}
 use Rattle.zed_host.specs.HostContents.{HalfComplained, HalfPrinted, HostContents, StillTells, with_complaint, with_printed}
-use Rattle.zed_drawing.specs.Asked.{TellsFailures}
-use Rattle.zed_drawing.specs.Refusals.{file, memory}
-use Rattle.zed_tool_words.specs.Commands.{AsksHelp, Command, MayAskHelp, command_of}
+use Rattle.zed_tool_words.specs.Commands.{AsksHelp, AsksVersion, Command, MayAskHelp, MayAskVersion, command_of}
+use Rattle.zed_tool_words.specs.Version.{version_text}
+use Rattle.zed_tool.specs.Answers.{Answer, Failure, file_failed, memory}
 use Rattle.zed_tool.specs.Commands.{AsksCommand, EndsCommand}
-use Rattle.zed_tool.specs.Lines.{line_of, tells_numbers}
+use Rattle.zed_tool.specs.Lines.{line_of, tells_more}
 
 -- what hosts tell: what they hold, their calls, how many of these failed, and how many by a fault
 pub record Hosts (H : Type 0) : Type 1 where
@@ -26,13 +25,18 @@ hosts contents called failed faults = record { contents = contents; called = cal
 abbrev pub NoneForgotten : {H : Type 0} → Hosts H → H → H → Type 0
 NoneForgotten h old new = (h.faults old ≤ h.faults new) × (h.failed old ≤ h.failed new)
 
+-- the same, and `File` is answered only where a call failed meanwhile
+abbrev pub TellsFailures : {H : Type 0} → (H → ℕ) → (H → ℕ) → Answer → H → H → Type 0
+TellsFailures faults failed answer old new =
+    (faults old ≤ faults new) × (failed old ≤ failed new) × IfErr answer (λ e. e ≡ file_failed → Rose (failed old) (failed new))
+
 -- a command that answered this led from the one state of a host to the other: what it left, what it asked for, call by call, and that it forgot
 -- no failure
-pub record Acted {H : Type 0} (h : Hosts H) (command : Command) (result : Result ⊤ DrawingError) (old new : H) : Type 0 where
+pub record Acted {H : Type 0} (h : Hosts H) (command : Command) (answer : Answer) (old new : H) : Type 0 where
   pub ends : (t : HostContents) → h.contents old ≡ Some t
-      → EndsCommand h.called (Rose (h.faults old) (h.faults new)) command old new t result (h.contents new)
-  pub asked : AsksCommand h.called command result old new
-  pub failures : TellsFailures h.faults h.failed result old new
+      → EndsCommand h.called (Rose (h.faults old) (h.faults new)) command old new t answer (h.contents new)
+  pub asked : AsksCommand h.called command answer old new
+  pub failures : TellsFailures h.faults h.failed answer old new
 
 -- a text is on the standard error, or the host failed at it
 abbrev pub IsComplained : Type 0 → List ℕ → HostContents → Option HostContents → Type 0
@@ -56,27 +60,32 @@ pub record FailedToPrint {H : Type 0} (h : Hosts H) (text : List ℕ) (old new :
   pub asked : h.called old (call Printing true) new
   pub failures : Rose (h.faults old) (h.faults new) × Rose (h.failed old) (h.failed new)
 
--- the line of a refusal; where it has numbers memory may run out for it, and then its line says so
-abbrev pub IsLineOf : DrawingError → List ℕ → Type 0
-IsLineOf e line = (line ≡ line_of e) ⊎ ((tells_numbers e ≡ true) × (line ≡ line_of memory))
+-- the line of a failure; where it tells more than a name memory may run out for it, and then its line says so
+abbrev pub IsLineOf : Failure → List ℕ → Type 0
+IsLineOf e line = (line ≡ line_of e) ⊎ ((tells_more e ≡ true) × (line ≡ line_of memory))
 
--- the user is told of a refusal
-abbrev pub TellsOf : {H : Type 0} → Hosts H → DrawingError → H → H → Type 0
+-- the user is told of a failure
+abbrev pub TellsOf : {H : Type 0} → Hosts H → Failure → H → H → Type 0
 TellsOf h e old new = (line : List ℕ) × IsLineOf e line × Complained h line old new
 
--- a command is carried out with status 0, or refused with status 1, and then the user is told
+-- a command is carried out with its status; or it isn't, with status 1, and then the user is told why
 abbrev pub RunsCommand : {H : Type 0} → Hosts H → Command → ℕ → H → H → Type 0
 RunsCommand h command status old new =
-    ((status ≡ 0) × Acted h command (Ok tt) old new)
-    ⊎ ((status ≡ 1) × ((e : DrawingError) × (mid : _) × Acted h command (Err e) old mid × TellsOf h e mid new))
+    Acted h command (Ok status) old new
+    ⊎ ((status ≡ 1) × ((e : Failure) × (mid : _) × Acted h command (Err e) old mid × TellsOf h e mid new))
 
--- words that are no command are refused with status 2 and a text; or they ask for help, and a text is printed with status 0. Where that failed
--- the status is 1
+-- a text is printed with status 0; where that failed the status is 1
+abbrev pub Prints : {H : Type 0} → Hosts H → List ℕ → ℕ → H → H → Type 0
+Prints h text status old new =
+    ((status ≡ 0) × Printed h text old new)
+    ⊎ ((status ≡ 1) × ((mid : _) × FailedToPrint h text old mid × TellsOf h file_failed mid new))
+
+-- words that are no command are refused with status 2 and a text; or they ask for help, which is printed, or for the version
 abbrev pub RunsOther : {H : Type 0} → Hosts H → List Text → ℕ → H → H → Type 0
 RunsOther h words status old new =
-    ((status ≡ 2) × ¬ (AsksHelp words) × ((text : List ℕ) × Complained h text old new))
-    ⊎ ((status ≡ 0) × MayAskHelp words × ((text : List ℕ) × Printed h text old new))
-    ⊎ ((status ≡ 1) × MayAskHelp words × ((text : List ℕ) × (mid : _) × FailedToPrint h text old mid × TellsOf h file mid new))
+    ((status ≡ 2) × ¬ (AsksHelp words) × ¬ (AsksVersion words) × ((text : List ℕ) × Complained h text old new))
+    ⊎ (MayAskHelp words × ((text : List ℕ) × Prints h text status old new))
+    ⊎ (MayAskVersion words × Prints h version_text status old new)
 
 -- what words come to that ask for a command, or for none
 abbrev pub RunsAs : {H : Type 0} → Hosts H → List Text → Option Command → ℕ → H → H → Type 0

@@ -13,9 +13,10 @@ use Rattle.zed_host.specs.HostContents.{HostContents, file_in}
 use Rattle.zed_take.specs.Taken.{AreTaken, next_stamp}
 use Rattle.zed_drawing.specs.Base.{base_word}
 use Rattle.zed_drawing.specs.Effects.{after}
-use Rattle.zed_drawing.specs.Refusals.{memory, take_refusal}
+use Rattle.zed_drawing.specs.Refusals.{take_refusal}
 use Rattle.zed_drawing.specs.Taking.{IsNotTaken, drawn, given}
 use Rattle.zed_tool_words.specs.Commands.{Take, command_of}
+use Rattle.zed_tool.specs.Answers.{drawing_failure, memory}
 use Rattle.zed_tool.specs.Calm.{HasStatus}
 
 -- the words ask an author to take what was drawn; FILE spells these edits of a world, and the base, which is another file, those, each in one
@@ -41,6 +42,6 @@ pub record AsksToTake (words : List Text) (t : HostContents) (name file : Text) 
 abbrev pub TakesSet : Text → Text → HostContents → ℕ → ℕ → List Edit → List Edit → Contents → ℕ → Option HostContents → Type 0
 TakesSet name file t replica number own based shown status new =
     ((taken : List Edit) × AreTaken based shown (next_stamp (union own based) replica) taken
-    × HasStatus (Ok (after (drawn name file (given (number, own) (Some based) shown) (union own based) taken) t)) t status new)
-    ⊎ ((e : TakeError) × IsNotTaken (union own based) based shown e × HasStatus (Err (take_refusal e)) t status new)
+    × HasStatus (Ok (0, after (drawn name file (given (number, own) (Some based) shown) (union own based) taken) t)) t status new)
+    ⊎ ((e : TakeError) × IsNotTaken (union own based) based shown e × HasStatus (Err (drawing_failure file (take_refusal e))) t status new)
     ⊎ HasStatus (Err memory) t status new

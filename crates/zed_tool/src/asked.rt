@@ -1,9 +1,10 @@
 //! What words ask for, as the commands take it.
 ghost use Rattle.std.specs.Prelude.{◌≡◌};
-ghost use Rattle.zed_tool.specs.Commands.{forcing_of as forcing_for, listing_of as listing_for};
+ghost use Rattle.zed_tool.specs.Commands.{forcing_of as forcing_for, form_of as form_for, length_of as length_for, listing_of as listing_for};
 
 use zed_drawing::Forcing;
-use zed_telling::Listing;
+use zed_look::Form;
+use zed_telling::{Length, Listing};
 
 /// What is done to a world file that was drawn in.
 pub(crate) fn forcing_of(forcing: zed_tool_words::Forcing) -> Forcing
@@ -23,5 +24,26 @@ pub(crate) fn listing_of(listing: zed_tool_words::Listing) -> Listing
         zed_tool_words::Listing::Boards => Listing::Boards,
         zed_tool_words::Listing::Stats(board) => Listing::Stats(board),
         zed_tool_words::Listing::Program(board, stat) => Listing::Program(board, stat),
+    }
+}
+
+/// How much of the line of a world is printed.
+pub(crate) fn length_of(length: zed_tool_words::Length) -> Length
+    ensures { result ≡ length_for length }
+{
+    match length {
+        zed_tool_words::Length::Short => Length::Short,
+        zed_tool_words::Length::Full => Length::Full,
+    }
+}
+
+/// How a picture is written.
+pub(crate) fn form_of(form: zed_tool_words::Form) -> Form
+    ensures { result ≡ form_for form }
+{
+    match form {
+        zed_tool_words::Form::Coloured => Form::Coloured,
+        zed_tool_words::Form::Plain => Form::Plain,
+        zed_tool_words::Form::Svg => Form::Svg,
     }
 }

@@ -1,7 +1,9 @@
 //! `zztool` over any host: which command runs, and what it leaves.
 #![tactic(auto)]
 
+mod answers;
 mod asked;
+mod error;
 mod lines;
 mod program;
 

@@ -1,29 +1,33 @@
 //! The program, over any host.
-ghost use Rattle.std.specs.Prelude.{◌≡◌, ◌≤◌, ◌⊎◌, ℕ, Err, IsSome, List, MatchResult, None, Ok, Some, map, string_bytes};
+ghost use Rattle.std.specs.Prelude.{◌≡◌, ◌≤◌, ◌⊎◌, ℕ, IsSome, List, Some, map, string_bytes};
 ghost use Rattle.zed_op.specs.declared.op.Edit.{Edit as TheEdit};
 ghost use Rattle.zed_op.specs.Set.{set_of};
 ghost use Rattle.zed_world.specs.Contents.{Contents};
-ghost use Rattle.zed_drawing.specs.declared.error.DrawingError.TheVariants.{Refused};
-ghost use Rattle.zed_drawing.specs.Asked.{TellsFailures};
-ghost use Rattle.zed_drawing.specs.Refusals.{file};
 ghost use Rattle.zed_host.specs.Counting.{NothingFailed, Rose};
 ghost use Rattle.zed_host.specs.HostContents.{HostContents};
-ghost use Rattle.zed_tool_words.specs.Commands.{AsksHelp, Command as Asked, command_of, meaning_of};
+ghost use Rattle.zed_tool_words.specs.Commands.{AsksHelp, AsksVersion, Command as Asked, command_of, meaning_of};
+ghost use Rattle.zed_tool_words.specs.Version.{version_text};
+ghost use Rattle.zed_tool.specs.Answers.{answer_of, failure_of, memory};
 ghost use Rattle.zed_tool.specs.Calm.{EndsCalmly};
 ghost use Rattle.zed_tool.specs.Commands.{AsksCommand, EndsCommand};
 ghost use Rattle.zed_tool.specs.Lines.{line_of as line_for};
 ghost use Rattle.zed_tool.specs.Taking.{AsksToTake, TakesSet};
-ghost use Rattle.zed_tool.specs.Outcome.{Complained, FailedToPrint, Printed, Runs, TellsOf, hosts};
+ghost use Rattle.zed_tool.specs.Outcome.{Complained, Prints, Runs, TellsFailures, TellsOf, hosts};
 
-use crate::asked::{forcing_of, listing_of};
+use crate::answers::{drawn, linted, set_told, told};
+use crate::asked::{forcing_of, form_of, length_of, listing_of};
+use crate::error::ToolError;
 use crate::lines::{line_of, plain_line};
 use std::alloc::Global;
-use zed_drawing::{DrawingError, open, take};
+use zed_drawing::{open, take};
 use zed_editfile::one_reading;
 use zed_files::Refusal;
 use zed_host::Host;
-use zed_telling::{Filter, list, log};
-use zed_tool_words::{Command, ParseError, parse};
+use zed_programs::set_program;
+use zed_set::set;
+use zed_showing::show;
+use zed_telling::{Filter, lint, list, log};
+use zed_tool_words::{Command, ParseError, parse, version};
 
 const MEMORY_LINE: &[u8] = b"zztool: Memory\n";
 
@@ -35,9 +39,10 @@ fn complain<H: Host>(host: &mut H, text: &[u8])
     let _ = host.complain(text);
 }
 
-// Writes the line of a refusal to the standard error.
-fn complain_of<H: Host>(alloc: Global, host: &mut H, error: DrawingError)
-    ensures { TellsOf (hosts H.contents H.called H.failed H.faults) error host.old host.new }
+// Writes the line of a failure to the standard error.
+fn complain_of<H: Host>(alloc: Global, host: &mut H, error: ToolError<'_>)
+    ensures { TellsOf (hosts H.contents H.called H.failed H.faults) (failure_of error.entry)
+        host.old host.new }
 {
     match plain_line(error) {
         Some(text) => complain(host, text.as_bytes()),
@@ -48,22 +53,18 @@ fn complain_of<H: Host>(alloc: Global, host: &mut H, error: DrawingError)
     }
 }
 
-// The answer of a command that only tells.
-fn told(answer: Result<(), Refusal>) -> Result<(), DrawingError>
-    ensures { MatchResult answer (λ _. result ≡ Ok tt) (λ e. result ≡ Err (Refused e)) }
-{
-    match answer {
-        Ok(()) => Ok(()),
-        Err(refusal) => Err(DrawingError::Refused(refusal)),
-    }
-}
-
-fn act<H: Host>(alloc: Global, host: &mut H, command: &Command<'_>) -> Result<(), DrawingError>
+// Carries a command out, and answers its status.
+fn act<'a, H: Host>(
+    alloc: Global,
+    host: &mut H,
+    command: &Command<'a>,
+) -> Result<u8, ToolError<'a>>
     ensures ends { (t : HostContents) → H.contents host.old ≡ Some t
         → EndsCommand H.called (Rose (H.faults host.old) (H.faults host.new))
-        (meaning_of command.now) host.old host.new t result (H.contents host.new) }
-    ensures asked { AsksCommand H.called (meaning_of command.now) result host.old host.new }
-    ensures failures { TellsFailures H.faults H.failed result host.old host.new }
+        (meaning_of command.now) host.old host.new t (answer_of result) (H.contents host.new) }
+    ensures asked { AsksCommand H.called (meaning_of command.now) (answer_of result)
+        host.old host.new }
+    ensures failures { TellsFailures H.faults H.failed (answer_of result) host.old host.new }
 {
     match command {
         Command::Open {
@@ -71,14 +72,18 @@ fn act<H: Host>(alloc: Global, host: &mut H, command: &Command<'_>) -> Result<()
             forcing,
             file,
             world,
-        } => open(alloc, host, *until, forcing_of(*forcing), file, world),
+        } => drawn(
+            *file,
+            open(alloc, host, *until, forcing_of(*forcing), file, world),
+        ),
         Command::Take {
             base,
             file,
             replica,
             world,
-        } => take(alloc, host, *base, file, *replica, world),
+        } => drawn(*file, take(alloc, host, *base, file, *replica, world)),
         Command::Log {
+            length,
             board,
             cell,
             replica,
@@ -91,7 +96,8 @@ fn act<H: Host>(alloc: Global, host: &mut H, command: &Command<'_>) -> Result<()
                 replica: *replica,
                 since: *since,
             };
-            told(log(alloc, host, &filter, files.as_slice()))
+            let length = length_of(*length);
+            told(log(alloc, host, length, &filter, files.as_slice()))
         }
         Command::List { listing, files } => told(list(
             alloc,
@@ -99,20 +105,55 @@ fn act<H: Host>(alloc: Global, host: &mut H, command: &Command<'_>) -> Result<()
             listing_of(*listing),
             files.as_slice(),
         )),
+        Command::Show { form, board, files } => told(show(
+            alloc,
+            host,
+            form_of(*form),
+            *board,
+            files.as_slice(),
+        )),
+        Command::Lint { strictness, files } => {
+            linted(*strictness, lint(alloc, host, files.as_slice()))
+        }
+        Command::Set {
+            file,
+            replica,
+            words,
+        } => {
+            let words = words.as_slice();
+            set_told(words, set(alloc, host, file, *replica, words))
+        }
+        Command::Program { board, stat, files } => {
+            told(zed_programs::program(
+                alloc,
+                host,
+                *board,
+                *stat,
+                files.as_slice(),
+            ))
+        }
+        Command::SetProgram {
+            file,
+            replica,
+            board,
+            stat,
+            text,
+        } => drawn(
+            *text,
+            set_program(alloc, host, file, *replica, *board, *stat, text),
+        ),
     }
 }
 
-// Prints a text of help.
-fn help<H: Host>(alloc: Global, host: &mut H, text: &[u8]) -> u8
-    ensures { let all = hosts H.contents H.called H.failed H.faults in
-        ((result ≡ 0) × Printed all text.now host.old host.new)
-        ⊎ ((result ≡ 1) × ((mid : H) × FailedToPrint all text.now host.old mid
-        × TellsOf all file mid host.new)) }
+// Prints a text that words ask for.
+fn print_text<H: Host>(alloc: Global, host: &mut H, text: &[u8]) -> u8
+    ensures { Prints (hosts H.contents H.called H.failed H.faults) text.now result
+        host.old host.new }
 {
     match host.print(text) {
         Ok(()) => 0,
-        Err(error) => {
-            complain_of(alloc, host, DrawingError::from(error));
+        Err(_) => {
+            complain_of(alloc, host, ToolError::Refused(Refusal::File));
             1
         }
     }
@@ -125,13 +166,14 @@ fn run_words<H: Host>(alloc: Global, words: &[String], host: &mut H) -> u8
 {
     match parse(alloc, words) {
         Ok(command) => match act(alloc, host, &command) {
-            Ok(()) => 0,
+            Ok(status) => status,
             Err(error) => {
                 complain_of(alloc, host, error);
                 1
             }
         },
-        Err(ParseError::Help(text)) => help(alloc, host, text.as_bytes()),
+        Err(ParseError::Help(text)) => print_text(alloc, host, text.as_bytes()),
+        Err(ParseError::Version) => print_text(alloc, host, version().as_bytes()),
         Err(ParseError::Refused(text)) => {
             complain(host, text.as_bytes());
             2
@@ -143,8 +185,9 @@ fn run_words<H: Host>(alloc: Global, words: &[String], host: &mut H) -> u8
     }
 }
 
-/// Does what the words after the program's name ask for, and answers the exit status: 0; or 1, with a line on the standard error that names
-/// the refusal; or 2 for words that are no command. Help that words ask for is printed, with status 0.
+/// Does what the words after the program's name ask for, and answers the exit status: 0, or 1 for what `lint --strict` finds; or 1, with a
+/// line on the standard error that names the refusal; or 2 for words that are no command. Help that words ask for is printed, with status 0,
+/// and so is the version.
 ///
 /// A refusal comes before the first write, but for `File` where the host fails at a write: then the files that were written before are whole,
 /// and the one that it failed at is as that left it.
@@ -177,6 +220,12 @@ pub fn run<H: Host>(alloc: Global, words: &[String], host: &mut H) -> u8
     ensures accepted { IsSome (command_of (map string_bytes words.now))
         → (result ≡ 0) ⊎ (result ≡ 1) }
     ensures helped { AsksHelp (map string_bytes words.now) → (result ≡ 0) ⊎ (result ≡ 1) }
+
+    // The version is printed, or memory ran out.
+    ensures versioned { let all = hosts H.contents H.called H.failed H.faults in
+        AsksVersion (map string_bytes words.now)
+        → Prints all version_text result host.old host.new
+        ⊎ ((result ≡ 1) × Complained all (line_for memory) host.old host.new) }
 {
     one_reading();
     run_words(alloc, words, host)

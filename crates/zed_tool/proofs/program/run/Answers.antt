@@ -1,6 +1,6 @@
 use Rattle.std.proofs.Common.{map, string_bytes}
 use Rattle.zed_tool.specs.Outcome.{hosts}
-use Rattle.zed_tool.proofs.Endings.{run_accepted, run_calmly, run_helped}
+use Rattle.zed_tool.proofs.Endings.{run_accepted, run_calmly, run_helped, run_versioned}
 use Rattle.zed_tool_words.specs.Commands.{Take}
 use Rattle.zed_tool.proofs.Made.{run_calm}
 use Rattle.zed_tool.proofs.Taken.{run_takes, written_is_read}
@@ -20,6 +20,11 @@ pub returns-clause-helped : goal.returns-clause-helped
 returns-clause-helped g c = λ help.
     let h = hosts g.H.Host.contents g.H.Host.called g.H.Host.failed g.H.Host.faults in
     run_helped h (map string_bytes c.args.words.now) c.run_words.result _ _ help c.run_words.ensures
+
+pub returns-clause-versioned : goal.returns-clause-versioned
+returns-clause-versioned g c = λ version.
+    let h = hosts g.H.Host.contents g.H.Host.called g.H.Host.failed g.H.Host.faults in
+    run_versioned h (map string_bytes c.args.words.now) c.run_words.result _ _ version c.run_words.ensures
 
 pub returns-clause-accepted : goal.returns-clause-accepted
 returns-clause-accepted g c = λ some.
