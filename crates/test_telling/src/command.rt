@@ -4,13 +4,13 @@ use std::fmt::Write;
 use test_rows::{Line, Trouble};
 use zed_files::Refusal;
 use zed_host::MemoryHost;
-use zed_telling::{Filter, Listing, list, log};
+use zed_telling::{Filter, Length, Listing, list, log};
 
 /// What is asked of files.
 #[derive(Clone, Copy)]
 enum Told {
     List(Listing),
-    Log(Filter),
+    Log(Length, Filter),
 }
 
 /// A command of a row.
@@ -59,13 +59,16 @@ fn told_of(words: &str) -> Result<Told, Trouble> {
         return Ok(Told::List(Listing::Boards));
     }
     if words == "log" {
-        return Ok(Told::Log(filter_of("")?));
+        return Ok(Told::Log(Length::Full, filter_of("")?));
+    }
+    if words == "short" {
+        return Ok(Told::Log(Length::Short, filter_of("")?));
     }
     if let Some(behind) = words.strip_prefix("list ") {
         return Ok(Told::List(listing_of(behind)?));
     }
     match words.strip_prefix("log ") {
-        Some(behind) => Ok(Told::Log(filter_of(behind)?)),
+        Some(behind) => Ok(Told::Log(Length::Full, filter_of(behind)?)),
         None => Err(Trouble::Line),
     }
 }
@@ -91,7 +94,7 @@ impl<'a> Command<'a> {
         let files = self.files.as_slice();
         match &self.told {
             Told::List(listing) => list(alloc, host, *listing, files),
-            Told::Log(filter) => log(alloc, host, filter, files),
+            Told::Log(length, filter) => log(alloc, host, *length, filter, files),
         }
     }
 }

@@ -22,11 +22,11 @@ use Rattle.zed_list.specs.Boards.{board_words, exit, exits}
 use Rattle.zed_list.specs.Program.{first_line, line_words, program_bytes}
 use Rattle.zed_list.specs.Stats.{element_of, fields, program_words, stat_words, tile_at}
 
-abbrev plain : List ℕ → Bool
+abbrev pub plain : List ℕ → Bool
 plain text = list_all (λ c. nat_le 32 c) text
 
 -- two texts one after the other
-both : (a b : List ℕ) → plain a ≡ true → plain b ≡ true → plain (a ++ b) ≡ true
+pub both : (a b : List ℕ) → plain a ≡ true → plain b ≡ true → plain (a ++ b) ≡ true
 both [] b p q = q
 both (c ∷ a) b p q = begun (nat_le 32 c) (plain a) (plain (a ++ b)) p (λ k. both a b k q)
   where
@@ -44,7 +44,7 @@ digits_are : (ds : List ℕ) → Each is_digit ds → plain ds ≡ true
 digits_are [] h = refl
 digits_are (d ∷ ds) h = then d ds (digit_is d h.0) (digits_are ds h.1)
 
-number_is : (n : ℕ) → plain (number n) ≡ true
+pub number_is : (n : ℕ) → plain (number n) ≡ true
 number_is n = digits_are (number n) (number_digits n)
 
 integer_is : (z : ℤ) → plain (integer z) ≡ true
@@ -86,7 +86,7 @@ escapes_are : (s : List ℕ) → plain (flat_map escape s) ≡ true
 escapes_are [] = refl
 escapes_are (b ∷ s) = both (escape b) (flat_map escape s) (escape_is b) (escapes_are s)
 
-quoted_is : (s : List ℕ) → plain (quoted s) ≡ true
+pub quoted_is : (s : List ℕ) → plain (quoted s) ≡ true
 unfolding quoted
 quoted_is s = both (flat_map escape s) (34 ∷ []) (escapes_are s) refl
 
@@ -99,7 +99,7 @@ unfolding element
 element_is n =
     both (element_word n ++ 40 ∷ number n) (41 ∷ []) (both (element_word n) (40 ∷ number n) (word_is n) (number_is n)) refl
 
-place_is : (x y : ℕ) → plain (place x y) ≡ true
+pub place_is : (x y : ℕ) → plain (place x y) ≡ true
 unfolding place
 place_is x y =
     both (number x ++ 44 ∷ number y) (41 ∷ []) (both (number x) (44 ∷ number y) (number_is x) (number_is y)) refl
@@ -139,7 +139,7 @@ board_is n rank b =
 
 -- ---- stats
 
-element_of_is : (t : Option Tile) → plain (element_of t) ≡ true
+pub element_of_is : (t : Option Tile) → plain (element_of t) ≡ true
 element_of_is None = refl
 element_of_is (Some t) = element_is t.element
 

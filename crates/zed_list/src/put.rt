@@ -1,4 +1,4 @@
-//! Writing the kinds of fields, as lists of edits spell them.
+//! Writing the kinds of fields, as lists of edits spell them. Where memory is refused, a front of one may have been written.
 ghost use Rattle.std.specs.Prelude.{◌≡◌, ◌<◌, ◌++◌, false, map, OnOk};
 ghost use Rattle.std.specs.Fmt.{digit_glyph};
 ghost use Rattle.std.specs.List.{flat_map};
@@ -7,14 +7,16 @@ ghost use Rattle.zed_log.specs.Fields.{element, element_word, escape, hex, integ
 use std::alloc::AllocError;
 use zed_types::element;
 
-pub(crate) fn put_text(out: &mut Vec<u8>, text: &str) -> Result<(), AllocError>
+/// Appends a text as it is.
+pub fn put_text(out: &mut Vec<u8>, text: &str) -> Result<(), AllocError>
     ensures { OnOk result (out.new.items ≡ out.old.items ++ text.now) }
 {
     out.extend_from_slice(text.as_bytes())
 }
 
+/// Appends a number in decimal digits.
 #[tactic(auto, using(crate::proofs::Digits::decimal_number))]
-pub(crate) fn put_number(out: &mut Vec<u8>, n: u64) -> Result<(), AllocError>
+pub fn put_number(out: &mut Vec<u8>, n: u64) -> Result<(), AllocError>
     ensures { OnOk result (out.new.items ≡ out.old.items ++ number n) }
 {
     let digits = format!(in *out.allocator(); "{n}")?;
@@ -71,8 +73,9 @@ fn put_escapes(out: &mut Vec<u8>, bytes: &[u8]) -> Result<(), AllocError>
     Ok(())
 }
 
+/// Appends a string between quotes; what doesn't print in it is escaped.
 #[tactic(auto, unfolding(zed_log::specs::Fields::quoted))]
-pub(crate) fn put_quoted(out: &mut Vec<u8>, bytes: &[u8]) -> Result<(), AllocError>
+pub fn put_quoted(out: &mut Vec<u8>, bytes: &[u8]) -> Result<(), AllocError>
     ensures { OnOk result (out.new.items ≡ out.old.items ++ quoted bytes.now) }
 {
     put_text(out, "\"")?;
@@ -100,8 +103,9 @@ pub(crate) fn put_element(out: &mut Vec<u8>, n: u8) -> Result<(), AllocError>
     put_text(out, ")")
 }
 
+/// Appends a place: its column and its row.
 #[tactic(auto, unfolding(zed_log::specs::Fields::place))]
-pub(crate) fn put_place(out: &mut Vec<u8>, x: u8, y: u8) -> Result<(), AllocError>
+pub fn put_place(out: &mut Vec<u8>, x: u8, y: u8) -> Result<(), AllocError>
     ensures { OnOk result (out.new.items ≡ out.old.items ++ place x y) }
 {
     put_text(out, "(")?;

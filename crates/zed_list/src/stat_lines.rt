@@ -8,8 +8,8 @@ use std::alloc::{AllocError, Global};
 use zed_types::{TILES, Tile};
 use zed_world::{BoardData, Code, StatData};
 
-// The tile at a place. Outside the table there is none.
-fn tile_at(tiles: &[Tile; TILES], x: u8, y: u8) -> Option<Tile>
+/// The tile at a place. Outside the table there is none.
+pub fn tile_at(tiles: &[Tile; TILES], x: u8, y: u8) -> Option<Tile>
     ensures { result ≡ tile_at tiles.now x y }
 {
     if 1 <= x && x <= 60 && 1 <= y && y <= 25 {
@@ -19,7 +19,8 @@ fn tile_at(tiles: &[Tile; TILES], x: u8, y: u8) -> Option<Tile>
     }
 }
 
-fn put_element_of(out: &mut Vec<u8>, tile: Option<Tile>) -> Result<(), AllocError>
+/// Appends the element of a tile by its word and number, or `-` where there is no tile.
+pub fn put_element_of(out: &mut Vec<u8>, tile: Option<Tile>) -> Result<(), AllocError>
     ensures { OnOk result (out.new.items ≡ out.old.items ++ element_of tile) }
 {
     match tile {

@@ -6,6 +6,7 @@ pub mod Ops
 pub mod Parts
 pub mod Pieces
 pub mod Printed
+pub mod Short
 pub mod Registers
 pub mod Stats
 pub mod Strings

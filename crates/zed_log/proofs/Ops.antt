@@ -14,7 +14,9 @@ use Rattle.zed_op.specs.declared.op.Op.{Op}
 use Rattle.zed_op.specs.declared.op.Op.TheVariants.{Genesis, SetHeader, BoardAdd, BoardRemove, SetBoard, SetCells, StatAdd, StatRemove, SetStat, TextAdd, TextInsert, TextDelete}
 use Rattle.zed_op.specs.declared.op.Edit.{Edit}
 use Rattle.zed_log.specs.Fields.{number, quoted, board_name, stat_name, text_name, element_name, tile, rectangle, range}
-use Rattle.zed_log.specs.Line.{header_setting, board_setting, stat_setting, stat_fields, after_text, op_text, line_text, marked_line}
+use Rattle.zed_log.specs.declared.length.Length.{Length}
+use Rattle.zed_log.specs.declared.length.Length.TheVariants.{Full}
+use Rattle.zed_log.specs.Line.{header_setting, board_setting, stat_setting, stat_fields, after_text, op_at, op_text, line_text, marked_line, text_at}
 use Rattle.zed_log.specs.Laws.{IsWhole, AreWhole, IsKnownByLines, log_text, marked_log}
 use Rattle.zed_log.proofs.Codes.{is_digit, Stops, IsCode, led, two, joined}
 use Rattle.zed_log.proofs.Numerals.{number_code, number_starts}
@@ -24,7 +26,7 @@ use Rattle.zed_log.proofs.Registers.{header_code, property_code, field_code}
 use Rattle.zed_log.proofs.Stats.{stat_fields_code}
 
 -- what tells the ops apart: the first letter, with `a` the fifth, with `r` the eighth
-abbrev op_kind_at : List ℕ → ℕ
+abbrev pub op_kind_at : List ℕ → ℕ
 op_kind_at l = cond (eqb (get_or l 0 0) 97) (get_or l 4 0) (cond (eqb (get_or l 0 0) 114) (200 + get_or l 7 0) (300 + get_or l 0 0))
 
 -- ---- the fields of each op
@@ -98,16 +100,19 @@ op_code a b x y v w p q h = absurd (omega (arith, ap op_kind_at h))
 
 -- ---- lines
 
-abbrev stamp_text : ℕ × ℕ → List ℕ
+abbrev pub stamp_text : ℕ × ℕ → List ℕ
 stamp_text p = number p.0 ++ (32 ∷ number p.1)
 
-stamp_text_code : IsCode stamp_text
+pub stamp_text_code : IsCode stamp_text
 stamp_text_code = two number (32 ∷ []) number (λ t. refl) number_code number_code
 
-line_parts : (e : Edit) (x : List ℕ) → line_text e ++ x ≡ stamp_text (e.stamp.time, e.stamp.replica) ++ (codes "  " ++ (op_text e.op ++ (10 ∷ x)))
-unfolding line_text
-line_parts e x =
-    append_assoc (stamp_text (e.stamp.time, e.stamp.replica) ++ (codes "  " ++ op_text e.op)) (10 ∷ []) x ∙ append_assoc (stamp_text (e.stamp.time, e.stamp.replica)) (codes "  " ++ op_text e.op) (10 ∷ x)
+pub parts_at : (l : Length) (e : Edit) (x : List ℕ) → text_at l e ++ x ≡ stamp_text (e.stamp.time, e.stamp.replica) ++ (codes "  " ++ (op_at l e.op ++ (10 ∷ x)))
+unfolding text_at
+parts_at l e x =
+    append_assoc (stamp_text (e.stamp.time, e.stamp.replica) ++ (codes "  " ++ op_at l e.op)) (10 ∷ []) x ∙ append_assoc (stamp_text (e.stamp.time, e.stamp.replica)) (codes "  " ++ op_at l e.op) (10 ∷ x)
+
+pub line_parts : (e : Edit) (x : List ℕ) → line_text e ++ x ≡ stamp_text (e.stamp.time, e.stamp.replica) ++ (codes "  " ++ (op_text e.op ++ (10 ∷ x)))
+line_parts e x = parts_at Full e x
 
 abbrev make : ℕ × ℕ → Op → Edit
 make s op = record { stamp = record { time = s.0; replica = s.1 }; op = op }

@@ -44,7 +44,9 @@ use Rattle.zed_op.specs.declared.op.Op.TheVariants.{Genesis, SetHeader, BoardAdd
 use Rattle.zed_op.specs.declared.op.Edit.{Edit}
 use Rattle.zed_log.specs.Fields.{number, integer, hex, colour, escape, quoted, boolean, stamp, name, optional, element_word, element, tile, place, rectangle, range, third_parameter}
 use Rattle.zed_log.specs.Words.{header_number_word, key_word, side_word, board_byte_word, board_flag_word, board_text_word, stat_byte_word, stat_number_word}
-use Rattle.zed_log.specs.Line.{header_setting, board_setting, stat_byte, stat_setting, stat_bytes, stat_numbers, stat_fields, after_text, op_text, line_text}
+use Rattle.zed_log.specs.declared.length.Length.{Length}
+use Rattle.zed_log.specs.declared.length.Length.TheVariants.{Short, Full}
+use Rattle.zed_log.specs.Line.{header_setting, board_setting, stat_byte, stat_setting, stat_bytes, stat_numbers, stat_fields, after_text, op_at, op_text, short_op, text_at}
 use Rattle.zed_log.specs.Laws.{IsOneLine}
 use Rattle.zed_log.proofs.Codes.{is_digit}
 use Rattle.zed_log.proofs.Numerals.{Each, number_digits}
@@ -323,14 +325,22 @@ op_is (TextInsert t a s) =
 op_is (TextDelete t r) =
     both (name t.name ++ codes " bytes ") (range r) (both (name t.name) (codes " bytes ") (name_is t.name) refl) (range_is r)
 
-abbrev front : Edit → List ℕ
-front e = number e.stamp.time ++ 32 ∷ number e.stamp.replica ++ (codes "  " ++ op_text e.op)
+short_is : (op : Op) → plain (short_op op) ≡ true
+short_is (Genesis s) = both (number (length s)) (codes " bytes ..") (number_is (length s)) refl
+short_is op = op_is op
 
-front_is : (e : Edit) → plain (front e) ≡ true
-front_is e =
-    both (number e.stamp.time ++ 32 ∷ number e.stamp.replica) (codes "  " ++ op_text e.op) (both (number e.stamp.time) (32 ∷ number e.stamp.replica) (number_is e.stamp.time) (number_is e.stamp.replica)) (op_is e.op)
+at_is : (l : Length) (op : Op) → plain (op_at l op) ≡ true
+at_is Short op = short_is op
+at_is Full op = op_is op
+
+abbrev front : Length → Edit → List ℕ
+front l e = number e.stamp.time ++ 32 ∷ number e.stamp.replica ++ (codes "  " ++ op_at l e.op)
+
+front_is : (l : Length) (e : Edit) → plain (front l e) ≡ true
+front_is l e =
+    both (number e.stamp.time ++ 32 ∷ number e.stamp.replica) (codes "  " ++ op_at l e.op) (both (number e.stamp.time) (32 ∷ number e.stamp.replica) (number_is e.stamp.time) (number_is e.stamp.replica)) (at_is l e.op)
 
 -- the line of each edit is one line
-pub one_line : (e : Edit) → IsOneLine e
-unfolding line_text
-one_line e = (front e, refl, front_is e)
+pub one_line : (l : Length) (e : Edit) → IsOneLine (text_at l e)
+unfolding text_at
+one_line l e = (front l e, refl, front_is l e)

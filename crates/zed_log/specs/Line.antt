@@ -14,6 +14,8 @@ use Rattle.zed_types.specs.Header.{flag_index}
 use Rattle.zed_op.specs.declared.op.Op.{Op}
 use Rattle.zed_op.specs.declared.op.Op.TheVariants.{Genesis, SetHeader, BoardAdd, BoardRemove, SetBoard, SetCells, StatAdd, StatRemove, SetStat, TextAdd, TextInsert, TextDelete}
 use Rattle.zed_op.specs.declared.op.Edit.{Edit}
+use Rattle.zed_log.specs.declared.length.Length.{Length}
+use Rattle.zed_log.specs.declared.length.Length.TheVariants.{Short, Full}
 use Rattle.zed_log.specs.Fields.{number, integer, colour, quoted, boolean, board_name, stat_name, text_name, element_name, optional, element, tile, place, rectangle, range, third_parameter}
 use Rattle.zed_log.specs.Words.{header_number_word, key_word, side_word, board_byte_word, board_flag_word, board_text_word, stat_byte_word, stat_number_word}
 
@@ -89,10 +91,28 @@ op_text TextAdd = codes "add text"
 op_text (TextInsert t after bytes) = codes "insert text " ++ text_name t ++ 32 ∷ after_text after ++ 32 ∷ quoted bytes
 op_text (TextDelete t r) = codes "delete text " ++ text_name t ++ codes " bytes " ++ range r
 
--- the line of an edit: time, replica, op, and a line feed (10)
-unfoldable pub line_text : Edit → List ℕ
-line_text e = number e.stamp.time ++ 32 ∷ number e.stamp.replica ++ (codes "  " ++ op_text e.op) ++ 10 ∷ []
+-- the same, but that two dots stand for the bytes of a world
+abbrev pub short_op : Op → List ℕ
+short_op (Genesis bytes) = codes "genesis " ++ number (length bytes) ++ codes " bytes .."
+short_op op = op_text op
+
+-- an op, short or in full
+abbrev pub op_at : Length → Op → List ℕ
+op_at Short op = short_op op
+op_at Full op = op_text op
+
+-- the line of an edit, short or in full: time, replica, op, and a line feed (10)
+unfoldable pub text_at : Length → Edit → List ℕ
+text_at l e = number e.stamp.time ++ 32 ∷ number e.stamp.replica ++ (codes "  " ++ op_at l e.op) ++ 10 ∷ []
 
 -- the line of an edit, with a mark in front where it is held
+abbrev pub marked_at : Length → Bool → Edit → List ℕ
+marked_at l is_held e = (if is_held then codes "held " else []) ++ text_at l e
+
+-- the line of an edit in full
+abbrev pub line_text : Edit → List ℕ
+line_text e = text_at Full e
+
+-- the same with its mark
 abbrev pub marked_line : Bool → Edit → List ℕ
-marked_line is_held e = (if is_held then codes "held " else []) ++ line_text e
+marked_line is_held e = marked_at Full is_held e

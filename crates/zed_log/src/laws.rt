@@ -1,8 +1,9 @@
 //! Laws on lines: an edit is known by its line, and edits by their lines.
 ghost use Rattle.std.specs.Prelude.{◌≡◌, length};
 ghost use Rattle.zed_op.specs.declared.op.Edit.{Edit as TheEdit};
-ghost use Rattle.zed_log.specs.Laws.{AreWhole, DiffersFrom, IsKnownByLines, IsOneLine, IsWhole, log_text};
-ghost use Rattle.zed_log.specs.Line.{line_text};
+ghost use Rattle.zed_log.specs.Laws.{AreWhole, DiffersFrom, IsKnownByLines, IsNoLineInFull, IsOneLine, IsShortAsItIs, IsWhole, log_text};
+ghost use Rattle.zed_log.specs.Line.{line_text, text_at};
+ghost use Rattle.zed_log.specs.declared.length.Length.{Length as TheLength};
 
 use zed_op::{Edit, Op};
 
@@ -35,9 +36,16 @@ fn edits_are_whole(edits: &[Edit])
     }
 }
 
-/// A line has one line feed, at its end, and no other control byte.
+/// A line, short or in full, has one line feed, at its end, and no other control byte.
 pub fn each_line_is_one()
-    ensures { (e : TheEdit) → IsOneLine e }
+    ensures { (l : TheLength) (e : TheEdit) → IsOneLine (text_at l e) }
+{}
+
+/// A short line is the line in full, but for that of a Genesis, which is no edit's line in full.
+#[tactic(auto, using(crate::proofs::Short::as_it_is, crate::proofs::Short::no_line_in_full))]
+pub fn short_line_is_no_other()
+    ensures same { (e : TheEdit) → IsShortAsItIs e }
+    ensures none { (e f : TheEdit) → IsNoLineInFull e f }
 {}
 
 /// Different edits have different lines, and neither line begins the other.

@@ -3,6 +3,7 @@
 #![tactic(auto)]
 
 mod laws;
+mod length;
 mod put;
 mod put_fields;
 mod put_op;
@@ -10,5 +11,9 @@ mod settings;
 mod words;
 mod writing;
 
-pub use laws::{each_line_is_one, edit_is_known_by_its_line, edits_are_known_by_their_lines};
-pub use writing::{line, marked_line};
+pub use laws::{
+    each_line_is_one, edit_is_known_by_its_line, edits_are_known_by_their_lines,
+    short_line_is_no_other,
+};
+pub use length::Length;
+pub use writing::{line, marked_line, marked_line_at};

@@ -1,8 +1,9 @@
 //! Writing an op: what it does, what it names, what it sets.
 ghost use Rattle.std.specs.Prelude.{◌≡◌, ◌++◌, OnOk};
 ghost use Rattle.zed_op.specs.declared.op.Op.TheVariants.{Genesis, SetBoard, SetCells, StatAdd, TextInsert};
-ghost use Rattle.zed_log.specs.Line.{after_text, op_text};
+ghost use Rattle.zed_log.specs.Line.{after_text, op_at, op_text, short_op};
 
+use crate::length::Length;
 use crate::put::{put_number, put_quoted, put_text};
 use crate::put_fields::{put_name, put_range, put_rectangle, put_tile};
 use crate::settings::{put_board_setting, put_header_setting, put_stat_fields, put_stat_setting};
@@ -31,6 +32,15 @@ fn put_world(out: &mut Vec<u8>, bytes: &Bytes) -> Result<(), AllocError>
     put_number(out, bytes.as_slice().len() as u64)?;
     put_text(out, " bytes ")?;
     put_quoted(out, bytes)
+}
+
+/// Appends how many bytes there are.
+fn put_short_world(out: &mut Vec<u8>, bytes: &Bytes) -> Result<(), AllocError>
+    ensures { OnOk result (out.new.items ≡ out.old.items ++ short_op (Genesis bytes.now)) }
+{
+    put_text(out, "genesis ")?;
+    put_number(out, bytes.as_slice().len() as u64)?;
+    put_text(out, " bytes ..")
 }
 
 /// Appends a rectangle of a board, and what stands there.
@@ -88,7 +98,7 @@ fn put_insertion(
     put_quoted(out, bytes)
 }
 
-pub(crate) fn put_op(out: &mut Vec<u8>, op: &Op) -> Result<(), AllocError>
+fn put_op(out: &mut Vec<u8>, op: &Op) -> Result<(), AllocError>
     ensures { OnOk result (out.new.items ≡ out.old.items ++ op_text op.now) }
 {
     match op {
@@ -126,5 +136,24 @@ pub(crate) fn put_op(out: &mut Vec<u8>, op: &Op) -> Result<(), AllocError>
             put_text(out, " bytes ")?;
             put_range(out, *range)
         }
+    }
+}
+
+fn put_short_op(out: &mut Vec<u8>, op: &Op) -> Result<(), AllocError>
+    ensures { OnOk result (out.new.items ≡ out.old.items ++ short_op op.now) }
+{
+    match op {
+        Op::Genesis(bytes) => put_short_world(out, bytes),
+        _ => put_op(out, op),
+    }
+}
+
+/// Appends an op, short or in full.
+pub(crate) fn put_op_at(out: &mut Vec<u8>, op: &Op, length: Length) -> Result<(), AllocError>
+    ensures { OnOk result (out.new.items ≡ out.old.items ++ op_at length op.now) }
+{
+    match length {
+        Length::Short => put_short_op(out, op),
+        Length::Full => put_op(out, op),
     }
 }

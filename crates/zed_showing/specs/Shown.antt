@@ -1,6 +1,6 @@
 -- What is printed of a board.
 use Rattle.std.specs.Prelude.{◌≡◌, ℕ, List, Option, Some, None, Result, Ok, Err, slice_get}
-use Rattle.zed_types.specs.declared.limits.TheConstants.{READ_BODY_LIMIT}
+use Rattle.zed_types.specs.Limits.{largest_body}
 use Rattle.zed_world.specs.declared.board.BoardData.{BoardData}
 use Rattle.zed_world.specs.Contents.{Contents}
 use Rattle.zed_op.specs.declared.op.Edit.{Edit}
@@ -29,7 +29,7 @@ world_in form n (Err e) = Err (export_refusal e)
 
 -- the same of the world of a set of edits, of which a body may have 32,767 bytes
 abbrev pub shown_of : Form → ℕ → List Edit → Result (List ℕ) Refusal
-shown_of form n es = world_in form n (exported READ_BODY_LIMIT (replay es))
+shown_of form n es = world_in form n (exported largest_body (replay es))
 
 -- the same of a set of edits, or what was refused before
 abbrev pub shown_in : Form → ℕ → Result (List Edit) Refusal → Result (List ℕ) Refusal

@@ -12,6 +12,7 @@ use Rattle.zed_files.specs.declared.refusal.Refusal.TheVariants.{File, NoBoard, 
 use Rattle.zed_files.specs.Refusals.{IsOffStage, export_refusal}
 use Rattle.zed_files.proofs.Failures.{session_is_other}
 use Rattle.zed_files.proofs.OffStage.{export_off}
+use Rattle.zed_log.specs.declared.length.Length.{Length}
 use Rattle.zed_op.specs.declared.op.Edit.{Edit}
 use Rattle.zed_session.specs.Refusals as session
 use Rattle.zed_types.specs.declared.names.BoardId.{BoardId}
@@ -113,16 +114,16 @@ with_plain replica since (Err f) cell first second e is = same_plain e f (cc) (f
 with_plain replica since (Ok board) (Err f) first second e is = same_plain e f (cc) (second f refl)
 with_plain replica since (Ok board) (Ok cell) first second e is = absurd cc
 
-log_plain : (es : List Edit) (sought : Result Sought Refusal) → RefusesPlainly sought → RefusesPlainly (log_with es sought)
-log_plain es (Err f) plain e is = same_plain e f (cc) (plain f refl)
-log_plain es (Ok sought) plain e is = absurd cc
+log_plain : (l : Length) (es : List Edit) (sought : Result Sought Refusal) → RefusesPlainly sought → RefusesPlainly (log_with l es sought)
+log_plain l es (Err f) plain e is = same_plain e f (cc) (plain f refl)
+log_plain l es (Ok sought) plain e is = absurd cc
 
 -- ---- what is told
 
 text_plain : (telling : Telling) (es : List Edit) → RefusesPlainly (text_of telling es)
 text_plain (Numbers listing) es e is = list_plain (refusal_of 32767 (replay es)) (listed (ranks_of (replay es)) (world_of (replay es)) listing) (listed_plain (ranks_of (replay es)) (world_of (replay es)) listing) e is
-text_plain (Edits f) es e is =
-    log_plain es (sought_of (replay es) f) (with_plain f.replica f.since (board_sought (replay es) f.board) (cell_sought (replay es) f.cell) (board_plain (replay es) f.board) (cell_plain (replay es) f.cell)) e is
+text_plain (Edits l f) es e is =
+    log_plain l es (sought_of (replay es) f) (with_plain f.replica f.since (board_sought (replay es) f.board) (cell_sought (replay es) f.cell) (board_plain (replay es) f.board) (cell_plain (replay es) f.cell)) e is
 
 pub text_is_other : (telling : Telling) (es : List Edit) (e : Refusal) → text_of telling es ≡ Err e → e ≡ File → ⊥
 text_is_other telling es e is = (text_plain telling es e is).0

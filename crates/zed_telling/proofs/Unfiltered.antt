@@ -1,7 +1,8 @@
 -- Nothing is asked for.
 use Rattle.std.proofs.Common.{◌≡◌, List, [], ◌∷◌, Ok, ap, filter, refl, true}
 use Rattle.zed_op.specs.declared.op.Edit.{Edit}
-use Rattle.zed_log.specs.Laws.{marked_log}
+use Rattle.zed_log.specs.declared.length.Length.{Length}
+use Rattle.zed_log.specs.Laws.{log_at}
 use Rattle.zed_telling.specs.Laws.{no_filter}
 use Rattle.zed_telling.specs.Logged.{is_held, log_of}
 
@@ -9,5 +10,5 @@ all_stay : (es : List Edit) → filter (λ e. true) es ≡ es
 all_stay [] = refl
 all_stay (e ∷ es) = ap (λ (l : List Edit). e ∷ l) (all_stay es)
 
-pub tells_all : (es : List Edit) → log_of no_filter es ≡ Ok (marked_log (is_held es) es)
-tells_all es = ap (λ l. Ok (marked_log (is_held es) l)) (all_stay es)
+pub tells_all : (l : Length) (es : List Edit) → log_of l no_filter es ≡ Ok (log_at l (is_held es) es)
+tells_all l es = ap (λ fs. Ok (log_at l (is_held es) fs)) (all_stay es)

@@ -1,7 +1,8 @@
 -- What the law on filters promises.
 use Rattle.std.specs.Prelude.{◌≡◌, List, None, Ok}
 use Rattle.zed_op.specs.declared.op.Edit.{Edit}
-use Rattle.zed_log.specs.Laws.{marked_log}
+use Rattle.zed_log.specs.declared.length.Length.{Length}
+use Rattle.zed_log.specs.Laws.{log_at}
 use Rattle.zed_telling.specs.declared.filter.Filter.{Filter}
 use Rattle.zed_telling.specs.Logged.{is_held, log_of}
 
@@ -9,6 +10,6 @@ use Rattle.zed_telling.specs.Logged.{is_held, log_of}
 abbrev pub no_filter : Filter
 no_filter = record { board = None; cell = None; replica = None; since = None }
 
--- where nothing is asked for, there is a line for each edit, with a mark in front of those that are held
+-- where nothing is asked for, there is a line for each edit, short or in full, with a mark in front of those that are held
 abbrev pub TellsAllUnfiltered : Type 0
-TellsAllUnfiltered = (es : List Edit) → log_of no_filter es ≡ Ok (marked_log (is_held es) es)
+TellsAllUnfiltered = (l : Length) (es : List Edit) → log_of l no_filter es ≡ Ok (log_at l (is_held es) es)

@@ -7,7 +7,8 @@ use Rattle.zed_edit.specs.declared.plain.Plain.{Plain}
 use Rattle.zed_edit.specs.Numbers.{board_numbered}
 use Rattle.zed_edit.specs.Replay.{replay}
 use Rattle.zed_document.specs.Held.{held_stamps, is_among}
-use Rattle.zed_log.specs.Laws.{marked_log}
+use Rattle.zed_log.specs.declared.length.Length.{Length}
+use Rattle.zed_log.specs.Laws.{log_at}
 use Rattle.zed_files.specs.declared.refusal.Refusal.{Refusal}
 use Rattle.zed_files.specs.declared.refusal.Refusal.TheVariants.{NoBoard, OutOfRange}
 use Rattle.zed_telling.specs.declared.filter.Filter.{Filter}
@@ -67,11 +68,11 @@ sought_of p f = sought_with f.replica f.since (board_sought p f.board) (cell_sou
 abbrev pub is_held : List Edit → Edit → Bool
 is_held es e = is_among (held_stamps es) e.stamp
 
--- a line for each of these edits that is all that is asked for, with a mark in front of those that are held
-abbrev pub log_with : List Edit → Result Sought Refusal → Result (List ℕ) Refusal
-log_with es (Err e) = Err e
-log_with es (Ok sought) = Ok (marked_log (is_held es) (filter (passes (replay es) sought) es))
+-- a line for each of these edits that is all that is asked for, short or in full, with a mark in front of those that are held
+abbrev pub log_with : Length → List Edit → Result Sought Refusal → Result (List ℕ) Refusal
+log_with l es (Err e) = Err e
+log_with l es (Ok sought) = Ok (log_at l (is_held es) (filter (passes (replay es) sought) es))
 
 -- a line for each of these edits that passes a filter, or the first refusal
-abbrev pub log_of : Filter → List Edit → Result (List ℕ) Refusal
-log_of f es = log_with es (sought_of (replay es) f)
+abbrev pub log_of : Length → Filter → List Edit → Result (List ℕ) Refusal
+log_of l f es = log_with l es (sought_of (replay es) f)

@@ -13,7 +13,7 @@ use Rattle.zed_telling.specs.Logged.{log_of}
 -- what is told of a set of edits, or the first refusal
 abbrev pub text_of : Telling → List Edit → Result (List ℕ) Refusal
 text_of (Numbers listing) = list_of listing
-text_of (Edits f) = log_of f
+text_of (Edits l f) = log_of l f
 
 -- what is told of a set of edits, unless there is none
 abbrev pub told_of : (List Edit → Result (List ℕ) Refusal) → Result (List Edit) Refusal → Result (List ℕ) Refusal

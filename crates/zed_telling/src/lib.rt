@@ -13,3 +13,4 @@ mod telling;
 pub use filter::Filter;
 pub use listing::{Listing, list};
 pub use logging::{log, no_filter_leaves_an_edit_out};
+pub use zed_log::Length;

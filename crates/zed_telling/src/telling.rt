@@ -17,12 +17,13 @@ use std::alloc::Global;
 use zed_document::Document;
 use zed_files::{Refusal, load, print_out};
 use zed_host::Host;
+use zed_log::Length;
 
 /// What is asked of the edits of files.
 #[derive(Clone, Copy)]
 pub(crate) enum Telling {
     Numbers(Listing),
-    Edits(Filter),
+    Edits(Length, Filter),
 }
 
 // What is told of a document that isn't stale.
@@ -34,7 +35,7 @@ fn text_of(alloc: Global, document: &Document, telling: Telling) -> Result<Vec<u
 {
     match telling {
         Telling::Numbers(listing) => listing_text(alloc, document, listing),
-        Telling::Edits(filter) => log_text(alloc, document, &filter),
+        Telling::Edits(length, filter) => log_text(alloc, document, length, &filter),
     }
 }
 

@@ -5,4 +5,5 @@ pub mod OpenWords
 pub mod TakeWords
 pub mod LogWords
 pub mod ListWords
+pub mod ShowWords
 pub mod HelpWords

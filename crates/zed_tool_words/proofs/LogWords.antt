@@ -13,6 +13,7 @@ use Rattle.clap.proofs.WalkLemmas.{both}
 use Rattle.zed_words.specs.Commands.{is_plain, number_of}
 use Rattle.zed_words.proofs.CommandWords.{Leads, Takes, after_words, going, holding, more_lead, rest_level, row_by, several_at, several_end, several_lead, stopped_at, word_leads}
 use Rattle.zed_words.proofs.NumberWords.{number_accepted, number_as_written, number_plain, world_accepted}
+use Rattle.zed_tool_words.specs.declared.asked.Length.TheVariants.{Short, Full}
 use Rattle.zed_tool_words.specs.Grammar.{log_shape}
 use Rattle.zed_tool_words.specs.Commands.{Command, Log, command_of, number_within, subcommand_asks}
 use Rattle.zed_tool_words.proofs.CommandWords.{Enters, asked_by, leaf, names, top, top_level}
@@ -29,9 +30,10 @@ enters : Enters (codes "log") shape
 unfolding clap_on_literals
 enters = record { word = refl; fault = refl; ends = ends; rows = λ rest. refl }
 
--- a filter by its words and their numbers
+-- what stands in front of the files, by its words and their numbers
 pub data Filter : Type 0 where
   Every : Filter
+  InFull : Filter
   OfBoard : (word : Text) → (board : ℕ) → Filter
   OfCell : (word : Text) → (column : Text) → (row : Text) → (board : ℕ) → (x : ℕ) → (y : ℕ) → Filter
   OfReplica : (word : Text) → (replica : ℕ) → Filter
@@ -40,6 +42,7 @@ pub data Filter : Type 0 where
 -- the words write these numbers
 abbrev pub Writes : Filter → Type 0
 Writes Every = Unit {0}
+Writes InFull = Unit {0}
 Writes (OfBoard word board) = number_of 16 word ≡ Some board
 Writes (OfCell word column row board x y) = (number_of 16 word ≡ Some board) × (number_within 1 60 column ≡ Some x) × (number_within 1 25 row ≡ Some y)
 Writes (OfReplica word replica) = number_of 16 word ≡ Some replica
@@ -47,17 +50,19 @@ Writes (Since word time) = number_of 64 word ≡ Some time
 
 abbrev pub filter_words : Filter → List Text
 filter_words Every = []
+filter_words InFull = codes "--full" ∷ []
 filter_words (OfBoard word board) = codes "--board" ∷ word ∷ []
 filter_words (OfCell word column row board x y) = codes "--cell" ∷ word ∷ column ∷ row ∷ []
 filter_words (OfReplica word replica) = codes "--replica" ∷ word ∷ []
 filter_words (Since word time) = codes "--since" ∷ word ∷ []
 
 abbrev pub asked_with : Filter → List Text → Command
-asked_with Every files = Log None None None None files
-asked_with (OfBoard word board) files = Log (Some board) None None None files
-asked_with (OfCell word column row board x y) files = Log None (Some (board, x, y)) None None files
-asked_with (OfReplica word replica) files = Log None None (Some replica) None files
-asked_with (Since word time) files = Log None None None (Some time) files
+asked_with Every files = Log Short None None None None files
+asked_with InFull files = Log Full None None None None files
+asked_with (OfBoard word board) files = Log Short (Some board) None None None files
+asked_with (OfCell word column row board x y) files = Log Short None (Some (board, x, y)) None None files
+asked_with (OfReplica word replica) files = Log Short None None (Some replica) None files
+asked_with (Since word time) files = Log Short None None None (Some time) files
 
 -- the row of the three words of a cell
 abbrev cell_row : Text → Text → Text → Row
@@ -71,6 +76,7 @@ cell_row word column row = record {
 
 abbrev filter_rows : Filter → List Row
 filter_rows Every = []
+filter_rows InFull = row_by (codes "full") reading.AsWritten (codes "true") ∷ []
 filter_rows (OfBoard word board) = row_by (codes "board") reading.WithoutMinus word ∷ []
 filter_rows (OfCell word column row board x y) = cell_row word column row ∷ []
 filter_rows (OfReplica word replica) = row_by (codes "replica") reading.WithoutMinus word ∷ []
@@ -78,6 +84,7 @@ filter_rows (Since word time) = row_by (codes "since") reading.AsWritten word �
 
 abbrev filter_held : Filter → Held
 filter_held Every = nothing_held
+filter_held InFull = record { rows = filter_rows InFull; pending = None; skip = 0 }
 filter_held (OfBoard word board) = holding [] (codes "board") (word ∷ [])
 filter_held (OfCell word column row board x y) = holding [] (codes "cell") (word ∷ column ∷ row ∷ [])
 filter_held (OfReplica word replica) = holding [] (codes "replica") (word ∷ [])
@@ -89,6 +96,7 @@ at_files filter files = several_at (filter_rows filter) (codes "FILES") 1 files
 -- the first file ends the words of the filter, which are read
 takes_first : (filter : Filter) (file : Text) → Writes filter → Takes shape (filter_held filter) idle 1 file (at_files filter (file ∷ []))
 takes_first Every file is = record { none = refl; fits = refl; goes = refl }
+takes_first InFull file is = record { none = refl; fits = refl; goes = refl }
 takes_first (OfBoard word board) file is =
     record { none = refl; fits = rw (number_accepted word board (number_plain 16 word board is) is) refl; goes = refl }
 takes_first (OfCell word column row board x y) file is = record { none = refl; fits = refl; goes = refl }
@@ -115,6 +123,9 @@ leads : (filter : Filter) (file : Text) (files : List Text) → Writes filter �
     → Leads shape (walk_from nothing_held) (filter_words filter ++ file ∷ files) (at_files filter (file ∷ files))
 unfolding clap_on_literals
 leads Every file files is plain = files_lead Every file files is plain
+leads InFull file files is plain =
+    more_lead shape (walk_from nothing_held) (going (filter_held InFull) idle 1) (at_files InFull (file ∷ files)) (codes "--full") (file ∷ files) refl refl
+    (files_lead InFull file files is plain)
 leads (OfBoard word board) file files is plain =
     let waiting = holding [] (codes "board") [] in
     let filter = OfBoard word board in
@@ -154,6 +165,7 @@ leads (OfCell word column row board x y) file files is plain =
 end : (filter : Filter) (file : Text) (files : List Text) → length (file ∷ files) ≤ usize_max → after_words shape (at_files filter (file ∷ files)).held ≡ []
 unfolding clap_on_literals
 end Every file files few = several_end (file ∷ files) (omega arith) few
+end InFull file files few = several_end (file ∷ files) (omega arith) few
 end (OfBoard word board) file files few = several_end (file ∷ files) (omega arith) few
 end (OfCell word column row board x y) file files few = several_end (file ∷ files) (omega arith) few
 end (OfReplica word replica) file files few = several_end (file ∷ files) (omega arith) few
@@ -162,6 +174,7 @@ end (Since word time) file files few = several_end (file ∷ files) (omega arith
 asks : (filter : Filter) (file : Text) (files : List Text) → Writes filter
     → subcommand_asks (codes "log", finished shape.rules (at_files filter (file ∷ files)).held) ≡ Some (asked_with filter (file ∷ files))
 asks Every file files is = refl
+asks InFull file files is = refl
 asks (OfBoard word board) file files is = rw (number_as_written word (number_plain 16 word board is)) (rw is refl)
 asks (OfCell word column row board x y) file files is = rw (is.0, is.1, is.2) refl
 asks (OfReplica word replica) file files is = rw (number_as_written word (number_plain 16 word replica is)) (rw is refl)

@@ -10,7 +10,7 @@ use Rattle.clap.specs.declared.error.Error.{Error}
 use Rattle.clap.specs.declared.error.kind.ErrorKind.{ErrorKind}
 use Rattle.clap.specs.declared.error.kind.ErrorKind.TheVariants as kind
 use Rattle.zed_tool_words.specs.Grammar.{tool_app}
-use Rattle.zed_tool_words.specs.Commands.{AsksHelp, Command, MayAskHelp, command_of, subcommand_asks, unless_refused}
+use Rattle.zed_tool_words.specs.Commands.{Command, command_of, subcommand_asks, unless_refused}
 
 -- words that have no fault
 pub wanted_without_fault : (words : List Text) → fault_of tool_app words ≡ []
@@ -19,9 +19,9 @@ unfolding command_of
 wanted_without_fault words e =
     ap (λ (ks : Kinds). unless_refused ks (option_and_then subcommand_asks (subcommand_of tool_app words))) e
 
--- they ask for no help
-pub no_help_without_fault : (words : List Text) → fault_of tool_app words ≡ [] → ¬ (AsksHelp words)
-no_help_without_fault words e help = let bad : 0 ≡ 1 = ap (λ (ks : Kinds). length ks) (sym e ∙ help) in absurd (omega (arith, bad))
+-- they ask for nothing that `clap` answers by itself
+pub no_answer_without_fault : (k : ErrorKind) (words : List Text) → fault_of tool_app words ≡ [] → ¬ (fault_of tool_app words ≡ k ∷ [])
+no_answer_without_fault k words e is = let bad : 0 ≡ 1 = ap (λ (ks : Kinds). length ks) (sym e ∙ is) in absurd (omega (arith, bad))
 
 refused : (k : ErrorKind) (ks : Kinds) (o : Option Command) → IsAmong k ks → unless_refused ks o ≡ None
 refused k [] o h = absurd h
@@ -35,23 +35,24 @@ wanted_with_fault words e has other = elim has [
   | inr among ↦ refused (kind_of e) (fault_of tool_app words) (option_and_then subcommand_asks (subcommand_of tool_app words)) among
 ]
 
-alone : (k : ErrorKind) → IsAmong k (kind.DisplayHelp ∷ []) → k ≡ kind.DisplayHelp
-alone k h = elim h [
+alone : (j k : ErrorKind) → IsAmong j (k ∷ []) → j ≡ k
+alone j k h = elim h [
   | inl is ↦ is
   | inr none ↦ absurd none
 ]
 
--- a fault that is no help
-pub no_help_with_fault : (words : List Text) (e : Error) → HasKind (fault_of tool_app words) e → kind_of e ≢ kind.OutOfMemory → kind_of e ≢ kind.DisplayHelp
-    → ¬ (AsksHelp words)
-no_help_with_fault words e has other unhelpful help = elim has [
+-- a fault that is no such answer
+pub no_answer_with_fault : (k : ErrorKind) (words : List Text) (e : Error) → HasKind (fault_of tool_app words) e → kind_of e ≢ kind.OutOfMemory → kind_of e ≢ k
+    → ¬ (fault_of tool_app words ≡ k ∷ [])
+no_answer_with_fault k words e has other unlike is = elim has [
   | inl memory ↦ other memory
-  | inr among ↦ unhelpful (alone (kind_of e) (subst (λ (ks : Kinds). IsAmong (kind_of e) ks) help among))
+  | inr among ↦ unlike (alone (kind_of e) k (subst (λ (ks : Kinds). IsAmong (kind_of e) ks) is among))
 ]
 
 -- and one that is
-pub help_with_fault : (words : List Text) (e : Error) → HasKind (fault_of tool_app words) e → kind_of e ≢ kind.OutOfMemory → kind_of e ≡ kind.DisplayHelp → MayAskHelp words
-help_with_fault words e has other is = elim has [
+pub answer_with_fault : (k : ErrorKind) (words : List Text) (e : Error) → HasKind (fault_of tool_app words) e → kind_of e ≢ kind.OutOfMemory → kind_of e ≡ k
+    → IsAmong k (fault_of tool_app words)
+answer_with_fault k words e has other is = elim has [
   | inl memory ↦ absurd (other memory)
-  | inr among ↦ subst (λ (k : ErrorKind). IsAmong k (fault_of tool_app words)) is among
+  | inr among ↦ subst (λ (j : ErrorKind). IsAmong j (fault_of tool_app words)) is among
 ]

@@ -1,5 +1,5 @@
 -- What the words of the command line ask for.
-use Rattle.std.specs.Prelude.{◌≡◌, ◌&&◌, ℕ, Bool, List, [], ◌∷◌, Option, Some, None, codes, length, map, nat_le, nat_lt, if◌then◌else◌, option_and_then, option_map}
+use Rattle.std.specs.Prelude.{◌≡◌, ◌&&◌, ℕ, Bool, true, false, List, [], ◌∷◌, Option, Some, None, codes, length, map, nat_le, nat_lt, if◌then◌else◌, option_and_then, option_map}
 use Rattle.std.specs.Char.{is_ascii_digit}
 use Rattle.std.specs.List.{list_all}
 use Rattle.std.specs.Str.{bytes_eq}
@@ -7,40 +7,65 @@ use Rattle.clap.specs.Walk.{Row, Text, all_of, first_of, one_of}
 use Rattle.clap.specs.Simple.{subcommand_of}
 use Rattle.clap.specs.Faults.{fault_of}
 use Rattle.clap.specs.Kinds.{IsAmong, Kinds}
-use Rattle.clap.specs.declared.error.kind.ErrorKind.TheVariants.{DisplayHelp}
+use Rattle.clap.specs.declared.error.kind.ErrorKind.TheVariants.{DisplayHelp, DisplayVersion}
 use Rattle.zed_words.specs.Commands.{number_of}
 use Rattle.zed_tool_words.specs.declared.asked.Forcing.{Forcing}
 use Rattle.zed_tool_words.specs.declared.asked.Forcing.TheVariants.{Careful, Forced}
+use Rattle.zed_tool_words.specs.declared.asked.Form.{Form}
+use Rattle.zed_tool_words.specs.declared.asked.Form.TheVariants.{Coloured, Plain, Svg}
+use Rattle.zed_tool_words.specs.declared.asked.Length.{Length}
+use Rattle.zed_tool_words.specs.declared.asked.Length.TheVariants.{Short, Full}
 use Rattle.zed_tool_words.specs.declared.asked.Listing.{Listing}
 use Rattle.zed_tool_words.specs.declared.asked.Listing.TheVariants.{Boards, Stats, Program}
 use Rattle.zed_tool_words.specs.declared.asked.Command.{Command as Spoken}
 use Rattle.zed_tool_words.specs.declared.asked.Command.TheVariants as spoken
 use Rattle.zed_tool_words.specs.declared.words.ParseError.{ParseError}
-use Rattle.zed_tool_words.specs.declared.words.ParseError.TheVariants.{Memory, Refused, Help}
+use Rattle.zed_tool_words.specs.declared.words.ParseError.TheVariants.{Memory, Refused, Help, Version}
 use Rattle.zed_tool_words.specs.Grammar.{tool_app}
 
 -- a command with its words
 pub data Command : Type 0 where
   Open : (until : Option ℕ) → (forcing : Forcing) → (file : Text) → (world : Text) → Command
   Take : (base : Option Text) → (file : Text) → (replica : ℕ) → (world : Text) → Command
-  Log : (board : Option ℕ) → (cell : Option (ℕ × ℕ × ℕ)) → (replica : Option ℕ) → (since : Option ℕ) → (files : List Text) → Command
+  Log : (length : Length) → (board : Option ℕ) → (cell : Option (ℕ × ℕ × ℕ)) → (replica : Option ℕ) → (since : Option ℕ) → (files : List Text) → Command
   Lists : (listing : Listing) → (files : List Text) → Command
+  Show : (form : Form) → (board : ℕ) → (files : List Text) → Command
 
 -- what a command of the code says
 abbrev pub meaning_of : Spoken → Command
 meaning_of (spoken.Open until forcing file world) = Open until forcing file.now world.now
 meaning_of (spoken.Take base file replica world) = Take (option_map (λ s. s.now) base) file.now replica world.now
-meaning_of (spoken.Log board cell replica since files) = Log board cell replica since (map (λ s. s.now) files.items)
+meaning_of (spoken.Log length board cell replica since files) = Log length board cell replica since (map (λ s. s.now) files.items)
 meaning_of (spoken.List listing files) = Lists listing (map (λ s. s.now) files.items)
+meaning_of (spoken.Show form board files) = Show form board (map (λ s. s.now) files.items)
 
--- by the word of `--force`, which is there as a default too
-abbrev pub forcing_by : Option Text → Forcing
-forcing_by None = Careful
-forcing_by (Some word) = if bytes_eq word (codes "true") then Forced else Careful
+-- whether this is the word that a flag has
+abbrev pub is_true : Option Text → Bool
+is_true None = false
+is_true (Some word) = bytes_eq word (codes "true")
 
--- whether `--force` is there
+-- whether the flag of this name is there; where it isn't, its word is `false`
+abbrev pub has_flag : Text → List Row → Bool
+has_flag name rows = is_true (first_of name rows)
+
+-- what `--force` says
 abbrev pub forcing_of : List Row → Forcing
-forcing_of rows = forcing_by (first_of (codes "force") rows)
+forcing_of rows = if has_flag (codes "force") rows then Forced else Careful
+
+-- what `--full` says
+abbrev pub length_of : List Row → Length
+length_of rows = if has_flag (codes "full") rows then Full else Short
+
+-- by whether `--plain` is there, and `--svg`: not both
+abbrev pub form_by : Bool → Bool → Option Form
+form_by false false = Some Coloured
+form_by true false = Some Plain
+form_by false true = Some Svg
+form_by true true = None
+
+-- the form that is asked for
+abbrev pub form_of : List Row → Option Form
+form_of rows = form_by (has_flag (codes "plain") rows) (has_flag (codes "svg") rows)
 
 -- the number of the option of this name, of so many bits, if it is there
 abbrev pub option_number : ℕ → Text → List Row → Option ℕ
@@ -77,7 +102,7 @@ cell_asked (Some words) = option_map (λ cell. Some cell) (cell_by words)
 -- for `log`
 abbrev pub log_of : List Row → Option Command
 log_of rows = option_and_then (λ cell. option_map (λ files.
-    Log (option_number 16 (codes "board") rows) cell (option_number 16 (codes "replica") rows) (option_number 64 (codes "since") rows) files)
+    Log (length_of rows) (option_number 16 (codes "board") rows) cell (option_number 16 (codes "replica") rows) (option_number 64 (codes "since") rows) files)
     (all_of (codes "FILES") rows)) (cell_asked (all_of (codes "cell") rows))
 
 -- a word of decimal digits alone
@@ -107,13 +132,19 @@ list_words (word ∷ words) =
 abbrev pub list_of : List Row → Option Command
 list_of rows = option_and_then list_words (all_of (codes "WORDS") rows)
 
+-- for `show`
+abbrev pub show_of : List Row → Option Command
+show_of rows = option_and_then (λ form. option_and_then (λ board. option_map (λ files.
+    Show form board files) (all_of (codes "FILES") rows)) (option_number 16 (codes "BOARD") rows)) (form_of rows)
+
 -- by the name of the subcommand
 abbrev pub subcommand_asks : Text × List Row → Option Command
 subcommand_asks p =
     if bytes_eq p.0 (codes "open") then open_of p.1
     else (if bytes_eq p.0 (codes "take") then take_of p.1
     else (if bytes_eq p.0 (codes "log") then log_of p.1
-    else (if bytes_eq p.0 (codes "list") then list_of p.1 else None)))
+    else (if bytes_eq p.0 (codes "list") then list_of p.1
+    else (if bytes_eq p.0 (codes "show") then show_of p.1 else None))))
 
 -- what is asked for where `clap` finds no fault
 abbrev pub unless_refused : Kinds → Option Command → Option Command
@@ -132,8 +163,17 @@ AsksHelp words = fault_of tool_app words ≡ DisplayHelp ∷ []
 abbrev pub MayAskHelp : List Text → Type 0
 MayAskHelp words = IsAmong DisplayHelp (fault_of tool_app words)
 
--- why words ask for nothing: they are refused, or ask for help; want of memory says nothing of them
+-- the words ask for the version, as `--version` does
+abbrev pub AsksVersion : List Text → Type 0
+AsksVersion words = fault_of tool_app words ≡ DisplayVersion ∷ []
+
+-- `clap` may answer with the version
+abbrev pub MayAskVersion : List Text → Type 0
+MayAskVersion words = IsAmong DisplayVersion (fault_of tool_app words)
+
+-- why words ask for nothing: they are refused, or ask for help or for the version; want of memory says nothing of them
 abbrev pub AsksNothing : List Text → ParseError → Type 0
 AsksNothing words Memory = Unit {0}
-AsksNothing words (Refused text) = (command_of words ≡ None) × (¬ (AsksHelp words))
+AsksNothing words (Refused text) = (command_of words ≡ None) × (¬ (AsksHelp words)) × (¬ (AsksVersion words))
 AsksNothing words (Help text) = (command_of words ≡ None) × MayAskHelp words
+AsksNothing words Version = (command_of words ≡ None) × MayAskVersion words

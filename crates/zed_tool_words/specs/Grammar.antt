@@ -1,5 +1,5 @@
 -- What `clap` is told of the words.
-use Rattle.std.specs.Prelude.{ℕ, List, [], ◌∷◌, Some, codes, pos, true}
+use Rattle.std.specs.Prelude.{ℕ, List, [], ◌∷◌, Some, codes, fold, pos, true}
 use Rattle.clap.specs.Simple.{App, Shape, new_app, new_rule, new_shape, on_top, with_subcommand}
 use Rattle.clap.specs.Walk.{Rule}
 use Rattle.clap.specs.Lexer.{usize_max}
@@ -32,13 +32,13 @@ number_option id = record (option_rule id) { parser = Some (value.Signed (pos 0)
 abbrev pub cell_rule : Rule
 cell_rule = record (new_rule (codes "cell")) { long = Some (codes "cell"); value_names = 3 }
 
--- `--force`, without a value
-abbrev pub force_rule : Rule
-force_rule = record (new_rule (codes "force")) { long = Some (codes "force"); action = Some SetTrue }
+-- a name with two hyphens, without a value
+abbrev pub flag_rule : List ℕ → Rule
+flag_rule id = record (new_rule id) { long = Some id; action = Some SetTrue }
 
--- the number of a replica
-abbrev pub replica_rule : Rule
-replica_rule = record (required_rule (codes "REPLICA")) { parser = Some (value.Signed (pos 0) (pos 65535)) }
+-- a number of at most 16 bits, which must be there
+abbrev pub number_rule : List ℕ → Rule
+number_rule id = record (required_rule id) { parser = Some (value.Signed (pos 0) (pos 65535)) }
 
 -- a subcommand by its name and arguments
 abbrev pub shape_with : List ℕ → List Rule → Shape
@@ -47,26 +47,33 @@ shape_with name rules = record (new_shape name) { rules = rules }
 -- `open [--until TIME] [--force] FILE WORLD`
 abbrev pub open_shape : Shape
 open_shape = shape_with (codes "open")
-    (required_rule (codes "FILE") ∷ required_rule (codes "WORLD") ∷ time_option (codes "until") ∷ force_rule ∷ [])
+    (required_rule (codes "FILE") ∷ required_rule (codes "WORLD") ∷ time_option (codes "until") ∷ flag_rule (codes "force") ∷ [])
 
 -- `take [--base BASE] FILE REPLICA WORLD`
 abbrev pub take_shape : Shape
 take_shape = shape_with (codes "take")
-    (required_rule (codes "FILE") ∷ replica_rule ∷ required_rule (codes "WORLD") ∷ option_rule (codes "base") ∷ [])
+    (required_rule (codes "FILE") ∷ number_rule (codes "REPLICA") ∷ required_rule (codes "WORLD") ∷ option_rule (codes "base") ∷ [])
 
--- `log [--board B] [--cell B X Y] [--replica R] [--since TIME] FILES...`
+-- `log [--full] [--board B] [--cell B X Y] [--replica R] [--since TIME] FILES...`
 abbrev pub log_shape : Shape
 log_shape = shape_with (codes "log")
-    (several_rule (codes "FILES") ∷ number_option (codes "board") ∷ cell_rule ∷ number_option (codes "replica") ∷ time_option (codes "since") ∷ [])
+    (several_rule (codes "FILES") ∷ flag_rule (codes "full") ∷ number_option (codes "board") ∷ cell_rule ∷ number_option (codes "replica")
+    ∷ time_option (codes "since") ∷ [])
 
 -- `list [B [S]] FILES...`, where numbers and files are words alike
 abbrev pub list_shape : Shape
 list_shape = shape_with (codes "list") (several_rule (codes "WORDS") ∷ [])
 
--- the program without its subcommands; without words it is refused, with a text of help
+-- `show [--plain | --svg] BOARD FILES...`
+abbrev pub show_shape : Shape
+show_shape = shape_with (codes "show")
+    (number_rule (codes "BOARD") ∷ several_rule (codes "FILES") ∷ flag_rule (codes "plain") ∷ flag_rule (codes "svg") ∷ [])
+
+-- the program without its subcommands; it has a version, and without words it is refused, with a text of help
 abbrev pub top_app : App
-top_app = on_top (λ s. record s { no_binary_name = true; arg_required_else_help = true }) (new_app (codes "zztool"))
+top_app = on_top (λ s. record s { no_binary_name = true; arg_required_else_help = true; has_version = true }) (new_app (codes "zztool"))
 
 -- the whole command line
 abbrev pub tool_app : App
-tool_app = with_subcommand (with_subcommand (with_subcommand (with_subcommand top_app open_shape) take_shape) log_shape) list_shape
+tool_app = fold with_subcommand top_app
+    (open_shape ∷ take_shape ∷ log_shape ∷ list_shape ∷ show_shape ∷ [])

@@ -6,9 +6,12 @@ use Rattle.zed_words.specs.Commands.{is_plain, number_of}
 use Rattle.zed_words.specs.Laws.{option_words}
 use Rattle.zed_tool_words.specs.declared.asked.Forcing.{Forcing}
 use Rattle.zed_tool_words.specs.declared.asked.Forcing.TheVariants.{Careful, Forced}
-use Rattle.zed_tool_words.specs.declared.asked.Listing.{Listing}
+use Rattle.zed_tool_words.specs.declared.asked.Form.{Form}
+use Rattle.zed_tool_words.specs.declared.asked.Form.TheVariants.{Coloured, Plain, Svg}
+use Rattle.zed_tool_words.specs.declared.asked.Length.{Length}
+use Rattle.zed_tool_words.specs.declared.asked.Length.TheVariants.{Short, Full}
 use Rattle.zed_tool_words.specs.declared.asked.Listing.TheVariants.{Boards, Stats, Program}
-use Rattle.zed_tool_words.specs.Commands.{AsksHelp, Open, Take, Log, Lists, command_of, is_decimal, number_within}
+use Rattle.zed_tool_words.specs.Commands.{AsksHelp, AsksVersion, Open, Take, Log, Lists, Show, command_of, is_decimal, number_within}
 
 -- the words that force, if it is forced
 abbrev pub force_words : Forcing → List Text
@@ -33,36 +36,40 @@ PlainWordsTake =
     → list_all is_plain (file ∷ world ∷ []) ≡ true
     → command_of (codes "take" ∷ option_words (codes "--base") base ++ file ∷ number ∷ world ∷ []) ≡ Some (Take base file replica world)
 
--- words of a filter, and what `log` is asked for with them in front of its files
-abbrev pub Filters : List Text → Option ℕ → Option (ℕ × ℕ × ℕ) → Option ℕ → Option ℕ → Type 0
-Filters words board cell replica since =
+-- words in front of the files of `log`, and what it is asked for with them
+abbrev pub Filters : List Text → Length → Option ℕ → Option (ℕ × ℕ × ℕ) → Option ℕ → Option ℕ → Type 0
+Filters words full board cell replica since =
     (file : Text) (files : List Text)
     → list_all is_plain (file ∷ files) ≡ true
     → length (file ∷ files) ≤ 18446744073709551615
-    → command_of (codes "log" ∷ words ++ file ∷ files) ≡ Some (Log board cell replica since (file ∷ files))
+    → command_of (codes "log" ∷ words ++ file ∷ files) ≡ Some (Log full board cell replica since (file ∷ files))
 
--- `log FILES...` asks for all edits
+-- `log FILES...` asks for short lines of all edits
 abbrev pub PlainWordsLog : Type 0
-PlainWordsLog = Filters [] None None None None
+PlainWordsLog = Filters [] Short None None None None
 
--- with `--board B` in front for those of board B
+-- with `--full` in front for lines in full
+abbrev pub LogInFull : Type 0
+LogInFull = Filters (codes "--full" ∷ []) Full None None None None
+
+-- with `--board B` for those of board B
 abbrev pub LogOfBoard : Type 0
-LogOfBoard = (word : Text) (board : ℕ) → number_of 16 word ≡ Some board → Filters (codes "--board" ∷ word ∷ []) (Some board) None None None
+LogOfBoard = (word : Text) (board : ℕ) → number_of 16 word ≡ Some board → Filters (codes "--board" ∷ word ∷ []) Short (Some board) None None None
 
 -- with `--cell B X Y` for those of this cell
 abbrev pub LogOfCell : Type 0
 LogOfCell =
     (word column row : Text) (board x y : ℕ)
     → number_of 16 word ≡ Some board → number_within 1 60 column ≡ Some x → number_within 1 25 row ≡ Some y
-    → Filters (codes "--cell" ∷ word ∷ column ∷ row ∷ []) None (Some (board, x, y)) None None
+    → Filters (codes "--cell" ∷ word ∷ column ∷ row ∷ []) Short None (Some (board, x, y)) None None
 
 -- with `--replica R` for those of the author of this number
 abbrev pub LogOfReplica : Type 0
-LogOfReplica = (word : Text) (replica : ℕ) → number_of 16 word ≡ Some replica → Filters (codes "--replica" ∷ word ∷ []) None None (Some replica) None
+LogOfReplica = (word : Text) (replica : ℕ) → number_of 16 word ≡ Some replica → Filters (codes "--replica" ∷ word ∷ []) Short None None (Some replica) None
 
 -- with `--since TIME` for those of this time and later ones
 abbrev pub LogSince : Type 0
-LogSince = (word : Text) (time : ℕ) → number_of 64 word ≡ Some time → Filters (codes "--since" ∷ word ∷ []) None None None (Some time)
+LogSince = (word : Text) (time : ℕ) → number_of 64 word ≡ Some time → Filters (codes "--since" ∷ word ∷ []) Short None None None (Some time)
 
 -- `list FILES...`, where the first file's word isn't of digits alone, asks for the boards
 abbrev pub ListsBoards : Type 0
@@ -92,6 +99,21 @@ ListsProgram =
     → length (number ∷ other ∷ file ∷ files) ≤ 18446744073709551615
     → command_of (codes "list" ∷ number ∷ other ∷ file ∷ files) ≡ Some (Lists (Program board stat) (file ∷ files))
 
+-- the words that ask for a form
+abbrev pub form_words : Form → List Text
+form_words Coloured = []
+form_words Plain = codes "--plain" ∷ []
+form_words Svg = codes "--svg" ∷ []
+
+-- `show BOARD FILES...` asks to show the board of this number in colours, and with `--plain` or `--svg` in front in another form
+abbrev pub PlainWordsShow : Type 0
+PlainWordsShow =
+    (form : Form) (number file : Text) (files : List Text) (board : ℕ)
+    → number_of 16 number ≡ Some board
+    → list_all is_plain (file ∷ files) ≡ true
+    → length (file ∷ files) ≤ 18446744073709551615
+    → command_of (codes "show" ∷ form_words form ++ number ∷ file ∷ files) ≡ Some (Show form board (file ∷ files))
+
 -- `--help` asks for help
 abbrev pub HelpAsksHelp : Type 0
 HelpAsksHelp = AsksHelp (codes "--help" ∷ [])
@@ -101,3 +123,8 @@ abbrev pub HelpOfCommands : Type 0
 HelpOfCommands =
     AsksHelp (codes "open" ∷ codes "--help" ∷ []) × AsksHelp (codes "take" ∷ codes "--help" ∷ [])
     × AsksHelp (codes "log" ∷ codes "--help" ∷ []) × AsksHelp (codes "list" ∷ codes "--help" ∷ [])
+    × AsksHelp (codes "show" ∷ codes "--help" ∷ [])
+
+-- `--version` asks for the version
+abbrev pub VersionAsksVersion : Type 0
+VersionAsksVersion = AsksVersion (codes "--version" ∷ [])

@@ -1,3 +1,4 @@
 pub mod Commands
 pub mod Grammar
 pub mod Laws
+pub mod Version

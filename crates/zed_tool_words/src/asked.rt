@@ -9,6 +9,26 @@ pub enum Forcing {
     Forced,
 }
 
+/// How a picture of a board is written.
+#[derive(Clone, Copy)]
+pub enum Form {
+    /// In colours, for a terminal.
+    Coloured,
+    /// As plain text: `--plain`.
+    Plain,
+    /// As an SVG picture: `--svg`.
+    Svg,
+}
+
+/// How much of the line of a world is printed.
+#[derive(Clone, Copy)]
+pub enum Length {
+    /// Its bytes are left out.
+    Short,
+    /// All of it: `--full`.
+    Full,
+}
+
 /// What of a world is listed.
 #[derive(Clone, Copy)]
 pub enum Listing {
@@ -41,6 +61,7 @@ pub enum Command<'a> {
     },
     /// The edits of files are to be listed: those alone that pass each filter that is there.
     Log {
+        length: Length,
         board: Option<u16>,
         /// The number of a board, then X from 1 to 60 and Y from 1 to 25.
         cell: Option<(u16, u16, u16)>,
@@ -51,6 +72,12 @@ pub enum Command<'a> {
     /// The world of edit files is to be listed.
     List {
         listing: Listing,
+        files: Vec<&'a str>,
+    },
+    /// The board of this number of the world of edit files is to be shown.
+    Show {
+        form: Form,
+        board: u16,
         files: Vec<&'a str>,
     },
 }

@@ -1,9 +1,10 @@
 //! What the words of the command line may be.
-ghost use Rattle.std.specs.Prelude.{◌≡◌, false, IfOk};
+ghost use Rattle.std.specs.Prelude.{◌≡◌, codes, false, IfOk};
 ghost use Rattle.clap.specs.Words.{app_of, new_app, rule_of, shape_of, with_rule, with_subcommand};
 ghost use Rattle.clap.specs.declared.builder.command.Command.TheViews.{out-Command};
-ghost use Rattle.zed_tool_words.specs.Grammar.{cell_rule, force_rule, list_shape, log_shape, number_option, open_shape, option_rule, replica_rule, required_rule, several_rule, take_shape, time_option, tool_app, top_app};
+ghost use Rattle.zed_tool_words.specs.Grammar.{cell_rule, flag_rule, list_shape, log_shape, number_option, number_rule, open_shape, option_rule, required_rule, several_rule, show_shape, take_shape, time_option, tool_app, top_app};
 
+use crate::release::VERSION;
 use clap::{Arg, ArgAction, Command};
 use std::alloc::{AllocError, Global};
 
@@ -53,24 +54,34 @@ fn number_argument<'a>(alloc: Global, name: &'a str, value: &'a str, help: &'a s
     option_argument(alloc, name, value, help).value_parser(clap::value_parser!(u16))
 }
 
-fn force_argument<'a>(alloc: Global) -> Arg<'a>
-    ensures rule { rule_of result ≡ force_rule }
+// A name with two hyphens, without a value.
+fn flag_argument<'a>(alloc: Global, name: &'a str, help: &'a str) -> Arg<'a>
+    ensures rule { rule_of result ≡ flag_rule name.entry.now }
     ensures local { result.global ≡ false }
 {
-    Arg::new(alloc, "force")
-        .long("force")
+    Arg::new(alloc, name)
+        .long(name)
         .action(ArgAction::SetTrue)
-        .help("Write over a world file that was drawn in and not taken")
+        .help(help)
+}
+
+// A number that must be there.
+fn number_word<'a>(alloc: Global, name: &'a str, help: &'a str) -> Arg<'a>
+    ensures rule { rule_of result ≡ number_rule name.entry.now }
+    ensures local { result.global ≡ false }
+{
+    required_argument(alloc, name, help).value_parser(clap::value_parser!(u16))
 }
 
 fn replica_argument<'a>(alloc: Global) -> Arg<'a>
-    ensures rule { rule_of result ≡ replica_rule }
+    ensures rule { rule_of result ≡ number_rule (codes "REPLICA") }
     ensures local { result.global ≡ false }
 {
-    Arg::new(alloc, "REPLICA")
-        .help("The author's own number, 1 to 65535; no other author of the world has it")
-        .required(true)
-        .value_parser(clap::value_parser!(u16))
+    number_word(
+        alloc,
+        "REPLICA",
+        "The author's own number, 1 to 65535; no other author of the world has it",
+    )
 }
 
 fn cell_argument<'a>(alloc: Global) -> Arg<'a>
@@ -81,6 +92,18 @@ fn cell_argument<'a>(alloc: Global) -> Arg<'a>
         .long("cell")
         .value_names(&["B", "X", "Y"])
         .help("List only edits of this cell of board B: X is 1 to 60, Y 1 to 25")
+}
+
+// Edit files that are read.
+fn files_argument<'a>(alloc: Global) -> Arg<'a>
+    ensures rule { rule_of result ≡ several_rule (codes "FILES") }
+    ensures local { result.global ≡ false }
+{
+    several_argument(
+        alloc,
+        "FILES",
+        "Edit files, in the order in which they are read; stdin is standard input",
+    )
 }
 
 // A command of this name, without arguments.
@@ -129,7 +152,14 @@ fn open_command<'a>(alloc: Global) -> Result<Command<'a>, AllocError>
             "Write the world as it was at this time, without the edits of later ones",
         ),
     )?;
-    with_argument(command, force_argument(alloc))
+    with_argument(
+        command,
+        flag_argument(
+            alloc,
+            "force",
+            "Write over a world file that was drawn in and not taken",
+        ),
+    )
 }
 
 /// `take [--base BASE] FILE REPLICA WORLD`
@@ -166,7 +196,7 @@ fn take_command<'a>(alloc: Global) -> Result<Command<'a>, AllocError>
     )
 }
 
-/// `log [--board B] [--cell B X Y] [--replica R] [--since TIME] FILES...`
+/// `log [--full] [--board B] [--cell B X Y] [--replica R] [--since TIME] FILES...`
 fn log_command<'a>(alloc: Global) -> Result<Command<'a>, AllocError>
     ensures shape { IfOk result (λ c. shape_of c ≡ log_shape) }
     ensures local { IfOk result (λ c. (out-Command c).has_globals ≡ false) }
@@ -176,12 +206,13 @@ fn log_command<'a>(alloc: Global) -> Result<Command<'a>, AllocError>
         "log",
         "List the edits of edit files, a line each: when, by whom and what, and whether it still holds",
     );
+    let command = with_argument(command, files_argument(alloc))?;
     let command = with_argument(
         command,
-        several_argument(
+        flag_argument(
             alloc,
-            "FILES",
-            "Edit files, in the order in which they are read; stdin is standard input",
+            "full",
+            "Print the line of a world in full, with all its bytes",
         ),
     )?;
     let command = with_argument(
@@ -233,14 +264,44 @@ fn list_command<'a>(alloc: Global) -> Result<Command<'a>, AllocError>
     )
 }
 
+/// `show [--plain | --svg] BOARD FILES...`
+fn show_command<'a>(alloc: Global) -> Result<Command<'a>, AllocError>
+    ensures shape { IfOk result (λ c. shape_of c ≡ show_shape) }
+    ensures local { IfOk result (λ c. (out-Command c).has_globals ≡ false) }
+{
+    let command = bare_command(
+        alloc,
+        "show",
+        "Show a board of the world of edit files as ZZT shows it: in colours for a terminal, as plain text, or as a picture",
+    );
+    let command = with_argument(
+        command,
+        number_word(
+            alloc,
+            "BOARD",
+            "The number of the board, 0 for the title; list tells the numbers",
+        ),
+    )?;
+    let command = with_argument(command, files_argument(alloc))?;
+    let command = with_argument(
+        command,
+        flag_argument(alloc, "plain", "Print text alone, without colours"),
+    )?;
+    with_argument(
+        command,
+        flag_argument(alloc, "svg", "Print a picture, an SVG file"),
+    )
+}
+
 // The program without its commands.
 fn top_command<'a>(alloc: Global) -> Result<Command<'a>, AllocError>
     ensures { IfOk result (λ c. app_of c ≡ top_app) }
 {
     Command::new(alloc, "zztool")
         .about(
-            "Opens the world of a zzted edit file to another editor, takes back what was drawn, and lists edits and worlds",
+            "Shows and lists the worlds of zzted edit files, opens them to another editor and takes back what was drawn",
         )
+        .version(VERSION)
         .no_binary_name(true)
         .arg_required_else_help(true)
         .bin_name("zztool")
@@ -263,5 +324,6 @@ pub(crate) fn tool_command<'a>(alloc: Global) -> Result<Command<'a>, AllocError>
     let program = with_command(program, open_command(alloc)?)?;
     let program = with_command(program, take_command(alloc)?)?;
     let program = with_command(program, log_command(alloc)?)?;
-    with_command(program, list_command(alloc)?)
+    let program = with_command(program, list_command(alloc)?)?;
+    with_command(program, show_command(alloc)?)
 }

@@ -1,5 +1,5 @@
 //! What plain words ask for. A number is written in decimal digits, where a plus may stand first, so its word begins with no hyphen.
-ghost use Rattle.zed_tool_words.specs.Laws.{HelpAsksHelp, HelpOfCommands, ListsBoards, ListsProgram, ListsStats, LogOfBoard, LogOfCell, LogOfReplica, LogSince, PlainWordsLog, PlainWordsOpen, PlainWordsTake};
+ghost use Rattle.zed_tool_words.specs.Laws.{HelpAsksHelp, HelpOfCommands, ListsBoards, ListsProgram, ListsStats, LogInFull, LogOfBoard, LogOfCell, LogOfReplica, LogSince, PlainWordsLog, PlainWordsOpen, PlainWordsShow, PlainWordsTake, VersionAsksVersion};
 
 /// `open FILE WORLD`, where no word begins with a hyphen, asks to open; in front of them may stand `--until TIME`, where `TIME` is a number
 /// below 2^64, and then `--force`.
@@ -13,10 +13,11 @@ pub fn plain_words_take()
     ensures { PlainWordsTake }
 {}
 
-/// `log FILES...`, where no word begins with a hyphen, asks for the edits of the files, and with a filter in front of them for those that
-/// pass it.
+/// `log FILES...`, where no word begins with a hyphen, asks for short lines of the edits of the files, with `--full` in front of them for
+/// lines in full, and with a filter for those that pass it.
 pub fn plain_words_log()
     ensures all { PlainWordsLog }
+    ensures full { LogInFull }
     ensures board { LogOfBoard }
     ensures cell { LogOfCell }
     ensures replica { LogOfReplica }
@@ -31,8 +32,19 @@ pub fn plain_words_list()
     ensures program { ListsProgram }
 {}
 
+/// `show BOARD FILES...`, where `BOARD` is a number below 2^16 and no other word begins with a hyphen, asks to show a board in colours, and with
+/// `--plain` or `--svg` in front of them in another form.
+pub fn plain_words_show()
+    ensures { PlainWordsShow }
+{}
+
 /// `--help` asks for help, alone or behind the name of a command.
 pub fn help_words()
     ensures alone { HelpAsksHelp }
     ensures commands { HelpOfCommands }
+{}
+
+/// `--version` asks for the version.
+pub fn version_words()
+    ensures { VersionAsksVersion }
 {}

@@ -9,8 +9,8 @@ ghost use Rattle.zed_tool_words.specs.Commands.{cell_asked, cell_by as cell_for,
 use crate::asked::{Command, Listing};
 use std::alloc::{AllocError, Global};
 
-// The number of at most 16 bits that a word writes.
-fn number_of(word: &str) -> Option<u16>
+/// The number of at most 16 bits that a word writes.
+pub(crate) fn number_of(word: &str) -> Option<u16>
     ensures { result ≡ number_by 16 word.now }
 {
     match word.parse::<u16>() {

@@ -4,9 +4,9 @@ ghost use Rattle.clap.specs.Walk.{all_of, first_of, one_of};
 ghost use Rattle.clap.specs.Words.{FailsBy, fault_of, found_of, rows_of, subcommand_of, subcommand_rows_of};
 ghost use Rattle.zed_tool_words.specs.declared.words.ParseError.TheVariants.{Memory};
 ghost use Rattle.zed_tool_words.specs.Grammar.{tool_app};
-ghost use Rattle.zed_tool_words.specs.Commands.{AsksNothing, command_of, forcing_of, list_of, log_of, meaning_of, open_of, option_number, subcommand_asks, take_of};
+ghost use Rattle.zed_tool_words.specs.Commands.{AsksNothing, command_of, forcing_of, form_of, has_flag as has_that_flag, length_of, list_of, log_of, meaning_of, open_of, option_number, show_of, subcommand_asks, take_of};
 
-use crate::asked::{Command, Forcing};
+use crate::asked::{Command, Forcing, Form, Length};
 use crate::grammar::tool_command;
 use crate::listed::{cell_in, listed};
 use clap::error::ErrorKind;
@@ -19,6 +19,9 @@ const NO_CELL: &str =
 const NO_FILES: &str =
     "error: 'list' takes at most two numbers up to 65535, and a file behind them\n\nFor more information, try '--help'.\n";
 
+const TWO_FORMS: &str =
+    "error: '--plain' and '--svg' can't both be there\n\nFor more information, try '--help'.\n";
+
 /// Why the words ask for nothing.
 #[derive(Debug, Drop)]
 pub enum ParseError {
@@ -27,6 +30,8 @@ pub enum ParseError {
     Refused(String),
     /// Help is asked for, which is this text.
     Help(String),
+    /// The version is asked for.
+    Version,
 }
 
 impl From<AllocError> for ParseError {
@@ -44,13 +49,47 @@ fn word_in<'a>(matches: &ArgMatches<'a>, name: &str) -> Option<&'a str>
     matches.get_str(name)
 }
 
+// Whether the flag of this name is there.
+fn has_flag(matches: &ArgMatches<'_>, name: &str) -> bool
+    ensures { result ≡ has_that_flag name.now (rows_of (found_of matches.now)) }
+{
+    match word_in(matches, name) {
+        Some("true") => true,
+        _ => false,
+    }
+}
+
 // Whether the words write over what was drawn.
 fn forcing_in(matches: &ArgMatches<'_>) -> Forcing
     ensures { result ≡ forcing_of (rows_of (found_of matches.now)) }
 {
-    match word_in(matches, "force") {
-        Some("true") => Forcing::Forced,
-        _ => Forcing::Careful,
+    if has_flag(matches, "force") {
+        Forcing::Forced
+    } else {
+        Forcing::Careful
+    }
+}
+
+// How much of the line of a world is printed.
+fn length_in(matches: &ArgMatches<'_>) -> Length
+    ensures { result ≡ length_of (rows_of (found_of matches.now)) }
+{
+    if has_flag(matches, "full") {
+        Length::Full
+    } else {
+        Length::Short
+    }
+}
+
+// The form of a picture; `None` where two are asked for.
+fn form_in(matches: &ArgMatches<'_>) -> Option<Form>
+    ensures { result ≡ form_of (rows_of (found_of matches.now)) }
+{
+    match (has_flag(matches, "plain"), has_flag(matches, "svg")) {
+        (false, false) => Some(Form::Coloured),
+        (true, false) => Some(Form::Plain),
+        (false, true) => Some(Form::Svg),
+        (true, true) => None,
     }
 }
 
@@ -116,6 +155,7 @@ fn log_in<'a>(alloc: Global, matches: &ArgMatches<'a>) -> Result<Option<Command<
     ensures { IfOk result (λ a.
         option_map meaning_of a ≡ log_of (rows_of (found_of matches.now))) }
 {
+    let length = length_in(matches);
     let board = number_in(matches, "board");
     let replica = number_in(matches, "replica");
     let since = time_in(matches, "since");
@@ -123,6 +163,7 @@ fn log_in<'a>(alloc: Global, matches: &ArgMatches<'a>) -> Result<Option<Command<
     if let (Some(cell), Some(files)) = (cell, words_in(matches, "FILES")) {
         let files = Vec::from_slice(alloc, files)?;
         Ok(Some(Command::Log {
+            length,
             board,
             cell,
             replica,
@@ -144,6 +185,21 @@ fn list_in<'a>(alloc: Global, matches: &ArgMatches<'a>) -> Result<Option<Command
     }
 }
 
+fn show_in<'a>(alloc: Global, matches: &ArgMatches<'a>) -> Result<Option<Command<'a>>, AllocError>
+    ensures { IfOk result (λ a.
+        option_map meaning_of a ≡ show_of (rows_of (found_of matches.now))) }
+{
+    let form = form_in(matches);
+    let board = number_in(matches, "BOARD");
+    let files = words_in(matches, "FILES");
+    if let (Some(form), Some(board), Some(files)) = (form, board, files) {
+        let files = Vec::from_slice(alloc, files)?;
+        Ok(Some(Command::Show { form, board, files }))
+    } else {
+        Ok(None)
+    }
+}
+
 fn command_named<'a>(
     alloc: Global,
     matches: &ArgMatches<'a>,
@@ -162,6 +218,8 @@ fn command_named<'a>(
         log_in(alloc, inner)
     } else if name == "list" {
         list_in(alloc, inner)
+    } else if name == "show" {
+        show_in(alloc, inner)
     } else {
         Ok(None)
     }
@@ -179,6 +237,7 @@ fn matches_in<'a>(alloc: Global, words: &'a [String]) -> Result<ArgMatches<'a>, 
 fn no_command(alloc: Global, matches: &ArgMatches<'_>) -> Result<String, AllocError> {
     match matches.subcommand_name() {
         Some("list") => String::from_str(alloc, NO_FILES),
+        Some("show") => String::from_str(alloc, TWO_FORMS),
         _ => String::from_str(alloc, NO_CELL),
     }
 }
@@ -186,7 +245,8 @@ fn no_command(alloc: Global, matches: &ArgMatches<'_>) -> Result<String, AllocEr
 /// Reads the words after the program's name.
 ///
 /// # Errors
-/// `Help`, with clap's text, where help is asked for; `Refused`, with a text that says why, where the words are those of no command.
+/// `Help`, with clap's text, where help is asked for; `Version` where the version is; `Refused`, with a text that says why, where the words
+/// are those of no command.
 pub fn parse<'a>(alloc: Global, words: &'a [String]) -> Result<Command<'a>, ParseError>
     ensures { MatchResult result
         (λ a. command_of (map string_bytes words.entry.now) ≡ Some (meaning_of a))
@@ -203,6 +263,7 @@ pub fn parse<'a>(alloc: Global, words: &'a [String]) -> Result<Command<'a>, Pars
                 let text = error.to_string(alloc)?;
                 Err(ParseError::Help(text))
             }
+            ErrorKind::DisplayVersion => Err(ParseError::Version),
             _ => {
                 let text = error.to_string(alloc)?;
                 Err(ParseError::Refused(text))

@@ -1,5 +1,5 @@
 use Rattle.std.proofs.Common.{◌≡◌, drop, filter, ◌++◌}
-use Rattle.zed_log.specs.Laws.{marked_log}
+use Rattle.zed_log.specs.Laws.{log_at}
 use Rattle.zed_telling.specs.Edits.{passes}
 use Rattle.zed_telling.specs.Logged.{is_held}
 use Rattle.zed_telling.proofs.logging.lines_of.Given as goal
@@ -7,4 +7,4 @@ use Rattle.zed_telling.proofs.logging.lines_of.Given as goal
 -- the lines so far, with those of the rest, are all
 abbrev pub invariant-loop-edit : goal.invariant-loop-edit
 invariant-loop-edit l =
-    l.text.items ++ marked_log (is_held l.document.edits) (filter (passes l.view l.sought) (drop l.edit-index l.edit-items)) ≡ marked_log (is_held l.document.edits) (filter (passes l.view l.sought) l.document.edits)
+    l.text.items ++ log_at l.length (is_held l.document.edits) (filter (passes l.view l.sought) (drop l.edit-index l.edit-items)) ≡ log_at l.length (is_held l.document.edits) (filter (passes l.view l.sought) l.document.edits)

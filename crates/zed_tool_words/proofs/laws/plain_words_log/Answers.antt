@@ -1,8 +1,11 @@
-use Rattle.zed_tool_words.proofs.LogWords.{Every, OfBoard, OfCell, OfReplica, Since, log_words}
+use Rattle.zed_tool_words.proofs.LogWords.{Every, InFull, OfBoard, OfCell, OfReplica, Since, log_words}
 use Rattle.zed_tool_words.proofs.laws.plain_words_log.Goals as goal
 
 pub returns-clause-all : goal.returns-clause-all
 returns-clause-all c file files plain few = log_words Every file files tt plain few
+
+pub returns-clause-full : goal.returns-clause-full
+returns-clause-full c file files plain few = log_words InFull file files tt plain few
 
 pub returns-clause-board : goal.returns-clause-board
 returns-clause-board c word board is file files plain few = log_words (OfBoard word board) file files is plain few

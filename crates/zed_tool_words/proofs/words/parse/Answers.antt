@@ -3,7 +3,7 @@ use Rattle.std.specs.Prelude.{option_and_then, ◌≢◌}
 use Rattle.clap.specs.Values.{kind_of}
 use Rattle.clap.specs.declared.error.kind.ErrorKind.TheVariants as kind
 use Rattle.zed_tool_words.specs.Commands.{subcommand_asks}
-use Rattle.zed_tool_words.proofs.Parsing.{help_with_fault, no_help_with_fault, no_help_without_fault, wanted_with_fault, wanted_without_fault}
+use Rattle.zed_tool_words.proofs.Parsing.{answer_with_fault, no_answer_with_fault, no_answer_without_fault, wanted_with_fault, wanted_without_fault}
 use Rattle.zed_tool_words.proofs.words.parse.Goals as goal
 
 pub returns-in-Some : goal.returns-in-Some
@@ -16,20 +16,33 @@ returns-in-Ok c =
     let words = map string_bytes c.args.words.now in (
       wanted_without_fault words c.in-Ok.ensures.fails ∙ ap (option_and_then subcommand_asks) (sym c.in-Ok.ensures.rows)
           ∙ sym (rw c.in-None.is at c.in_ok-command-in-Ok.ensures),
-      no_help_without_fault words c.in-Ok.ensures.fails,
+      no_answer_without_fault kind.DisplayHelp words c.in-Ok.ensures.fails,
+      no_answer_without_fault kind.DisplayVersion words c.in-Ok.ensures.fails,
     )
 
 pub returns-in-DisplayHelp : goal.returns-in-DisplayHelp
 returns-in-DisplayHelp c =
     let words = map string_bytes c.args.words.now in
     let help : kind_of c.in-Err.error ≡ kind.DisplayHelp = sym c.kind.ensures ∙ c.in-DisplayHelp.is in
-    let other : kind_of c.in-Err.error ≢ kind.OutOfMemory = λ e. let bad : kind.OutOfMemory ≡ kind.DisplayHelp = sym e ∙ help in cc in
-    (wanted_with_fault words c.in-Err.error c.in-Err.ensures.fails other, help_with_fault words c.in-Err.error c.in-Err.ensures.fails other help)
+    let other : kind_of c.in-Err.error ≢ kind.OutOfMemory = λ e. let bad : kind.OutOfMemory ≡ kind.DisplayHelp = sym e ∙ help in cc in (
+      wanted_with_fault words c.in-Err.error c.in-Err.ensures.fails other,
+      answer_with_fault kind.DisplayHelp words c.in-Err.error c.in-Err.ensures.fails other help,
+    )
+
+pub returns-in-DisplayVersion : goal.returns-in-DisplayVersion
+returns-in-DisplayVersion c =
+    let words = map string_bytes c.args.words.now in
+    let version : kind_of c.in-Err.error ≡ kind.DisplayVersion = sym c.kind.ensures ∙ c.in-DisplayVersion.is in
+    let other : kind_of c.in-Err.error ≢ kind.OutOfMemory = λ e. let bad : kind.OutOfMemory ≡ kind.DisplayVersion = sym e ∙ version in cc in (
+      wanted_with_fault words c.in-Err.error c.in-Err.ensures.fails other,
+      answer_with_fault kind.DisplayVersion words c.in-Err.error c.in-Err.ensures.fails other version,
+    )
 
 pub returns : goal.returns
 returns c =
     let words = map string_bytes c.args.words.now in
     let other : kind_of c.in-Err.error ≢ kind.OutOfMemory = λ e. c.in_default.not-OutOfMemory (c.kind.ensures ∙ e) in (
       wanted_with_fault words c.in-Err.error c.in-Err.ensures.fails other,
-      no_help_with_fault words c.in-Err.error c.in-Err.ensures.fails other (λ e. c.in_default.not-DisplayHelp (c.kind.ensures ∙ e)),
+      no_answer_with_fault kind.DisplayHelp words c.in-Err.error c.in-Err.ensures.fails other (λ e. c.in_default.not-DisplayHelp (c.kind.ensures ∙ e)),
+      no_answer_with_fault kind.DisplayVersion words c.in-Err.error c.in-Err.ensures.fails other (λ e. c.in_default.not-DisplayVersion (c.kind.ensures ∙ e)),
     )

@@ -1,0 +1,10 @@
+//! Short lines, and lines in full.
+
+/// How much of the line of a Genesis is written. Other edits have the same line either way.
+#[derive(Clone, Copy, Debug, PartialEq, Eq)]
+pub enum Length {
+    /// Two dots stand for the bytes of its world.
+    Short,
+    /// All of it, so that different edits have different lines.
+    Full,
+}
