@@ -15,9 +15,9 @@ use zed_delivery::{
 };
 use zed_edit::{Edit, check};
 use zed_history::{Batch, copies_new_to, gather, join, least_clash, spot_of};
+use zed_inbox::Inbox;
 use zed_laws::held_edits_are_remembered;
 use zed_op::{edit_has_sizes, edits_have_sizes, rising_lists_are_sets, sets_rise, sets_stay_fit};
-use zed_inbox::Inbox;
 use zed_types::{Stamp, TextId};
 use zed_view::{View, parts_show_the_replay};
 

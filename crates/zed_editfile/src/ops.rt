@@ -5,8 +5,8 @@ ghost use Rattle.zed_editfile.specs.Reading.{Gives, GivesUnless, SpellsString, r
 
 use crate::error::EditFileError;
 use crate::fields::{
-    board_of, byte_of, copy_of, optional_element_of, range_of, rectangle_of, stamp_of, stat_of, string_of,
-    text_of, tile_of,
+    board_of, byte_of, copy_of, optional_element_of, range_of, rectangle_of, stamp_of, stat_of,
+    string_of, text_of, tile_of,
 };
 use crate::settings::{board_setting_of, header_setting_of, stat_fields_of, stat_setting_of};
 use std::alloc::Global;

@@ -73,11 +73,12 @@ tell_stopped : (p : Type 0) (P Q : Result Told Refusal → Type 0) (t : HostCont
     → ((x : Result Told Refusal) → P x → Q x) → (p → ⊥) → e ≡ Refused f → StillTells (IsToldOff p P t f) left → IsStopped t (Leaves (told_left t) Q) e left
 tell_stopped p P Q t e f left so never same is = elim is.1 [
   | inl before ↦ (
-      is.2 ∙ ap (λ u. Some u) before.0,
-      elim before.1 [
-        | inl lacks ↦ inl (same ∙ ap (λ x. Refused x) lacks)
-        | inr comes ↦ inr (Err f, so (Err f) comes, ap (λ x. Err x) same)
-      ])
+    is.2 ∙ ap (λ u. Some u) before.0,
+    elim before.1 [
+      | inl lacks ↦ inl (same ∙ ap (λ x. Refused x) lacks)
+      | inr comes ↦ inr (Err f, so (Err f) comes, ap (λ x. Err x) same)
+    ],
+  )
   | inr failed ↦ absurd (never failed.0)
 ]
 
@@ -98,11 +99,12 @@ draw_stopped : (text : List ℕ) (p : Type 0) (P Q : Result Drawn DrawingError �
     → ((x : Result Drawn DrawingError) → P x → Q x) → (p → ⊥) → e ≡ drawing_failure text f → StillTells (IsRefused p P t f) left → IsStopped t (Leaves (left_by text t) Q) e left
 draw_stopped text p P Q t e f left so never same is = elim is.1 [
   | inl before ↦ (
-      is.2 ∙ ap (λ u. Some u) before.0,
-      elim before.1 [
-        | inl lacks ↦ inl (same ∙ ap (drawing_failure text) lacks)
-        | inr comes ↦ inr (Err f, so (Err f) comes, ap (λ x. Err x) same)
-      ])
+    is.2 ∙ ap (λ u. Some u) before.0,
+    elim before.1 [
+      | inl lacks ↦ inl (same ∙ ap (drawing_failure text) lacks)
+      | inr comes ↦ inr (Err f, so (Err f) comes, ap (λ x. Err x) same)
+    ],
+  )
   | inr failed ↦ absurd (never failed.0)
 ]
 

@@ -17,10 +17,7 @@ pub(crate) fn told(answer: Result<(), Refusal>) -> Result<u8, ToolError>
 }
 
 /// That of a command that draws, of this file.
-pub(crate) fn drawn(
-    text: &str,
-    answer: Result<(), DrawingError>,
-) -> Result<u8, ToolError>
+pub(crate) fn drawn(text: &str, answer: Result<(), DrawingError>) -> Result<u8, ToolError>
     ensures { answer_of result ≡ drawn_as text.now answer }
 {
     match answer {

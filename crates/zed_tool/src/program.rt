@@ -52,11 +52,7 @@ fn complain_of<H: Host>(alloc: Global, host: &mut H, error: ToolError)
 }
 
 // Carries a command out, and answers its status.
-fn act<H: Host>(
-    alloc: Global,
-    host: &mut H,
-    command: &Command<'_>,
-) -> Result<u8, ToolError>
+fn act<H: Host>(alloc: Global, host: &mut H, command: &Command<'_>) -> Result<u8, ToolError>
     ensures ends { (t : HostContents) → H.contents host.old ≡ Some t
         → EndsCommand H.called (Rose (H.faults host.old) (H.faults host.new))
         (meaning_of command.now) host.old host.new t (answer_of result) (H.contents host.new) }

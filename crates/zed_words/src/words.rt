@@ -295,9 +295,7 @@ fn refused(alloc: Global, text: String) -> Result<ParseError, AllocError>
     ensures { IfOk result IsRefusedAloud }
 {
     if text.is_empty() {
-        return Ok(ParseError::Refused(String::from_str(
-            alloc, NO_COMMAND,
-        )?));
+        return Ok(ParseError::Refused(String::from_str(alloc, NO_COMMAND)?));
     }
     Ok(ParseError::Refused(text))
 }
