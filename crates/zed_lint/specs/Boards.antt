@@ -3,13 +3,11 @@ use Rattle.std.specs.Prelude.{ℕ, not, ◌&&◌, ◌==◌, nat_lt, if◌then◌
 use Rattle.zed_types.specs.declared.property.Side.{Side}
 use Rattle.zed_types.specs.declared.property.Side.TheVariants.{North, South, West, East}
 use Rattle.zed_types.specs.declared.tile.Tile.{Tile}
-use Rattle.zed_world.specs.Contents.{Contents}
-use Rattle.zed_world.specs.Writing.{body_text, world_text}
+use Rattle.zed_world.specs.Writing.{body_text}
 use Rattle.zed_world.specs.declared.board.BoardData.{BoardData}
 use Rattle.zed_world.specs.declared.board.Properties.{Properties}
 use Rattle.zed_lint.specs.Found.{noted}
 use Rattle.zed_lint.specs.declared.finding.Finding.{Finding}
-use Rattle.zed_lint.specs.declared.finding.Spot.{Spot}
 use Rattle.zed_lint.specs.declared.finding.Spot.TheVariants.{Board}
 use Rattle.zed_lint.specs.declared.finding.What.{What}
 use Rattle.zed_lint.specs.declared.finding.What.TheVariants.{LongFile, LongBody, NoPlayer, Players, ExitToItself}

@@ -1,6 +1,6 @@
 -- What the laws promise.
 use Rattle.std.specs.List.{AllByRecursion}
-use Rattle.std.specs.Prelude.{◌≡◌, ℕ, ◌≤◌, List, [], length}
+use Rattle.std.specs.Prelude.{◌≡◌, ℕ, ◌≤◌, [], length}
 use Rattle.zed_world.specs.Contents.{Contents}
 use Rattle.zed_world.specs.Writing.{body_text}
 use Rattle.zed_world.specs.declared.board.BoardData.{BoardData}

@@ -75,8 +75,16 @@ fn note_exits(
     ensures memory_only_when { OnErr result (0 < length (exit_findings number properties.now)) }
 {
     let spot = Spot::Board(number);
-    note(found, spot, self_exit(number, Side::North, properties.north))?;
-    note(found, spot, self_exit(number, Side::South, properties.south))?;
+    note(
+        found,
+        spot,
+        self_exit(number, Side::North, properties.north),
+    )?;
+    note(
+        found,
+        spot,
+        self_exit(number, Side::South, properties.south),
+    )?;
     note(found, spot, self_exit(number, Side::West, properties.west))?;
     note(found, spot, self_exit(number, Side::East, properties.east))
 }

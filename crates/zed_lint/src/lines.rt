@@ -17,12 +17,7 @@ fn put_board(out: &mut Vec<u8>, number: usize) -> Result<(), AllocError>
     put_number(out, number as u64)
 }
 
-fn put_tile(
-    out: &mut Vec<u8>,
-    number: usize,
-    place: Place,
-    tile: Tile,
-) -> Result<(), AllocError>
+fn put_tile(out: &mut Vec<u8>, number: usize, place: Place, tile: Tile) -> Result<(), AllocError>
     ensures { OnOk result
         (out.new.items ≡ out.old.items ++ spot_words (Spot.Tile number place tile)) }
 {
@@ -107,7 +102,12 @@ fn put_exit(out: &mut Vec<u8>, side: Side) -> Result<(), AllocError>
 fn put_names(out: &mut Vec<u8>, at: usize) -> Result<(), AllocError>
     ensures { OnOk result (out.new.items ≡ out.old.items ++ names_words at) }
 {
-    put_counted(out, "names at ", at, " a label that no program of its board has  ")
+    put_counted(
+        out,
+        "names at ",
+        at,
+        " a label that no program of its board has  ",
+    )
 }
 
 fn put_label(out: &mut Vec<u8>, at: usize, label: &[u8]) -> Result<(), AllocError>

@@ -16,11 +16,7 @@ use std::alloc::{AllocError, Global};
 use zed_world::{BoardData, World};
 
 #[tactic(auto, using(crate::proofs::Some::front, crate::proofs::Some::back), unfolding(crate::specs::World::board_findings))]
-fn note_board(
-    found: &mut Vec<Finding>,
-    number: usize,
-    board: &BoardData,
-) -> Result<(), AllocError>
+fn note_board(found: &mut Vec<Finding>, number: usize, board: &BoardData) -> Result<(), AllocError>
     requires { IsWritable board.now }
     ensures ok { OnOk result
         (found.new.items ≡ found.old.items ++ board_findings number board.now) }

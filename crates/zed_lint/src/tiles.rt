@@ -54,7 +54,9 @@ fn unknown(all: &[Tile], before: &[Tile], tile: Tile) -> Option<What>
 fn has_stat(stats: &[StatData], place: Place) -> bool
     ensures { result ≡ has_stat stats.now place }
 {
-    stats.iter().any(|stat| stat.x == place.x && stat.y == place.y)
+    stats
+        .iter()
+        .any(|stat| stat.x == place.x && stat.y == place.y)
 }
 
 // A tile that wants a stat, if there is none at its place.
