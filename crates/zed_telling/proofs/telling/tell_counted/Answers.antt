@@ -1,4 +1,4 @@
-use Rattle.std.proofs.Common.{◌≡◌, ◌∙◌, [], ◌∷◌, Ok, Err, Some, None, refl}
+use Rattle.std.proofs.Common.{◌≡◌, ◌∙◌, ℕ, true, false, [], ◌∷◌, Ok, Err, Some, None, refl}
 use Rattle.std.proofs.lemmas.Result.{err_from_is_err_and}
 use Rattle.zed_host.specs.Calls.{Printing}
 use Rattle.zed_telling.specs.Told.{ComesToTell, text_of}
@@ -20,7 +20,7 @@ returns-clause-ends g c = λ t at.
     let bytes = c.as_slice-bytes.result.now in
     let comes : ComesToTell _ t (text_of c.args.telling) (texts_of c.args.files.now) (Ok (Prints bytes)) =
     (Ok c.in_ok-text.text.items, c.in_ok-text.ensures.made t at, rw c.as_slice-bytes.ensures.value refl) in
-    let told = tell_so t (text_of c.args.telling) (texts_of c.args.files.now) _ _ (Ok (Prints bytes)) (rose_before _ _ _ (counted_up _ _ _ c.in_ok-print_out.ensures.faults)) comes in
+    let told = tell_so t (text_of c.args.telling) (texts_of c.args.files.now) _ _ (Ok (Prints bytes)) (rose_before _ _ _ (counted_up false _ _ c.in_ok-print_out.ensures.faults)) comes in
     (bytes, told, c.count_lines.ensures, c.in_ok-print_out.ensures.ok t here)
 
 pub returns-in_err-text-clause-ends : goal.returns-in_err-text-clause-ends
@@ -40,7 +40,7 @@ returns-in_err-print_out-clause-ends g c = λ t at.
     (Ok c.in_ok-text.text.items, c.in_ok-text.ensures.made t at, rw c.as_slice-bytes.ensures.value refl) in
     rw (p.1, same) (effect_ends (λ f. ComesToTell f t (text_of c.args.telling) (texts_of c.args.files.now)) (Err c.in_err-print_out.field-0.0) _ _ _ t (Prints bytes) _
     (tell_so t (text_of c.args.telling) (texts_of c.args.files.now))
-    c.in_ok-text.ensures.failures.0.0 (counted_up _ _ _ c.in_err-print_out.ensures.faults) comes (c.in_err-print_out.ensures.ok t here) (c.in_err-print_out.ensures.half t here) c.in_err-print_out.ensures.err c.in_err-print_out.ensures.faults)
+    c.in_ok-text.ensures.failures.0.0 (counted_up true _ _ c.in_err-print_out.ensures.faults) comes (c.in_err-print_out.ensures.ok t here) (c.in_err-print_out.ensures.half t here) c.in_err-print_out.ensures.err c.in_err-print_out.ensures.faults)
 
 pub returns-in_err-text-clause-failures : goal.returns-in_err-text-clause-failures
 returns-in_err-text-clause-failures g c =
@@ -49,11 +49,11 @@ returns-in_err-text-clause-failures g c =
 pub returns-in_err-print_out-clause-failures : goal.returns-in_err-print_out-clause-failures
 returns-in_err-print_out-clause-failures g c =
     handed_on g.H.Host.faults g.H.Host.failed c.from_residual-in_err-print_out.result c.in_err-print_out.field-0.0 _ _ c.from_residual-in_err-print_out.ensures.1
-    (write_tells g.H.Host.faults g.H.Host.failed (Err c.in_err-print_out.field-0.0) _ _ _ c.in_ok-text.ensures.failures.0 c.in_err-print_out.ensures.faults c.in_err-print_out.ensures.failures)
+    (write_tells {X = ℕ} g.H.Host.faults g.H.Host.failed (Err c.in_err-print_out.field-0.0) _ _ _ c.in_ok-text.ensures.failures.0 c.in_err-print_out.ensures.faults c.in_err-print_out.ensures.failures)
 
 pub returns-clause-failures : goal.returns-clause-failures
 returns-clause-failures g c =
-    write_tells g.H.Host.faults g.H.Host.failed (Ok tt) _ _ _ c.in_ok-text.ensures.failures.0 c.in_ok-print_out.ensures.faults c.in_ok-print_out.ensures.failures
+    write_tells {X = ℕ} g.H.Host.faults g.H.Host.failed (Ok c.count_lines.result) _ _ _ c.in_ok-text.ensures.failures.0 c.in_ok-print_out.ensures.faults c.in_ok-print_out.ensures.failures
 
 pub returns-in_err-text-clause-asked : goal.returns-in_err-text-clause-asked
 returns-in_err-text-clause-asked g c =
