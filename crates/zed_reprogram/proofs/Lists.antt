@@ -1,5 +1,5 @@
 -- Lists with another element.
-use Rattle.std.proofs.Common.{◌≡◌, ◌+◌, ◌<◌, ℕ, zero, suc, List, [], ◌∷◌, length, ap, arith, refl, None, Some, Option, option_map, subst, sym}
+use Rattle.std.proofs.Common.{◌≡◌, ◌<◌, ℕ, zero, suc, List, [], ◌∷◌, length, arith, refl, None, Some, Option, option_map, subst, sym}
 use Rattle.std.specs.Prelude.{slice_get, slice_set}
 use Rattle.std.specs.List.{AllByRecursion, ItemBy}
 use Rattle.std.proofs.lemmas.Option.{slice_get_past, slice_get_read}

@@ -1,5 +1,5 @@
 -- What a world comes to with another program.
-use Rattle.std.proofs.Common.{◌≡◌, ℕ, List, Option, Some, None, Result, Ok, Err, refl, subst, sym, inl, inr}
+use Rattle.std.proofs.Common.{◌≡◌, ℕ, List, Some, None, Result, Ok, Err, refl, subst, sym, inl, inr}
 use Rattle.std.specs.Prelude.{◌⊎◌, MatchResult, slice_get}
 use Rattle.zed_world.specs.Contents.{Contents}
 use Rattle.zed_world.specs.declared.board.BoardData.{BoardData}

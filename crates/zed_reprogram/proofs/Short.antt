@@ -1,18 +1,17 @@
 -- A board with a short body has a short program.
-use Rattle.std.proofs.Common.{◌≡◌, ◌∙◌, ◌+◌, ◌<◌, ◌≤◌, ℕ, zero, suc, Bool, true, false, List, [], ◌∷◌, ◌++◌, length, length-append, ap, arith, refl, subst, sym, Option, Some, None}
+use Rattle.std.proofs.Common.{◌≡◌, ◌∙◌, ◌+◌, ◌<◌, ◌≤◌, ℕ, zero, suc, Bool, true, false, List, [], ◌∷◌, ◌++◌, length, length-append, ap, arith, refl, subst, sym, Some}
 use Rattle.std.specs.Prelude.{◌==◌, if◌then◌else◌, slice_get}
-use Rattle.std.specs.List.{AllByRecursion, flat_map}
+use Rattle.std.specs.List.{flat_map}
 use Rattle.std.proofs.lemmas.Bool.{eq-eqb, eqb-true}
 use Rattle.std.proofs.lemmas.List.{length_push}
 use Rattle.std.proofs.lemmas.Option.{slice_get-get_or, slice_get_within}
 use Rattle.zed_types.specs.declared.tile.Tile.{Tile}
-use Rattle.zed_runs.specs.Runs.{greedy}
 use Rattle.zed_world.specs.declared.stat.Code.{Code}
 use Rattle.zed_world.specs.declared.stat.Code.TheVariants as code
 use Rattle.zed_world.specs.declared.stat.StatData.{StatData}
 use Rattle.zed_world.specs.declared.board.BoardData.{BoardData}
 use Rattle.zed_world.specs.Normal.{AreNormalStats, HasShortBody, IsNormalBoard, IsNormalCode}
-use Rattle.zed_world.specs.Writing.{body_text, code_text, stat_text}
+use Rattle.zed_world.specs.Writing.{code_text, stat_text}
 use Rattle.zed_world.proofs.Sizes.{length_body, length_stat}
 use Rattle.zed_reprogram.specs.Codes.{code_in, owned, owner_of}
 use Rattle.zed_reprogram.specs.Worlds.{board_with, stat_with, stats_from}

@@ -116,10 +116,7 @@ fn copy_board(alloc: Global, board: &BoardData) -> Result<BoardData, AllocError>
 }
 
 /// Equal boards.
-pub(crate) fn copy_boards(
-    alloc: Global,
-    boards: &[BoardData],
-) -> Result<Seq<BoardData>, AllocError>
+pub(crate) fn copy_boards(alloc: Global, boards: &[BoardData]) -> Result<Seq<BoardData>, AllocError>
     ensures { IfOk result (λ copies. copies ≡ boards.now) }
 {
     let mut copies = Seq::new(alloc);

@@ -1,4 +1,4 @@
-use Rattle.std.proofs.Common.{arith, add-one, ap, ◌+◌}
+use Rattle.std.proofs.Common.{arith, add-one}
 use Rattle.zed_world.proofs.Sizes.{stats_more}
 use Rattle.zed_reprogram.proofs.sizes.stats_len.Goals as goal
 

@@ -1,4 +1,4 @@
-use Rattle.std.proofs.Common.{◌≡◌, ◌≤◌, ◌*◌, ◌^◌, length, take}
+use Rattle.std.proofs.Common.{◌≡◌, ◌≤◌, ◌*◌, length, take}
 use Rattle.std.specs.List.{flat_map}
 use Rattle.zed_world.specs.Writing.{stat_text}
 use Rattle.zed_reprogram.proofs.sizes.stats_len.Given as goal

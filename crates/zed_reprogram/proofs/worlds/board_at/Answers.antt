@@ -1,4 +1,4 @@
-use Rattle.std.proofs.Common.{◌≡◌, ◌∙◌, ap, Bor}
+use Rattle.std.proofs.Common.{◌∙◌, ap, Bor}
 use Rattle.std.specs.Prelude.{slice_get}
 use Rattle.zed_world.specs.declared.board.BoardData.{BoardData}
 use Rattle.zed_reprogram.proofs.Lists.{got}
