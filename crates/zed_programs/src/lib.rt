@@ -1,0 +1,8 @@
+//! The commands for the programs of stats: `program` prints one as a text, and sets one to a text.
+#![tactic(auto)]
+
+mod printing;
+mod setting;
+
+pub use printing::program;
+pub use setting::set_program;
