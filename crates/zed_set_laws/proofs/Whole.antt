@@ -17,6 +17,12 @@ use Rattle.zed_set_words.specs.declared.bad.BadWord.{BadWord}
 use Rattle.zed_set_words.specs.declared.bad.Expected.{Expected}
 use Rattle.zed_set_words.specs.declared.bad.Expected.TheVariants as expected
 use Rattle.zed_set_words.specs.declared.bad.Stop.{Stop}
+use Rattle.zed_set_words.specs.declared.heads.RegisterWord.{RegisterWord}
+use Rattle.zed_set_words.specs.declared.heads.RegisterWord.TheVariants as register
+use Rattle.zed_set_words.specs.declared.heads.PropertyWord.{PropertyWord}
+use Rattle.zed_set_words.specs.declared.heads.PropertyWord.TheVariants as property
+use Rattle.zed_set_words.specs.declared.heads.FieldWord.{FieldWord}
+use Rattle.zed_set_words.specs.declared.heads.FieldWord.TheVariants as field
 use Rattle.zed_set_words.specs.declared.wishes.StatPlace.{StatPlace}
 use Rattle.zed_set_words.specs.declared.wishes.StatPlace.TheVariants as stat_place
 use Rattle.zed_set_words.specs.declared.wishes.WorldWish.TheVariants as world_wish
@@ -71,13 +77,13 @@ or_none_h at = value_honest expected.StatOrNone (unless_none (other_of at))
 
 -- ---- registers of the world
 
-world_number_h : (field : HeaderNumber) → Honest (rows.world_number field)
+world_number_h : (f : HeaderNumber) → Honest (rows.world_number f)
 unfolding rows.world_number
-world_number_h field = map_honest rows.number (λ n. world_wish.Number field n) number_h
+world_number_h f = map_honest rows.number (λ n. world_wish.Number f n) number_h
 
-behind_number_h : (said : Word) (e : Expected) (field : HeaderNumber) → Honest (rows.world_number_behind said e field)
+behind_number_h : (said : Word) (e : Expected) (f : HeaderNumber) → Honest (rows.world_number_behind said e f)
 unfolding rows.world_number_behind
-behind_number_h said e field = behind_honest said e (rows.world_number field) (world_number_h field)
+behind_number_h said e f = behind_honest said e (rows.world_number f) (world_number_h f)
 
 key_h : Honest rows.key
 unfolding rows.key
@@ -107,52 +113,32 @@ world_and_name_h : Honest rows.world_and_name
 unfolding rows.world_and_name
 world_and_name_h = behind_honest (codes "name") expected.NameWord rows.world_name world_name_h
 
+world_behind_h : (r : RegisterWord) → Honest (rows.world_behind r)
+world_behind_h (register.Number f) = world_number_h f
+world_behind_h register.Name = world_name_h
+world_behind_h register.World = world_and_name_h
+world_behind_h register.StartBoard = start_board_h
+world_behind_h register.Current = current_board_h
+world_behind_h register.Torch = behind_number_h (codes "ticks") expected.TicksWord TorchTicks
+world_behind_h register.Energizer = behind_number_h (codes "ticks") expected.TicksWord EnergizerTicks
+world_behind_h register.Time = behind_number_h (codes "passed") expected.PassedWord TimePassed
+world_behind_h register.Key = key_h
+world_behind_h register.Flag = flag_h
+world_behind_h register.Saved = saved_h
+
 world_h : Honest rows.world
 unfolding rows.world
-world_h = choose_honest expected.Register rows.world_rows (
-  world_name_h,
-  (
-    world_and_name_h,
-    (
-      start_board_h,
-      (
-        current_board_h,
-        (
-          world_number_h Ammo,
-          (
-            world_number_h Gems,
-            (
-              world_number_h Health,
-              (
-                world_number_h Torches,
-                (
-                  behind_number_h (codes "ticks") expected.TicksWord TorchTicks,
-                  (
-                    behind_number_h (codes "ticks") expected.TicksWord EnergizerTicks,
-                    (
-                      world_number_h Score,
-                      (behind_number_h (codes "passed") expected.PassedWord TimePassed, (world_number_h Hundredths, (key_h, (flag_h, (saved_h, tt))))),
-                    ),
-                  ),
-                ),
-              ),
-            ),
-          ),
-        ),
-      ),
-    ),
-  ),
-)
+world_h = next_honest expected.Register rows.register_of rows.world_behind world_behind_h
 
 -- ---- properties of a board
 
-board_byte_h : (field : BoardByte) → Honest (rows.board_byte field)
+board_byte_h : (f : BoardByte) → Honest (rows.board_byte f)
 unfolding rows.board_byte
-board_byte_h field = map_honest rows.byte (λ n. board_wish.Byte field n) byte_h
+board_byte_h f = map_honest rows.byte (λ n. board_wish.Byte f n) byte_h
 
-board_flag_h : (field : BoardFlag) → Honest (rows.board_flag field)
+board_flag_h : (f : BoardFlag) → Honest (rows.board_flag f)
 unfolding rows.board_flag
-board_flag_h field = map_honest rows.flag (λ is. board_wish.Flag field is) yes_h
+board_flag_h f = map_honest rows.flag (λ is. board_wish.Flag f is) yes_h
 
 board_name_h : Honest rows.board_name
 unfolding rows.board_name
@@ -182,7 +168,6 @@ pair_h : (e : Expected) → Honest (rows.column_and_row e)
 pair_h e = next_honest e byte_of (λ column rest. rows.byte rest >>= λ line. Ok (column, line)) (λ column. map_honest rows.byte (λ line. (column, line)) byte_h)
 
 start_place_h : Honest rows.start_place
-unfolding rows.start_place
 start_place_h = map_honest (rows.column_and_row expected.StartPart) (λ place. board_wish.Start place.0 place.1) (pair_h expected.StartPart)
 
 start_h : Honest rows.start
@@ -190,20 +175,29 @@ unfolding rows.start
 start_h = choose_or_honest (row (codes "x") (rows.board_byte StartX) ∷ row (codes "y") (rows.board_byte StartY) ∷ []) rows.start_place
     (board_byte_h StartX, (board_byte_h StartY, tt)) start_place_h
 
+board_behind_h : (r : PropertyWord) → Honest (rows.board_behind r)
+board_behind_h property.Name = board_name_h
+board_behind_h property.Message = message_h
+board_behind_h (property.Flag f) = board_flag_h f
+board_behind_h property.Max = max_shots_h
+board_behind_h property.Start = start_h
+board_behind_h property.Exit = exit_h
+board_behind_h property.Time = time_limit_h
+board_behind_h property.Rank = board_rank_h
+
 board_h : Honest rows.board
 unfolding rows.board
-board_h = choose_honest expected.Property rows.board_rows
-    (board_name_h, (message_h, (board_flag_h Dark, (board_flag_h ReEnter, (max_shots_h, (start_h, (exit_h, (time_limit_h, (board_rank_h, tt)))))))))
+board_h = next_honest expected.Property rows.property_of rows.board_behind board_behind_h
 
 -- ---- fields of a stat
 
-stat_byte_h : (field : StatByte) → Honest (rows.stat_byte field)
+stat_byte_h : (f : StatByte) → Honest (rows.stat_byte f)
 unfolding rows.stat_byte
-stat_byte_h field = map_honest rows.byte (λ n. stat_wish.Byte field n) byte_h
+stat_byte_h f = map_honest rows.byte (λ n. stat_wish.Byte f n) byte_h
 
-stat_number_h : (field : StatNumber) → Honest (rows.stat_number field)
+stat_number_h : (f : StatNumber) → Honest (rows.stat_number f)
 unfolding rows.stat_number
-stat_number_h field = map_honest rows.number (λ n. stat_wish.Number field n) number_h
+stat_number_h f = map_honest rows.number (λ n. stat_wish.Number f n) number_h
 
 stat_at_h : Honest rows.stat_at
 unfolding rows.stat_at
@@ -214,7 +208,6 @@ unfolding rows.p3_board
 p3_board_h = map_honest rows.board_place (λ place. stat_wish.P3 (p3_wish.Board place)) place_h
 
 p3_byte_h : Honest rows.p3_byte
-unfolding rows.p3_byte
 p3_byte_h = map_honest (value expected.Target byte_of) (λ n. stat_wish.P3 (p3_wish.Byte n)) (value_honest expected.Target byte_of)
 
 p3_h : Honest rows.p3
@@ -259,39 +252,22 @@ unfolding rows.under
 under_h = choose_honest expected.UnderPart (row (codes "element") rows.under_element ∷ row (codes "colour") rows.under_colour ∷ [])
     (element_h, (colour_h, tt))
 
+stat_behind_h : (at : StatPlace) (r : FieldWord) → Honest (rows.stat_behind at r)
+stat_behind_h at field.At = stat_at_h
+stat_behind_h at (field.Byte f) = stat_byte_h f
+stat_behind_h at field.P3 = p3_h
+stat_behind_h at field.LeadsTo = leads_to_h
+stat_behind_h at field.Step = step_h
+stat_behind_h at (field.Number f) = stat_number_h f
+stat_behind_h at field.Follower = follower_h at
+stat_behind_h at field.Leader = leader_h at
+stat_behind_h at field.Text = stat_text_h
+stat_behind_h at field.Shares = shares_h at
+stat_behind_h at field.Under = under_h
+
 stat_h : (at : StatPlace) → Honest (rows.stat at)
 unfolding rows.stat
-stat_h at = choose_honest expected.Field (rows.stat_rows at) (
-  stat_at_h,
-  (
-    stat_byte_h X,
-    (
-      stat_byte_h Y,
-      (
-        stat_byte_h P1,
-        (
-          stat_byte_h P2,
-          (
-            p3_h,
-            (
-              leads_to_h,
-              (
-                step_h,
-                (
-                  stat_number_h Cycle,
-                  (
-                    stat_number_h Position,
-                    (follower_h at, (leader_h at, (leader_h at, (stat_text_h, (shares_h at, (under_h, tt)))))),
-                  ),
-                ),
-              ),
-            ),
-          ),
-        ),
-      ),
-    ),
-  ),
-)
+stat_h at = next_honest expected.Field rows.field_of (rows.stat_behind at) (stat_behind_h at)
 
 -- ---- all
 
@@ -308,7 +284,6 @@ unfolding rows.stat_wish_at
 stat_wish_h at = map_honest (rows.stat at) (λ said. wish.Stat at said) (stat_h at)
 
 stat_numbered_h : Honest rows.stat_numbered
-unfolding rows.stat_numbered
 stat_numbered_h =
     next_honest expected.StatPlace short_of (λ board. then_read expected.StatNumber short_of (λ number. rows.stat_wish_at (stat_place.Numbered board number)))
     (λ board. next_honest expected.StatNumber short_of (λ number. rows.stat_wish_at (stat_place.Numbered board number)) (λ number. stat_wish_h (stat_place.Numbered board number)))

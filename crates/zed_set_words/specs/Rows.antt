@@ -161,20 +161,20 @@ world_and_name words = do
   world_name rest
 
 -- the words of numbers of the world that have one word
-abbrev pub number_register_of : Word → Option RegisterWord
+unfoldable pub number_register_of : Word → Option RegisterWord
 number_register_of word =
     named (row (codes "ammo") (register.Number Ammo) ∷ row (codes "gems") (register.Number Gems) ∷ row (codes "health") (register.Number Health)
     ∷ row (codes "torches") (register.Number Torches) ∷ row (codes "score") (register.Number Score) ∷ row (codes "hundredths") (register.Number Hundredths) ∷ []) word
 
 -- the first words of other registers
-abbrev pub other_register_of : Word → Option RegisterWord
+unfoldable pub other_register_of : Word → Option RegisterWord
 other_register_of word =
     named (row (codes "name") register.Name ∷ row (codes "world") register.World ∷ row (codes "start-board") register.StartBoard ∷ row (codes "current") register.Current
     ∷ row (codes "torch") register.Torch ∷ row (codes "energizer") register.Energizer ∷ row (codes "time") register.Time
     ∷ row (codes "key") register.Key ∷ row (codes "flag") register.Flag ∷ row (codes "saved") register.Saved ∷ []) word
 
 -- the first word of a register
-abbrev pub register_of : Word → Option RegisterWord
+unfoldable pub register_of : Word → Option RegisterWord
 register_of word = or_else (number_register_of word) (other_register_of word)
 
 -- what stands behind each
@@ -261,7 +261,7 @@ start words =
     choose_or (row (codes "x") (board_byte StartX) ∷ row (codes "y") (board_byte StartY) ∷ []) start_place words
 
 -- the words of properties
-abbrev pub property_of : Word → Option PropertyWord
+unfoldable pub property_of : Word → Option PropertyWord
 property_of word =
     named (row (codes "name") property.Name ∷ row (codes "message") property.Message ∷ row (codes "dark") (property.Flag Dark)
     ∷ row (codes "re-enter") (property.Flag ReEnter) ∷ row (codes "max") property.Max ∷ row (codes "start") property.Start
@@ -371,20 +371,20 @@ unfoldable pub under : Reader StatWish
 under words = choose expected.UnderPart (row (codes "element") under_element ∷ row (codes "colour") under_colour ∷ []) words
 
 -- the words of the place and the parameters of a stat, and of its step
-abbrev pub place_field_of : Word → Option FieldWord
+unfoldable pub place_field_of : Word → Option FieldWord
 place_field_of word =
     named (row (codes "at") field.At ∷ row (codes "x") (field.Byte X) ∷ row (codes "y") (field.Byte Y) ∷ row (codes "p1") (field.Byte P1)
     ∷ row (codes "p2") (field.Byte P2) ∷ row (codes "p3") field.P3 ∷ row (codes "leads-to") field.LeadsTo ∷ row (codes "step") field.Step ∷ []) word
 
 -- the words of its other fields
-abbrev pub other_field_of : Word → Option FieldWord
+unfoldable pub other_field_of : Word → Option FieldWord
 other_field_of word =
     named (row (codes "cycle") (field.Number Cycle) ∷ row (codes "position") (field.Number Position) ∷ row (codes "follower") field.Follower
     ∷ row (codes "leader") field.Leader ∷ row (codes "follows") field.Leader ∷ row (codes "text") field.Text
     ∷ row (codes "shares") field.Shares ∷ row (codes "under") field.Under ∷ []) word
 
 -- the first word of a field
-abbrev pub field_of : Word → Option FieldWord
+unfoldable pub field_of : Word → Option FieldWord
 field_of word = or_else (place_field_of word) (other_field_of word)
 
 -- what stands behind each

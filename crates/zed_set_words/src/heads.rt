@@ -50,6 +50,7 @@ pub(crate) enum FieldWord {
 }
 
 /// A number of the world that has one word.
+#[tactic(auto, unfolding(crate::specs::Rows::number_register_of))]
 fn number_of_world(word: &str) -> Option<RegisterWord>
     ensures { result ≡ rows.number_register_of word.now }
 {
@@ -70,6 +71,7 @@ fn number_of_world(word: &str) -> Option<RegisterWord>
     }
 }
 
+#[tactic(auto, unfolding(crate::specs::Rows::other_register_of))]
 fn other_register(word: &str) -> Option<RegisterWord>
     ensures { result ≡ rows.other_register_of word.now }
 {
@@ -98,6 +100,7 @@ fn other_register(word: &str) -> Option<RegisterWord>
     }
 }
 
+#[tactic(auto, unfolding(crate::specs::Rows::register_of))]
 pub(crate) fn register(word: &str) -> Option<RegisterWord>
     ensures { result ≡ rows.register_of word.now }
 {
@@ -107,6 +110,7 @@ pub(crate) fn register(word: &str) -> Option<RegisterWord>
     }
 }
 
+#[tactic(auto, unfolding(crate::specs::Rows::property_of))]
 pub(crate) fn property(word: &str) -> Option<PropertyWord>
     ensures { result ≡ rows.property_of word.now }
 {
@@ -133,6 +137,7 @@ pub(crate) fn property(word: &str) -> Option<PropertyWord>
     }
 }
 
+#[tactic(auto, unfolding(crate::specs::Rows::place_field_of))]
 fn place_field(word: &str) -> Option<FieldWord>
     ensures { result ≡ rows.place_field_of word.now }
 {
@@ -157,6 +162,7 @@ fn place_field(word: &str) -> Option<FieldWord>
     }
 }
 
+#[tactic(auto, unfolding(crate::specs::Rows::other_field_of))]
 fn other_field(word: &str) -> Option<FieldWord>
     ensures { result ≡ rows.other_field_of word.now }
 {
@@ -181,6 +187,7 @@ fn other_field(word: &str) -> Option<FieldWord>
     }
 }
 
+#[tactic(auto, unfolding(crate::specs::Rows::field_of))]
 pub(crate) fn field(word: &str) -> Option<FieldWord>
     ensures { result ≡ rows.field_of word.now }
 {

@@ -100,19 +100,34 @@ fn world_and_name<'a>(words: &[&'a str]) -> Result<WorldWish<'a>, Stop>
 fn torch_ticks<'a>(words: &[&'a str]) -> Result<WorldWish<'a>, Stop>
     ensures { result ≡ rows.world_number_behind (codes "ticks") TicksWord TorchTicks (words_of words.now) }
 {
-    world_number_behind("ticks", Expected::TicksWord, HeaderNumber::TorchTicks, words)
+    world_number_behind(
+        "ticks",
+        Expected::TicksWord,
+        HeaderNumber::TorchTicks,
+        words,
+    )
 }
 
 fn energizer_ticks<'a>(words: &[&'a str]) -> Result<WorldWish<'a>, Stop>
     ensures { result ≡ rows.world_number_behind (codes "ticks") TicksWord EnergizerTicks (words_of words.now) }
 {
-    world_number_behind("ticks", Expected::TicksWord, HeaderNumber::EnergizerTicks, words)
+    world_number_behind(
+        "ticks",
+        Expected::TicksWord,
+        HeaderNumber::EnergizerTicks,
+        words,
+    )
 }
 
 fn time_passed<'a>(words: &[&'a str]) -> Result<WorldWish<'a>, Stop>
     ensures { result ≡ rows.world_number_behind (codes "passed") PassedWord TimePassed (words_of words.now) }
 {
-    world_number_behind("passed", Expected::PassedWord, HeaderNumber::TimePassed, words)
+    world_number_behind(
+        "passed",
+        Expected::PassedWord,
+        HeaderNumber::TimePassed,
+        words,
+    )
 }
 
 /// A register of the world, and its value.
