@@ -1,0 +1,10 @@
+pub mod Glyphs
+pub mod Parts
+pub mod Colours
+pub mod Tiles
+pub mod Drawing
+pub mod Plain
+pub mod Coloured
+pub mod Svg
+pub mod Form
+pub mod Laws

@@ -1,0 +1,26 @@
+//! Pictures of 60 by 25 places, and what they are made from.
+
+/// What is shown at one place.
+#[derive(Clone, Copy, Debug)]
+pub struct Spot {
+    /// The number of a character of code page 437.
+    pub character: u8,
+    /// The colour of the character in the low four bits, that of its background in the next three, and the highest for blinking.
+    pub attribute: u8,
+}
+
+/// A picture of the table of a board, row by row.
+#[derive(Clone, Copy, Debug)]
+pub struct Picture {
+    pub rows: [[Spot; 60]; 25],
+}
+
+/// What of a stat is to be seen.
+#[derive(Clone, Copy, Debug)]
+pub struct Pose {
+    pub p1: u8,
+    pub step_x: i16,
+    pub step_y: i16,
+    /// 0 for one that never acts.
+    pub cycle: u16,
+}

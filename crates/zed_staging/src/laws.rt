@@ -1,0 +1,12 @@
+//! Laws of keys.
+ghost use Rattle.zed_staging.specs.Laws.{ArrowsAreKeys, LettersAreKeys};
+
+/// The arrows of a terminal are the keys that move, and with shift those that shoot.
+pub fn arrows_are_keys()
+    ensures result { ArrowsAreKeys }
+{}
+
+/// The space waits, and four letters shoot.
+pub fn letters_are_keys()
+    ensures result { LettersAreKeys }
+{}
