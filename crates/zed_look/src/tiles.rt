@@ -206,7 +206,7 @@ fn attribute_of(tile: Tile) -> u8
     } else if tile.element == 15 {
         next_star(tile.colour)
     } else if 47 <= tile.element {
-        ((u32::from(tile.element) - 46) * 16 + 15) as u8
+        (((u32::from(tile.element) - 46) * 16 + 15) % 256) as u8
     } else {
         tile.colour
     }

@@ -19,12 +19,15 @@ range_more a (suc n) =
     ap (λ t. a ∷ t) (range_more (a + 1) n) ∙ ap (λ x. a ∷ (range_with_len (a + 1) n ++ x ∷ [])) last
 
 -- one row more
-pub row_more : {X : Type 0} (f : ℕ → List X) (n : ℕ) (o p q : List X) → p ≡ o ++ flat_map f (range_with_len 0 n) → q ≡ p ++ f n → q ≡ o ++ flat_map f (range_with_len 0 (n + 1))
-row_more f n o p q e g =
-    let next : n + 1 ≡ suc n = omega arith in
-    let here : 0 + n ≡ n = omega arith in
-    let more : range_with_len 0 (n + 1) ≡ range_with_len 0 n ++ n ∷ [] = ap (range_with_len 0) next ∙ range_more 0 n ∙ ap (λ x. range_with_len 0 n ++ x ∷ []) here in
-    g ∙ ap (λ t. t ++ f n) e ∙ flat_map_more f o (range_with_len 0 n) n ∙ ap (λ r. o ++ flat_map f r) (sym more)
+pub row_more : {X : Type 0} (f : ℕ → List X) (first row : ℕ) (o p q : List X) → first ≤ row → p ≡ o ++ flat_map f (range_with_len first (row - first)) → q ≡ p ++ f row
+    → q ≡ o ++ flat_map f (range_with_len first (row + 1 - first))
+row_more f first row o p q from e g =
+    let next : row + 1 - first ≡ suc (row - first) = omega (arith, from) in
+    let here : first + (row - first) ≡ row = omega (arith, from) in
+    let before = range_with_len first (row - first) in
+    let more : range_with_len first (row + 1 - first) ≡ before ++ row ∷ [] =
+    ap (range_with_len first) next ∙ range_more first (row - first) ∙ ap (λ x. before ++ x ∷ []) here in
+    g ∙ ap (λ t. t ++ f row) e ∙ flat_map_more f o before row ∙ ap (λ r. o ++ flat_map f r) (sym more)
 
 -- what a frame of a playtest shows beside the board
 pub beside_at : (p : Playtest) (frame : Frame) (row column : ℕ) (spot : Spot) → Shows frame (play_cell p) → 80 * row + column < 2000 → slice_get frame.cells (80 * row + column) ≡ Some (cell_of spot) → spot ≡ spot_beside p row column

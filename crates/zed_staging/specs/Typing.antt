@@ -35,9 +35,9 @@ letter b =
     if b == 115 then Some ShootSouth else
     if b == 100 then Some ShootEast else None
 
--- q (113), and control and D (4), end the keys
+-- q (113), and control with C (3) or D (4), end the keys
 abbrev pub plain : ℕ → Stroke
-plain b = if b == 113 || b == 4 then on Over else ends (letter b)
+plain b = if b == 113 || b == 3 || b == 4 then on Over else ends (letter b)
 
 abbrev pub is_digit : ℕ → Bool
 is_digit b = nat_le 48 b && nat_le b 57

@@ -1,11 +1,11 @@
 //! What a terminal is told of a playtest.
-ghost use Rattle.std.specs.Prelude.{◌≡◌, ◌+◌, ◌*◌, ◌++◌, ◌<◌, IfOk, None, OnOk, Some, length, slice_get};
+ghost use Rattle.std.specs.Prelude.{◌≡◌, ◌+◌, ◌*◌, ◌++◌, ◌<◌, ◌≤◌, IfOk, None, OnOk, Some, length, slice_get};
 ghost use Rattle.std.specs.List.{flat_map};
 ghost use Rattle.zed_play.specs.Playtest.{Playtest};
 ghost use Rattle.zed_screen.specs.Frames.{Shows};
 ghost use Rattle.zed_screen.specs.Panel.{play_cell};
 ghost use Rattle.zed_look.specs.Coloured.{coloured_row};
-ghost use Rattle.zed_staging.specs.Staged.{beside, cell_of, help, last_of, line_end, message_line, stage_row, stage_rows, stage_text};
+ghost use Rattle.zed_staging.specs.Staged.{beside, cell_of, first_shown, help, last_of, line_end, message_line, player_row, rows_shown, stage_row, stage_rows, stage_text};
 
 use std::alloc::{AllocError, Global};
 use zed_look::{Spot, draw_play_row, put_coloured_row, put_glyphs};
@@ -72,15 +72,63 @@ fn put_row(
     put_coloured_row(spots.as_slice(), out)
 }
 
+/// Appends so many rows from one on.
 #[tactic(auto, unfolding(crate::specs::Staged::stage_rows))]
-fn put_rows(out: &mut Vec<u8>, alloc: Global, play: &Play) -> Result<(), AllocError>
-    ensures { OnOk result (out.new.items ≡ out.old.items ++ stage_rows play.now) }
+fn put_rows(
+    out: &mut Vec<u8>,
+    alloc: Global,
+    play: &Play,
+    first: usize,
+    count: usize,
+) -> Result<(), AllocError>
+    requires rows { first + count ≤ 25 }
+    ensures { OnOk result (out.new.items ≡ out.old.items ++ stage_rows first count play.now) }
 {
     let frame = draw_play(play);
-    for row in 0..25_usize {
+    for row in first..first + count {
         put_row(out, alloc, play, &frame, row)?;
     }
     Ok(())
+}
+
+/// How many rows of the board a terminal of so many rows shows.
+fn rows_shown(rows: usize) -> usize
+    ensures result { result ≡ rows_shown rows }
+    ensures within { result ≤ 25 }
+{
+    if 27 <= rows {
+        25
+    } else if 3 <= rows {
+        rows - 2
+    } else {
+        1
+    }
+}
+
+/// The row of the player, counted from 0.
+fn player_row(play: &Play) -> usize
+    ensures { result ≡ player_row play.now }
+{
+    match play.board().stat(0) {
+        Some(stat) => usize::from(stat.place.y).saturating_sub(1),
+        None => 0,
+    }
+}
+
+/// The first of so many rows that are shown around one.
+fn first_shown(count: usize, row: usize) -> usize
+    requires { count ≤ 25 }
+    ensures result { result ≡ first_shown count row }
+    ensures within { result + count ≤ 25 }
+{
+    let before = count / 2;
+    if row <= before {
+        0
+    } else if row - before <= 25 - count {
+        row - before
+    } else {
+        25 - count
+    }
 }
 
 fn put_text(out: &mut Vec<u8>, text: &str) -> Result<(), AllocError>
@@ -135,16 +183,17 @@ fn put_help(out: &mut Vec<u8>) -> Result<(), AllocError>
     )
 }
 
-/// The picture of a playtest in place, from the upper left place on, with at most so many of its last messages below, and nothing behind
-/// these. Only want of memory refuses it.
+/// The picture of a playtest in place, for a terminal of so many rows: from the upper left place the rows around the player, all if there is
+/// room, then the last messages, how keys are typed, and nothing behind that. Only want of memory refuses it.
 #[tactic(auto, unfolding(crate::specs::Staged::stage_text))]
-pub fn staged(alloc: Global, play: &Play, messages: usize) -> Result<Vec<u8>, AllocError>
-    ensures { IfOk result (λ text. text.items ≡ stage_text messages play.now) }
+pub fn staged(alloc: Global, play: &Play, rows: usize) -> Result<Vec<u8>, AllocError>
+    ensures { IfOk result (λ text. text.items ≡ stage_text rows play.now) }
 {
+    let count = rows_shown(rows);
     let mut text = Vec::new(alloc);
     put_text(&mut text, "\x1B[H")?;
-    put_rows(&mut text, alloc, play)?;
-    put_messages(&mut text, play.messages(), messages)?;
+    put_rows(&mut text, alloc, play, first_shown(count, player_row(play)), count)?;
+    put_messages(&mut text, play.messages(), rows.saturating_sub(1).saturating_sub(count))?;
     put_help(&mut text)?;
     Ok(text)
 }

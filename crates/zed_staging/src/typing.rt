@@ -17,7 +17,7 @@ pub enum Reading {
     Modifier,
     /// Behind that 2.
     Shifted,
-    /// Behind `q`, or control and D: no more keys come.
+    /// Behind `q`, or control with C or D: no more keys come.
     Over,
 }
 
@@ -73,7 +73,7 @@ fn plain(byte: u8) -> Stroke
     ensures { result ≡ plain byte }
 {
     match byte {
-        b'q' | 4 => on(Reading::Over),
+        b'q' | 3 | 4 => on(Reading::Over),
         _ => ends(letter(byte)),
     }
 }

@@ -1,0 +1,5 @@
+pub mod Devices
+pub mod Stage
+pub mod Course
+pub mod Again
+pub mod Record
