@@ -11,7 +11,7 @@ use Rattle.zed_playing.specs.Course.{Course, Plays, Point}
 -- a step isn't changed by words behind those that it had, and leaves them too
 steps_more : (used : ℕ) (key : Key) (p q : Playtest) (words more : List ℕ) → Steps (Ok used) key p words q
     → Steps (Ok used) key p (words ++ more) q × (drop used (words ++ more) ≡ drop used words ++ more)
-steps_more used key p q words more (going, left, step, is) =
+steps_more used key p q words more (going, (left, (step, is))) =
     let front = front_step key p q words left step in
     let taken = front.0 in
     let all : words ≡ taken ++ left = front.1.0 in
@@ -23,7 +23,7 @@ steps_more used key p q words more (going, left, step, is) =
     let same : used ≡ length (words ++ more) - length (left ++ more) = omega (arith, count, longer) in
     let behind : drop used (words ++ more) ≡ left ++ more = ap (λ n. drop n (words ++ more)) count ∙ ap (drop (length taken)) whole ∙ drop-append_seam taken (left ++ more) in
     let before : drop used words ≡ left = ap (λ n. drop n words) count ∙ ap (drop (length taken)) all ∙ drop-append_seam taken left in
-    ((going, left ++ more, again, same), behind ∙ ap (λ l. l ++ more) (sym before))
+    ((going, (left ++ more, (again, same))), behind ∙ ap (λ l. l ++ more) (sym before))
 
 -- a course that starts with these words left, and has others come later
 comes_on : (used : ℕ) (key : Key) (p next q : Playtest) (keys : List Key) (left came more rest behind : List ℕ)

@@ -1,3 +1,6 @@
 pub mod Again
-pub mod Record
+pub mod Coming
+pub mod Messages
+pub mod ReadBack
 pub mod Supply
+pub mod Turning

@@ -34,10 +34,13 @@ course at stage = record { at = at; stage = stage }
 abbrev pub LacksWords : Key → Playtest → List ℕ → Type 0
 LacksWords key p words = Steps (Err step.NoWords) key p words p
 
--- words came only since those that were left, and those that came before the last of them, were too few for the step by a key
+-- words came for the step by a key: those that were left, and those that came before the last of them, were too few
+abbrev pub IsBehind : Key → Point → List ℕ → Type 0
+IsBehind key a came = (before : List ℕ) × (last : List ℕ) × (came ≡ before ++ last) × LacksWords key a.play (a.left ++ before)
+
+-- they are needed, if any came
 abbrev pub IsNeeded : Key → Point → List ℕ → Type 0
-IsNeeded key a came =
-    (came ≡ []) ⊎ ((before : List ℕ) × (last : List ℕ) × (came ≡ before ++ last) × LacksWords key a.play (a.left ++ before))
+IsNeeded key a came = (came ≡ []) ⊎ IsBehind key a came
 
 -- a step is made by a key, with the words that were left and those that came for it
 abbrev pub Makes : Key → List ℕ → Point → Point → Type 0
@@ -52,8 +55,7 @@ IsSupplied key a chance b chance_then =
 -- the source never has enough for the step by a key, or fails: nothing is played
 abbrev pub LacksSupply : Key → Point → Option (List ℕ) → Point → Option (List ℕ) → Type 0
 LacksSupply key a chance b chance_then =
-    (before : List ℕ) × (last : List ℕ) × Brings (before ++ last) chance chance_then × LacksWords key a.play (a.left ++ before)
-    × (b.play ≡ a.play) × (b.keys ≡ a.keys)
+    (came : List ℕ) × Brings came chance chance_then × IsBehind key a came × (b.play ≡ a.play) × (b.keys ≡ a.keys)
 
 -- a key is played, and kept
 abbrev pub PlaysKey : Key → Point → Option (List ℕ) → Point → Option (List ℕ) → Type 0

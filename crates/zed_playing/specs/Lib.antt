@@ -3,3 +3,8 @@ pub mod Stage
 pub mod Course
 pub mod Again
 pub mod Record
+pub mod Report
+pub mod Opening
+pub mod Performing
+pub mod Boards
+pub mod Program

@@ -1,14 +1,11 @@
--- What comes of a playtest that is played in place.
+-- A playtest that is drawn, and then played to its end.
 use Rattle.std.specs.Prelude.{◌≡◌, ◌⊎◌, ℕ, Bool, true, false, List, [], Option, Result, Ok, Err, ⊤}
-use Rattle.zed_op.specs.declared.op.Edit.{Edit}
 use Rattle.zed_play.specs.Playtest.{Playtest}
 use Rattle.zed_files.specs.declared.refusal.Refusal.{Refusal}
 use Rattle.zed_files.specs.declared.refusal.Refusal.TheVariants.{Memory, ScreenFault}
-use Rattle.zed_files.specs.Collected.{Collects}
-use Rattle.zed_host.specs.HostContents.{HostContents}
 use Rattle.zed_staging.specs.Staged.{stage_text}
-use Rattle.zed_playing.specs.Course.{Course, PlaysOn, Point, course}
-use Rattle.zed_playing.specs.Opening.{opened_in}
+use Rattle.zed_playing.specs.Again.{Comes}
+use Rattle.zed_playing.specs.Course.{PlaysOn, Point, course}
 use Rattle.zed_playing.specs.Stage.{Draws, Stage, stage}
 
 -- a playtest before its first step, with words of chance that came already
@@ -34,12 +31,8 @@ Performs rows first old new r =
     × Draws true (stage_text rows first.play) old.drawn old.terminal drawn terminal × (new ≡ with_drawn drawn terminal old)))
     ⊎ ((r ≡ Err Memory) × (new ≡ old))
 
--- the same of a playtest that could be begun; or why it couldn't
-abbrev pub PerformsAny : ℕ → Result Playtest Refusal → List ℕ → Stage → Stage → Result Point Refusal → Type 0
-PerformsAny rows (Ok p) words old new r = Performs rows (at_start p words) old new r
-PerformsAny rows (Err e) words old new r = (r ≡ Err e) × (new ≡ old)
-
--- the same of a board of the edits that the files of these names come to
-abbrev pub IsPerformed : Type 0 → HostContents → ℕ → ℕ → List ℕ → List (List ℕ) → Stage → Stage → Result Point Refusal → Type 0
-IsPerformed failed t board rows words files old new r =
-    (set : Result (List Edit) Refusal) × Collects failed t files set × PerformsAny rows (opened_in board set) words old new r
+-- where a playtest was played to its end, the keys and words that are kept come to it again
+abbrev pub PerformancesComeAgain : Type 0
+PerformancesComeAgain =
+    (rows : ℕ) (p : Playtest) (words : List ℕ) (old new : Stage) (last : Point) →
+    Performs rows (at_start p words) old new (Ok last) → Comes p last.keys last.words last.play last.left

@@ -1,29 +1,21 @@
-//! Boards of documents and of edit files played in place.
-ghost use Rattle.std.specs.Prelude.{[], ◌≡◌, ◌⊎◌, ◌≤◌, Err, MatchResult, Ok, Some, false, length};
-ghost use Rattle.zed_host.specs.Counting.{Counts, Rose};
-ghost use Rattle.zed_host.specs.HostContents.{HostContents};
-ghost use Rattle.zed_files.specs.Asked.{Asks, reading, refusal_in};
-ghost use Rattle.zed_files.specs.Faults.{TellsFailures};
+//! A playtest that is drawn, and then played to its end.
+ghost use Rattle.std.specs.Prelude.{◌≡◌, Err, MatchResult, Ok};
+ghost use Rattle.zed_host.specs.Counting.{Counts};
 ghost use Rattle.zed_files.specs.Refusals.{is_key_fault, is_screen_fault};
-ghost use Rattle.zed_files.specs.Texts.{texts_of};
 ghost use Rattle.zed_playing.specs.Course.{point};
-ghost use Rattle.zed_playing.specs.Opening.{opened};
-ghost use Rattle.zed_playing.specs.Performing.{IsPerformed, Performs, PerformsAny, at_start};
+ghost use Rattle.zed_playing.specs.Performing.{PerformancesComeAgain, Performs, at_start};
 ghost use Rattle.zed_playing.specs.Stage.{stage};
 
 use crate::devices::{Chance, Terminal};
-use crate::opening::opened;
 use crate::tape::Tape;
 use crate::turns::{play_on, show};
 use std::alloc::Global;
-use zed_document::Document;
-use zed_files::{Refusal, load};
-use zed_host::Host;
+use zed_files::Refusal;
 use zed_play::Play;
 use zed_session::Keys;
 
 /// Draws a playtest before its first step, and plays it on.
-fn play_from<T: Terminal, K: Keys, C: Chance>(
+pub(crate) fn play_from<T: Terminal, K: Keys, C: Chance>(
     alloc: Global,
     play: Play,
     words: Vec<u16>,
@@ -53,3 +45,8 @@ fn play_from<T: Terminal, K: Keys, C: Chance>(
     play_on(alloc, &mut tape, terminal, keys, chance, rows)?;
     Ok(tape)
 }
+
+/// Where a playtest was played to its end, what is kept of it comes to the same again, from its beginning.
+pub fn performances_come_again()
+    ensures result { PerformancesComeAgain }
+{}

@@ -28,6 +28,17 @@ impl<K: Keys> Queue<K> {
         }
     }
 
+    /// Those that are still to come before the source's.
+    pub(crate) fn rest(&self) -> &[Key]
+        ensures { result.now ≡ drop self.now.taken self.now.kept.items }
+    {
+        if self.taken <= self.kept.len() {
+            self.kept.as_slice().split_at(self.taken).1
+        } else {
+            &[]
+        }
+    }
+
     /// These come next, in place of those that were to come before the source's.
     pub(crate) fn fill(&mut self, kept: Vec<Key>)
         ensures kept { self.new.kept ≡ kept }

@@ -44,10 +44,10 @@ fn key_of(byte: u8) -> Option<Key>
 fn put_key(out: &mut Vec<Key>, key: Option<Key>) -> Result<(), AllocError>
     ensures { OnOk result (out.new.items ≡ out.old.items ++ listed key) }
 {
-    match key {
-        Some(key) => out.push(key),
-        None => Ok(()),
+    if let Some(key) = key {
+        out.push(key)?;
     }
+    Ok(())
 }
 
 /// The keys of a file. What is no letter of a key is passed over.
@@ -90,7 +90,8 @@ fn put_word(out: &mut Vec<u8>, word: u16) -> Result<(), AllocError>
     ensures { OnOk result (out.new.items ≡ out.old.items ++ spelled word) }
 {
     out.push((word % 256) as u8)?;
-    out.push((word / 256) as u8)
+    out.push((word / 256) as u8)?;
+    Ok(())
 }
 
 /// The file of words.

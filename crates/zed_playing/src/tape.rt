@@ -1,10 +1,11 @@
 //! A playtest with what it came of.
-ghost use Rattle.std.specs.Prelude.{◌≡◌, ◌≢◌, ◌+◌, ◌⊎◌, ◌≤◌, ◌++◌, ℕ, [], Err, IfErr, List, None, Ok, OnOk, drop, false, length, true};
+ghost use Rattle.std.specs.Prelude.{◌≡◌, ◌≢◌, ◌+◌, ◌⊎◌, ◌≤◌, ◌++◌, ◌∷◌, ℕ, [], Err, IfErr, List, None, Ok, OnOk, drop, false, length, true};
 ghost use Rattle.zed_play.specs.Step.{Steps};
 ghost use Rattle.zed_playing.specs.Devices.{Brings};
 ghost use Rattle.zed_playing.specs.Course.{IsSupplied, LacksSupply, LacksWords, PlaysKey, point};
 
 use crate::devices::Chance;
+use std::alloc::AllocError;
 use zed_files::Refusal;
 use zed_play::{Key, Play, PlayError};
 use zed_session::DeviceFailed;
@@ -25,7 +26,7 @@ pub struct Tape {
 impl Tape {
     /// A playtest before its first step, with words of chance that came already. It takes no memory.
     pub fn new(play: Play, words: Vec<u16>) -> Tape
-        ensures play { result.play ≡ play.now }
+        ensures play { result.play ≡ play }
         ensures keys { result.keys.items ≡ [] }
         ensures words { result.words ≡ words }
         ensures used { result.used ≡ 0 }
@@ -74,6 +75,7 @@ impl Tape {
             × (C.to_come chance.new ≡ C.to_come chance.old))) }
         ensures calm { (result ≢ Err Refusal.NoWords)
             → C.chance_failures chance.new ≡ C.chance_failures chance.old }
+        ensures grown { length self.old.words.items ≤ length self.new.words.items }
         ensures play { self.new.play ≡ self.old.play }
         ensures keys { self.new.keys ≡ self.old.keys }
         ensures used { self.new.used ≡ self.old.used }
@@ -107,6 +109,17 @@ impl Tape {
         Err(Refusal::NoWords)
     }
 
+    /// Keeps a key.
+    fn keep(&mut self, key: Key) -> Result<(), AllocError>
+        ensures keys { OnOk result (self.new.keys.items ≡ self.old.keys.items ++ key ∷ []) }
+        ensures play { self.new.play ≡ self.old.play }
+        ensures words { self.new.words ≡ self.old.words }
+        ensures used { self.new.used ≡ self.old.used }
+    {
+        self.keys.push(key)?;
+        Ok(())
+    }
+
     /// Plays a key, and keeps it.
     pub(crate) fn play_key<C: Chance>(&mut self, chance: &mut C, key: Key) -> Result<(), Refusal>
         requires within { self.old.used ≤ length self.old.words.items }
@@ -121,7 +134,7 @@ impl Tape {
         ensures within { self.new.used ≤ length self.new.words.items }
     {
         self.supply(chance, key)?;
-        self.keys.push(key)?;
+        self.keep(key)?;
         Ok(())
     }
 }

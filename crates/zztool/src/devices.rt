@@ -26,17 +26,47 @@ fn read_some<R: Read>(reader: &mut R, into: &mut [u8]) -> io::Result<usize>
     Err(io::Error::from(ErrorKind::Interrupted))
 }
 
-/// What is drawn goes to standard output.
+/// What comes before the first picture: another screen, no cursor, and long lines are cut.
+const ENTER: &[u8] = b"\x1b[?1049h\x1b[?25l\x1b[?7l";
+
+/// What comes behind the last one: all of that as it was.
+const LEAVE: &[u8] = b"\x1b[?7h\x1b[?25h\x1b[?1049l";
+
+/// What is drawn goes to standard output, on a screen of its own.
 #[derive(Drop)]
 pub struct Display {
     rt: HostRuntime,
+    is_entered: bool,
     failures: u64,
 }
 
 impl Display {
     /// Nothing was drawn yet.
     pub fn new(rt: HostRuntime) -> Display {
-        Display { rt, failures: 0 }
+        Display {
+            rt,
+            is_entered: false,
+            failures: 0,
+        }
+    }
+
+    // Writes a text, behind what comes before the first one.
+    fn put(&mut self, text: &[u8]) -> io::Result<()>
+        ensures failures { self.new.failures ≡ self.old.failures }
+    {
+        if !self.is_entered {
+            self.is_entered = true;
+            self.rt.stdout().write_all(ENTER)?;
+        }
+        self.rt.stdout().write_all(text)
+    }
+
+    /// Leaves the screen as it was before the first picture. What can't be told any more isn't.
+    pub fn leave(&mut self) {
+        if self.is_entered {
+            self.is_entered = false;
+            let _ = self.rt.stdout().write_all(LEAVE);
+        }
     }
 }
 
@@ -48,11 +78,13 @@ impl Terminal for Display {
     ghost draws_foretell = { λ _. None };
 
     fn draw(&mut self, text: &[u8]) -> Result<(), DeviceFailed> {
-        if self.rt.stdout().write_all(text).is_ok() {
-            return Ok(());
+        match self.put(text) {
+            Ok(()) => Ok(()),
+            Err(_) => {
+                self.failures = self.failures.saturating_add(1);
+                Err(DeviceFailed)
+            }
         }
-        self.failures = self.failures.saturating_add(1);
-        Err(DeviceFailed)
     }
 
     fn failures(&self) -> u64 {

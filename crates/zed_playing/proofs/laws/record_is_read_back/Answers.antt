@@ -1,4 +1,4 @@
-use Rattle.zed_playing.proofs.Record.{keys_back, words_back}
+use Rattle.zed_playing.proofs.ReadBack.{keys_back, words_back}
 use Rattle.zed_playing.proofs.laws.record_is_read_back.Goals as goal
 
 pub returns : goal.returns

@@ -1,0 +1,93 @@
+//! Boards of documents and of edit files played in place.
+ghost use Rattle.std.specs.Prelude.{[], ◌≡◌, ◌⊎◌, Err, MatchResult, Ok, Some, false};
+ghost use Rattle.zed_host.specs.Counting.{Counts, Rose};
+ghost use Rattle.zed_host.specs.HostContents.{HostContents};
+ghost use Rattle.zed_files.specs.Asked.{Asks, reading, refusal_in};
+ghost use Rattle.zed_files.specs.Faults.{TellsFailures};
+ghost use Rattle.zed_files.specs.Refusals.{is_key_fault, is_screen_fault};
+ghost use Rattle.zed_files.specs.Texts.{texts_of};
+ghost use Rattle.zed_playing.specs.Boards.{IsPerformed, PerformsAny};
+ghost use Rattle.zed_playing.specs.Course.{point};
+ghost use Rattle.zed_playing.specs.Opening.{opened};
+ghost use Rattle.zed_playing.specs.Stage.{stage};
+
+use crate::devices::{Chance, Terminal};
+use crate::opening::opened;
+use crate::performing::play_from;
+use crate::tape::Tape;
+use std::alloc::Global;
+use zed_document::Document;
+use zed_files::{Refusal, load};
+use zed_host::Host;
+use zed_session::Keys;
+
+/// Plays a board of a document's world.
+pub(crate) fn play_board<T: Terminal, K: Keys, C: Chance>(
+    alloc: Global,
+    document: &Document,
+    board: usize,
+    words: Vec<u16>,
+    rows: usize,
+    terminal: &mut T,
+    keys: &mut K,
+    chance: &mut C,
+) -> Result<Tape, Refusal>
+    requires sound { document.now.is_stale ≡ false }
+    ensures performs { let before = stage (T.drawn terminal.old) (T.draws_foretell terminal.old)
+        (K.left keys.old) (K.keys_foretell keys.old) (C.to_come chance.old) in
+        let after = stage (T.drawn terminal.new) (T.draws_foretell terminal.new)
+        (K.left keys.new) (K.keys_foretell keys.new) (C.to_come chance.new) in
+        MatchResult result
+        (λ tape. PerformsAny rows (opened board document.now.edits) words.items before after
+        (Ok (point tape)))
+        (λ e. ((e ≡ Refusal.Memory) × (after ≡ before))
+        ⊎ PerformsAny rows (opened board document.now.edits) words.items before after (Err e)) }
+    ensures key_faults { Counts (is_key_fault result)
+        (K.key_failures keys.old) (K.key_failures keys.new) }
+    ensures screen_faults { Counts (is_screen_fault result)
+        (T.draw_failures terminal.old) (T.draw_failures terminal.new) }
+{
+    let play = opened(alloc, document, board)?;
+    play_from(alloc, play, words, rows, terminal, keys, chance)
+}
+
+/// Plays a board of the world of edit files in place: draws it on a terminal of so many rows, and then plays key by key, with words of
+/// chance that came already before those of a source, and draws each, to the end of the playtest or of the keys. Bodies of a board may
+/// have 32,767 bytes.
+///
+/// # Errors
+/// The first of these: a file that can't be read, a clash or a fault of the files; what the world can't be exported for; NoBoard where it
+/// has no board of this number; ScreenFault, KeyFault, NoWords and TooManyTurns of the playtest. And Memory.
+pub fn perform<H: Host, T: Terminal, K: Keys, C: Chance>(
+    alloc: Global,
+    host: &mut H,
+    board: u16,
+    words: Vec<u16>,
+    files: &[&str],
+    rows: usize,
+    terminal: &mut T,
+    keys: &mut K,
+    chance: &mut C,
+) -> Result<Tape, Refusal>
+    ensures performed { (t : HostContents) → H.contents host.old ≡ Some t
+        → let failed = Rose (H.faults host.old) (H.faults host.new) in
+        let before = stage (T.drawn terminal.old) (T.draws_foretell terminal.old)
+        (K.left keys.old) (K.keys_foretell keys.old) (C.to_come chance.old) in
+        let after = stage (T.drawn terminal.new) (T.draws_foretell terminal.new)
+        (K.left keys.new) (K.keys_foretell keys.new) (C.to_come chance.new) in
+        MatchResult result
+        (λ tape. IsPerformed failed t board rows words.items (texts_of files.now) before after
+        (Ok (point tape)))
+        (λ e. ((e ≡ Refusal.Memory) × (after ≡ before))
+        ⊎ IsPerformed failed t board rows words.items (texts_of files.now) before after (Err e)) }
+    ensures kept { H.contents host.new ≡ H.contents host.old }
+    ensures key_faults { Counts (is_key_fault result)
+        (K.key_failures keys.old) (K.key_failures keys.new) }
+    ensures screen_faults { Counts (is_screen_fault result)
+        (T.draw_failures terminal.old) (T.draw_failures terminal.new) }
+    ensures asked { Asks H.called (reading (texts_of files.now)) [] (refusal_in result) host.old host.new }
+    ensures failures { TellsFailures H.faults H.failed result host.old host.new }
+{
+    let document = load(alloc, host, files)?;
+    play_board(alloc, &document, usize::from(board), words, rows, terminal, keys, chance)
+}
