@@ -1,4 +1,5 @@
 pub mod Again
+pub mod Boarding
 pub mod Coming
 pub mod Messages
 pub mod ReadBack

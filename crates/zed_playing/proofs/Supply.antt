@@ -1,12 +1,12 @@
 -- Words of chance that come one after the other.
-use Rattle.std.proofs.Common.{◌≡◌, ◌∙◌, ◌+◌, ◌++◌, ◌≤◌, ℕ, zero, suc, List, [], ◌∷◌, Option, Some, None, Ok, ap, append_assoc, arith, drop, length, refl, subst, sym}
+use Rattle.std.proofs.Common.{◌≡◌, ◌∙◌, ◌+◌, ◌++◌, ◌≤◌, ℕ, zero, suc, List, [], ◌∷◌, Option, Some, None, Ok, ap, append-nil, append_assoc, arith, drop, length, refl, subst, sym}
 use Rattle.std.specs.Prelude.{option_map}
 use Rattle.std.proofs.lemmas.List.{drop-append-le}
 use Rattle.zed_play.specs.declared.key.Key.{Key}
 use Rattle.zed_play.specs.Playtest.{Playtest}
 use Rattle.zed_play.specs.Step.{Steps}
 use Rattle.zed_playing.specs.declared.tape.Tape.{Tape}
-use Rattle.zed_playing.specs.Course.{Makes, point}
+use Rattle.zed_playing.specs.Course.{IsBehind, LacksWords, Makes, point}
 use Rattle.zed_playing.specs.Devices.{Brings}
 
 -- words came, and then others
@@ -47,3 +47,11 @@ makes_here key a l b came n within words play used step count same =
     let behind : drop b.used b.words.items ≡ drop n (drop a.used a.words.items ++ came) =
     ap (drop b.used) all ∙ drop_more l.used n b.used l.words.items count ∙ ap (drop n) left in
     (n, made, behind, all ∙ words)
+
+-- the words that came to a tape were too few
+pub lacks_here : (key : Key) (a l : Tape) (came : List ℕ) → a.used ≤ length a.words.items → l.words.items ≡ a.words.items ++ came → l.play ≡ a.play → l.used ≡ a.used
+    → LacksWords key l.play (drop l.used l.words.items) → IsBehind key (point a) came
+lacks_here key a l came within words play used lacks =
+    let left : drop l.used l.words.items ≡ drop a.used a.words.items ++ came =
+    ap (λ k. drop k l.words.items) used ∙ ap (drop a.used) words ∙ left_more a.used a.words.items came within in
+    (came, [], sym (append-nil came), subst (λ ws. LacksWords key a.play ws) left (subst (λ p. LacksWords key p (drop l.used l.words.items)) play lacks))

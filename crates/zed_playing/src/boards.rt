@@ -1,5 +1,5 @@
 //! Boards of documents and of edit files played in place.
-ghost use Rattle.std.specs.Prelude.{[], ◌≡◌, ◌⊎◌, Err, MatchResult, Ok, Some, false};
+ghost use Rattle.std.specs.Prelude.{[], ◌≡◌, ◌≢◌, ◌⊎◌, Err, IfErr, MatchResult, Ok, Some, false};
 ghost use Rattle.zed_host.specs.Counting.{Counts, Rose};
 ghost use Rattle.zed_host.specs.HostContents.{HostContents};
 ghost use Rattle.zed_files.specs.Asked.{Asks, reading, refusal_in};
@@ -46,18 +46,20 @@ pub(crate) fn play_board<T: Terminal, K: Keys, C: Chance>(
         (K.key_failures keys.old) (K.key_failures keys.new) }
     ensures screen_faults { Counts (is_screen_fault result)
         (T.draw_failures terminal.old) (T.draw_failures terminal.new) }
+    ensures other { IfErr result (λ e. e ≢ Refusal.File) }
 {
     let play = opened(alloc, document, board)?;
     play_from(alloc, play, words, rows, terminal, keys, chance)
 }
 
-/// Plays a board of the world of edit files in place: draws it on a terminal of so many rows, and then plays key by key, with words of
-/// chance that came already before those of a source, and draws each, to the end of the playtest or of the keys. Bodies of a board may
-/// have 32,767 bytes.
+/// Plays a board of the world of edit files in place: draws it on a terminal of so many rows, and
+/// then plays key by key, with words of chance that came already before those of a source, and
+/// draws each, to the end of the playtest or of the keys. Bodies of a board may have 32,767 bytes.
 ///
 /// # Errors
-/// The first of these: a file that can't be read, a clash or a fault of the files; what the world can't be exported for; NoBoard where it
-/// has no board of this number; ScreenFault, KeyFault, NoWords and TooManyTurns of the playtest. And Memory.
+/// The first of these: a file that can't be read, a clash or a fault of the files; what the world
+/// can't be exported for; NoBoard where it has no board of this number; ScreenFault, KeyFault,
+/// NoWords and TooManyTurns of the playtest. And Memory.
 pub fn perform<H: Host, T: Terminal, K: Keys, C: Chance>(
     alloc: Global,
     host: &mut H,

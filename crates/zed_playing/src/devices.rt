@@ -14,7 +14,8 @@ pub trait Terminal: Drop {
     /// How many calls of `draw` failed.
     ghost draw_failures: { Self → ℕ };
 
-    /// Which of the calls of `draw` to come fail, one after the other, and none behind these; or that this isn't told.
+    /// Which of the calls of `draw` to come fail, one after the other, and none behind these; or
+    /// that this isn't told.
     ghost draws_foretell: { Self → Option (List Bool) };
 
     /// Draws a text, in one piece. Where that fails, part of it may be drawn.

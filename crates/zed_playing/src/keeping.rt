@@ -1,5 +1,5 @@
 //! Playtests kept in files, and read from them.
-ghost use Rattle.std.specs.Prelude.{◌≡◌, ◌⊎◌, ◌++◌, IfErr, IfOk, OnOk, Some};
+ghost use Rattle.std.specs.Prelude.{◌≡◌, ◌≤◌, ◌⊎◌, ◌++◌, IfErr, IfOk, OnOk, Some};
 ghost use Rattle.zed_host.specs.Counting.{Rose};
 ghost use Rattle.zed_host.specs.HostContents.{HostContents, file_in};
 ghost use Rattle.zed_files.specs.Texts.{text_in};
@@ -21,6 +21,7 @@ fn bytes_of<H: Host>(alloc: Global, host: &mut H, name: &str) -> Result<Vec<u8>,
     ensures kept { H.contents host.new ≡ H.contents host.old }
     ensures err { IfErr result (λ e. (e ≡ Refusal.Memory)
         ⊎ ((e ≡ Refusal.File) × Rose (H.faults host.old) (H.faults host.new))) }
+    ensures faults { H.faults host.old ≤ H.faults host.new }
 {
     match host.read(name) {
         Ok(bytes) => Ok(bytes),
@@ -41,6 +42,7 @@ fn kept_in<H: Host>(
     ensures kept { H.contents host.new ≡ H.contents host.old }
     ensures err { IfErr result (λ e. (e ≡ Refusal.Memory)
         ⊎ ((e ≡ Refusal.File) × Rose (H.faults host.old) (H.faults host.new))) }
+    ensures faults { H.faults host.old ≤ H.faults host.new }
 {
     match name {
         Some(name) => bytes_of(alloc, host, name),
@@ -54,6 +56,7 @@ fn keep<H: Host>(host: &mut H, name: Option<&str>, bytes: &[u8]) -> Result<(), R
         (H.contents host.new ≡ Some (with_kept (text_in name.entry) bytes.now t)) }
     ensures err { IfErr result (λ e. (e ≡ Refusal.File)
         × Rose (H.faults host.old) (H.faults host.new)) }
+    ensures faults { H.faults host.old ≤ H.faults host.new }
 {
     if let Some(name) = name {
         host.write(name, bytes)?;
@@ -90,6 +93,7 @@ pub(crate) fn read_kept<H: Host>(
         × (kept.keys.items ≡ keys_in (kept_in t (text_in keys.entry)))) }
     ensures kept { H.contents host.new ≡ H.contents host.old }
     ensures err { IfErr result (λ e. (e ≡ Refusal.Memory) ⊎ (e ≡ Refusal.File)) }
+    ensures faults { H.faults host.old ≤ H.faults host.new }
 {
     let word_bytes = kept_in(alloc, host, words)?;
     let key_bytes = kept_in(alloc, host, keys)?;
@@ -111,6 +115,7 @@ pub(crate) fn keep_all<H: Host>(
         (H.contents host.new ≡ Some (with_record
         (text_in words.entry) (text_in keys.entry) (point tape.now) rest.now t)) }
     ensures err { IfErr result (λ e. (e ≡ Refusal.Memory) ⊎ (e ≡ Refusal.File)) }
+    ensures faults { H.faults host.old ≤ H.faults host.new }
 {
     let word_bytes = spelled_all(alloc, tape.words.as_slice())?;
     let key_bytes = letters_in(alloc, tape.keys.as_slice(), rest)?;

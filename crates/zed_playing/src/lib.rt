@@ -1,4 +1,5 @@
-//! A board played in place at a terminal, by keys as they are typed, and kept, so that it can be played again.
+//! A board played in place at a terminal, by keys as they are typed, and kept, so that it can be
+//! played again.
 #![tactic(auto)]
 
 mod boards;

@@ -1,5 +1,5 @@
 //! A playtest that is drawn, and then played to its end.
-ghost use Rattle.std.specs.Prelude.{◌≡◌, Err, MatchResult, Ok};
+ghost use Rattle.std.specs.Prelude.{◌≡◌, ◌≢◌, Err, IfErr, MatchResult, Ok};
 ghost use Rattle.zed_host.specs.Counting.{Counts};
 ghost use Rattle.zed_files.specs.Refusals.{is_key_fault, is_screen_fault};
 ghost use Rattle.zed_playing.specs.Course.{point};
@@ -39,6 +39,7 @@ pub(crate) fn play_from<T: Terminal, K: Keys, C: Chance>(
         (K.key_failures keys.old) (K.key_failures keys.new) }
     ensures screen_faults { Counts (is_screen_fault result)
         (T.draw_failures terminal.old) (T.draw_failures terminal.new) }
+    ensures other { IfErr result (λ e. e ≢ Refusal.File) }
 {
     let mut tape = Tape::new(play, words);
     show(alloc, &tape.play, terminal, rows)?;
@@ -46,7 +47,8 @@ pub(crate) fn play_from<T: Terminal, K: Keys, C: Chance>(
     Ok(tape)
 }
 
-/// Where a playtest was played to its end, what is kept of it comes to the same again, from its beginning.
+/// Where a playtest was played to its end, what is kept of it comes to the same again, from its
+/// beginning.
 pub fn performances_come_again()
     ensures result { PerformancesComeAgain }
 {}

@@ -20,13 +20,14 @@ use zed_files::Refusal;
 use zed_host::Host;
 use zed_session::Keys;
 
-/// Plays a board of the world of edit files in place, as `perform` does, and keeps it: what is in the files of two names, if there are such,
-/// is played first, words of chance by the one and keys by the other; then come those of the sources. At the end both files have what was
-/// played, and the one of keys those behind the end. The answer is what is told of the playtest.
+/// Plays a board of the world of edit files in place, as `perform` does, and keeps it: what is in
+/// the files of two names, if there are such, is played first, words of chance by the one and keys
+/// by the other; then come those of the sources. At the end both files have what was played, and
+/// the one of keys those behind the end. The answer is what is told of the playtest.
 ///
 /// # Errors
-/// Those of `perform`; File where one of the two files can't be read or written; and Memory. No file is written where the playtest is
-/// refused.
+/// Those of `perform`; File where one of the two files can't be read or written; and Memory. No
+/// file is written where the playtest is refused.
 pub fn play<H: Host, T: Terminal, K: Keys, C: Chance>(
     alloc: Global,
     host: &mut H,

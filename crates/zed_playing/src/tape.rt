@@ -13,7 +13,8 @@ use zed_session::DeviceFailed;
 /// A step that lacks words is tried again with more of them, so many times.
 const TRIES: u32 = 4096;
 
-/// A playtest with the keys that were played and the words of chance that came, of which some aren't used yet.
+/// A playtest with the keys that were played and the words of chance that came, of which some
+/// aren't used yet.
 #[derive(Drop)]
 pub struct Tape {
     pub play: Play,
@@ -24,7 +25,8 @@ pub struct Tape {
 }
 
 impl Tape {
-    /// A playtest before its first step, with words of chance that came already. It takes no memory.
+    /// A playtest before its first step, with words of chance that came already. It takes no
+    /// memory.
     pub fn new(play: Play, words: Vec<u16>) -> Tape
         ensures play { result.play ≡ play }
         ensures keys { result.keys.items ≡ [] }

@@ -93,6 +93,7 @@ fn turn<T: Terminal, K: Keys, C: Chance>(
     ensures calm { (result ≢ Err Refusal.NoWords)
         → C.chance_failures chance.new ≡ C.chance_failures chance.old }
     ensures within { tape.new.used ≤ length tape.new.words.items }
+    ensures other { IfErr result (λ e. e ≢ Refusal.File) }
 {
     let Some(key) = next_key(keys)? else {
         return Ok(false);
@@ -102,11 +103,13 @@ fn turn<T: Terminal, K: Keys, C: Chance>(
     Ok(true)
 }
 
-/// Plays on, key by key, each drawn on a terminal of so many rows, to the end of the playtest or of the keys.
+/// Plays on, key by key, each drawn on a terminal of so many rows, to the end of the playtest or of
+/// the keys.
 ///
 /// # Errors
-/// KeyFault where the source of keys fails, and ScreenFault where the terminal does, with a key played that isn't drawn; NoWords where the
-/// source of chance fails, or brings 131,072 words that are too few for one step; TooManyTurns behind 1,048,576 keys; and Memory.
+/// KeyFault where the source of keys fails, and ScreenFault where the terminal does, with a key
+/// played that isn't drawn; NoWords where the source of chance fails, or brings 131,072 words that
+/// are too few for one step; TooManyTurns behind 1,048,576 keys; and Memory.
 pub fn play_on<T: Terminal, K: Keys, C: Chance>(
     alloc: Global,
     tape: &mut Tape,
@@ -128,6 +131,7 @@ pub fn play_on<T: Terminal, K: Keys, C: Chance>(
     ensures calm { (result ≢ Err Refusal.NoWords)
         → C.chance_failures chance.new ≡ C.chance_failures chance.old }
     ensures within { tape.new.used ≤ length tape.new.words.items }
+    ensures other { IfErr result (λ e. e ≢ Refusal.File) }
 {
     for _ in 0..MOST_KEYS {
         if tape.play.ending().is_some() {

@@ -2,4 +2,4 @@ use Rattle.zed_playing.proofs.Again.{plays_again}
 use Rattle.zed_playing.proofs.laws.plays_again.Goals as goal
 
 pub returns : goal.returns
-returns c = plays_again
+returns c = record { result = plays_again }

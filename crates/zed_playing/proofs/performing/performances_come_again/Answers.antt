@@ -2,4 +2,4 @@ use Rattle.zed_playing.proofs.Coming.{performances_come_again}
 use Rattle.zed_playing.proofs.performing.performances_come_again.Goals as goal
 
 pub returns : goal.returns
-returns c = performances_come_again
+returns c = record { result = performances_come_again }
