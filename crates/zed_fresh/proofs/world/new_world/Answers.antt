@@ -1,7 +1,7 @@
 use Rattle.std.proofs.Common.{◌≡◌, ◌∙◌, ap, List, ◌∷◌, [], ◌++◌}
 use Rattle.zed_world.specs.declared.board.BoardData.{BoardData}
-use Rattle.zed_making.proofs.Worlds.{made_is_normal, made_is_short}
-use Rattle.zed_making.proofs.new.world_named.Goals as goal
+use Rattle.zed_fresh.proofs.Worlds.{made_is_normal, made_is_short}
+use Rattle.zed_fresh.proofs.world.new_world.Goals as goal
 
 pub new-requires-clause-parts : goal.new-requires-clause-parts
 new-requires-clause-parts c =
