@@ -4,3 +4,4 @@ pub mod Stream
 pub mod Laws
 pub mod Refusals
 pub mod Room
+pub mod Known

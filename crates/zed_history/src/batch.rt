@@ -6,7 +6,7 @@ ghost use Rattle.zed_history.specs.Batch.{HasNew, IsBatch, first_of};
 ghost use Rattle.zed_history.specs.Finding.{edit_with};
 
 use crate::history::History;
-use crate::place::spot_of;
+use crate::place::spot_from;
 use std::alloc::{AllocError, Global};
 use zed_op::{Edit, edit_joins_a_set, rising_lists_are_sets, sets_rise, sets_stay_fit};
 use zed_types::Stamp;
@@ -19,8 +19,13 @@ pub struct Batch {
 }
 
 /// Puts an edit among those gathered, unless the log or they have it. Where they have another one of its stamp it tells that, and nothing
-/// changes.
-fn put(log: &[Edit], gathered: &mut History, edit: Edit) -> Result<Option<Stamp>, AllocError>
+/// changes. In the log it is sought where the last one was.
+fn put(
+    log: &[Edit],
+    at: &mut usize,
+    gathered: &mut History,
+    edit: Edit,
+) -> Result<Option<Stamp>, AllocError>
     requires { IsRising log.now }
     ensures none { IfOk result (λ clash. IfNone clash (MatchOption
         (first_of (edit_with edit.stamp log.now) (edit_with edit.stamp gathered.old))
@@ -35,7 +40,7 @@ fn put(log: &[Edit], gathered: &mut History, edit: Edit) -> Result<Option<Stamp>
 {
     let stamp = edit.stamp;
     gathered.seek(stamp);
-    let there = match spot_of(log, log.len(), stamp) {
+    let there = match spot_from(log, at, stamp) {
         Ok(there) => Some(there),
         Err(_) => gathered.find(stamp),
     };
@@ -65,8 +70,9 @@ fn put_all(
     rising_lists_are_sets();
     sets_stay_fit();
     edit_joins_a_set();
+    let mut at = 0;
     for edit in edits {
-        match put(log, gathered, edit)? {
+        match put(log, &mut at, gathered, edit)? {
             Some(stamp) => return Ok(Some(stamp)),
             None => {}
         }

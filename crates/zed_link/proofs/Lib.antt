@@ -7,3 +7,4 @@ pub mod Readings
 pub mod Outcomes
 pub mod Paces
 pub mod Files
+pub mod Feeding

@@ -1,7 +1,7 @@
 use Rattle.std.proofs.Common.{arith, ◌≡◌, ◌-◌, ◌<◌, length, ◌∙◌}
 use Rattle.std.specs.Prelude.{slice_get, IfSome}
 use Rattle.zed_history.proofs.Spots.{edit_with-at, with_edit-at, edit_with-free, with_edit-free, spot-below, get-at, IsSpot}
-use Rattle.zed_history.proofs.place.spot_of.Goals as goal
+use Rattle.zed_history.proofs.place.spot_from.Goals as goal
 
 pub returns-then-ends_with-clause-there : goal.returns-then-ends_with-clause-there
 returns-then-ends_with-clause-there c =
