@@ -27,9 +27,9 @@ use zed_play::Play;
 #[derive(Drop)]
 pub struct Session {
     alloc: Global,
-    pub document: Document,
-    pub links: Vec<Box<dyn Link>>,
-    pub stage: Stage,
+    document: Document,
+    links: Vec<Box<dyn Link>>,
+    stage: Stage,
 }
 
 impl Session {
