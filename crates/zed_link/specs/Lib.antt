@@ -1,4 +1,5 @@
 pub mod Counting
+pub mod Writing
 pub mod Ends
 pub mod Refusals
 pub mod Tally

@@ -177,6 +177,7 @@ fn read_some(link: &mut dyn Link, into: &mut [u8]) -> Result<usize, LinkError>
     ensures length { length into.new ≡ length into.old }
     ensures reads { Counted 1 (reads link.old) (reads link.new) }
     ensures failures { Counts (is_fault result) (failed link.old) (failed link.new) }
+    ensures writes { writes link.new ≡ writes link.old }
     ensures stalls { stalls link.new ≡ stalls link.old }
     ensures accepts { accepts link.new ≡ accepts link.old }
 {
@@ -202,6 +203,7 @@ fn receive_into(
         → NoCountFalls intake.old.counts intake.new.counts }
     ensures reads { reads link.new ≤ reads link.old + most_reads }
     ensures failures { Counts (is_fault result) (failed link.old) (failed link.new) }
+    ensures writes { writes link.new ≡ writes link.old }
     ensures stalls { stalls link.new ≡ stalls link.old }
     ensures accepts { accepts link.new ≡ accepts link.old }
 {
@@ -246,6 +248,7 @@ pub fn receive(
         → NoCountFalls document.old.counts document.new.counts }
     ensures reads { reads link.new ≤ reads link.old + most_reads }
     ensures failures { Counts (is_fault result) (failed link.old) (failed link.new) }
+    ensures writes { writes link.new ≡ writes link.old }
     ensures stalls { stalls link.new ≡ stalls link.old }
     ensures accepts { accepts link.new ≡ accepts link.old }
 {

@@ -4,4 +4,5 @@ pub mod Boards
 pub mod Play
 pub mod Told
 pub mod Links
+pub mod Gone
 pub mod Gains
