@@ -1,0 +1,5 @@
+pub mod Below
+pub mod Fits
+pub mod Plain
+pub mod Printed
+pub mod Some
