@@ -44,13 +44,13 @@ def has_label(program, label):
 def lost_labels(programs, program):
     """The places of the commands that name a label which no program has, and these labels."""
     for line in re.finditer(rb"[^\r]*\r?", program):
-        named = NAMING.match(line.group())
-        if named is None:
+        if line.group()[:1] not in (b"#", b"/", b"?"):
             continue
-        message = named.group(2)
-        label = message.split(b":", 1)[1] if b":" in message else message
-        if label and label.lower() != b"restart" and not any(has_label(other, label) for other in programs):
-            yield line.start(), label
+        for named in NAMING.finditer(line.group()):
+            message = named.group(2)
+            label = message.split(b":", 1)[1] if b":" in message else message
+            if label and label.lower() != b"restart" and not any(has_label(other, label) for other in programs):
+                yield line.start() + named.start(), label
 
 
 def of_program(programs, program):
@@ -88,6 +88,8 @@ def of_tiles(number, board):
 def of_board(number, board, length):
     if length > 20000:
         yield f"board {number}  body of {length} bytes, over 20000"
+    if len(board.name) > 34:
+        yield f"board {number}  name of {len(board.name)} bytes, over 34"
     players = sum(tile[0] == zzt.PLAYER for tile in board.tiles)
     if players != 1:
         yield f"board {number}  {players} players" if players else f"board {number}  no player"
@@ -106,17 +108,20 @@ def of_board(number, board, length):
 def of_file(data):
     """The lines of a world file, by board, and that of the whole file."""
     at = 512
-    for number, board in enumerate(zzt.read(data).boards):
+    world = zzt.read(data)
+    for number, board in enumerate(world.boards):
         length = data[at] + 256 * data[at + 1]
         yield from of_board(number, board, length)
         at += 2 + length
     if at > 350000:
         yield f"world  file of {at} bytes, over 350000"
+    if len(world.name) > 8:
+        yield f"world  name of {len(world.name)} bytes, over 8"
 
 
 LINES = [
     *(b"#send ", b"#SEND  ", b"#zap ", b"#Restore ", b"# send ", b"#sendx ", b"#if x send ", b"say #send ", b" #send ", b"#send\r"),
-    *(b"#end", b":", b"'", b"@", b"/n#send ", b"hello ", b"#zap x ", b"::"),
+    *(b"#end", b":", b"'", b"@", b"/n#send ", b"hello ", b"#zap x ", b"::", b"?#zap ", b"#go n#zap b:a#send ", b"#if x # Restore ", b":x #zap "),
 ]
 WORDS = [b"foo", b"Foo", b"foo1", b"foo_", b"restart", b"all:foo", b"all:Bar", b"bar", b"others:", b":", b"a:b:foo", b"b:foo", b"", b"fo\xfe", b"9foo"]
 
@@ -127,7 +132,7 @@ def made_program(chance):
 
 
 def made_board(chance, number, boards):
-    board = zzt.Board(name=b"Board", exits=[chance.choice([0, 0, number, chance.randrange(boards)]) for _ in range(4)])
+    board = zzt.Board(name=b"B" * chance.choice([5, 34, 35, 50]), exits=[chance.choice([0, 0, number, chance.randrange(boards)]) for _ in range(4)])
     usual = [0, 0, 0, 21, 22, 22, 4, 5, OBJECT, 11, 41, chance.randrange(256), chance.randrange(40, 70)]
     for _ in range(chance.randrange(12)):
         x, y = chance.randint(1, zzt.COLUMNS), chance.randint(1, zzt.ROWS)
@@ -145,7 +150,7 @@ def made_board(chance, number, boards):
 
 def made_world(chance):
     boards = chance.randint(1, 4)
-    return zzt.World(name=b"FAULTS", boards=[made_board(chance, number, boards) for number in range(boards)])
+    return zzt.World(name=b"W" * chance.choice([0, 6, 8, 9, 20]), boards=[made_board(chance, number, boards) for number in range(boards)])
 
 
 def main(words):

@@ -1,3 +1,4 @@
+pub mod Begins
 pub mod Below
 pub mod Fits
 pub mod Plain

@@ -6,7 +6,7 @@ use Rattle.std.proofs.lemmas.Bool.Decides.{nat_tests}
 use Rattle.zed_types.specs.declared.tile.Tile.{Tile}
 use Rattle.zed_world.specs.Writing.{body_text}
 use Rattle.zed_world.specs.declared.board.BoardData.{BoardData}
-use Rattle.zed_lint.specs.Boards.{count_of, exit_findings, long_body, other_players, whole_findings}
+use Rattle.zed_lint.specs.Boards.{count_of, exit_findings, long_board_name, long_body, other_players, whole_findings}
 use Rattle.zed_lint.specs.Found.{each_from, noted}
 use Rattle.zed_lint.specs.Laws.{IsPlain}
 use Rattle.zed_lint.specs.Stats.{stats_findings}
@@ -16,7 +16,7 @@ use Rattle.zed_lint.specs.declared.finding.Finding.{Finding}
 use Rattle.zed_lint.specs.declared.finding.Spot.{Spot}
 use Rattle.zed_lint.specs.declared.finding.Spot.TheVariants.{Board}
 use Rattle.zed_lint.specs.declared.finding.What.{What}
-use Rattle.zed_lint.specs.declared.finding.What.TheVariants.{LongBody, NoPlayer, Players, UnknownElement}
+use Rattle.zed_lint.specs.declared.finding.What.TheVariants.{LongBody, LongBoardName, NoPlayer, Players, UnknownElement}
 
 -- ---- the parts of nothing are nothing
 
@@ -46,6 +46,13 @@ not_long m is = go (nat_lt 20000 m) refl is
     go : (t : Bool) → nat_lt 20000 m ≡ t → cond t (Some (LongBody m)) None ≡ None → m ≤ 20000
     go true e is = absurd (there_is_none (LongBody m) is)
     go false e is = ltb-false 20000 m e
+
+not_long_name : (m : ℕ) → long_board_name m ≡ None → m ≤ 34
+not_long_name m is = go (nat_lt 34 m) refl is
+  where
+    go : (t : Bool) → nat_lt 34 m ≡ t → cond t (Some (LongBoardName m)) None ≡ None → m ≤ 34
+    go true e is = absurd (there_is_none (LongBoardName m) is)
+    go false e is = ltb-false 34 m e
 
 is_one : (n : ℕ) → eqb n 1 ≡ true → n ≡ 1
 is_one n is = grind (arith, nat_tests)
@@ -114,10 +121,13 @@ untold n b is =
     let whole : whole_findings n b ≡ [] = front_none (whole_findings n b) (tiles_findings n b) both in
     let tiles = back_none (whole_findings n b) (tiles_findings n b) both in
     let body = noted (Board n) (long_body (length (body_text b))) in
+    let name = noted (Board n) (long_board_name (length b.name)) in
     let players = noted (Board n) (other_players (count_of 4 b.tiles)) in
-    let two = front_none (body ++ players) (exit_findings n b.properties) whole in
+    let three = front_none (body ++ name ++ players) (exit_findings n b.properties) whole in
+    let two = front_none (body ++ name) players three in
     record {
-      short = not_long (length (body_text b)) (none_noted (Board n) _ (front_none body players two));
-      one_player = one_left (count_of 4 b.tiles) (none_noted (Board n) _ (back_none body players two));
+      short = not_long (length (body_text b)) (none_noted (Board n) _ (front_none body name two));
+      named = not_long_name (length b.name) (none_noted (Board n) _ (back_none body name two));
+      one_player = one_left (count_of 4 b.tiles) (none_noted (Board n) _ (back_none (body ++ name) players three));
       known = known_from n b [] b.tiles refl tt tiles;
     }

@@ -16,7 +16,7 @@ use Rattle.zed_lint.specs.declared.finding.Finding.{Finding}
 use Rattle.zed_lint.specs.declared.finding.Spot.{Spot}
 use Rattle.zed_lint.specs.declared.finding.Spot.TheVariants.{World, Board, Tile, Stat}
 use Rattle.zed_lint.specs.declared.finding.What.{What}
-use Rattle.zed_lint.specs.declared.finding.What.TheVariants.{LongFile, LongBody, NoPlayer, Players, ExitToItself, UnknownElement, NoStat}
+use Rattle.zed_lint.specs.declared.finding.What.TheVariants.{LongFile, LongWorldName, LongBody, LongBoardName, NoPlayer, Players, ExitToItself, UnknownElement, NoStat}
 use Rattle.zed_lint.specs.declared.finding.What.TheVariants.{OutsideTable, NeedlessStat, PassageToItself, NoEndOfLine, LineFeed, NoLabel}
 
 -- a text, and a number
@@ -56,7 +56,9 @@ names_is at = between (codes "names at ") (codes " a label that no program of it
 
 what_is : (w : What) → plain (what_words w) ≡ true
 what_is (LongFile n) = between (codes "file of ") (codes " bytes, over 350000") n refl refl
+what_is (LongWorldName n) = between (codes "name of ") (codes " bytes, over 8") n refl refl
 what_is (LongBody n) = between (codes "body of ") (codes " bytes, over 20000") n refl refl
+what_is (LongBoardName n) = between (codes "name of ") (codes " bytes, over 34") n refl refl
 what_is NoPlayer = refl
 what_is (Players n) = between [] (codes " players") n refl refl
 what_is (ExitToItself side) =

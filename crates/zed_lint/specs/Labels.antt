@@ -62,13 +62,18 @@ label_of message = behind_colon message (position is_colon message)
 abbrev pub names_label : List ℕ → Bool
 names_label word = one_word word (codes "SEND") || one_word word (codes "ZAP") || one_word word (codes "RESTORE")
 
--- whether a line begins at a place: it is the first, or a byte 13 stands before it
-abbrev pub begins_line : List ℕ → ℕ → Bool
-begins_line p at = at == 0 || byte_is p (at - 1) 13
+-- whether what begins at a place begins with a command (`#`, 35) or a step (`/`, 47, or `?`, 63)
+abbrev pub begins_commands : List ℕ → ℕ → Bool
+begins_commands p at = byte_is p at 35 || byte_is p at 47 || byte_is p at 63
 
--- whether a line begins at a place, with a `#` (35) and such a command
+-- whether the line of a place begins so; a line ends with a byte 13
+abbrev pub is_in_commands : List ℕ → ℕ → Bool
+is_in_commands p zero = begins_commands p 0
+is_in_commands p (suc n) = if byte_is p n 13 then begins_commands p (suc n) else is_in_commands p n
+
+-- whether at a place of such a line stand a `#` and a command that names a label
 abbrev pub is_naming : List ℕ → ℕ → Bool
-is_naming p at = begins_line p at && byte_is p at 35 && names_label (first_word (drop (at + 1) p))
+is_naming p at = byte_is p at 35 && names_label (first_word (drop (at + 1) p)) && is_in_commands p at
 
 -- the label that this command names
 unfoldable pub named_label : List ℕ → ℕ → List ℕ

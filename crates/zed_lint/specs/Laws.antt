@@ -13,9 +13,10 @@ use Rattle.zed_lint.specs.World.{board_findings, findings}
 abbrev pub HasALineAFinding : Type 0
 HasALineAFinding = (w : Contents) → lines_in (lines_of w) ≡ length (findings w)
 
--- a board with a body of at most 20,000 bytes, with one player (4), and without elements over 53
+-- a board with a body of at most 20,000 bytes and a name of at most 34, with one player (4), and without elements over 53
 pub record IsPlain (b : BoardData) : Type 0 where
   pub short : length (body_text b) ≤ 20000
+  pub named : length b.name ≤ 34
   pub one_player : count_of 4 b.tiles ≡ 1
   pub known : AllByRecursion (λ t. t.element ≤ 53) b.tiles
 

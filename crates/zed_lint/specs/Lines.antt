@@ -10,7 +10,7 @@ use Rattle.zed_lint.specs.declared.finding.Finding.{Finding}
 use Rattle.zed_lint.specs.declared.finding.Spot.{Spot}
 use Rattle.zed_lint.specs.declared.finding.Spot.TheVariants.{World, Board, Tile, Stat}
 use Rattle.zed_lint.specs.declared.finding.What.{What}
-use Rattle.zed_lint.specs.declared.finding.What.TheVariants.{LongFile, LongBody, NoPlayer, Players, ExitToItself, UnknownElement, NoStat}
+use Rattle.zed_lint.specs.declared.finding.What.TheVariants.{LongFile, LongWorldName, LongBody, LongBoardName, NoPlayer, Players, ExitToItself, UnknownElement, NoStat}
 use Rattle.zed_lint.specs.declared.finding.What.TheVariants.{OutsideTable, NeedlessStat, PassageToItself, NoEndOfLine, LineFeed, NoLabel}
 
 -- where something was found: the numbers of the board and the stat, the place, the element there
@@ -28,7 +28,9 @@ names_words at = codes "names at " ++ number at ++ codes " a label that no progr
 -- what was found
 abbrev pub what_words : What → List ℕ
 what_words (LongFile bytes) = codes "file of " ++ number bytes ++ codes " bytes, over 350000"
+what_words (LongWorldName bytes) = codes "name of " ++ number bytes ++ codes " bytes, over 8"
 what_words (LongBody bytes) = codes "body of " ++ number bytes ++ codes " bytes, over 20000"
+what_words (LongBoardName bytes) = codes "name of " ++ number bytes ++ codes " bytes, over 34"
 what_words NoPlayer = codes "no player"
 what_words (Players count) = number count ++ codes " players"
 what_words (ExitToItself side) = codes "exit " ++ side_word side ++ codes "leads to its own board"

@@ -1,6 +1,6 @@
 //! What is found of a board as a whole.
 ghost use Rattle.std.specs.Prelude.{◌≡◌, ◌<◌, ◌++◌, OnErr, OnOk, length};
-ghost use Rattle.zed_lint.specs.Boards.{count_of, exit_findings, long_body, long_file, other_players, self_exit, whole_findings};
+ghost use Rattle.zed_lint.specs.Boards.{count_of, exit_findings, long_board_name, long_body, long_file, long_world_name, other_players, self_exit, whole_findings};
 ghost use Rattle.zed_world.specs.Normal.{IsWritable};
 
 use crate::finding::{Finding, Spot, What};
@@ -13,6 +13,12 @@ use zed_world::{BoardData, Properties};
 /// Most bytes of a world file that ZZT loads with room to play.
 const FILE_LIMIT: usize = 350_000;
 
+/// Most bytes of a world's name that DOS leaves in the name of a file.
+const WORLD_NAME_LIMIT: usize = 8;
+
+/// Most bytes of a board's name that ZZT's editor shows, and takes.
+const BOARD_NAME_LIMIT: usize = 34;
+
 /// A file of so many bytes, if that are too many.
 pub(crate) fn long_file(bytes: usize) -> Option<What>
     ensures { result ≡ long_file bytes }
@@ -24,12 +30,34 @@ pub(crate) fn long_file(bytes: usize) -> Option<What>
     }
 }
 
+/// A world's name of so many bytes, if that are too many.
+pub(crate) fn long_world_name(bytes: usize) -> Option<What>
+    ensures { result ≡ long_world_name bytes }
+{
+    if WORLD_NAME_LIMIT < bytes {
+        Some(What::LongWorldName(bytes))
+    } else {
+        None
+    }
+}
+
 // A body of so many bytes, if that are too many.
 fn long_body(bytes: usize) -> Option<What>
     ensures { result ≡ long_body bytes }
 {
     if BODY_LIMIT < bytes {
         Some(What::LongBody(bytes))
+    } else {
+        None
+    }
+}
+
+// A board's name of so many bytes, if that are too many.
+fn long_board_name(bytes: usize) -> Option<What>
+    ensures { result ≡ long_board_name bytes }
+{
+    if BOARD_NAME_LIMIT < bytes {
+        Some(What::LongBoardName(bytes))
     } else {
         None
     }
@@ -103,6 +131,7 @@ pub(crate) fn note_whole(
 {
     let spot = Spot::Board(number);
     note(found, spot, long_body(body_len(board)))?;
+    note(found, spot, long_board_name(board.name.as_slice().len()))?;
     note(found, spot, other_players(count_of(PLAYER, &board.tiles)))?;
     note_exits(found, number, &board.properties)
 }

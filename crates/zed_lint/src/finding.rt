@@ -20,8 +20,12 @@ pub enum Spot {
 pub enum What {
     /// The file of the world has so many bytes, over 350,000.
     LongFile(usize),
+    /// The name of the world has so many bytes, over 8.
+    LongWorldName(usize),
     /// The body of the board has so many bytes, over 20,000.
     LongBody(usize),
+    /// The name of the board has so many bytes, over 34.
+    LongBoardName(usize),
     /// No tile of the board is a player.
     NoPlayer,
     /// So many tiles of the board are players, more than one.

@@ -1,6 +1,6 @@
 //! Labels that commands of programs name, and no program has.
 ghost use Rattle.std.specs.Prelude.{◌≡◌, ◌<◌, ◌++◌, OnErr, OnOk, length, position};
-ghost use Rattle.zed_lint.specs.Labels.{begins_line, behind_word, first_word, has_label, is_colon, is_known, is_label, is_lost, is_naming, is_no_space, is_of_word, is_past_word, label_findings, label_of, labels_findings, named_label, names_label, some_has, unspaced};
+ghost use Rattle.zed_lint.specs.Labels.{begins_commands, behind_word, first_word, has_label, is_colon, is_in_commands, is_known, is_label, is_lost, is_naming, is_no_space, is_of_word, is_past_word, label_findings, label_of, labels_findings, named_label, names_label, some_has, unspaced};
 ghost use Rattle.zed_script.specs.Label.{one_word as one_word_of};
 
 use crate::finding::{Finding, Spot, What};
@@ -85,11 +85,22 @@ fn names_label(word: &[u8]) -> bool
     is_word(word, "SEND") || is_word(word, "ZAP") || is_word(word, "RESTORE")
 }
 
-// Whether a line begins at a place.
-fn begins_line(program: &[u8], at: usize) -> bool
-    ensures { result ≡ begins_line program.now at }
+// Whether what begins at a place begins with a command or a step.
+fn begins_commands(program: &[u8], at: usize) -> bool
+    ensures { result ≡ begins_commands program.now at }
 {
-    at == 0 || byte_is(program, at - 1, END)
+    byte_is(program, at, b'#') || byte_is(program, at, b'/') || byte_is(program, at, b'?')
+}
+
+// Whether the line of a place begins so.
+fn is_in_commands(program: &[u8], at: usize) -> bool
+    ensures { result ≡ is_in_commands program.now at }
+{
+    let mut start = at;
+    while start > 0 && !byte_is(program, start - 1, END) {
+        start -= 1;
+    }
+    begins_commands(program, start)
 }
 
 fn colon(message: &[u8]) -> Option<usize>
@@ -109,15 +120,15 @@ fn label_of(message: &[u8]) -> &[u8]
     }
 }
 
-// Whether a line begins at a place with a command that names a label.
+// Whether at a place of such a line stands a command that names a label.
 fn is_naming(program: &[u8], at: usize) -> bool
     requires { at < length program.now }
     ensures { result ≡ is_naming program.now at }
 {
-    if !begins_line(program, at) || !byte_is(program, at, b'#') {
+    if !byte_is(program, at, b'#') {
         return false;
     }
-    names_label(first_word(&program[at + 1..]))
+    names_label(first_word(&program[at + 1..])) && is_in_commands(program, at)
 }
 
 // The label that such a command names.

@@ -11,8 +11,8 @@ pub fn each_is_on_its_line()
     ensures lines { HasALineAFinding }
 {}
 
-/// A board on which nothing is found has a body of at most 20,000 bytes and one player, and no
-/// element over 53: that one line tells of all tiles of an element leaves none out.
+/// A board on which nothing is found has a body of at most 20,000 bytes, a name of at most 34, one
+/// player, and no element over 53: that one line tells of all tiles of an element leaves none out.
 #[tactic(auto, using(crate::proofs::Plain::untold))]
 pub fn nothing_stays_untold()
     ensures { UntoldIsPlain }

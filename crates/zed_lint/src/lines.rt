@@ -123,7 +123,9 @@ fn put_what(out: &mut Vec<u8>, what: &What) -> Result<(), AllocError>
 {
     match what {
         What::LongFile(bytes) => put_counted(out, "file of ", *bytes, " bytes, over 350000"),
+        What::LongWorldName(bytes) => put_counted(out, "name of ", *bytes, " bytes, over 8"),
         What::LongBody(bytes) => put_counted(out, "body of ", *bytes, " bytes, over 20000"),
+        What::LongBoardName(bytes) => put_counted(out, "name of ", *bytes, " bytes, over 34"),
         What::NoPlayer => put_text(out, "no player"),
         What::Players(count) => put_counted(out, "", *count, " players"),
         What::ExitToItself(side) => put_exit(out, *side),

@@ -5,7 +5,7 @@ ghost use Rattle.zed_lint.specs.Lines.{lines_of};
 ghost use Rattle.zed_lint.specs.World.{board_findings, boards_findings, findings as found_in};
 ghost use Rattle.zed_world.specs.Normal.{IsWritable};
 
-use crate::boards::{long_file, note_whole};
+use crate::boards::{long_file, long_world_name, note_whole};
 use crate::finding::{Finding, Spot};
 use crate::lines::text_of;
 use crate::noting::note;
@@ -40,7 +40,7 @@ fn note_boards(found: &mut Vec<Finding>, boards: &[BoardData]) -> Result<(), All
 }
 
 /// What is found in a world: board by board of the board as a whole, of its tiles and of its stats,
-/// and then of the file. Only want of memory refuses it, and only where something is found.
+/// and then of the file and its name. Only want of memory refuses it, and only where something is found.
 #[tactic(auto, using(crate::proofs::Fits::writable, crate::proofs::Some::front, crate::proofs::Some::back), unfolding(crate::specs::World::findings))]
 pub fn findings(alloc: Global, world: &World) -> Result<Vec<Finding>, AllocError>
     ensures result { IfOk result (λ found. found.items ≡ found_in world.now) }
@@ -49,6 +49,8 @@ pub fn findings(alloc: Global, world: &World) -> Result<Vec<Finding>, AllocError
     let mut found = Vec::new(alloc);
     note_boards(&mut found, world.boards())?;
     note(&mut found, Spot::World, long_file(file_len(world)))?;
+    let name = world.header().name.as_slice();
+    note(&mut found, Spot::World, long_world_name(name.len()))?;
     Ok(found)
 }
 
