@@ -93,6 +93,7 @@ fn begins_commands(program: &[u8], at: usize) -> bool
 }
 
 // Whether the line of a place begins so.
+#[tactic(auto, using(crate::proofs::Begins::step_back, crate::proofs::Begins::begins))]
 fn is_in_commands(program: &[u8], at: usize) -> bool
     ensures { result ≡ is_in_commands program.now at }
 {
