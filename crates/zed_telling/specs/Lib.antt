@@ -1,5 +1,6 @@
 pub mod Edits
 pub mod Laws
+pub mod Linted
 pub mod Listed
 pub mod Logged
 pub mod Told

@@ -1,0 +1,6 @@
+pub mod Begins
+pub mod Below
+pub mod Fits
+pub mod Plain
+pub mod Printed
+pub mod Some

@@ -1,0 +1,58 @@
+//! What is found in a world, and where.
+use zed_types::{Bytes, Place, Side, Tile};
+
+/// Where something was found.
+#[derive(Clone, Copy, Debug, PartialEq, Eq)]
+pub enum Spot {
+    /// The world as a whole.
+    World,
+    /// A board, by its number.
+    Board(usize),
+    /// A tile: the number of its board, its place, and what it is.
+    Tile(usize, Place, Tile),
+    /// A stat: the number of its board and its own, its place, and the tile there. Outside the
+    /// table there is none.
+    Stat(usize, usize, Place, Option<Tile>),
+}
+
+/// What was found.
+#[derive(Debug, Drop)]
+pub enum What {
+    /// The file of the world has so many bytes, over 350,000.
+    LongFile(usize),
+    /// The name of the world has so many bytes, over 8.
+    LongWorldName(usize),
+    /// The body of the board has so many bytes, over 20,000.
+    LongBody(usize),
+    /// The name of the board has so many bytes, over 34.
+    LongBoardName(usize),
+    /// No tile of the board is a player.
+    NoPlayer,
+    /// So many tiles of the board are players, more than one.
+    Players(usize),
+    /// The exit of this side leads to its own board.
+    ExitToItself(Side),
+    /// The element is over 53. So many tiles of the board have it, and this is the first.
+    UnknownElement(usize),
+    /// The element wants a stat, and there is none.
+    NoStat,
+    /// The stat is outside the table.
+    OutsideTable,
+    /// The element has no use for a stat.
+    NeedlessStat,
+    /// The passage leads to its own board.
+    PassageToItself,
+    /// The last line of the program has no end.
+    NoEndOfLine,
+    /// The program has a byte 10, the first of them at this place.
+    LineFeed(usize),
+    /// At this place of the program a command names this label, which no program of the board has.
+    NoLabel(usize, Bytes),
+}
+
+/// What was found, and where.
+#[derive(Debug, Drop)]
+pub struct Finding {
+    pub spot: Spot,
+    pub what: What,
+}
