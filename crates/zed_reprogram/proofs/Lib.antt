@@ -1,0 +1,5 @@
+mod Lists
+mod Counted
+mod Normal
+mod Short
+mod Reprogrammed
