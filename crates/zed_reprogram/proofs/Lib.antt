@@ -3,3 +3,4 @@ mod Counted
 mod Normal
 mod Short
 mod Reprogrammed
+mod Own

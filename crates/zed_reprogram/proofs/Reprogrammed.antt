@@ -1,13 +1,13 @@
 -- What a world comes to with another program.
 use Rattle.std.proofs.Common.{◌≡◌, ℕ, List, Some, None, Result, Ok, Err, refl, subst, sym, inl, inr}
-use Rattle.std.specs.Prelude.{◌⊎◌, MatchResult, slice_get}
+use Rattle.std.specs.Prelude.{◌⊎◌, IfErr, MatchResult, slice_get}
 use Rattle.zed_world.specs.Contents.{Contents}
 use Rattle.zed_world.specs.declared.board.BoardData.{BoardData}
 use Rattle.zed_world.specs.declared.stat.StatData.{StatData}
 use Rattle.zed_reprogram.specs.declared.error.ReprogramError.{ReprogramError}
 use Rattle.zed_reprogram.specs.declared.error.ReprogramError.TheVariants.{Memory, NoBoard, NoSuch}
 use Rattle.zed_reprogram.specs.Codes.{owner_of}
-use Rattle.zed_reprogram.specs.Worlds.{Fits, IsReprogrammed, OfBoard, OfStat, board_with, world_with}
+use Rattle.zed_reprogram.specs.Worlds.{Fits, HasStat, IsReprogrammed, OfBoard, OfStat, board_with, world_with}
 
 pub no_board : (w : Contents) (board stat : ℕ) (program : List ℕ) → slice_get w.boards board ≡ None → IsReprogrammed w board stat program (Err NoBoard)
 unfolding IsReprogrammed
@@ -37,3 +37,9 @@ reprogrammed w board stat program b s number changed (Err e) at here same is fit
   | inl lack ↦ inl lack
   | inr why ↦ inr (fits w board stat program b s number changed (Err e) at here same is why)
 ]
+
+-- where the stat is there, memory may be wanted
+pub lacks_there : {X : Type 0} (w : Contents) (board stat : ℕ) (b : BoardData) (s : StatData) (answer : Result X ReprogramError)
+    → slice_get w.boards board ≡ Some b → slice_get b.stats stat ≡ Some s → IfErr answer (λ e. e ≡ Memory → HasStat w board stat)
+lacks_there w board stat b s (Ok x) at here = tt
+lacks_there w board stat b s (Err e) at here = λ _. (b, s, at, here)

@@ -1,8 +1,8 @@
 -- A board with a short body has a short program.
-use Rattle.std.proofs.Common.{◌≡◌, ◌∙◌, ◌+◌, ◌<◌, ◌≤◌, ℕ, zero, suc, Bool, true, false, List, [], ◌∷◌, ◌++◌, length, length-append, ap, arith, refl, subst, sym, Some}
-use Rattle.std.specs.Prelude.{◌==◌, if◌then◌else◌, slice_get}
+use Rattle.std.proofs.Common.{◌≡◌, ◌∙◌, ◌+◌, ◌<◌, ◌≤◌, ℕ, zero, suc, true, List, [], ◌∷◌, ◌++◌, length, length-append, ap, arith, refl, subst, Some}
+use Rattle.std.specs.Prelude.{◌==◌, slice_get}
 use Rattle.std.specs.List.{flat_map}
-use Rattle.std.proofs.lemmas.Bool.{eq-eqb, eqb-true}
+use Rattle.std.proofs.lemmas.Bool.{eq-eqb}
 use Rattle.std.proofs.lemmas.List.{length_push}
 use Rattle.std.proofs.lemmas.Option.{slice_get-get_or, slice_get_within}
 use Rattle.zed_types.specs.declared.tile.Tile.{Tile}
@@ -15,6 +15,7 @@ use Rattle.zed_world.specs.Writing.{code_text, stat_text}
 use Rattle.zed_world.proofs.Sizes.{length_body, length_stat}
 use Rattle.zed_reprogram.specs.Codes.{code_in, owned, owner_of}
 use Rattle.zed_reprogram.specs.Worlds.{board_with, stat_with, stats_from}
+use Rattle.zed_reprogram.proofs.Counted.{owned_length}
 use Rattle.zed_reprogram.proofs.Normal.{board_normal, get_from}
 
 -- a program is no longer than all stats
@@ -27,13 +28,6 @@ part_of (x ∷ ss) zero s at =
 part_of (x ∷ ss) (suc n) s at =
     let more = part_of ss n s at in
     omega (arith, more, length-append (stat_text x) (flat_map stat_text ss))
-
-owned_length : (program : List ℕ) → length (code_text (owned program)) ≡ length program
-owned_length program = go (length program == 0) refl
-  where
-    go : (t : Bool) → (length program == 0) ≡ t → length (code_text (if t then code.None else code.Own program)) ≡ length program
-    go true is = sym (eqb-true (length program) 0 is)
-    go false is = refl
 
 -- ---- the stat that has the bytes
 

@@ -1,17 +1,11 @@
 -- Boards whose bytes can be counted.
-use Rattle.std.specs.Prelude.{◌≤◌, length}
-use Rattle.std.specs.List.{AllByRecursion}
+use Rattle.std.specs.Prelude.{◌<◌, ◌≤◌, length}
+use Rattle.std.specs.List.{flat_map}
 use Rattle.zed_world.specs.declared.board.BoardData.{BoardData}
-use Rattle.zed_world.specs.declared.stat.StatData.{StatData}
-use Rattle.zed_world.specs.Writing.{code_text}
+use Rattle.zed_world.specs.Writing.{stat_text}
 
--- a stat has no more bytes of a program than memory has (2^32)
-abbrev pub HasCountedCode : StatData → Type 0
-HasCountedCode s = length (code_text s.code) ≤ 4294967296
-
--- the strings and stats of a board are such as a file can spell, but for how long programs are
+-- the strings of a board fit their fields, and its stats leave room in 64 bits for all else (2^64 - 2^16)
 pub record CanBeCounted (b : BoardData) : Type 0 where
   pub name : length b.name ≤ 50
   pub message : length b.properties.message ≤ 58
-  pub few : length b.stats ≤ 151
-  pub counted : AllByRecursion HasCountedCode b.stats
+  pub stats : length (flat_map stat_text b.stats) < 18446744073709486080

@@ -10,6 +10,10 @@ use Rattle.zed_reprogram.specs.declared.error.ReprogramError.{ReprogramError}
 use Rattle.zed_reprogram.specs.declared.error.ReprogramError.TheVariants.{NoBoard, NoSuch, BoardOver}
 use Rattle.zed_reprogram.specs.Codes.{code_in, owner_of}
 
+-- a world has this board, and the board this stat
+abbrev pub HasStat : Contents → ℕ → ℕ → Type 0
+HasStat w board stat = (b : BoardData) × (s : StatData) × (slice_get w.boards board ≡ Some b) × (slice_get b.stats stat ≡ Some s)
+
 -- a stat with another program
 abbrev pub stat_with : StatData → Code → StatData
 stat_with s c = record s { code = c }

@@ -1,10 +1,10 @@
 //! How many bytes the boards of a world take in a file.
-ghost use Rattle.std.specs.Prelude.{◌≡◌, ◌≤◌, ◌*◌, length, IfErr, None, OnOk, Some};
+ghost use Rattle.std.specs.Prelude.{◌≡◌, ◌<◌, ◌≤◌, length, IfErr, None, OnOk, Some};
 ghost use Rattle.std.specs.List.{AllByRecursion, flat_map};
 ghost use Rattle.zed_runs.specs.Runs.{greedy};
 ghost use Rattle.zed_world.specs.Writing.{body_text, code_text, first_over, stat_text};
 ghost use Rattle.zed_world.specs.declared.error.WorldError.TheVariants.{BoardOver};
-ghost use Rattle.zed_reprogram.specs.Sizes.{CanBeCounted, HasCountedCode};
+ghost use Rattle.zed_reprogram.specs.Sizes.{CanBeCounted};
 
 use zed_runs::{greedy_is_the_one, runs_len};
 use zed_types::{READ_BODY_LIMIT, TILES, Tile};
@@ -33,9 +33,7 @@ fn tiles_len(tiles: &[Tile; TILES]) -> usize
 }
 
 fn code_len(code: &Code) -> usize
-    requires { length (code_text code.now) ≤ 4294967296 }
-    ensures result { result ≡ length (code_text code.now) }
-    ensures within { result ≤ 4294967296 }
+    ensures { result ≡ length (code_text code.now) }
 {
     match code {
         Code::Own(bytes) => bytes.as_slice().len(),
@@ -44,14 +42,14 @@ fn code_len(code: &Code) -> usize
 }
 
 fn stats_len(stats: &[StatData]) -> usize
-    requires few { length stats.now ≤ 151 }
-    requires counted { AllByRecursion HasCountedCode stats.now }
+    requires { length (flat_map stat_text stats.now) < 18446744073709486080 }
     ensures result { result ≡ length (flat_map stat_text stats.now) }
-    ensures within { result ≤ 8589934592 * 151 }
+    ensures within { result < 18446744073709486080 }
 {
     let mut bytes = 0;
     for stat in stats {
-        bytes += STAT + code_len(&stat.code);
+        let more = STAT + code_len(&stat.code);
+        bytes += more;
     }
     bytes
 }

@@ -1,8 +1,8 @@
 //! A world with another program for a stat.
-ghost use Rattle.std.specs.Prelude.{◌≡◌, ◌<◌, ◌⊎◌, MatchResult, Err, Ok, length, option_map, slice_get};
+ghost use Rattle.std.specs.Prelude.{◌≡◌, ◌<◌, ◌⊎◌, IfErr, MatchResult, Err, Ok, length, option_map, slice_get};
 ghost use Rattle.zed_world.specs.Normal.{HasNormalParts, HasShortBody, IsNormalBoard};
 ghost use Rattle.zed_reprogram.specs.Sizes.{CanBeCounted};
-ghost use Rattle.zed_reprogram.specs.Worlds.{Fits, IsReprogrammed, world_with};
+ghost use Rattle.zed_reprogram.specs.Worlds.{Fits, HasStat, IsReprogrammed, world_with};
 
 use crate::codes::owner_of;
 use crate::copies::{copy_boards, copy_header, recoded_board};
@@ -10,9 +10,6 @@ use crate::error::ReprogramError;
 use crate::sizes::within_limit;
 use std::alloc::Global;
 use zed_world::{BoardData, StatData, World};
-
-/// A longer program isn't tried: no memory has room for its world, and no board.
-const LONGEST: usize = 4_294_967_296;
 
 // The board of a number, if there is one.
 fn board_at(world: &World, number: u16) -> Option<&BoardData>
@@ -27,6 +24,13 @@ fn stat_at(board: &BoardData, number: u16) -> Option<&StatData>
     ensures { option_map (λ s. s.now) result ≡ slice_get board.now.stats number }
 {
     board.stats.as_slice().get(usize::from(number))
+}
+
+// No memory has room for 2^63 bytes.
+fn length_of(program: &[u8]) -> usize
+    ensures { length program.now < 9223372036854775808 }
+{
+    program.len()
 }
 
 // A world with another board in the place of one, unless a board is over the limit then.
@@ -71,10 +75,12 @@ pub fn with_program(
     stat: u16,
     program: &[u8],
 ) -> Result<World, ReprogramError>
-    ensures { MatchResult result
+    ensures result { MatchResult result
         (λ w. IsReprogrammed world.now board stat program.now (Ok w))
         (λ e. (e ≡ ReprogramError.Memory)
         ⊎ IsReprogrammed world.now board stat program.now (Err e)) }
+    ensures memory_only_when { IfErr result (λ e.
+        e ≡ ReprogramError.Memory → HasStat world.now board stat) }
 {
     let Some(old) = board_at(world, board) else {
         return Err(ReprogramError::NoBoard);
@@ -82,9 +88,8 @@ pub fn with_program(
     let Some(given) = stat_at(old, stat) else {
         return Err(ReprogramError::NoSuch);
     };
-    if program.len() > LONGEST {
-        return Err(ReprogramError::Memory);
-    }
+    // Its contract says that the bytes of the board can be counted.
+    length_of(program);
     let owner = owner_of(stat, &given.code);
     let changed = recoded_board(alloc, owner, program, old)?;
     with_board(alloc, world, usize::from(board), changed)
