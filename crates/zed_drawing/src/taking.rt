@@ -115,9 +115,11 @@ fn alone_effect(
     Ok(Effect::new(files, text))
 }
 
-// What is done with a file that is its own base.
+/// What is done with a file that is its own base: edits of a replica are added to its document that
+/// lead to a world, and what is to be written and told is told. Refused or NotTaken where no edits
+/// are taken; Memory.
 #[tactic(none)]
-fn draw_alone(
+pub fn draw_alone(
     alloc: Global,
     file: &str,
     document: &mut Document,
@@ -285,8 +287,8 @@ fn draw(
     }
 }
 
-// 0 is no author's number.
-fn check_replica(replica: u16) -> Result<(), DrawingError>
+/// Refuses 0, which is no author's number.
+pub fn check_replica(replica: u16) -> Result<(), DrawingError>
     ensures ok { OnOk result (replica ≢ 0) }
     ensures err { IfErr result (λ e.
         (replica ≡ 0) × (e ≡ DrawingError.Refused (Refusal.BadEdit Cause.Stamp))) }

@@ -1,0 +1,6 @@
+mod Lists
+mod Counted
+mod Normal
+mod Short
+mod Reprogrammed
+mod Own
