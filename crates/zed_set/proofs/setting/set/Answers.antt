@@ -1,0 +1,28 @@
+use Rattle.std.proofs.Common.{◌≡◌, [], ◌∷◌}
+use Rattle.std.specs.Prelude.{IfErr}
+use Rattle.zed_files.specs.Asked.{Asks, reading, refusal_in, writing}
+use Rattle.zed_files.specs.Effects.{Ends}
+use Rattle.zed_files.specs.Faults.{TellsFailures}
+use Rattle.zed_files.specs.Refusals.{IsOffStage}
+use Rattle.zed_set.specs.Setting.{ComesToSet}
+use Rattle.zed_set.proofs.Answers.{tells_for}
+use Rattle.zed_set.proofs.setting.set.Goals as goal
+
+pub returns-in-Ok-clause-ends : goal.returns-in-Ok-clause-ends
+returns-in-Ok-clause-ends g c = λ w is t at.
+    tells_for (λ x told. Ends _ (ComesToSet _ t c.args.file.now c.args.replica x) t told _) c.in-Ok.wish w _ c.set_wish.result _ c.in-Ok.ensures is
+    (c.set_wish.ensures.ends t at) c.answer.ensures
+
+pub returns-in-Ok-clause-err : goal.returns-in-Ok-clause-err
+returns-in-Ok-clause-err g c = λ w is.
+    tells_for (λ x told. IfErr told IsOffStage) c.in-Ok.wish w _ c.set_wish.result _ c.in-Ok.ensures is c.set_wish.ensures.err c.answer.ensures
+
+pub returns-in-Ok-clause-asked : goal.returns-in-Ok-clause-asked
+returns-in-Ok-clause-asked g c = λ w is.
+    tells_for (λ x told. Asks g.H.Host.called (reading (c.args.file.now ∷ [])) (writing c.args.file.now) (refusal_in told) _ _) c.in-Ok.wish w _ c.set_wish.result _
+    c.in-Ok.ensures is c.set_wish.ensures.asked c.answer.ensures
+
+pub returns-in-Ok-clause-failures : goal.returns-in-Ok-clause-failures
+returns-in-Ok-clause-failures g c = λ w is.
+    tells_for (λ x told. TellsFailures g.H.Host.faults g.H.Host.failed told _ _) c.in-Ok.wish w _ c.set_wish.result _
+    c.in-Ok.ensures is c.set_wish.ensures.failures c.answer.ensures

@@ -1,0 +1,68 @@
+//! Wishes done on a document, by the edits that they come to.
+ghost use Rattle.std.specs.Prelude.{◌≡◌, false, OnOk};
+ghost use Rattle.zed_action.specs.Deeds.{Authors, Ends};
+ghost use Rattle.zed_set.specs.declared.deed.Deed.TheVariants.{Two};
+ghost use Rattle.zed_set.specs.Setting.{Performs, Sets};
+
+use crate::deed::{Deed, deed_of};
+use std::alloc::Global;
+use zed_action::ActionError;
+use zed_document::Document;
+use zed_edit::Op;
+use zed_set_words::Wish;
+
+/// Makes an edit.
+fn author(document: &mut Document, replica: u16, op: Op) -> Result<(), ActionError>
+    requires { document.old.is_stale ≡ false }
+    ensures ends { Ends (Authors document.old replica op) result document.new.edits }
+    ensures sound { OnOk result (document.new.is_stale ≡ false) }
+    ensures world { document.new.world ≡ document.old.world }
+{
+    document.author(replica, op)?;
+    Ok(())
+}
+
+/// Makes two edits, one after the other.
+fn author_both(
+    document: &mut Document,
+    replica: u16,
+    first: Op,
+    second: Op,
+) -> Result<(), ActionError>
+    requires { document.old.is_stale ≡ false }
+    ensures ends { Ends (Performs document.old replica (Two first second))
+        result document.new.edits }
+    ensures world { document.new.world ≡ document.old.world }
+{
+    author(document, replica, first)?;
+    author(document, replica, second)
+}
+
+fn perform(document: &mut Document, replica: u16, deed: Deed) -> Result<(), ActionError>
+    requires { document.old.is_stale ≡ false }
+    ensures ends { Ends (Performs document.old replica deed) result document.new.edits }
+    ensures world { document.new.world ≡ document.old.world }
+{
+    match deed {
+        Deed::One(op) => author(document, replica, op),
+        Deed::Two(first, second) => author_both(document, replica, first, second),
+    }
+}
+
+/// Does a wish as a replica, to a document that isn't stale. In this order: NoSuch for a number
+/// without a board or stat, and for
+/// a stat without a text that is to be shared; then what authoring an edit answers, of two edits
+/// for the one after the other.
+pub(crate) fn grant(
+    alloc: Global,
+    document: &mut Document,
+    replica: u16,
+    wish: Wish,
+) -> Result<(), ActionError>
+    requires { document.old.is_stale ≡ false }
+    ensures ends { Ends (Sets document.old replica wish) result document.new.edits }
+    ensures world { document.new.world ≡ document.old.world }
+{
+    let deed = deed_of(alloc, document, wish)?;
+    perform(document, replica, deed)
+}

@@ -1,0 +1,5 @@
+pub mod Back
+pub mod ElementBack
+pub mod First
+pub mod Read
+pub mod Whole

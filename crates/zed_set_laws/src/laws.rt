@@ -1,0 +1,19 @@
+//! What holds of words.
+ghost use Rattle.zed_set_laws.specs.Laws.{WrongWordIsTold};
+ghost use Rattle.zed_set_laws.specs.Printed.{FieldIsRead, HeaderIsRead, PropertyIsRead};
+
+/// What a list of edits prints of a setting is read as it: its words, cut at the spaces, with a
+/// string as one word.
+#[tactic(auto, using(crate::proofs::Read::header_is_read, crate::proofs::Read::property_is_read, crate::proofs::Read::field_is_read))]
+pub fn printed_settings_are_read()
+    ensures header { HeaderIsRead }
+    ensures property { PropertyIsRead }
+    ensures field { FieldIsRead }
+{}
+
+/// The word that is told of is the first wrong one: whatever words stand behind it, the same is
+/// told; and so it is with none.
+#[tactic(auto, using(crate::proofs::Whole::wrong_word_is_told))]
+pub fn wrong_word_is_the_first()
+    ensures { WrongWordIsTold }
+{}

@@ -1,0 +1,7 @@
+//! Laws on the words of `zed_set_words`: what a list of edits prints of a setting is read as it, and the word that is told of is the
+//! first wrong one.
+#![tactic(auto)]
+
+mod laws;
+
+pub use laws::{printed_settings_are_read, wrong_word_is_the_first};

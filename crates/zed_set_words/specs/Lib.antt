@@ -1,0 +1,4 @@
+pub mod Readers
+pub mod Rows
+pub mod Texts
+pub mod Values
