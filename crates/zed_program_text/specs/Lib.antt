@@ -1,0 +1,5 @@
+pub mod Characters
+pub mod Laws
+pub mod Place
+pub mod Reading
+pub mod Text

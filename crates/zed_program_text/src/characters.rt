@@ -1,0 +1,31 @@
+//! The characters that stand for the bytes of a program, and of each other string of a world.
+ghost use Rattle.std.specs.Prelude.{◌≡◌};
+ghost use Rattle.zed_program_text.specs.Characters.{byte_of as byte_for, text_point};
+
+use zed_codepage::glyph;
+
+/// The character of a byte of a program in a text: a line feed for 13, which ends a line; a picture
+/// for 0, which has none in the code page; and of each other byte that of the code page.
+pub(crate) fn text_character(byte: u8) -> char
+    ensures { result ≡ text_point byte }
+{
+    match byte {
+        0 => '\u{2400}',
+        13 => '\n',
+        _ => glyph(byte),
+    }
+}
+
+/// The byte of a program whose character this is in a text, if there is one.
+#[tactic(auto, using(crate::proofs::Lists::exhausted), unfolding(crate::specs::Characters::byte_of))]
+pub fn byte_of(character: char) -> Option<u8>
+    ensures { result ≡ byte_for character }
+{
+    for number in 0..256u16 {
+        let byte = number as u8;
+        if text_character(byte) == character {
+            return Some(byte);
+        }
+    }
+    None
+}
