@@ -1,3 +1,4 @@
-pub mod Answers
 pub mod Granted
+pub mod Told
 pub mod Turns
+pub mod Wants

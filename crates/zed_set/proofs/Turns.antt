@@ -1,5 +1,5 @@
 -- Two edits, one after the other.
-use Rattle.std.proofs.Common.{◌≡◌, ◌∙◌, List, Result, Ok, Err, ℕ, refl, ap, sym, subst, MatchResult, inl, inr}
+use Rattle.std.proofs.Common.{◌≡◌, ◌∙◌, ◌<◌, length, List, Result, Ok, Err, ℕ, refl, ap, sym, subst, MatchResult, inl, inr}
 use Rattle.std.specs.Prelude.{◌⊎◌, ⊤, Bool}
 use Rattle.zed_op.specs.declared.op.Op.{Op}
 use Rattle.zed_op.specs.declared.op.Edit.{Edit}
@@ -40,10 +40,10 @@ pub first_refused : (d : Replica) (replica : ℕ) (o n : Op) (x : ActionError) �
 first_refused d replica o n x why = elim why [ inl lacks ↦ inl lacks | inr is ↦ inr (inr (x, is, refl)) ]
 
 -- there was nothing to perform
-pub not_found : (d : Replica) (replica : ℕ) (told : Result Deed DocumentError) (e : DocumentError) (x : ActionError) → x ≡ refusal_of e
-    → (e ≡ document.Memory) ⊎ (told ≡ Err e) → (x ≡ memory) ⊎ Does d replica told (Err x)
-not_found d replica told e x is why = elim why [
-  | inl lacks ↦ inl (is ∙ ap refusal_of lacks)
+pub not_found : (d : Replica) (replica : ℕ) (told : Result Deed DocumentError) (e : DocumentError) (x : ActionError) (kept : List ℕ) → x ≡ refusal_of e
+    → ((e ≡ document.Memory) × (0 < length kept)) ⊎ (told ≡ Err e) → (x ≡ memory) ⊎ Does d replica told (Err x)
+not_found d replica told e x kept is why = elim why [
+  | inl lacks ↦ inl (is ∙ ap refusal_of lacks.0)
   | inr same ↦ inr (subst (λ t. Does d replica t (Err x)) (sym same) (ap (λ y. Err y) is))
 ]
 

@@ -1,5 +1,5 @@
 -- What a wish comes to: the ops of its settings.
-use Rattle.std.specs.Prelude.{◌≡◌, ◌⊎◌, ℕ, List, Option, Some, None, Result, Ok, Err, MatchResult}
+use Rattle.std.specs.Prelude.{◌≡◌, ◌⊎◌, ◌<◌, ℕ, List, [], length, Option, Some, None, Result, Ok, Err, MatchResult}
 use Rattle.zed_types.specs.declared.names.BoardId.{BoardId}
 use Rattle.zed_types.specs.declared.names.StatId.{StatId}
 use Rattle.zed_types.specs.declared.names.TextId.{TextId}
@@ -36,9 +36,26 @@ use Rattle.zed_set_words.specs.declared.wishes.Wish.TheVariants as wish
 use Rattle.zed_set.specs.declared.deed.Deed.{Deed}
 use Rattle.zed_set.specs.declared.deed.Deed.TheVariants.{One, Two}
 
--- a call answers what is told, or wants memory
-abbrev pub Comes : {X : Type 0} → Result X DocumentError → Result X DocumentError → Type 0
-Comes result told = MatchResult result (λ x. told ≡ Ok x) (λ e. (e ≡ Memory) ⊎ (told ≡ Err e))
+-- the bytes that a wish for the world keeps
+abbrev pub kept_in_world : WorldWish → List ℕ
+kept_in_world (world_wish.Name s) = s
+kept_in_world (world_wish.Flag k s) = s
+kept_in_world _ = []
+
+-- the bytes that a wish for a board keeps
+abbrev pub kept_in_board : BoardWish → List ℕ
+kept_in_board (board_wish.Text f s) = s
+kept_in_board _ = []
+
+-- the bytes that a wish keeps
+abbrev pub kept_in : Wish → List ℕ
+kept_in (wish.World w) = kept_in_world w
+kept_in (wish.Board place w) = kept_in_board w
+kept_in (wish.Stat place w) = []
+
+-- a call answers what is told, or wants memory for the bytes that it keeps
+abbrev pub Comes : {X : Type 0} → List ℕ → Result X DocumentError → Result X DocumentError → Type 0
+Comes kept result told = MatchResult result (λ x. told ≡ Ok x) (λ e. ((e ≡ Memory) × (0 < length kept)) ⊎ (told ≡ Err e))
 
 -- ---- things
 

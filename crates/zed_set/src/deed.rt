@@ -1,15 +1,15 @@
 //! What a wish comes to, by the names of the things that it speaks of.
-ghost use Rattle.std.specs.Prelude.{◌≡◌, IfOk, false};
+ghost use Rattle.std.specs.Prelude.{◌≡◌, false};
 ghost use Rattle.zed_edit.specs.Replay.{replay};
 ghost use Rattle.zed_action.specs.Deeds.{board_in, stat_in};
-ghost use Rattle.zed_set.specs.Deeds.{Comes, board_at, board_deed, deed_of, exit_at, header_of, of_board, of_place, of_start, of_stat, p3_of, shared_text, stat_at, stat_deed, stat_or_none};
+ghost use Rattle.zed_set.specs.Deeds.{Comes, board_at, board_deed, deed_of, exit_at, header_of, kept_in, kept_in_board, kept_in_world, of_board, of_place, of_start, of_stat, p3_of, shared_text, stat_at, stat_deed, stat_or_none};
 
-use std::alloc::{AllocError, Global};
+use std::alloc::Global;
 use zed_document::{Document, DocumentError};
 use zed_edit::Op;
-use zed_set_words::{BoardPlace, BoardWish, P3Wish, StatPlace, StatWish, Text, Wish, WorldWish};
+use zed_set_words::{BoardPlace, BoardWish, P3Wish, StatPlace, StatWish, Wish, WorldWish};
 use zed_types::{
-    BoardByte, BoardId, BoardSetting, Bytes, HeaderSetting, StatByte, StatId, StatSetting, TextId,
+    BoardByte, BoardId, BoardSetting, HeaderSetting, StatByte, StatId, StatSetting, TextId,
     ThirdParameter,
 };
 
@@ -61,10 +61,7 @@ fn stat_at(document: &Document, place: StatPlace) -> Result<StatId, DocumentErro
     }
 }
 
-fn exit_at(
-    document: &Document,
-    place: Option<BoardPlace>,
-) -> Result<Option<BoardId>, DocumentError>
+fn exit_at(document: &Document, place: Option<BoardPlace>) -> Result<Option<BoardId>, DocumentError>
     requires { document.now.is_stale ≡ false }
     ensures { result ≡ exit_at (replay document.now.edits) place }
 {
@@ -105,22 +102,13 @@ fn shared_text(document: &Document, place: StatPlace) -> Result<TextId, Document
     }
 }
 
-/// The bytes of a word.
-fn bytes_of(alloc: Global, text: Text) -> Result<Bytes, AllocError>
-    ensures { IfOk result (λ bytes. bytes ≡ text) }
-{
-    let mut bytes = Vec::new(alloc);
-    bytes.extend_from_slice(text.as_str().as_bytes())?;
-    Ok(Bytes::new(bytes))
-}
-
 fn header_of(
     alloc: Global,
     document: &Document,
     wish: WorldWish,
 ) -> Result<HeaderSetting, DocumentError>
     requires { document.now.is_stale ≡ false }
-    ensures { Comes result (header_of (replay document.now.edits) wish) }
+    ensures { Comes (kept_in_world wish) result (header_of (replay document.now.edits) wish) }
 {
     match wish {
         WorldWish::Number(field, n) => Ok(HeaderSetting::Number(field, n)),
@@ -130,8 +118,8 @@ fn header_of(
             let board = board_at(document, place)?;
             Ok(HeaderSetting::CurrentBoard(board))
         }
-        WorldWish::Name(text) => Ok(HeaderSetting::WorldName(bytes_of(alloc, text)?)),
-        WorldWish::Flag(slot, text) => Ok(HeaderSetting::Flag(slot, bytes_of(alloc, text)?)),
+        WorldWish::Name(text) => Ok(HeaderSetting::WorldName(text.to_bytes(alloc)?)),
+        WorldWish::Flag(slot, text) => Ok(HeaderSetting::Flag(slot, text.to_bytes(alloc)?)),
     }
 }
 
@@ -157,7 +145,8 @@ fn board_deed(
     wish: BoardWish,
 ) -> Result<Deed, DocumentError>
     requires { document.now.is_stale ≡ false }
-    ensures { Comes result (board_deed (replay document.now.edits) board wish) }
+    ensures { Comes (kept_in_board wish) result
+        (board_deed (replay document.now.edits) board wish) }
 {
     match wish {
         BoardWish::Byte(field, n) => Ok(of_board(board, BoardSetting::Byte(field, n))),
@@ -169,7 +158,7 @@ fn board_deed(
             Ok(of_board(board, BoardSetting::Exit(side, to)))
         }
         BoardWish::Text(field, text) => {
-            let text = bytes_of(alloc, text)?;
+            let text = text.to_bytes(alloc)?;
             Ok(of_board(board, BoardSetting::Text(field, text)))
         }
         BoardWish::Start(x, y) => Ok(of_start(board, x, y)),
@@ -233,14 +222,10 @@ fn stat_deed(document: &Document, stat: StatId, wish: StatWish) -> Result<Deed, 
 }
 
 /// The deed of a wish. NoSuch where a board or a stat isn't there, and where a text is to be shared
-/// that isn't.
-pub(crate) fn deed_of(
-    alloc: Global,
-    document: &Document,
-    wish: Wish,
-) -> Result<Deed, DocumentError>
+/// that isn't; Memory only where bytes are kept.
+pub(crate) fn deed_of(alloc: Global, document: &Document, wish: Wish) -> Result<Deed, DocumentError>
     requires { document.now.is_stale ≡ false }
-    ensures { Comes result (deed_of (replay document.now.edits) wish) }
+    ensures { Comes (kept_in wish) result (deed_of (replay document.now.edits) wish) }
 {
     match wish {
         Wish::World(wish) => {

@@ -1,8 +1,10 @@
 //! Wishes done on a document, by the edits that they come to.
-ghost use Rattle.std.specs.Prelude.{◌≡◌, false, OnOk};
-ghost use Rattle.zed_action.specs.Deeds.{Authors, Ends};
+ghost use Rattle.std.specs.Prelude.{◌≡◌, Err, false, OnOk};
+ghost use Rattle.zed_document.specs.Authoring.{is_spent_for};
+ghost use Rattle.zed_action.specs.Deeds.{Authors, Ends, MayTakeToAuthor};
+ghost use Rattle.zed_action.specs.Refusals.{memory};
 ghost use Rattle.zed_set.specs.declared.deed.Deed.TheVariants.{Two};
-ghost use Rattle.zed_set.specs.Setting.{Performs, Sets};
+ghost use Rattle.zed_set.specs.Setting.{DeedMayTake, Performs, Sets, WishMayTake};
 
 use crate::deed::{Deed, deed_of};
 use std::alloc::Global;
@@ -17,8 +19,11 @@ fn author(document: &mut Document, replica: u16, op: Op) -> Result<(), ActionErr
     ensures ends { Ends (Authors document.old replica op) result document.new.edits }
     ensures sound { OnOk result (document.new.is_stale ≡ false) }
     ensures world { document.new.world ≡ document.old.world }
+    ensures left { OnOk result (is_spent_for document.old.edits op ≡ false) }
+    ensures memory_only_when { result ≡ Err memory
+        → MayTakeToAuthor document.old replica op }
 {
-    document.author(replica, op)?;
+    let _edit = document.author(replica, op)?;
     Ok(())
 }
 
@@ -33,6 +38,8 @@ fn author_both(
     ensures ends { Ends (Performs document.old replica (Two first second))
         result document.new.edits }
     ensures world { document.new.world ≡ document.old.world }
+    ensures memory_only_when { result ≡ Err memory
+        → is_spent_for document.old.edits first ≡ false }
 {
     author(document, replica, first)?;
     author(document, replica, second)
@@ -42,6 +49,7 @@ fn perform(document: &mut Document, replica: u16, deed: Deed) -> Result<(), Acti
     requires { document.old.is_stale ≡ false }
     ensures ends { Ends (Performs document.old replica deed) result document.new.edits }
     ensures world { document.new.world ≡ document.old.world }
+    ensures memory_only_when { result ≡ Err memory → DeedMayTake document.old replica deed }
 {
     match deed {
         Deed::One(op) => author(document, replica, op),
@@ -50,9 +58,9 @@ fn perform(document: &mut Document, replica: u16, deed: Deed) -> Result<(), Acti
 }
 
 /// Does a wish as a replica, to a document that isn't stale. In this order: NoSuch for a number
-/// without a board or stat, and for
-/// a stat without a text that is to be shared; then what authoring an edit answers, of two edits
-/// for the one after the other.
+/// without a board or stat, and for a stat without a text that is to be shared; then what authoring
+/// an edit answers, of two edits for the one after the other. Where bytes of the words are kept,
+/// and where an edit is made, memory may be lacking.
 pub(crate) fn grant(
     alloc: Global,
     document: &mut Document,
@@ -62,6 +70,7 @@ pub(crate) fn grant(
     requires { document.old.is_stale ≡ false }
     ensures ends { Ends (Sets document.old replica wish) result document.new.edits }
     ensures world { document.new.world ≡ document.old.world }
+    ensures memory_only_when { result ≡ Err memory → WishMayTake document.old replica wish }
 {
     let deed = deed_of(alloc, document, wish)?;
     perform(document, replica, deed)

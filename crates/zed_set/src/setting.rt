@@ -1,13 +1,13 @@
 //! A wish of an author for an edit file.
-ghost use Rattle.std.specs.Prelude.{[], ◌∷◌, ◌≡◌, ◌⊎◌, Err, IfErr, MatchResult, Ok, Some};
+ghost use Rattle.std.specs.Prelude.{[], ◌∷◌, ◌≡◌, ◌⊎◌, Err, IfErr, MatchResult, Ok, Some, false};
 ghost use Rattle.zed_files.specs.Asked.{Asks, reading, refusal_in, writing};
 ghost use Rattle.zed_files.specs.Effects.{Ends};
 ghost use Rattle.zed_files.specs.Faults.{TellsFailures};
 ghost use Rattle.zed_files.specs.Refusals.{IsOffStage};
 ghost use Rattle.zed_host.specs.Counting.{Rose};
 ghost use Rattle.zed_host.specs.HostContents.{HostContents};
-ghost use Rattle.zed_set.specs.declared.error.SetError.TheVariants.{BadWord};
-ghost use Rattle.zed_set.specs.Setting.{ComesToSet, IsSet, Tells};
+ghost use Rattle.zed_set.specs.declared.error.SetError.TheVariants.{BadWord, Refused};
+ghost use Rattle.zed_set.specs.Setting.{ComesToSet, IsDone, IsSet, Tells, WishMayTake};
 ghost use Rattle.zed_set_words.specs.declared.bad.BadWord.{BadWord as TheBadWord};
 ghost use Rattle.zed_set_words.specs.declared.wishes.Wish.{Wish as TheWish};
 ghost use Rattle.zed_set_words.specs.Readers.{words_of};
@@ -24,6 +24,26 @@ use zed_host::Host;
 use zed_making::write_document;
 use zed_set_words::{Wish, wish};
 
+// A document after a wish of a replica. Memory is lacking only where the wish, and what it comes to,
+// may take some.
+fn granted_on(
+    alloc: Global,
+    document: Document,
+    replica: u16,
+    wish: Wish,
+) -> Result<Document, Refusal>
+    requires { document.is_stale ≡ false }
+    ensures { MatchResult result
+        (λ d. IsDone replica wish (Ok (document.world, document.edits))
+        (Ok (d.world, d.edits)))
+        (λ e. ((e ≡ Refusal.Memory) × WishMayTake document replica wish)
+        ⊎ IsDone replica wish (Ok (document.world, document.edits)) (Err e)) }
+{
+    let mut document = document;
+    grant(alloc, &mut document, replica, wish)?;
+    Ok(document)
+}
+
 // The document of a file, after a wish of a replica.
 fn granted<H: Host>(
     alloc: Global,
@@ -37,6 +57,8 @@ fn granted<H: Host>(
         (λ d. IsSet failed t file.now replica wish (Ok (d.world, d.edits)))
         (λ e. (e ≡ Refusal.Memory)
         ⊎ IsSet failed t file.now replica wish (Err e)) }
+    ensures no_author { replica ≡ 0
+        → (result ≡ Err (Refusal.BadEdit Cause.Stamp)) × (host.new ≡ host.old) }
     ensures err { IfErr result IsOffStage }
     ensures kept { H.contents host.new ≡ H.contents host.old }
     ensures asked { Asks H.called (reading (file.now ∷ [])) []
@@ -46,9 +68,8 @@ fn granted<H: Host>(
     if replica == 0 {
         return Err(Refusal::BadEdit(Cause::Stamp));
     }
-    let mut document = open(alloc, host, file)?;
-    grant(alloc, &mut document, replica, wish)?;
-    Ok(document)
+    let document = open(alloc, host, file)?;
+    granted_on(alloc, document, replica, wish)
 }
 
 /// Does a wish as a replica, and rewrites the file.
@@ -63,6 +84,8 @@ fn set_wish<H: Host>(
         → let failed = Rose (H.faults host.old) (H.faults host.new) in
         Ends failed (ComesToSet failed t file.now replica wish) t
         result (H.contents host.new) }
+    ensures no_author { replica ≡ 0
+        → (result ≡ Err (Refusal.BadEdit Cause.Stamp)) × (host.new ≡ host.old) }
     ensures err { IfErr result IsOffStage }
     ensures asked { Asks H.called (reading (file.now ∷ [])) (writing file.now)
         (refusal_in result) host.old host.new }
@@ -74,19 +97,16 @@ fn set_wish<H: Host>(
 }
 
 /// Sets what the words say, as an author with this number, and rewrites the file: `world`, `board`
-/// or `stat`, what of it, and the
-/// value, as docs/SET.md has them. One edit is made, or two where a column and a row are given;
-/// also where it is so already. A line
-/// tells how many edits the file has then.
+/// or `stat`, what of it, and the value, as docs/SET.md has them. One edit is made, or two where a
+/// column and a row are given; also where it is so already. A line tells how many edits the file
+/// has then.
 ///
 /// # Errors
 /// In this order: `BadWord` for the first word that may not be there, and then no file is read;
-/// `BadEdit` with `Stamp` for author
-/// 0; what an edit file is refused for; `NoSuch` for a number without a board or stat, and for a
-/// stat without a text that is to be
-/// shared; what an edit is refused for, such as `NoSuch` for a name of nothing; what writing is
-/// refused for. The file is as it was,
-/// unless the host fails while it is written.
+/// `BadEdit` with `Stamp` for author 0; what an edit file is refused for; `NoSuch` for a number
+/// without a board or stat, and for a stat without a text that is to be shared; what an edit is
+/// refused for, such as `NoSuch` for a name of nothing; what writing is refused for. The file is as
+/// it was, unless the host fails while it is written.
 pub fn set<H: Host>(
     alloc: Global,
     host: &mut H,
@@ -96,6 +116,8 @@ pub fn set<H: Host>(
 ) -> Result<(), SetError>
     ensures bad_word { (b : TheBadWord) → wish_of (words_of words.now) ≡ Err b
         → (result ≡ Err (BadWord b)) × (host.new ≡ host.old) }
+    ensures no_author { (w : TheWish) → wish_of (words_of words.now) ≡ Ok w → replica ≡ 0
+        → (result ≡ Err (Refused (Refusal.BadEdit Cause.Stamp))) × (host.new ≡ host.old) }
     ensures ends { (w : TheWish) → wish_of (words_of words.now) ≡ Ok w
         → (t : HostContents) → H.contents host.old ≡ Some t
         → let failed = Rose (H.faults host.old) (H.faults host.new) in

@@ -16,6 +16,13 @@ use Rattle.zed_types.specs.declared.names.Name.{Name}
 use Rattle.zed_types.specs.declared.stamp.Stamp.{Stamp}
 use Rattle.zed_op.specs.Sizes.{IsName}
 use Rattle.zed_log.specs.Fields.{colour, hex, integer, name, number, stamp}
+use Rattle.std.specs.Str.{chars}
+use Rattle.std.proofs.lemmas.Str.{chars-encodes}
+use Rattle.zed_program_text.specs.Characters.{text_point}
+use Rattle.zed_program_text.specs.Text.{text_of}
+use Rattle.zed_program_text.proofs.Again.{all_known, are_scalars, bytes_same, encoded}
+use Rattle.zed_set_laws.specs.Printed.{AreBytes}
+use Rattle.zed_set_words.specs.Strings.{string_of}
 use Rattle.zed_set_words.specs.Values.{Word, colour_of, has_idle_zero, hex_of, integer_of, name_of, number_of}
 use Rattle.zed_set_words.proofs.Cuts.{Free, cut_at}
 
@@ -154,3 +161,15 @@ unfolding hex
 colour_back n lt =
     let all : (n / 16) * 16 + n % 16 ≡ n = omega arith in
     rw (hex_back (n / 16) (omega arith), hex_back (n % 16) (omega arith), all) refl
+
+-- ---- strings
+
+string_chars : (s : List ℕ) → AreBytes s → chars (text_of s) ≡ map text_point s
+string_chars s bytes = ap chars (encoded s) ∙ chars-encodes (map text_point s) (are_scalars s bytes)
+
+length-points : (s : List ℕ) → length (map text_point s) ≡ length s
+length-points [] = refl
+length-points (b ∷ bs) = ap (λ n. suc n) (length-points bs)
+
+pub string_back : (most : ℕ) (s : List ℕ) → AreBytes s → nat_le (length s) most ≡ true → string_of most (text_of s) ≡ Some s
+string_back most s bytes short = rw (string_chars s bytes, all_known s bytes, length-points s, short, bytes_same s bytes) refl

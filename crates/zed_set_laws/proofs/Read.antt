@@ -51,11 +51,11 @@ use Rattle.zed_set_words.specs.declared.wishes.WorldWish.{WorldWish}
 use Rattle.zed_set_words.specs.declared.wishes.BoardWish.{BoardWish}
 use Rattle.zed_set_words.specs.declared.wishes.StatWish.{StatWish}
 use Rattle.zed_set_words.specs.declared.wishes.Wish.TheVariants as wish
-use Rattle.zed_set_laws.specs.Printed.{FieldIsRead, HeaderIsRead, Plain, PropertyIsRead, Quoted, board_words, field_wish, header_wish, header_words, line_of, property_wish, stat_words, word_of}
+use Rattle.zed_set_laws.specs.Printed.{FieldIsRead, HasBytes, HeaderIsRead, Plain, PropertyIsRead, Quoted, TextHasBytes, board_words, field_wish, header_wish, header_words, line_of, property_wish, stat_words, word_of}
 use Rattle.zed_set_words.specs.Readers.{Reader}
 use Rattle.zed_set_words.specs.Rows.{board as board_read, board_byte, board_flag, board_name as board_title, board_rank, board_thing, current_board, exit, follower, key, leader, max_shots, message, p3, p3_board, p3_byte, saved, start, start_board, start_place, stat as stat_read, stat_byte, stat_number, stat_text, stat_thing, stat_wish_at, step, text_of, time_limit, under, under_colour, under_element, wish_of, world as world_read, world_and_name, world_flag, world_name, world_number, world_number_behind, world_thing}
 use Rattle.zed_set_words.specs.Values.{Word, board_of, integer_of, name_of, number_of, other_of, slot_of, unless_none}
-use Rattle.zed_set_laws.proofs.Back.{colour_back, integer_back, name_back, number_back, number_digits}
+use Rattle.zed_set_laws.proofs.Back.{colour_back, integer_back, name_back, number_back, number_digits, string_back}
 use Rattle.zed_set_laws.proofs.ElementBack.{element_back}
 
 -- ---- how lines have them
@@ -130,37 +130,37 @@ stat_line k (stat.Text t) = refl
 
 -- ---- registers of the world
 
-header_read : (s : HeaderSetting) → IsHeaderSetting s → is_header_in_range s ≡ true
+header_read : (s : HeaderSetting) → IsHeaderSetting s → HasBytes s → is_header_in_range s ≡ true
     → wish_of (map word_of (Plain (codes "header") ∷ header_words s)) ≡ Ok (wish.World (header_wish s))
 unfolding wish_of world_read world_thing world_number world_number_behind key world_flag saved start_board current_board world_name world_and_name
-header_read (header.Number Ammo n) fits short = rw (integer_back n fits) refl
-header_read (header.Number Gems n) fits short = rw (integer_back n fits) refl
-header_read (header.Number Health n) fits short = rw (integer_back n fits) refl
-header_read (header.Number Torches n) fits short = rw (integer_back n fits) refl
-header_read (header.Number TorchTicks n) fits short = rw (integer_back n fits) refl
-header_read (header.Number EnergizerTicks n) fits short = rw (integer_back n fits) refl
-header_read (header.Number Score n) fits short = rw (integer_back n fits) refl
-header_read (header.Number TimePassed n) fits short = rw (integer_back n fits) refl
-header_read (header.Number Hundredths n) fits short = rw (integer_back n fits) refl
-header_read (header.Key Blue true) fits short = refl
-header_read (header.Key Blue false) fits short = refl
-header_read (header.Key Green true) fits short = refl
-header_read (header.Key Green false) fits short = refl
-header_read (header.Key Cyan true) fits short = refl
-header_read (header.Key Cyan false) fits short = refl
-header_read (header.Key Red true) fits short = refl
-header_read (header.Key Red false) fits short = refl
-header_read (header.Key Purple true) fits short = refl
-header_read (header.Key Purple false) fits short = refl
-header_read (header.Key Yellow true) fits short = refl
-header_read (header.Key Yellow false) fits short = refl
-header_read (header.Key White true) fits short = refl
-header_read (header.Key White false) fits short = refl
-header_read (header.Saved true) fits short = refl
-header_read (header.Saved false) fits short = refl
-header_read (header.CurrentBoard b) fits short = rw (name_back b.name fits) refl
-header_read (header.WorldName s) fits short = rw short refl
-header_read (header.Flag k s) fits short = rw (slot_word k, short) refl
+header_read (header.Number Ammo n) fits bytes short = rw (integer_back n fits) refl
+header_read (header.Number Gems n) fits bytes short = rw (integer_back n fits) refl
+header_read (header.Number Health n) fits bytes short = rw (integer_back n fits) refl
+header_read (header.Number Torches n) fits bytes short = rw (integer_back n fits) refl
+header_read (header.Number TorchTicks n) fits bytes short = rw (integer_back n fits) refl
+header_read (header.Number EnergizerTicks n) fits bytes short = rw (integer_back n fits) refl
+header_read (header.Number Score n) fits bytes short = rw (integer_back n fits) refl
+header_read (header.Number TimePassed n) fits bytes short = rw (integer_back n fits) refl
+header_read (header.Number Hundredths n) fits bytes short = rw (integer_back n fits) refl
+header_read (header.Key Blue true) fits bytes short = refl
+header_read (header.Key Blue false) fits bytes short = refl
+header_read (header.Key Green true) fits bytes short = refl
+header_read (header.Key Green false) fits bytes short = refl
+header_read (header.Key Cyan true) fits bytes short = refl
+header_read (header.Key Cyan false) fits bytes short = refl
+header_read (header.Key Red true) fits bytes short = refl
+header_read (header.Key Red false) fits bytes short = refl
+header_read (header.Key Purple true) fits bytes short = refl
+header_read (header.Key Purple false) fits bytes short = refl
+header_read (header.Key Yellow true) fits bytes short = refl
+header_read (header.Key Yellow false) fits bytes short = refl
+header_read (header.Key White true) fits bytes short = refl
+header_read (header.Key White false) fits bytes short = refl
+header_read (header.Saved true) fits bytes short = refl
+header_read (header.Saved false) fits bytes short = refl
+header_read (header.CurrentBoard b) fits bytes short = rw (name_back b.name fits) refl
+header_read (header.WorldName s) fits bytes short = rw (string_back 20 s bytes short) refl
+header_read (header.Flag k s) fits bytes short = rw (slot_word k, string_back 20 s bytes short) refl
 
 -- ---- properties of a board
 
@@ -194,28 +194,28 @@ exit_found : (b : Option BoardId) → IfSome b (λ x. IsName x.name) → unless_
 exit_found None fits = refl
 exit_found (Some b) fits = not_none b.name fits BoardPlace board_of (board_place.Named b) (board_found b fits)
 
-property_read : (s : BoardSetting) → IsBoardSetting s → is_property_in_range s ≡ true → board_read (map word_of (board_words s)) ≡ Ok (property_wish s)
+property_read : (s : BoardSetting) → IsBoardSetting s → TextHasBytes s → is_property_in_range s ≡ true → board_read (map word_of (board_words s)) ≡ Ok (property_wish s)
 unfolding board_read board_byte board_flag board_title message max_shots time_limit board_rank exit start_place start
-property_read (board.Byte MaxShots n) fits short = rw (number_back 255 n (omega arith)) refl
-property_read (board.Byte StartX n) fits short = rw (number_back 255 n (omega arith)) refl
-property_read (board.Byte StartY n) fits short = rw (number_back 255 n (omega arith)) refl
-property_read (board.Flag Dark true) fits short = refl
-property_read (board.Flag Dark false) fits short = refl
-property_read (board.Flag ReEnter true) fits short = refl
-property_read (board.Flag ReEnter false) fits short = refl
-property_read (board.TimeLimit n) fits short = rw (integer_back n fits) refl
-property_read (board.Exit North b) fits short = rw (exit_found b fits) refl
-property_read (board.Exit South b) fits short = rw (exit_found b fits) refl
-property_read (board.Exit West b) fits short = rw (exit_found b fits) refl
-property_read (board.Exit East b) fits short = rw (exit_found b fits) refl
-property_read (board.Text Name s) fits short = rw short refl
-property_read (board.Text Message s) fits short = rw short refl
-property_read (board.Rank n) fits short = rw (number_back 65535 n (omega arith)) refl
+property_read (board.Byte MaxShots n) fits bytes short = rw (number_back 255 n (omega arith)) refl
+property_read (board.Byte StartX n) fits bytes short = rw (number_back 255 n (omega arith)) refl
+property_read (board.Byte StartY n) fits bytes short = rw (number_back 255 n (omega arith)) refl
+property_read (board.Flag Dark true) fits bytes short = refl
+property_read (board.Flag Dark false) fits bytes short = refl
+property_read (board.Flag ReEnter true) fits bytes short = refl
+property_read (board.Flag ReEnter false) fits bytes short = refl
+property_read (board.TimeLimit n) fits bytes short = rw (integer_back n fits) refl
+property_read (board.Exit North b) fits bytes short = rw (exit_found b fits) refl
+property_read (board.Exit South b) fits bytes short = rw (exit_found b fits) refl
+property_read (board.Exit West b) fits bytes short = rw (exit_found b fits) refl
+property_read (board.Exit East b) fits bytes short = rw (exit_found b fits) refl
+property_read (board.Text Name s) fits bytes short = rw (string_back 50 s bytes short) refl
+property_read (board.Text Message s) fits bytes short = rw (string_back 58 s bytes short) refl
+property_read (board.Rank n) fits bytes short = rw (number_back 65535 n (omega arith)) refl
 
-board_wish_read : (b : BoardId) (s : BoardSetting) → IsName b.name → IsBoardSetting s → is_property_in_range s ≡ true
+board_wish_read : (b : BoardId) (s : BoardSetting) → IsName b.name → IsBoardSetting s → TextHasBytes s → is_property_in_range s ≡ true
     → wish_of (map word_of (Plain (codes "board") ∷ Plain (board_name b) ∷ board_words s)) ≡ Ok (wish.Board (board_place.Named b) (property_wish s))
 unfolding wish_of board_thing
-board_wish_read b s named fits short = rw (name_back b.name named, property_read s fits short) refl
+board_wish_read b s named fits bytes short = rw (name_back b.name named, property_read s fits bytes short) refl
 
 -- ---- fields of a stat
 
@@ -259,10 +259,10 @@ stat_wish_read k s named fits = rw (name_back k.name named, field_read k s fits)
 -- ---- the laws
 
 pub header_is_read : HeaderIsRead
-header_is_read s fits short = (header_line s, header_read s fits short)
+header_is_read s fits bytes short = (header_line s, header_read s fits bytes short)
 
 pub property_is_read : PropertyIsRead
-property_is_read b s named fits short = (board_line b s, board_wish_read b s named fits short)
+property_is_read b s named fits bytes short = (board_line b s, board_wish_read b s named fits bytes short)
 
 pub field_is_read : FieldIsRead
 field_is_read k s named fits = (stat_line k s, stat_wish_read k s named fits)

@@ -1,5 +1,7 @@
 -- The words of a setting, as a list of edits prints it.
-use Rattle.std.specs.Prelude.{◌≡◌, ℕ, ◌+◌, ◌≤◌, Bool, true, List, [], ◌∷◌, ◌++◌, length, map, codes, Option, Some, None, option_map, Result, Ok}
+use Rattle.std.specs.Prelude.{◌≡◌, ℕ, ◌+◌, ◌<◌, ◌≤◌, Bool, true, List, [], ◌∷◌, ◌++◌, length, map, codes, Option, Some, None, option_map, Result, Ok}
+use Rattle.std.specs.List.{AllByRecursion}
+use Rattle.zed_program_text.specs.Text.{text_of}
 use Rattle.zed_types.specs.Header.{flag_index}
 use Rattle.zed_types.specs.declared.names.BoardId.{BoardId}
 use Rattle.zed_types.specs.declared.names.StatId.{StatId}
@@ -50,15 +52,15 @@ use Rattle.zed_set_words.specs.Values.{Word, number_of}
 
 -- ---- words, and how they are printed
 
--- a word of a line: as it is, or a string that stands between quotes there
+-- a word of a line: as it is, or the bytes of a string that stands between quotes there
 pub data Piece : Type 0 where
   Plain : (word : Word) → Piece
-  Quoted : (text : Word) → Piece
+  Quoted : (bytes : List ℕ) → Piece
 
--- the word itself
+-- the word itself; of a string the characters of its bytes, in UTF-8
 abbrev pub word_of : Piece → Word
 word_of (Plain w) = w
-word_of (Quoted s) = s
+word_of (Quoted s) = text_of s
 
 -- how a line has it
 abbrev pub printed : Piece → List ℕ
@@ -202,10 +204,25 @@ field_wish (stat.Text t) = stat_wish.Text t
 
 -- ---- the laws
 
+-- a string has bytes alone
+abbrev pub AreBytes : List ℕ → Type 0
+AreBytes s = AllByRecursion (λ b. b < 256) s
+
+-- so has that of a register of the world
+abbrev pub HasBytes : HeaderSetting → Type 0
+HasBytes (header.WorldName s) = AreBytes s
+HasBytes (header.Flag k s) = AreBytes s
+HasBytes _ = Unit {0}
+
+-- and that of a property of a board
+abbrev pub TextHasBytes : BoardSetting → Type 0
+TextHasBytes (board.Text f s) = AreBytes s
+TextHasBytes _ = Unit {0}
+
 -- a list of edits prints a register of the world so, and its words are read as it
 abbrev pub HeaderIsRead : Type 0
 HeaderIsRead =
-    (setting : HeaderSetting) → IsHeaderSetting setting → is_header_in_range setting ≡ true
+    (setting : HeaderSetting) → IsHeaderSetting setting → HasBytes setting → is_header_in_range setting ≡ true
     → let pieces = Plain (codes "header") ∷ header_words setting in
     (op_text (SetHeader setting) ≡ line_of pieces)
     × (wish_of (map word_of pieces) ≡ Ok (wish.World (header_wish setting)))
@@ -213,7 +230,7 @@ HeaderIsRead =
 -- so of a property of a board
 abbrev pub PropertyIsRead : Type 0
 PropertyIsRead =
-    (b : BoardId) (setting : BoardSetting) → IsName b.name → IsBoardSetting setting → is_property_in_range setting ≡ true
+    (b : BoardId) (setting : BoardSetting) → IsName b.name → IsBoardSetting setting → TextHasBytes setting → is_property_in_range setting ≡ true
     → let pieces = Plain (codes "board") ∷ Plain (board_name b) ∷ board_words setting in
     (op_text (SetBoard b setting) ≡ line_of pieces)
     × (wish_of (map word_of pieces) ≡ Ok (wish.Board (board_place.Named b) (property_wish setting)))

@@ -1,3 +1,4 @@
+pub mod Characters
 pub mod Cuts
 pub mod Numbers
 pub mod Signs

@@ -39,7 +39,8 @@ use Rattle.zed_set_words.specs.declared.wishes.StatWish.TheVariants as stat_wish
 use Rattle.zed_set_words.specs.declared.wishes.Wish.{Wish}
 use Rattle.zed_set_words.specs.declared.wishes.Wish.TheVariants as wish
 use Rattle.zed_set_words.specs.Readers.{Reader, Row, behind, choose, choose_or, next, placed, said_or, value}
-use Rattle.zed_set_words.specs.Values.{Word, board_of, byte_of, colour_of, element_of, flag_of, integer_of, key_of, name_of, named, or_else, other_of, row, short_of, side_of, slot_of, string_of, unless_none}
+use Rattle.zed_set_words.specs.Strings.{string_of}
+use Rattle.zed_set_words.specs.Values.{Word, board_of, byte_of, colour_of, element_of, flag_of, integer_of, key_of, name_of, named, or_else, other_of, row, short_of, side_of, slot_of, unless_none}
 
 -- ---- last words: a value, and no more
 

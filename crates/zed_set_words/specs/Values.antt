@@ -98,11 +98,7 @@ slot_of word = named (row (codes "1") First ∷ row (codes "2") Second ∷ row (
 abbrev pub side_of : Word → Option Side
 side_of word = named (row (codes "north") North ∷ row (codes "south") South ∷ row (codes "west") West ∷ row (codes "east") East ∷ []) word
 
--- ---- strings, elements, colours
-
--- a string of at most so many bytes
-abbrev pub string_of : ℕ → Word → Option (List ℕ)
-string_of most word = if nat_le (length word) most then Some word else None
+-- ---- elements, colours
 
 -- a hexadecimal digit: 0 to 9 (48 to 57), or a to f (97 to 102)
 abbrev pub hex_of : ℕ → Option ℕ

@@ -85,9 +85,9 @@ impl Expected {
             Expected::Element => "the word of an element, or a number from 0 to 255",
             Expected::Colour => "0x and two digits, or a number from 0 to 255",
             Expected::Target => "a number from 0 to 255, or board",
-            Expected::ShortText => "a string of at most 20 bytes",
-            Expected::NameText => "a string of at most 50 bytes",
-            Expected::MessageText => "a string of at most 58 bytes",
+            Expected::ShortText => "a string of at most 20 characters of code page 437",
+            Expected::NameText => "a string of at most 50 characters of code page 437",
+            Expected::MessageText => "a string of at most 58 characters of code page 437",
             Expected::End => "the end of the words",
         }
     }

@@ -10,10 +10,12 @@ mod place;
 mod reading;
 mod register;
 mod stat;
+mod text;
 mod thing;
 mod value;
 mod wishes;
 
 pub use bad::{BadWord, Expected};
 pub use reading::wish;
-pub use wishes::{BoardPlace, BoardWish, P3Wish, StatPlace, StatWish, Text, Wish, WorldWish};
+pub use text::Text;
+pub use wishes::{BoardPlace, BoardWish, P3Wish, StatPlace, StatWish, Wish, WorldWish};

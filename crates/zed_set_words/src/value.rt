@@ -3,10 +3,12 @@ ghost use Rattle.std.specs.Prelude.{◌≡◌, MatchResult, Err, Ok};
 ghost use Rattle.zed_set_words.specs.Readers.{behind as behind_word, the_end as ends, value, words_of};
 ghost use Rattle.zed_set_words.specs.Rows as rows;
 ghost use Rattle.zed_set_words.specs.declared.bad.Expected.TheVariants.{Target};
-ghost use Rattle.zed_set_words.specs.Values.{byte_of, string_of};
+ghost use Rattle.zed_set_words.specs.Strings.{string_of};
+ghost use Rattle.zed_set_words.specs.Values.{byte_of};
 
 use crate::bad::{Expected, Stop, stopped};
-use crate::wishes::{BoardPlace, StatPlace, Text};
+use crate::text::{Text, string};
+use crate::wishes::{BoardPlace, StatPlace};
 use crate::{numerals, place, thing};
 use zed_types::TextId;
 
@@ -173,17 +175,6 @@ pub(crate) fn text_or_none(words: &[&str]) -> Result<Option<TextId>, Stop>
     let said = place::text_or_none(word).ok_or(stopped(words, Expected::TextOrNone))?;
     the_end(rest)?;
     Ok(said)
-}
-
-/// A string, if it has at most so many bytes.
-fn string<'a>(word: &'a str, most: usize) -> Option<Text<'a>>
-    ensures { result ≡ string_of most word.now }
-{
-    if word.len() <= most {
-        Some(Text::new(word))
-    } else {
-        None
-    }
 }
 
 /// A string of at most so many bytes.

@@ -1,40 +1,9 @@
 //! What words may wish.
-ghost use Rattle.std.specs.Prelude.{◌≡◌};
-
-use std::marker::Model;
+use crate::text::Text;
 use zed_types::{
     BoardByte, BoardFlag, BoardId, BoardText, FlagSlot, HeaderNumber, KeyColour, Side, StatByte,
     StatId, StatNumber, TextId,
 };
-
-/// A word that is a string, which contracts see as its bytes.
-#[derive(Drop)]
-pub struct Text<'a> {
-    word: &'a str,
-}
-
-impl<'a> Model for Text<'a> {
-    ghost use Rattle.std.specs.Prelude.{ℕ, List};
-
-    ghost Value = { List ℕ };
-
-    ghost view = { λ t. t.word.now };
-}
-
-impl<'a> Text<'a> {
-    /// The bytes of a word.
-    pub fn new(word: &'a str) -> Text<'a>
-        ensures { result ≡ word.now }
-    {
-        Text { word }
-    }
-
-    pub fn as_str(&self) -> &'a str
-        ensures { result.now ≡ self.now }
-    {
-        self.word
-    }
-}
 
 /// A board: by the number that it has now, or by its name.
 #[derive(Clone, Copy)]

@@ -1,5 +1,6 @@
 use Rattle.std.proofs.Common.{◌≡◌, ◌∙◌, sym}
 use Rattle.std.proofs.lemmas.Result.{err_from_is_err_and}
+use Rattle.zed_action.proofs.Wants.{is_lack}
 use Rattle.zed_set.proofs.Turns.{both_end, first_refused}
 use Rattle.zed_set.proofs.performing.author_both.Goals as goal
 
@@ -13,3 +14,6 @@ pub returns-clause-ends : goal.returns-clause-ends
 returns-clause-ends c =
     both_end c.args.document.now c.author.new.document c.args.replica c.args.first c.args.second c.author-2.result _
     c.in_ok-author.ensures.ends (c.in_ok-author.ensures.sound ∙ sym c.requires) c.author-2.ensures.ends
+
+pub returns-clause-memory_only_when : goal.returns-clause-memory_only_when
+returns-clause-memory_only_when c = λ lack. c.in_ok-author.ensures.left

@@ -71,3 +71,16 @@ returns-in_err-document-clause-err g c =
 pub returns-in_err-line-clause-err : goal.returns-in_err-line-clause-err
 returns-in_err-line-clause-err g c =
     off_on c.from_residual-in_err-line.result Memory c.from_residual-in_err-line.ensures.1 (refl, refl)
+
+-- 0 is no author's number
+pub returns-clause-no_author : goal.returns-clause-no_author
+returns-clause-no_author g c = λ none. absurd (let no = (c.in_ok-document.ensures.no_author none).0 in cc)
+
+pub returns-in_err-line-clause-no_author : goal.returns-in_err-line-clause-no_author
+returns-in_err-line-clause-no_author g c = λ none. absurd (let no = (c.in_ok-document.ensures.no_author none).0 in cc)
+
+pub returns-in_err-document-clause-no_author : goal.returns-in_err-document-clause-no_author
+returns-in_err-document-clause-no_author g c =
+    let p = err_from_is_err_and c.from_residual.result c.from_residual.ensures.1 in
+    let same : p.0 ≡ c.in_err-document.field-0.0 = p.2 in
+    rw (p.1, same) c.in_err-document.ensures.no_author

@@ -22,7 +22,7 @@ wish_is v w h = cc
 -- the words wish this, and the answer is so
 pub tells_for : (P : Wish → Result ⊤ Refusal → Type 0) (v w : Wish) (words : Said) (told : Result ⊤ Refusal) (answer : Result ⊤ SetError)
     → said v ≡ words → words ≡ said w → P v told → answer ≡ set_answer told → Tells (P w) answer
-tells_for P v w words told answer is wished p as = (told, subst (λ x. P x told) (wish_is v w (is ∙ wished)) p, as)
+tells_for P v w words told answer is wished p says = (told, subst (λ x. P x told) (wish_is v w (is ∙ wished)) p, says)
 
 -- the words wish nothing
 pub tells_nothing : {X : Type 0} (b : BadWord) (w : Wish) (words : Said) → unsaid b ≡ words → words ≡ said w → X
