@@ -14,7 +14,8 @@ use Rattle.zed_files.specs.Refusals.{action_refusal}
 use Rattle.zed_host.specs.HostContents.{HostContents}
 use Rattle.zed_host.proofs.ReadFiles.{read_so}
 use Rattle.zed_set_words.specs.declared.wishes.Wish.{Wish}
-use Rattle.zed_set.specs.Setting.{ComesToSet, IsDone, IsSet, Sets, WishMayTake}
+use Rattle.zed_wishes.specs.Granting.{Sets, WishMayTake}
+use Rattle.zed_set.specs.Setting.{ComesToSet, IsDone, IsSet}
 
 has_own : (d : Replica) → d.is_stale ≡ false → HasEdits d d.world d.edits
 has_own d sound = record { world_is = refl; edits_are = refl; sound = sound }

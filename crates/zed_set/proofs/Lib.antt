@@ -1,4 +1,2 @@
 pub mod Granted
 pub mod Told
-pub mod Turns
-pub mod Wants

@@ -1,53 +1,17 @@
 -- What a wish makes of an edit file.
-use Rattle.std.specs.Prelude.{◌≡◌, ◌⊎◌, ◌<◌, ⊤, false, ℕ, zero, suc, List, Result, Ok, Err, length}
+use Rattle.std.specs.Prelude.{◌≡◌, ⊤, ℕ, zero, suc, List, Result, Ok, Err}
 use Rattle.zed_op.specs.declared.cause.Cause.TheVariants as cause
-use Rattle.zed_op.specs.declared.op.Edit.{Edit}
-use Rattle.zed_edit.specs.Replay.{replay}
-use Rattle.zed_document.specs.declared.error.DocumentError.{DocumentError}
 use Rattle.zed_document.specs.Replica.{Replica}
-use Rattle.zed_document.specs.Authoring.{is_spent_for}
-use Rattle.zed_action.specs.Deeds.{Authors, InTurn, Made, MayTakeToAuthor, with_edits}
-use Rattle.zed_action.specs.Refusals.{refusal_of}
+use Rattle.zed_action.specs.Deeds.{Made}
 use Rattle.zed_files.specs.declared.refusal.Refusal.{Refusal}
 use Rattle.zed_files.specs.declared.refusal.Refusal.TheVariants.{BadEdit}
 use Rattle.zed_files.specs.Effects.{Effect}
 use Rattle.zed_host.specs.HostContents.{HostContents}
 use Rattle.zed_making.specs.Edited.{FileEdits, HasEdits, OpensAs, acted, writes_edits}
-use Rattle.zed_set_words.specs.declared.bad.BadWord.{BadWord}
 use Rattle.zed_set_words.specs.declared.wishes.Wish.{Wish}
-use Rattle.zed_set.specs.declared.deed.Deed.{Deed}
-use Rattle.zed_set.specs.declared.deed.Deed.TheVariants.{One, Two}
+use Rattle.zed_wishes.specs.Granting.{Sets}
 use Rattle.zed_set.specs.declared.error.SetError.{SetError}
 use Rattle.zed_set.specs.declared.error.SetError.TheVariants.{Refused}
-use Rattle.zed_set.specs.Deeds.{deed_of, kept_in}
-
--- an op is authored, or two, one after the other
-abbrev pub Performs : Replica → ℕ → Deed → Made → Type 0
-Performs d replica (One o) made = Authors d replica o made
-Performs d replica (Two o n) made = InTurn (Authors d replica o) (λ es. Authors (with_edits es d) replica n) made
-
--- a deed is performed, or refused in place of it
-abbrev pub Does : Replica → ℕ → Result Deed DocumentError → Made → Type 0
-Does d replica (Err e) made = made ≡ Err (refusal_of e)
-Does d replica (Ok deed) made = Performs d replica deed made
-
--- a deed may take memory; two edits may as long as a time is left
-abbrev pub DeedMayTake : Replica → ℕ → Deed → Type 0
-DeedMayTake d replica (One o) = MayTakeToAuthor d replica o
-DeedMayTake d replica (Two o n) = is_spent_for d.edits o ≡ false
-
--- a deed that a wish comes to may take memory; what is refused in its place is nothing that does
-abbrev pub AnyMayTake : Replica → ℕ → Result Deed DocumentError → Type 0
-AnyMayTake d replica (Err none) = ⊥
-AnyMayTake d replica (Ok deed) = DeedMayTake d replica deed
-
--- a wish may take memory: to keep its bytes, or for what it comes to
-abbrev pub WishMayTake : Replica → ℕ → Wish → Type 0
-WishMayTake d replica w = (0 < length (kept_in w)) ⊎ AnyMayTake d replica (deed_of (replay d.edits) w)
-
--- what a wish does to a document, as a replica
-abbrev pub Sets : Replica → ℕ → Wish → Made → Type 0
-Sets d replica w made = Does d replica (deed_of (replay d.edits) w) made
 
 -- it is done on a document of the file's edits, where the file was read
 abbrev pub IsDone : ℕ → Wish → Result FileEdits Refusal → Result FileEdits Refusal → Type 0

@@ -2,10 +2,8 @@
 //! field of a stat.
 #![tactic(auto)]
 
-mod deed;
 mod error;
 mod opening;
-mod performing;
 mod setting;
 
 pub use error::SetError;

@@ -7,7 +7,8 @@ ghost use Rattle.zed_files.specs.Refusals.{IsOffStage};
 ghost use Rattle.zed_host.specs.Counting.{Rose};
 ghost use Rattle.zed_host.specs.HostContents.{HostContents};
 ghost use Rattle.zed_set.specs.declared.error.SetError.TheVariants.{BadWord, Refused};
-ghost use Rattle.zed_set.specs.Setting.{ComesToSet, IsDone, IsSet, Tells, WishMayTake};
+ghost use Rattle.zed_set.specs.Setting.{ComesToSet, IsDone, IsSet, Tells};
+ghost use Rattle.zed_wishes.specs.Granting.{WishMayTake};
 ghost use Rattle.zed_set_words.specs.declared.bad.BadWord.{BadWord as TheBadWord};
 ghost use Rattle.zed_set_words.specs.declared.wishes.Wish.{Wish as TheWish};
 ghost use Rattle.zed_set_words.specs.Readers.{words_of};
@@ -15,7 +16,6 @@ ghost use Rattle.zed_set_words.specs.Rows.{wish_of};
 
 use crate::error::{SetError, answer};
 use crate::opening::open;
-use crate::performing::grant;
 use std::alloc::Global;
 use zed_document::Document;
 use zed_edit::Cause;
@@ -23,6 +23,7 @@ use zed_files::{Refusal, edits_told};
 use zed_host::Host;
 use zed_making::write_document;
 use zed_set_words::{Wish, wish};
+use zed_wishes::grant;
 
 // A document after a wish of a replica. Memory is lacking only where the wish, and what it comes to,
 // may take some.

@@ -1,5 +1,5 @@
 -- The words of a setting, as a list of edits prints it.
-use Rattle.std.specs.Prelude.{◌≡◌, ℕ, ◌+◌, ◌<◌, ◌≤◌, Bool, true, List, [], ◌∷◌, ◌++◌, length, map, codes, Option, Some, None, option_map, Result, Ok}
+use Rattle.std.specs.Prelude.{◌≡◌, ℕ, ◌+◌, ◌<◌, ◌≤◌, Bool, true, List, [], ◌∷◌, ◌++◌, length, map, codes, Option, Some, None, option_map, Result, Ok, Err}
 use Rattle.std.specs.List.{AllByRecursion}
 use Rattle.zed_program_text.specs.Text.{text_of}
 use Rattle.zed_types.specs.Header.{flag_index}
@@ -29,11 +29,13 @@ use Rattle.zed_types.specs.declared.stat_field.ThirdParameter.{ThirdParameter}
 use Rattle.zed_types.specs.declared.stat_field.ThirdParameter.TheVariants as third
 use Rattle.zed_types.specs.declared.stat_field.StatSetting.{StatSetting}
 use Rattle.zed_types.specs.declared.stat_field.StatSetting.TheVariants as stat
-use Rattle.zed_op.specs.declared.op.Op.TheVariants.{SetHeader, SetBoard, SetStat}
+use Rattle.zed_op.specs.declared.op.Op.{Op}
+use Rattle.zed_op.specs.declared.op.Op.TheVariants.{Genesis, SetHeader, BoardAdd, BoardRemove, SetBoard, SetCells, StatAdd, StatRemove, SetStat, TextAdd, TextInsert, TextDelete}
 use Rattle.zed_op.specs.Fit.{is_header_in_range, is_property_in_range}
 use Rattle.zed_op.specs.Sizes.{IsBoardSetting, IsHeaderSetting, IsName, IsStatSetting}
 use Rattle.zed_log.specs.Fields.{boolean, board_name, colour, element, integer, number, optional, quoted, stat_name, text_name}
 use Rattle.zed_log.specs.Line.{op_text}
+use Rattle.zed_set_words.specs.declared.bad.Expected.TheVariants.{Thing}
 use Rattle.zed_set_words.specs.declared.wishes.BoardPlace.{BoardPlace}
 use Rattle.zed_set_words.specs.declared.wishes.BoardPlace.TheVariants as board_place
 use Rattle.zed_set_words.specs.declared.wishes.StatPlace.{StatPlace}
@@ -48,7 +50,7 @@ use Rattle.zed_set_words.specs.declared.wishes.StatWish.{StatWish}
 use Rattle.zed_set_words.specs.declared.wishes.StatWish.TheVariants as stat_wish
 use Rattle.zed_set_words.specs.declared.wishes.Wish.TheVariants as wish
 use Rattle.zed_set_words.specs.Rows.{wish_of}
-use Rattle.zed_set_words.specs.Values.{Word, number_of}
+use Rattle.zed_set_words.specs.Values.{Word}
 
 -- ---- words, and how they are printed
 
@@ -243,6 +245,31 @@ FieldIsRead =
     (op_text (SetStat s setting) ≡ line_of pieces)
     × (wish_of (map word_of pieces) ≡ Ok (wish.Stat (stat_place.Named s) (field_wish setting)))
 
--- a number is spelled in one way
-abbrev pub NumberIsOneWord : Type 0
-NumberIsOneWord = (most n : ℕ) (w : Word) → number_of most w ≡ Some n → (w ≡ number n) × (n ≤ most)
+-- ---- lines of edits that set nothing
+
+-- the first word of the line of such an edit
+abbrev pub other_word : Op → Option Word
+other_word (Genesis bytes) = Some (codes "genesis")
+other_word (SetHeader setting) = None
+other_word (BoardAdd s) = Some (codes "add")
+other_word (BoardRemove b) = Some (codes "remove")
+other_word (SetBoard b setting) = None
+other_word (SetCells b r t) = Some (codes "cells")
+other_word (StatAdd b f) = Some (codes "add")
+other_word (StatRemove s) = Some (codes "remove")
+other_word (SetStat s setting) = None
+other_word TextAdd = Some (codes "add")
+other_word (TextInsert t after bytes) = Some (codes "insert")
+other_word (TextDelete t r) = Some (codes "delete")
+
+-- a line begins with this word, and a space (32) stands behind it
+abbrev pub BeginsWith : Word → List ℕ → Type 0
+BeginsWith word line = (rest : List ℕ) × (line ≡ word ++ 32 ∷ rest)
+
+-- the first word is wrong, whatever stands behind it
+abbrev pub IsWrong : Word → Type 0
+IsWrong word = (others : List Word) → wish_of (word ∷ others) ≡ Err (record { at = 0; expected = Thing })
+
+-- a list of edits prints an edit that sets nothing so that its first word is wrong
+abbrev pub OtherIsNotRead : Type 0
+OtherIsNotRead = (op : Op) (word : Word) → other_word op ≡ Some word → BeginsWith word (op_text op) × IsWrong word

@@ -4,4 +4,4 @@
 
 mod laws;
 
-pub use laws::{printed_settings_are_read, wrong_word_is_the_first};
+pub use laws::{other_edits_are_not_read, printed_settings_are_read, wrong_word_is_the_first};

@@ -33,8 +33,8 @@ use Rattle.zed_set_words.specs.declared.wishes.StatWish.{StatWish}
 use Rattle.zed_set_words.specs.declared.wishes.StatWish.TheVariants as stat_wish
 use Rattle.zed_set_words.specs.declared.wishes.Wish.{Wish}
 use Rattle.zed_set_words.specs.declared.wishes.Wish.TheVariants as wish
-use Rattle.zed_set.specs.declared.deed.Deed.{Deed}
-use Rattle.zed_set.specs.declared.deed.Deed.TheVariants.{One, Two}
+use Rattle.zed_wishes.specs.declared.deed.Deed.{Deed}
+use Rattle.zed_wishes.specs.declared.deed.Deed.TheVariants.{One, Two}
 
 -- the bytes that a wish for the world keeps
 abbrev pub kept_in_world : WorldWish → List ℕ

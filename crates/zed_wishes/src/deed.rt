@@ -2,7 +2,7 @@
 ghost use Rattle.std.specs.Prelude.{◌≡◌, false};
 ghost use Rattle.zed_edit.specs.Replay.{replay};
 ghost use Rattle.zed_action.specs.Deeds.{board_in, stat_in};
-ghost use Rattle.zed_set.specs.Deeds.{Comes, board_at, board_deed, deed_of, exit_at, header_of, kept_in, kept_in_board, kept_in_world, of_board, of_place, of_start, of_stat, p3_of, shared_text, stat_at, stat_deed, stat_or_none};
+ghost use Rattle.zed_wishes.specs.Deeds.{Comes, board_at, board_deed, deed_of, exit_at, header_of, kept_in, kept_in_board, kept_in_world, of_board, of_place, of_start, of_stat, p3_of, shared_text, stat_at, stat_deed, stat_or_none};
 
 use std::alloc::Global;
 use zed_document::{Document, DocumentError};

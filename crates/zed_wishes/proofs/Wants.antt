@@ -25,9 +25,9 @@ use Rattle.zed_set_words.specs.declared.wishes.StatWish.{StatWish}
 use Rattle.zed_set_words.specs.declared.wishes.StatWish.TheVariants as stat_wish
 use Rattle.zed_set_words.specs.declared.wishes.Wish.{Wish}
 use Rattle.zed_set_words.specs.declared.wishes.Wish.TheVariants as wish
-use Rattle.zed_set.specs.declared.deed.Deed.{Deed}
-use Rattle.zed_set.specs.Deeds.{board_at, board_deed, deed_of, exit_at, header_of, kept_in, p3_of, shared_text, stat_at, stat_deed, stat_or_none}
-use Rattle.zed_set.specs.Setting.{AnyMayTake, DeedMayTake, WishMayTake}
+use Rattle.zed_wishes.specs.declared.deed.Deed.{Deed}
+use Rattle.zed_wishes.specs.Deeds.{board_at, board_deed, deed_of, exit_at, header_of, kept_in, p3_of, shared_text, stat_at, stat_deed, stat_or_none}
+use Rattle.zed_wishes.specs.Granting.{AnyMayTake, DeedMayTake, WishMayTake}
 
 abbrev Answer : Type 0 → Type 0
 Answer X = Result X DocumentError

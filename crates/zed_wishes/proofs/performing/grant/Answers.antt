@@ -3,9 +3,9 @@ use Rattle.std.proofs.lemmas.Result.{err_from_is_err_and}
 use Rattle.zed_action.specs.Refusals.{refusal_of}
 use Rattle.zed_action.proofs.Calls.{memory_is}
 use Rattle.zed_action.proofs.Wants.{is_lack}
-use Rattle.zed_set.proofs.Turns.{found_ends, not_found}
-use Rattle.zed_set.proofs.Wants.{deed_wants, perform_wants}
-use Rattle.zed_set.proofs.performing.grant.Goals as goal
+use Rattle.zed_wishes.proofs.Turns.{deed_leaves, found_ends, leaves_all, not_found}
+use Rattle.zed_wishes.proofs.Wants.{deed_wants, perform_wants}
+use Rattle.zed_wishes.proofs.performing.grant.Goals as goal
 
 pub returns-in_err-deed-clause-ends : goal.returns-in_err-deed-clause-ends
 returns-in_err-deed-clause-ends c =
@@ -25,3 +25,12 @@ returns-in_err-deed-clause-memory_only_when c = λ lack.
 pub returns-clause-memory_only_when : goal.returns-clause-memory_only_when
 returns-clause-memory_only_when c = λ lack.
     perform_wants c.args.document.now c.args.replica c.args.wish c.in_ok-deed.deed c.in_ok-deed.ensures (c.perform.ensures.memory_only_when lack)
+
+pub returns-in_err-deed-clause-kept : goal.returns-in_err-deed-clause-kept
+returns-in_err-deed-clause-kept c =
+    let p = err_from_is_err_and c.from_residual.result c.from_residual.ensures.1 in
+    rw p.1 (leaves_all c.args.document.now c.args.replica _)
+
+pub returns-clause-kept : goal.returns-clause-kept
+returns-clause-kept c =
+    deed_leaves c.args.document.now c.args.replica _ c.in_ok-deed.deed c.perform.result _ c.in_ok-deed.ensures c.perform.ensures.kept
