@@ -34,7 +34,8 @@ use Rattle.zed_set_words.specs.declared.wishes.Wish.TheVariants as wish
 use Rattle.zed_set_laws.specs.Laws.{IsNotMended, WrongWordIsTold}
 use Rattle.zed_set_words.specs.Readers.{choose, placed, stop, value}
 use Rattle.zed_set_words.specs.Rows as rows
-use Rattle.zed_set_words.specs.Values.{Word, board_of, byte_of, colour_of, element_of, flag_of, integer_of, key_of, name_of, other_of, row, short_of, side_of, slot_of, string_of, unless_none}
+use Rattle.zed_set_words.specs.Strings.{string_of}
+use Rattle.zed_set_words.specs.Values.{Word, board_of, byte_of, colour_of, element_of, flag_of, integer_of, key_of, name_of, other_of, row, short_of, side_of, slot_of, unless_none}
 use Rattle.zed_set_laws.proofs.First.{Honest, IsFirm, Stops, behind_honest, choose_honest, choose_or_honest, map_honest, named_honest, next_honest, then_read, value_honest}
 
 -- ---- last words

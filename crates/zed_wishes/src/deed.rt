@@ -118,8 +118,14 @@ fn header_of(
             let board = board_at(document, place)?;
             Ok(HeaderSetting::CurrentBoard(board))
         }
-        WorldWish::Name(text) => Ok(HeaderSetting::WorldName(text.to_bytes(alloc)?)),
-        WorldWish::Flag(slot, text) => Ok(HeaderSetting::Flag(slot, text.to_bytes(alloc)?)),
+        WorldWish::Name(text) => match text.to_bytes(alloc) {
+            Ok(name) => Ok(HeaderSetting::WorldName(name)),
+            Err(_) => Err(DocumentError::Memory),
+        },
+        WorldWish::Flag(slot, text) => match text.to_bytes(alloc) {
+            Ok(name) => Ok(HeaderSetting::Flag(slot, name)),
+            Err(_) => Err(DocumentError::Memory),
+        },
     }
 }
 
@@ -157,10 +163,10 @@ fn board_deed(
             let to = exit_at(document, place)?;
             Ok(of_board(board, BoardSetting::Exit(side, to)))
         }
-        BoardWish::Text(field, text) => {
-            let text = text.to_bytes(alloc)?;
-            Ok(of_board(board, BoardSetting::Text(field, text)))
-        }
+        BoardWish::Text(field, text) => match text.to_bytes(alloc) {
+            Ok(text) => Ok(of_board(board, BoardSetting::Text(field, text))),
+            Err(_) => Err(DocumentError::Memory),
+        },
         BoardWish::Start(x, y) => Ok(of_start(board, x, y)),
     }
 }
