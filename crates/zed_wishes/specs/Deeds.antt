@@ -156,14 +156,26 @@ stat_deed p s (stat_wish.Shares place) = do
   Ok (of_stat s (stat_setting.Text (Some t)))
 stat_deed p s (stat_wish.At x y) = Ok (of_place s x y)
 
--- what a wish comes to where this is shown
-abbrev pub deed_of : Plain → Wish → Result Deed DocumentError
-deed_of p (wish.World w) = do
+-- what a wish for the world comes to
+abbrev pub world_deed : Plain → WorldWish → Result Deed DocumentError
+world_deed p w = do
   setting ← header_of p w
   Ok (One (SetHeader setting))
-deed_of p (wish.Board place w) = do
+
+-- what a wish for the board of a place comes to
+abbrev pub deed_at_board : Plain → BoardPlace → BoardWish → Result Deed DocumentError
+deed_at_board p place w = do
   b ← board_at p place
   board_deed p b w
-deed_of p (wish.Stat place w) = do
+
+-- what a wish for the stat of a place comes to
+abbrev pub deed_at_stat : Plain → StatPlace → StatWish → Result Deed DocumentError
+deed_at_stat p place w = do
   s ← stat_at p place
   stat_deed p s w
+
+-- what a wish comes to where this is shown
+abbrev pub deed_of : Plain → Wish → Result Deed DocumentError
+deed_of p (wish.World w) = world_deed p w
+deed_of p (wish.Board place w) = deed_at_board p place w
+deed_of p (wish.Stat place w) = deed_at_stat p place w

@@ -2,7 +2,7 @@
 ghost use Rattle.std.specs.Prelude.{◌≡◌, false};
 ghost use Rattle.zed_edit.specs.Replay.{replay};
 ghost use Rattle.zed_action.specs.Deeds.{board_in, stat_in};
-ghost use Rattle.zed_wishes.specs.Deeds.{Comes, board_at, board_deed, deed_of, exit_at, header_of, kept_in, kept_in_board, kept_in_world, of_board, of_place, of_start, of_stat, p3_of, shared_text, stat_at, stat_deed, stat_or_none};
+ghost use Rattle.zed_wishes.specs.Deeds.{Comes, board_at, board_deed, deed_at_board, deed_at_stat, deed_of, exit_at, header_of, kept_in, kept_in_board, kept_in_world, of_board, of_place, of_start, of_stat, p3_of, shared_text, stat_at, stat_deed, stat_or_none, world_deed};
 
 use std::alloc::Global;
 use zed_document::{Document, DocumentError};
@@ -227,24 +227,53 @@ fn stat_deed(document: &Document, stat: StatId, wish: StatWish) -> Result<Deed, 
     }
 }
 
+/// A register of the world is set.
+fn world_deed(alloc: Global, document: &Document, wish: WorldWish) -> Result<Deed, DocumentError>
+    requires { document.now.is_stale ≡ false }
+    ensures { Comes (kept_in_world wish) result (world_deed (replay document.now.edits) wish) }
+{
+    let setting = header_of(alloc, document, wish)?;
+    Ok(Deed::One(Op::SetHeader(setting)))
+}
+
+/// A property of a board is set.
+fn deed_at_board(
+    alloc: Global,
+    document: &Document,
+    place: BoardPlace,
+    wish: BoardWish,
+) -> Result<Deed, DocumentError>
+    requires { document.now.is_stale ≡ false }
+    ensures { Comes (kept_in_board wish) result
+        (deed_at_board (replay document.now.edits) place wish) }
+{
+    let board = board_at(document, place)?;
+    board_deed(alloc, document, board, wish)
+}
+
+/// A field of a stat is set.
+fn deed_at_stat(
+    document: &Document,
+    place: StatPlace,
+    wish: StatWish,
+) -> Result<Deed, DocumentError>
+    requires { document.now.is_stale ≡ false }
+    ensures { result ≡ deed_at_stat (replay document.now.edits) place wish }
+{
+    let stat = stat_at(document, place)?;
+    stat_deed(document, stat, wish)
+}
+
 /// The deed of a wish. NoSuch where a board or a stat isn't there, and where a text is to be shared
 /// that isn't; Memory only where bytes are kept.
+#[tactic(auto, using(crate::proofs::Coming::comes_same))]
 pub(crate) fn deed_of(alloc: Global, document: &Document, wish: Wish) -> Result<Deed, DocumentError>
     requires { document.now.is_stale ≡ false }
     ensures { Comes (kept_in wish) result (deed_of (replay document.now.edits) wish) }
 {
     match wish {
-        Wish::World(wish) => {
-            let setting = header_of(alloc, document, wish)?;
-            Ok(Deed::One(Op::SetHeader(setting)))
-        }
-        Wish::Board(place, wish) => {
-            let board = board_at(document, place)?;
-            board_deed(alloc, document, board, wish)
-        }
-        Wish::Stat(place, wish) => {
-            let stat = stat_at(document, place)?;
-            stat_deed(document, stat, wish)
-        }
+        Wish::World(wish) => world_deed(alloc, document, wish),
+        Wish::Board(place, wish) => deed_at_board(alloc, document, place, wish),
+        Wish::Stat(place, wish) => deed_at_stat(document, place, wish),
     }
 }
