@@ -1,7 +1,5 @@
 -- What words say: the tables of all words, and what follows each.
-use Rattle.std.specs.Prelude.{ℕ, ℤ, List, [], ◌∷◌, length, codes, Option, Some, None, Result, Ok, Err, Bool, if◌then◌else◌, option_map}
-use Rattle.std.specs.Str.{bytes_eq}
-use Rattle.zed_types.specs.declared.names.Name.{Name}
+use Rattle.std.specs.Prelude.{ℕ, ℤ, List, [], ◌∷◌, length, codes, Option, Result, Ok, Bool, option_map}
 use Rattle.zed_types.specs.declared.names.TextId.{TextId}
 use Rattle.zed_types.specs.declared.header.HeaderNumber.{HeaderNumber}
 use Rattle.zed_types.specs.declared.header.HeaderNumber.TheVariants.{Ammo, Gems, Health, Torches, TorchTicks, EnergizerTicks, Score, TimePassed, Hundredths}
@@ -9,7 +7,6 @@ use Rattle.zed_types.specs.declared.property.BoardByte.{BoardByte}
 use Rattle.zed_types.specs.declared.property.BoardByte.TheVariants.{MaxShots, StartX, StartY}
 use Rattle.zed_types.specs.declared.property.BoardFlag.{BoardFlag}
 use Rattle.zed_types.specs.declared.property.BoardFlag.TheVariants.{Dark, ReEnter}
-use Rattle.zed_types.specs.declared.property.BoardText.{BoardText}
 use Rattle.zed_types.specs.declared.property.BoardText.TheVariants as board_text
 use Rattle.zed_types.specs.declared.stat_field.StatByte.{StatByte}
 use Rattle.zed_types.specs.declared.stat_field.StatByte.TheVariants.{X, Y, P1, P2, UnderElement, UnderColour}
@@ -19,7 +16,6 @@ use Rattle.zed_types.specs.Steps.{◌>>=◌}
 use Rattle.zed_set_words.specs.declared.bad.BadWord.{BadWord}
 use Rattle.zed_set_words.specs.declared.bad.Expected.{Expected}
 use Rattle.zed_set_words.specs.declared.bad.Expected.TheVariants as expected
-use Rattle.zed_set_words.specs.declared.bad.Stop.{Stop}
 use Rattle.zed_set_words.specs.declared.heads.RegisterWord.{RegisterWord}
 use Rattle.zed_set_words.specs.declared.heads.RegisterWord.TheVariants as register
 use Rattle.zed_set_words.specs.declared.heads.PropertyWord.{PropertyWord}
