@@ -35,10 +35,10 @@ fn granted_on(
 ) -> Result<Document, Refusal>
     requires { document.is_stale ≡ false }
     ensures { MatchResult result
-        (λ d. IsDone replica wish (Ok (document.world, document.edits))
+        (λ d. IsDone replica wish.entry (Ok (document.world, document.edits))
         (Ok (d.world, d.edits)))
-        (λ e. ((e ≡ Refusal.Memory) × WishMayTake document replica wish)
-        ⊎ IsDone replica wish (Ok (document.world, document.edits)) (Err e)) }
+        (λ e. ((e ≡ Refusal.Memory) × WishMayTake document replica wish.entry)
+        ⊎ IsDone replica wish.entry (Ok (document.world, document.edits)) (Err e)) }
 {
     let mut document = document;
     grant(alloc, &mut document, replica, wish)?;
@@ -55,9 +55,9 @@ fn granted<H: Host>(
 ) -> Result<Document, Refusal>
     ensures granted { (t : HostContents) → H.contents host.old ≡ Some t
         → let failed = Rose (H.faults host.old) (H.faults host.new) in MatchResult result
-        (λ d. IsSet failed t file.now replica wish (Ok (d.world, d.edits)))
+        (λ d. IsSet failed t file.now replica wish.entry (Ok (d.world, d.edits)))
         (λ e. (e ≡ Refusal.Memory)
-        ⊎ IsSet failed t file.now replica wish (Err e)) }
+        ⊎ IsSet failed t file.now replica wish.entry (Err e)) }
     ensures no_author { replica ≡ 0
         → (result ≡ Err (Refusal.BadEdit Cause.Stamp)) × (host.new ≡ host.old) }
     ensures err { IfErr result IsOffStage }
@@ -83,7 +83,7 @@ fn set_wish<H: Host>(
 ) -> Result<(), Refusal>
     ensures ends { (t : HostContents) → H.contents host.old ≡ Some t
         → let failed = Rose (H.faults host.old) (H.faults host.new) in
-        Ends failed (ComesToSet failed t file.now replica wish) t
+        Ends failed (ComesToSet failed t file.now replica wish.entry) t
         result (H.contents host.new) }
     ensures no_author { replica ≡ 0
         → (result ≡ Err (Refusal.BadEdit Cause.Stamp)) × (host.new ≡ host.old) }

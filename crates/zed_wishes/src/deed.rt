@@ -108,7 +108,7 @@ fn header_of(
     wish: WorldWish,
 ) -> Result<HeaderSetting, DocumentError>
     requires { document.now.is_stale ≡ false }
-    ensures { Comes (kept_in_world wish) result (header_of (replay document.now.edits) wish) }
+    ensures { Comes (kept_in_world wish.entry) result (header_of (replay document.now.edits) wish.entry) }
 {
     match wish {
         WorldWish::Number(field, n) => Ok(HeaderSetting::Number(field, n)),
@@ -151,8 +151,8 @@ fn board_deed(
     wish: BoardWish,
 ) -> Result<Deed, DocumentError>
     requires { document.now.is_stale ≡ false }
-    ensures { Comes (kept_in_board wish) result
-        (board_deed (replay document.now.edits) board wish) }
+    ensures { Comes (kept_in_board wish.entry) result
+        (board_deed (replay document.now.edits) board wish.entry) }
 {
     match wish {
         BoardWish::Byte(field, n) => Ok(of_board(board, BoardSetting::Byte(field, n))),
@@ -230,7 +230,7 @@ fn stat_deed(document: &Document, stat: StatId, wish: StatWish) -> Result<Deed, 
 /// A register of the world is set.
 fn world_deed(alloc: Global, document: &Document, wish: WorldWish) -> Result<Deed, DocumentError>
     requires { document.now.is_stale ≡ false }
-    ensures { Comes (kept_in_world wish) result (world_deed (replay document.now.edits) wish) }
+    ensures { Comes (kept_in_world wish.entry) result (world_deed (replay document.now.edits) wish.entry) }
 {
     let setting = header_of(alloc, document, wish)?;
     Ok(Deed::One(Op::SetHeader(setting)))
@@ -244,8 +244,8 @@ fn deed_at_board(
     wish: BoardWish,
 ) -> Result<Deed, DocumentError>
     requires { document.now.is_stale ≡ false }
-    ensures { Comes (kept_in_board wish) result
-        (deed_at_board (replay document.now.edits) place wish) }
+    ensures { Comes (kept_in_board wish.entry) result
+        (deed_at_board (replay document.now.edits) place wish.entry) }
 {
     let board = board_at(document, place)?;
     board_deed(alloc, document, board, wish)
@@ -269,7 +269,7 @@ fn deed_at_stat(
 #[tactic(auto, using(crate::proofs::Coming::comes_same))]
 pub(crate) fn deed_of(alloc: Global, document: &Document, wish: Wish) -> Result<Deed, DocumentError>
     requires { document.now.is_stale ≡ false }
-    ensures { Comes (kept_in wish) result (deed_of (replay document.now.edits) wish) }
+    ensures { Comes (kept_in wish.entry) result (deed_of (replay document.now.edits) wish.entry) }
 {
     match wish {
         Wish::World(wish) => world_deed(alloc, document, wish),

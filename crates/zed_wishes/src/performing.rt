@@ -76,11 +76,11 @@ pub fn grant(
     wish: Wish,
 ) -> Result<(), ActionError>
     requires { document.old.is_stale ≡ false }
-    ensures ends { Ends (Sets document.old replica wish) result document.new.edits }
-    ensures kept { OnErr result (LeavesWish document.old replica wish document.new.edits) }
+    ensures ends { Ends (Sets document.old replica wish.entry) result document.new.edits }
+    ensures kept { OnErr result (LeavesWish document.old replica wish.entry document.new.edits) }
     ensures stale { (result ≢ Err memory) → document.new.is_stale ≡ false }
     ensures world { document.new.world ≡ document.old.world }
-    ensures memory_only_when { result ≡ Err memory → WishMayTake document.old replica wish }
+    ensures memory_only_when { result ≡ Err memory → WishMayTake document.old replica wish.entry }
 {
     let deed = deed_of(alloc, document, wish)?;
     perform(document, replica, deed)
