@@ -14,7 +14,7 @@ pub enum SetError {
     #[error("{0}")]
     Refused(Refusal),
     /// The words wish nothing. No file was read.
-    #[error("word {} may not be there", .0.at)]
+    #[error("words that wish nothing: {0:?}")]
     BadWord(BadWord),
 }
 
