@@ -1,0 +1,5 @@
+pub mod Readers
+pub mod Rows
+pub mod Strings
+pub mod Texts
+pub mod Values

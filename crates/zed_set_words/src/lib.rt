@@ -1,0 +1,21 @@
+//! Words that say what is to be set: a register of the world, a property of a board or a field of a
+//! stat, and its value.
+#![tactic(auto)]
+
+mod bad;
+mod board;
+mod heads;
+mod numerals;
+mod place;
+mod reading;
+mod register;
+mod stat;
+mod text;
+mod thing;
+mod value;
+mod wishes;
+
+pub use bad::{BadWord, Expected};
+pub use reading::wish;
+pub use text::Text;
+pub use wishes::{BoardPlace, BoardWish, P3Wish, StatPlace, StatWish, Wish, WorldWish};

@@ -1,0 +1,85 @@
+//! Things in words: by their numbers, or by their names.
+ghost use Rattle.std.specs.Prelude.{◌≡◌, None, Some, option_map};
+ghost use Rattle.zed_set_words.specs.Rows.{text_of};
+ghost use Rattle.zed_set_words.specs.Values.{board_of, name_of, other_of, unless_none as but_none};
+
+use crate::numerals::{index, number, short};
+use crate::thing::cut;
+use crate::wishes::{BoardPlace, StatPlace};
+use zed_types::{BoardId, Name, Stamp, StatId, TextId};
+
+/// The last time that an edit file can spell.
+const MOST_OF_TIME: u64 = 281_474_976_710_655;
+
+/// The name of a thing: time, replica and index.
+#[tactic(auto, unfolding(crate::specs::Values::name_of))]
+pub(crate) fn name(word: &str) -> Option<Name>
+    ensures { result ≡ name_of word.now }
+{
+    let (time, behind) = cut(word, '.')?;
+    let (replica, last) = cut(behind, ':')?;
+    let time = number(time, MOST_OF_TIME)?;
+    let replica = short(replica)?;
+    let index = index(last)?;
+    let stamp = Stamp { time, replica };
+    Some(Name { stamp, index })
+}
+
+pub(crate) fn board_place(word: &str) -> Option<BoardPlace>
+    ensures { result ≡ board_of word.now }
+{
+    match name(word) {
+        Some(name) => Some(BoardPlace::Named(BoardId { name })),
+        None => Some(BoardPlace::Numbered(short(word)?)),
+    }
+}
+
+/// A stat beside another.
+pub(crate) fn other(at: StatPlace, word: &str) -> Option<StatPlace>
+    ensures { result ≡ other_of at word.now }
+{
+    if let Some(name) = name(word) {
+        return Some(StatPlace::Named(StatId { name }));
+    }
+    match at {
+        StatPlace::Numbered(board, _) => Some(StatPlace::Numbered(board, short(word)?)),
+        StatPlace::Named(_) => None,
+    }
+}
+
+fn text(word: &str) -> Option<TextId>
+    ensures { result ≡ text_of word.now }
+{
+    let name = name(word)?;
+    Some(TextId { name })
+}
+
+/// What is behind a side: a board, or none.
+pub(crate) fn exit_place(word: &str) -> Option<Option<BoardPlace>>
+    ensures { result ≡ but_none board_of word.now }
+{
+    if word == "none" {
+        return Some(None);
+    }
+    Some(Some(board_place(word)?))
+}
+
+/// A stat beside another, or none.
+pub(crate) fn other_or_none(at: StatPlace, word: &str) -> Option<Option<StatPlace>>
+    ensures { result ≡ but_none (other_of at) word.now }
+{
+    if word == "none" {
+        return Some(None);
+    }
+    Some(Some(other(at, word)?))
+}
+
+/// A text, or none.
+pub(crate) fn text_or_none(word: &str) -> Option<Option<TextId>>
+    ensures { result ≡ but_none text_of word.now }
+{
+    if word == "none" {
+        return Some(None);
+    }
+    Some(Some(text(word)?))
+}
