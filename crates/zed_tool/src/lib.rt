@@ -1,4 +1,4 @@
-//! `zztool` over any host: which command runs, and what it leaves.
+//! The work of the program `zztool`, over any host.
 #![tactic(auto)]
 
 mod answers;
