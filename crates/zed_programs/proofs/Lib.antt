@@ -1,3 +1,3 @@
 mod Plain
-mod Setting
+mod SetSteps
 mod Nothing

@@ -2,7 +2,7 @@ use Rattle.std.proofs.Common.{◌≡◌, refl}
 use Rattle.std.proofs.lemmas.Result.{err_from_is_err_and}
 use Rattle.zed_files.specs.Refusals.{export_refusal}
 use Rattle.zed_drawing.specs.declared.error.DrawingError.TheVariants.{Refused}
-use Rattle.zed_programs.proofs.Setting.{changed_not, changed_then}
+use Rattle.zed_programs.proofs.SetSteps.{changed_not, changed_then}
 use Rattle.zed_programs.proofs.setting.changed_world.Goals as goal
 
 pub returns-in_err-world : goal.returns-in_err-world

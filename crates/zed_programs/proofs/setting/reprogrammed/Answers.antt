@@ -1,5 +1,5 @@
 use Rattle.std.proofs.Common.{Ok, refl}
-use Rattle.zed_programs.proofs.Setting.{reprograms_not}
+use Rattle.zed_programs.proofs.SetSteps.{reprograms_not}
 use Rattle.zed_programs.proofs.setting.reprogrammed.Goals as goal
 
 pub returns-in-Ok : goal.returns-in-Ok

@@ -5,7 +5,7 @@ use Rattle.zed_drawing.specs.Files.{OpensAs}
 use Rattle.zed_drawing.proofs.Asking.{answered, tells_answered}
 use Rattle.zed_drawing.proofs.Steps.{step_refused, step_then}
 use Rattle.zed_programs.specs.Setting.{Sets}
-use Rattle.zed_programs.proofs.Setting.{sets_other, sets_writes}
+use Rattle.zed_programs.proofs.SetSteps.{sets_other, sets_writes}
 use Rattle.zed_programs.proofs.setting.set_in.Goals as goal
 
 pub returns-in_err-document-clause-comes : goal.returns-in_err-document-clause-comes

@@ -1,6 +1,6 @@
 use Rattle.std.proofs.Common.{◌≡◌}
 use Rattle.std.proofs.lemmas.Result.{err_from_is_err_and}
-use Rattle.zed_programs.proofs.Setting.{sets_not, sets_then}
+use Rattle.zed_programs.proofs.SetSteps.{sets_not, sets_then}
 use Rattle.zed_programs.proofs.setting.set_on.Goals as goal
 
 pub changed_world-requires : goal.changed_world-requires

@@ -4,7 +4,7 @@ use Rattle.zed_host.specs.Calls.{Reading, call}
 use Rattle.zed_host.specs.HostContents.{file_in}
 use Rattle.zed_drawing.proofs.Asking.{halted_before, reads_then, tells_later}
 use Rattle.zed_programs.specs.Setting.{SetReads}
-use Rattle.zed_programs.proofs.Setting.{lacks, set_behind, set_join, text_not, text_then, text_there}
+use Rattle.zed_programs.proofs.SetSteps.{lacks, set_behind, set_join, text_not, text_then, text_there}
 use Rattle.zed_programs.proofs.setting.set_text.Goals as goal
 
 pub returns-in_err-program-clause-comes : goal.returns-in_err-program-clause-comes

@@ -1,7 +1,7 @@
 use Rattle.std.proofs.Common.{◌≡◌}
 use Rattle.std.proofs.lemmas.Result.{err_from_is_err_and}
 use Rattle.zed_drawing.specs.Refusals.{text_refusal}
-use Rattle.zed_programs.proofs.Setting.{spelled_not, spelled_so}
+use Rattle.zed_programs.proofs.SetSteps.{spelled_not, spelled_so}
 use Rattle.zed_programs.proofs.setting.spelled.Goals as goal
 
 pub returns-in_err-read_program : goal.returns-in_err-read_program
