@@ -30,12 +30,13 @@ use Rattle.zed_take.specs.declared.error.TakeError.{TakeError}
 use Rattle.zed_take.specs.Taken.{AreTaken, Shows, next_stamp}
 use Rattle.zed_telling.specs.Listed as telling
 use Rattle.zed_drawing.specs.declared.error.DrawingError.{DrawingError}
+use Rattle.zed_drawing.specs.Base.{edits_of_base}
 use Rattle.zed_drawing.specs.Effects.{Effect, Output}
 use Rattle.zed_drawing.specs.Files.{FileEdits}
 use Rattle.zed_drawing.specs.Opening.{export_told}
 use Rattle.zed_drawing.specs.Refusals.{take_refusal}
 use Rattle.zed_drawing.specs.Steps.{Steps}
-use Rattle.zed_drawing.specs.Taking.{Draws, IsJoined, IsNotTaken, IsTaken, drawn, edits_of_base, given, grown, taken_line}
+use Rattle.zed_drawing.specs.Taking.{Draws, IsJoined, IsNotTaken, IsTaken, drawn, given, grown, taken_line}
 use Rattle.zed_drawing.proofs.Steps.{step_was}
 use Rattle.zed_programs.specs.Printed.{printed, text_of_stat, text_on}
 use Rattle.zed_programs.specs.Setting.{IsChanged, IsShown, Reprograms, Sets, reprogram_refusal, reprogram_told}
