@@ -212,7 +212,7 @@ fn log_command<'a>(alloc: Global) -> Result<Command<'a>, AllocError>
     let command = bare_command(
         alloc,
         "log",
-        "List the edits of edit files, a line each: when, by whom and what, and whether it still holds",
+        "List the edits of edit files, a line each: when, by whom and what",
     );
     let command = with_argument(command, files_argument(alloc))?;
     let command = with_argument(

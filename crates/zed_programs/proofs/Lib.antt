@@ -1,0 +1,3 @@
+mod Plain
+mod SetSteps
+mod Nothing
