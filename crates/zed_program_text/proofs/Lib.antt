@@ -1,2 +1,2 @@
 mod Lists
-mod Again
+pub mod Again

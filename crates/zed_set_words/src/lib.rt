@@ -5,6 +5,7 @@
 mod bad;
 mod board;
 mod heads;
+mod laws;
 mod numerals;
 mod place;
 mod reading;
@@ -16,6 +17,7 @@ mod value;
 mod wishes;
 
 pub use bad::{BadWord, Expected};
+pub use laws::wrong_word_is_the_first;
 pub use reading::wish;
 pub use text::Text;
 pub use wishes::{BoardPlace, BoardWish, P3Wish, StatPlace, StatWish, Wish, WorldWish};

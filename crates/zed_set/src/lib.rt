@@ -1,0 +1,10 @@
+//! The command `zztool set`: an author sets a register of the world, a property of a board or a
+//! field of a stat.
+#![tactic(auto)]
+
+mod error;
+mod opening;
+mod setting;
+
+pub use error::SetError;
+pub use setting::set;

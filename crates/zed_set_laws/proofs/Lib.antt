@@ -1,0 +1,4 @@
+pub mod Back
+pub mod ElementBack
+pub mod Others
+pub mod Read
