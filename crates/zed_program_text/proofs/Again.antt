@@ -1,13 +1,14 @@
 -- What is printed of a program is read as that program.
-use Rattle.std.proofs.Common.{◌≡◌, ◌∙◌, ◌+◌, ◌<◌, ℕ, zero, suc, Bool, true, false, ◌&&◌, not, List, [], ◌∷◌, ◌++◌, map, length, ap, arith, Option, Some, None, Ok, refl, subst, sym}
+use Rattle.std.proofs.Common.{◌≡◌, ◌∙◌, ◌+◌, ◌<◌, ℕ, zero, suc, Bool, true, false, ◌&&◌, not, List, [], ◌∷◌, ◌++◌, map, length, ap, ap₂, arith, Option, Some, None, Result, Ok, refl, subst, sym}
 use Rattle.std.specs.Prelude.{◌==◌}
 use Rattle.std.specs.Char.{encode_utf8}
-use Rattle.std.specs.List.{AllByRecursion, filter_map, list_all, range_with_len}
+use Rattle.std.specs.List.{AllByRecursion, filter_map, flat_map, list_all, range_with_len}
 use Rattle.std.specs.Str.{IsUtf8, chars}
 use Rattle.std.specs.Str.Lossy.{utf8_lossy}
 use Rattle.std.proofs.Math.Utf8.{scalar, scalars, encodes}
 use Rattle.std.proofs.lemmas.Str.{chars-encodes, utf8_lossy-IsUtf8}
 use Rattle.zed_codepage.specs.CodePage.{code_point}
+use Rattle.zed_program_text.specs.declared.error.BadText.{BadText}
 use Rattle.zed_program_text.specs.Characters.{byte_of, first_of, is_known, text_point}
 use Rattle.zed_program_text.specs.Reading.{fed_behind, program_in, spelled, unmarked}
 use Rattle.zed_program_text.specs.Text.{text_of}

@@ -82,11 +82,12 @@ tell_stopped : (p : Type 0) (P Q : Result Told Refusal → Type 0) (t : HostCont
     → ((x : Result Told Refusal) → P x → Q x) → (p → ⊥) → e ≡ Refused f → StillTells (IsToldOff p P t f) left → IsStopped t (Leaves (told_left t) Q) e left
 tell_stopped p P Q t e f left so never same is = elim is.1 [
   | inl before ↦ (
-      is.2 ∙ ap (λ u. Some u) before.0,
-      elim before.1 [
-        | inl lacks ↦ inl (same ∙ ap (λ x. Refused x) lacks)
-        | inr comes ↦ inr (Err f, so (Err f) comes, ap (λ x. Err x) same)
-      ])
+    is.2 ∙ ap (λ u. Some u) before.0,
+    elim before.1 [
+      | inl lacks ↦ inl (same ∙ ap (λ x. Refused x) lacks)
+      | inr comes ↦ inr (Err f, so (Err f) comes, ap (λ x. Err x) same)
+    ],
+  )
   | inr failed ↦ absurd (never failed.0)
 ]
 
@@ -107,11 +108,12 @@ draw_stopped : (text : List ℕ) (p : Type 0) (P Q : Result Drawn DrawingError �
     → ((x : Result Drawn DrawingError) → P x → Q x) → (p → ⊥) → e ≡ drawing_failure text f → StillTells (IsRefused p P t f) left → IsStopped t (Leaves (left_by text t) Q) e left
 draw_stopped text p P Q t e f left so never same is = elim is.1 [
   | inl before ↦ (
-      is.2 ∙ ap (λ u. Some u) before.0,
-      elim before.1 [
-        | inl lacks ↦ inl (same ∙ ap (drawing_failure text) lacks)
-        | inr comes ↦ inr (Err f, so (Err f) comes, ap (λ x. Err x) same)
-      ])
+    is.2 ∙ ap (λ u. Some u) before.0,
+    elim before.1 [
+      | inl lacks ↦ inl (same ∙ ap (drawing_failure text) lacks)
+      | inr comes ↦ inr (Err f, so (Err f) comes, ap (λ x. Err x) same)
+    ],
+  )
   | inr failed ↦ absurd (never failed.0)
 ]
 
@@ -270,13 +272,17 @@ drawn_status : (text : List ℕ) (r : Result ⊤ DrawingError) (status : ℕ) �
 drawn_status text (Ok u) status same = inl (status_is status 0 same)
 drawn_status text (Err e) status same = absurd (cc)
 
+-- 1 for what is so
+abbrev one_if : Bool → ℕ
+one_if b = cond b 1 0
+
+zero_or_one : (b : Bool) → (one_if b ≡ 0) ⊎ (one_if b ≡ 1)
+zero_or_one true = inr refl
+zero_or_one false = inl refl
+
 found_status : (strictness : Strictness) (n : ℕ) → (lint_status strictness n ≡ 0) ⊎ (lint_status strictness n ≡ 1)
 found_status Lenient n = inl refl
-found_status Strict n = go (nat_lt 0 n)
-  where
-    go : (b : Bool) → (cond b 1 0 ≡ 0) ⊎ (cond b 1 0 ≡ 1)
-    go true = inr refl
-    go false = inl refl
+found_status Strict n = zero_or_one (nat_lt 0 n)
 
 linted_status : (strictness : Strictness) (r : Result ℕ Refusal) (status : ℕ) → Ok status ≡ linted_as strictness r → (status ≡ 0) ⊎ (status ≡ 1)
 linted_status strictness (Ok n) status same =

@@ -39,13 +39,7 @@ fn lint_status(strictness: Strictness, lines: usize) -> u8
 {
     match strictness {
         Strictness::Lenient => 0,
-        Strictness::Strict => {
-            if 0 < lines {
-                1
-            } else {
-                0
-            }
-        }
+        Strictness::Strict => { if 0 < lines { 1 } else { 0 } }
     }
 }
 

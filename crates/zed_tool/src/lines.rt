@@ -103,7 +103,11 @@ fn shared_line_of(alloc: Global, refusal: Refusal) -> Result<String, AllocError>
 }
 
 // The line of a word that may not be there.
-fn bad_word_line(alloc: Global, word: Option<&str>, expected: Expected) -> Result<String, AllocError>
+fn bad_word_line(
+    alloc: Global,
+    word: Option<&str>,
+    expected: Expected,
+) -> Result<String, AllocError>
     ensures { IfOk result (λ text.
         string_bytes text ≡ line_for (BadWord (option_map (λ s. s.now) word.entry) expected)) }
 {

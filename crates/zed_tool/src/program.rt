@@ -54,11 +54,7 @@ fn complain_of<H: Host>(alloc: Global, host: &mut H, error: ToolError<'_>)
 }
 
 // Carries a command out, and answers its status.
-fn act<'a, H: Host>(
-    alloc: Global,
-    host: &mut H,
-    command: &Command<'a>,
-) -> Result<u8, ToolError<'a>>
+fn act<'a, H: Host>(alloc: Global, host: &mut H, command: &Command<'a>) -> Result<u8, ToolError<'a>>
     ensures ends { (t : HostContents) → H.contents host.old ≡ Some t
         → EndsCommand H.called (Rose (H.faults host.old) (H.faults host.new))
         (meaning_of command.now) host.old host.new t (answer_of result) (H.contents host.new) }
@@ -124,13 +120,7 @@ fn act<'a, H: Host>(
             set_told(words, set(alloc, host, file, *replica, words))
         }
         Command::Program { board, stat, files } => {
-            told(zed_programs::program(
-                alloc,
-                host,
-                *board,
-                *stat,
-                files.as_slice(),
-            ))
+            told(zed_programs::program(alloc, host, *board, *stat, files.as_slice()))
         }
         Command::SetProgram {
             file,
