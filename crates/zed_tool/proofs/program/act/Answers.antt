@@ -78,16 +78,17 @@ returns-in-Lint-clause-failures g c = linted_tells g.H.Host.faults g.H.Host.fail
 
 pub returns-in-Set-clause-ends : goal.returns-in-Set-clause-ends
 returns-in-Set-clause-ends g c = λ t at.
-    let value = c.as_slice-in-Set.ensures.value in
+    let value = c.as_slice-words.ensures.value in
     let told = c.set_told.ensures in
     let wrong = c.set.ensures.bad_word in
-    let ends = λ w is. c.set.ensures.ends w is t at in
+    let ends = c.set.ensures.ends in
+    let all = rw value at ends in
     rw c.in-Set.is (set_ends g.H.Host.contents _ t c.in-Set.file.now c.in-Set.replica (map (λ s. s.now) c.in-Set.words.items) c.set.result _ _ _ at
-    (rw value at told) (rw value at wrong) (rw value at ends))
+    (rw value at told) (rw value at wrong) (λ w is. all w is t at))
 
 pub returns-in-Set-clause-asked : goal.returns-in-Set-clause-asked
 returns-in-Set-clause-asked g c =
-    let value = c.as_slice-in-Set.ensures.value in
+    let value = c.as_slice-words.ensures.value in
     let told = c.set_told.ensures in
     let wrong = c.set.ensures.bad_word in
     let asked = c.set.ensures.asked in
@@ -96,7 +97,7 @@ returns-in-Set-clause-asked g c =
 
 pub returns-in-Set-clause-failures : goal.returns-in-Set-clause-failures
 returns-in-Set-clause-failures g c =
-    set_tells g.H.Host.faults g.H.Host.failed (map (λ s. s.now) c.as_slice-in-Set.result.now) c.set.result _ _ _ c.set_told.ensures c.set.ensures.bad_word c.set.ensures.failures
+    set_tells g.H.Host.faults g.H.Host.failed (map (λ s. s.now) c.as_slice-words.result.now) c.set.result _ _ _ c.set_told.ensures c.set.ensures.bad_word c.set.ensures.failures
 
 pub returns-in-Program-clause-ends : goal.returns-in-Program-clause-ends
 returns-in-Program-clause-ends g c = λ t at.
