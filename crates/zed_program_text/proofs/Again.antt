@@ -1,14 +1,13 @@
 -- What is printed of a program is read as that program.
-use Rattle.std.proofs.Common.{◌≡◌, ◌∙◌, ◌+◌, ◌<◌, ℕ, zero, suc, Bool, true, false, ◌&&◌, not, List, [], ◌∷◌, ◌++◌, map, length, ap, ap₂, arith, Option, Some, None, Result, Ok, refl, subst, sym}
+use Rattle.std.proofs.Common.{◌≡◌, ◌∙◌, ◌+◌, ◌<◌, ℕ, zero, suc, Bool, true, false, ◌&&◌, not, List, [], ◌∷◌, ◌++◌, map, length, ap, arith, Option, Some, None, Ok, refl, subst, sym}
 use Rattle.std.specs.Prelude.{◌==◌}
 use Rattle.std.specs.Char.{encode_utf8}
-use Rattle.std.specs.List.{AllByRecursion, filter_map, flat_map, list_all, range_with_len}
+use Rattle.std.specs.List.{AllByRecursion, filter_map, list_all, range_with_len}
 use Rattle.std.specs.Str.{IsUtf8, chars}
 use Rattle.std.specs.Str.Lossy.{utf8_lossy}
 use Rattle.std.proofs.Math.Utf8.{scalar, scalars, encodes}
 use Rattle.std.proofs.lemmas.Str.{chars-encodes, utf8_lossy-IsUtf8}
 use Rattle.zed_codepage.specs.CodePage.{code_point}
-use Rattle.zed_program_text.specs.declared.error.BadText.{BadText}
 use Rattle.zed_program_text.specs.Characters.{byte_of, first_of, is_known, text_point}
 use Rattle.zed_program_text.specs.Reading.{fed_behind, program_in, spelled, unmarked}
 use Rattle.zed_program_text.specs.Text.{text_of}
@@ -74,11 +73,11 @@ AreBytes p = AllByRecursion (λ b. b < 256) p
 points : List ℕ → List ℕ
 points p = map text_point p
 
-pub encoded : (p : List ℕ) → text_of p ≡ encodes (map text_point p)
+encoded : (p : List ℕ) → text_of p ≡ encodes (map text_point p)
 encoded [] = refl
 encoded (b ∷ p) = ap (λ t. encode_utf8 (text_point b) ++ t) (encoded p)
 
-pub are_scalars : (p : List ℕ) → AreBytes p → scalars (map text_point p) ≡ true
+are_scalars : (p : List ℕ) → AreBytes p → scalars (map text_point p) ≡ true
 are_scalars [] h = refl
 are_scalars (b ∷ p) h = rw (fine_scalar b h.0, are_scalars p h.1) refl
 
@@ -90,11 +89,11 @@ fed_same : (before : ℕ) (p : List ℕ) → (before == 13) ≡ false → AreByt
 fed_same before [] other h = refl
 fed_same before (b ∷ p) other h = rw (other, fine_return b h.0) (ap (λ cs. text_point b ∷ cs) (fed_same (text_point b) p (fine_return b h.0) h.1))
 
-pub all_known : (p : List ℕ) → AreBytes p → list_all is_known (map text_point p) ≡ true
+all_known : (p : List ℕ) → AreBytes p → list_all is_known (map text_point p) ≡ true
 all_known [] h = refl
 all_known (b ∷ p) h = rw (fine_byte b h.0, all_known p h.1) refl
 
-pub bytes_same : (p : List ℕ) → AreBytes p → filter_map byte_of (map text_point p) ≡ p
+bytes_same : (p : List ℕ) → AreBytes p → filter_map byte_of (map text_point p) ≡ p
 bytes_same [] h = refl
 bytes_same (b ∷ p) h = rw (fine_byte b h.0) (ap (λ q. b ∷ q) (bytes_same p h.1))
 

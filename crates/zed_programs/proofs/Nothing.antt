@@ -1,6 +1,6 @@
 -- What is printed of a stat and set again changes nothing.
-use Rattle.std.proofs.Common.{◌≡◌, ◌∙◌, ◌<◌, ℕ, true, List, [], length, ap, refl, subst, sym, inl, inr, Option, Some, None, Result, Ok, Err}
-use Rattle.std.specs.Prelude.{◌==◌, slice_get}
+use Rattle.std.proofs.Common.{◌≡◌, ◌∙◌, ◌<◌, ℕ, Bool, true, false, List, [], ◌∷◌, ◌++◌, length, ap, refl, subst, sym, inl, inr, Option, Some, None, Result, Ok, Err}
+use Rattle.std.specs.Prelude.{◌==◌, ◌⊎◌, if◌then◌else◌, slice_get}
 use Rattle.std.specs.List.{AllByRecursion}
 use Rattle.std.proofs.lemmas.Bool.{eq-eqb}
 use Rattle.zed_world.specs.Contents.{Contents}
@@ -10,6 +10,7 @@ use Rattle.zed_world.specs.Writing.{HasText}
 use Rattle.zed_world.specs.declared.board.BoardData.{BoardData}
 use Rattle.zed_world.specs.declared.stat.StatData.{StatData}
 use Rattle.zed_op.specs.declared.op.Edit.{Edit}
+use Rattle.zed_op.specs.Set.{union}
 use Rattle.zed_edit.specs.declared.plain.Plain.{Plain}
 use Rattle.zed_edit.specs.Numbers.{alive_boards}
 use Rattle.zed_edit.specs.Replay.{replay}
@@ -25,17 +26,19 @@ use Rattle.zed_reprogram.specs.declared.error.ReprogramError.{ReprogramError}
 use Rattle.zed_reprogram.specs.Codes.{program_of}
 use Rattle.zed_reprogram.specs.Laws.{OwnProgramStays}
 use Rattle.zed_reprogram.specs.Worlds.{IsReprogrammed}
-use Rattle.zed_take.specs.Taken.{Shows}
+use Rattle.zed_take.specs.declared.error.TakeError.{TakeError}
+use Rattle.zed_take.specs.Taken.{AreTaken, Shows, next_stamp}
 use Rattle.zed_telling.specs.Listed as telling
-use Rattle.zed_drawing.specs.Base.{edits_of_base}
+use Rattle.zed_drawing.specs.declared.error.DrawingError.{DrawingError}
 use Rattle.zed_drawing.specs.Effects.{Effect, Output}
+use Rattle.zed_drawing.specs.Files.{FileEdits}
 use Rattle.zed_drawing.specs.Opening.{export_told}
 use Rattle.zed_drawing.specs.Refusals.{take_refusal}
 use Rattle.zed_drawing.specs.Steps.{Steps}
-use Rattle.zed_drawing.specs.Taking.{Draws, IsJoined, IsTaken, drawn, given, grown, taken_line}
+use Rattle.zed_drawing.specs.Taking.{Draws, IsJoined, IsNotTaken, IsTaken, drawn, edits_of_base, given, grown, taken_line}
 use Rattle.zed_drawing.proofs.Steps.{step_was}
 use Rattle.zed_programs.specs.Printed.{printed, text_of_stat, text_on}
-use Rattle.zed_programs.specs.Setting.{IsChanged, IsShown, Reprograms, Sets, reprogram_told}
+use Rattle.zed_programs.specs.Setting.{IsChanged, IsShown, Reprograms, Sets, reprogram_refusal, reprogram_told}
 
 abbrev told_none : List Edit → List Output → Effect
 told_none es files = record { files = files; text = taken_line 0 (length es) }

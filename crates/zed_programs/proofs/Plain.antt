@@ -1,5 +1,5 @@
 -- Refusals of what is printed: none is `File`, and none is of a screen or of a source of keys.
-use Rattle.std.proofs.Common.{◌≡◌, ℕ, List, Option, Some, None, Result, Err, refl, subst, sym}
+use Rattle.std.proofs.Common.{◌≡◌, ℕ, List, Option, Some, None, Result, Ok, Err, refl, subst, sym}
 use Rattle.std.specs.Prelude.{slice_get}
 use Rattle.zed_op.specs.declared.op.Edit.{Edit}
 use Rattle.zed_world.specs.declared.board.BoardData.{BoardData}

@@ -1,6 +1,6 @@
 -- Setting a program.
 use Rattle.std.proofs.Common.{◌≡◌, ◌∙◌, ◌≢◌, ◌≤◌, ℕ, Bool, true, false, eqb, List, [], ◌∷◌, ◌++◌, Option, Some, None, Result, Ok, Err, ap, refl, subst, sym, inl, inr}
-use Rattle.std.specs.Prelude.{◌⊎◌, IfErr, IfOk, MatchBool, is_some}
+use Rattle.std.specs.Prelude.{◌⊎◌, IfErr, IfOk, MatchBool, MatchResult, is_some}
 use Rattle.std.specs.Str.{bytes_eq}
 use Rattle.std.proofs.lemmas.Bool.{eq-eqb, eqb-true}
 use Rattle.std.proofs.lemmas.Slice.Eq.{bytes_eq-Decides}
@@ -32,16 +32,17 @@ use Rattle.zed_session.specs.Refusals as session
 use Rattle.zed_telling.proofs.Exported.{exported_so, refused_so}
 use Rattle.zed_drawing.specs.declared.error.DrawingError.{DrawingError}
 use Rattle.zed_drawing.specs.declared.error.DrawingError.TheVariants.{BadText, Refused}
+use Rattle.zed_drawing.specs.Base.{edits_of_base}
 use Rattle.zed_drawing.specs.Effects.{Effect, names_of}
 use Rattle.zed_drawing.specs.Files.{FileEdits, IsOpened, OfFile, OfName, OpensAs}
 use Rattle.zed_drawing.specs.Opening.{export_told}
 use Rattle.zed_drawing.specs.Refusals.{file, memory, text_refusal}
-use Rattle.zed_drawing.specs.Steps.{Gives}
-use Rattle.zed_drawing.specs.Taking.{Draws, TakeWrites, given}
+use Rattle.zed_drawing.specs.Steps.{Gives, Steps}
+use Rattle.zed_drawing.specs.Taking.{Draws, Given, TakeWrites, given}
 use Rattle.zed_drawing.proofs.Drawing.{draws_writes}
 use Rattle.zed_drawing.proofs.Others.{draws_other, steps_other}
 use Rattle.zed_drawing.proofs.So.{name_so}
-use Rattle.zed_drawing.proofs.Steps.{gives_so, step_refused, step_then, step_was, steps_so}
+use Rattle.zed_drawing.proofs.Steps.{gives_so, step_next, step_refused, step_then, step_was, steps_so}
 use Rattle.zed_programs.specs.Setting.{ComesToSet, IsChanged, IsShown, IsSpelled, Reprograms, SetReads, SetWrites, Sets, SetsIn, SetsText, reprogram_refusal, reprogram_told, text_told}
 
 -- ---- the world with the program
@@ -157,13 +158,13 @@ writes_own file names writes = elim writes [
   ]
 ]
 
-pub sets_writes : (own : List ℕ) (replica board stat : ℕ) (program : List ℕ) (f : FileEdits) (answer : Result Effect DrawingError)
-    → Gives (λ x. x) (Sets own replica board stat program f) answer → IfOk answer (λ x. SetWrites own (names_of x.files))
+pub sets_writes : (file : List ℕ) (replica board stat : ℕ) (program : List ℕ) (f : FileEdits) (answer : Result Effect DrawingError)
+    → Gives (λ x. x) (Sets file replica board stat program f) answer → IfOk answer (λ x. SetWrites file (names_of x.files))
 unfolding Sets
-sets_writes own replica board stat program f (Err e) is = tt
-sets_writes own replica board stat program f (Ok x) is =
-    let was = step_was (IsChanged f.1 board stat program) (λ w. Draws own own replica (given f None w)) x is in
-    writes_own own (names_of x.files) (draws_writes own own replica (given f None was.0) x tt was.2)
+sets_writes file replica board stat program f (Err e) is = tt
+sets_writes file replica board stat program f (Ok x) is =
+    let was = step_was (IsChanged f.1 board stat program) (λ w. Draws file file replica (given f None w)) x is in
+    writes_own file (names_of x.files) (draws_writes file file replica (given f None was.0) x tt was.2)
 
 -- ---- no refusal tells of a failed call, but for those of files
 

@@ -1,9 +1,10 @@
 -- What an edit file comes to by a wish.
+use Rattle.zed_op.specs.declared.op.Edit.{Edit}
 use Rattle.zed_action.specs.declared.error.ActionError.{ActionError}
 use Rattle.zed_files.specs.declared.refusal.Refusal.{Refusal}
 use Rattle.zed_files.specs.declared.refusal.Refusal.TheVariants.{Memory}
-use Rattle.std.proofs.Common.{◌≡◌, ◌∙◌, ◌≢◌, ℕ, zero, suc, false, List, Result, Ok, Err, refl, ap, sym, subst, MatchResult, inl, inr}
-use Rattle.std.specs.Prelude.{◌⊎◌, ⊤}
+use Rattle.std.proofs.Common.{◌≡◌, ◌∙◌, ◌≢◌, ℕ, zero, suc, false, List, Some, None, Result, Ok, Err, refl, ap, sym, subst, MatchResult, inl, inr}
+use Rattle.std.specs.Prelude.{◌⊎◌}
 use Rattle.zed_document.specs.Replica.{Replica}
 use Rattle.zed_action.specs.Deeds.{Made}
 use Rattle.zed_action.specs.Refusals.{memory as no_memory}
@@ -89,22 +90,3 @@ opened_so p q t file (suc n) w r so is = let opens = is.1 in (is.0, (opens.0, re
 
 pub set_so : (t : HostContents) (file : List ℕ) (replica : ℕ) (w : Wish) (p q : Type 0) (r : Result Effect Refusal) → (p → q) → ComesToSet p t file replica w r → ComesToSet q t file replica w r
 set_so t file replica w p q r so is = (is.0, opened_so p q t file replica w is.0 so is.1, is.2)
-
--- ---- what was opened, or refused
-
-abbrev has_opened : Replica → Result Replica Refusal
-has_opened d = Ok d
-
-abbrev has_refused : Refusal → Result Replica Refusal
-has_refused e = Err e
-
--- what was opened wasn't refused
-pub never_opened : {X : Type 0} (d : Replica) (e : Refusal) → has_opened d ≡ has_refused e → X
-never_opened d e is = absurd cc
-
-refusal_is : (x e : Refusal) → has_refused x ≡ has_refused e → x ≡ e
-refusal_is x e is = cc
-
--- a refusal is passed on
-pub passed_on : (r : Result ⊤ Refusal) (told x e : Refusal) → r ≡ Err told → told ≡ x → has_refused x ≡ has_refused e → r ≡ Err e
-passed_on r told x e at same is = at ∙ ap (λ y. Err y) (same ∙ refusal_is x e is)

@@ -1,16 +1,16 @@
 -- An element is read from its word and its number.
-use Rattle.std.proofs.Common.{◌≡◌, ◌∙◌, ℕ, zero, suc, ◌<◌, ◌==◌, Bool, true, false, not, [], ◌∷◌, ◌++◌, map, Some, None, refl, sym, ap, arith, append_assoc, cond, length, length-append}
+use Rattle.std.proofs.Common.{◌≡◌, ◌∙◌, ℕ, zero, suc, ◌+◌, ◌<◌, ◌==◌, Bool, true, false, not, List, [], ◌∷◌, ◌++◌, map, get_or, Option, Some, None, refl, sym, ap, arith, append_assoc, cond, length, length-append}
 use Rattle.std.specs.Prelude.{◌&&◌}
 use Rattle.std.specs.List.{list_all}
 use Rattle.std.specs.Str.{bytes_eq}
 use Rattle.std.specs.Char.{is_ascii_digit, to_ascii_lowercase}
 use Rattle.std.proofs.lemmas.Bool.Decides.{nat_tests}
-use Rattle.zed_types.specs.Elements.{Row, row, rows}
+use Rattle.zed_types.specs.Elements.{Row, row, row_of, rows}
 use Rattle.zed_types.specs.declared.kind.Look.TheVariants.{Character}
 use Rattle.zed_types.specs.declared.kind.Push.TheVariants.{Not}
 use Rattle.zed_log.specs.Fields.{element, element_word, number}
 use Rattle.zed_log.proofs.Elements.{at_row}
-use Rattle.zed_set_words.specs.Values.{Word, digits_of, element_below, element_of, has_idle_zero, is_word_of, number_of, worded_of}
+use Rattle.zed_set_words.specs.Values.{Word, digits_of, element_below, element_of, has_idle_zero, in_small, is_word_of, number_of, worded_of}
 use Rattle.zed_set_laws.proofs.Back.{free_digits, number_back, number_digits}
 use Rattle.zed_set_words.proofs.Cuts.{Free, cut_at}
 use Rattle.zed_set_words.proofs.Tests.{eq_of}

@@ -1,5 +1,5 @@
 -- Lines of edits that set nothing.
-use Rattle.std.proofs.Common.{◌≡◌, ℕ, suc, ◌-◌, length, codes, Option, Some, None, Result, Err, refl, ap, subst, arith}
+use Rattle.std.proofs.Common.{◌≡◌, ◌∙◌, ℕ, suc, ◌-◌, List, [], ◌∷◌, ◌++◌, length, codes, Option, Some, None, Result, Err, refl, ap, subst, arith}
 use Rattle.zed_op.specs.declared.op.Op.{Op}
 use Rattle.zed_op.specs.declared.op.Op.TheVariants.{Genesis, SetHeader, BoardAdd, BoardRemove, SetBoard, SetCells, StatAdd, StatRemove, SetStat, TextAdd, TextInsert, TextDelete}
 use Rattle.zed_log.specs.Line.{op_text}
@@ -8,7 +8,7 @@ use Rattle.zed_set_words.specs.declared.bad.Expected.TheVariants.{Thing}
 use Rattle.zed_set_words.specs.declared.wishes.Wish.{Wish}
 use Rattle.zed_set_words.specs.Rows.{wish_of}
 use Rattle.zed_set_words.specs.Values.{Word}
-use Rattle.zed_set_laws.specs.Printed.{BeginsWith, IsWrong, OtherIsNotRead}
+use Rattle.zed_set_laws.specs.Printed.{BeginsWith, IsWrong, OtherIsNotRead, other_word}
 
 abbrev told : ℕ → Result Wish BadWord
 told n = Err (record { at = n; expected = Thing })

@@ -1,45 +1,60 @@
 -- The words of a setting are read as it.
-use Rattle.std.proofs.Common.{◌≡◌, ◌∙◌, ℕ, ◌+◌, Bool, true, false, ◌∷◌, map, codes, Option, Some, None, Ok, refl, sym, ap, arith}
-use Rattle.std.specs.Prelude.{IfSome, option_map}
+use Rattle.std.proofs.Common.{◌≡◌, ◌∙◌, ℕ, zero, suc, ℤ, ◌+◌, ◌≤◌, Bool, true, false, List, [], ◌∷◌, ◌++◌, map, length, codes, Option, Some, None, Ok, refl, sym, ap, arith, nat_le, append_assoc}
+use Rattle.std.specs.Prelude.{FitsSigned, IfSome, option_map}
 use Rattle.std.specs.Str.{bytes_eq}
 use Rattle.std.specs.Char.{is_ascii_digit}
 use Rattle.std.specs.List.{list_all}
 use Rattle.zed_set_words.proofs.Tests.{eq_of}
+use Rattle.std.specs.Int.{w16}
+use Rattle.std.proofs.lemmas.Bool.{leb-true}
 use Rattle.zed_types.specs.declared.names.Name.{Name as TheName}
 use Rattle.zed_types.specs.declared.names.BoardId.{BoardId}
 use Rattle.zed_types.specs.declared.names.StatId.{StatId}
 use Rattle.zed_types.specs.declared.names.TextId.{TextId}
 use Rattle.zed_types.specs.Header.{flag_index}
+use Rattle.zed_types.specs.declared.header.HeaderNumber.{HeaderNumber}
 use Rattle.zed_types.specs.declared.header.HeaderNumber.TheVariants.{Ammo, Gems, Health, Torches, TorchTicks, EnergizerTicks, Score, TimePassed, Hundredths}
+use Rattle.zed_types.specs.declared.header.KeyColour.{KeyColour}
 use Rattle.zed_types.specs.declared.header.KeyColour.TheVariants.{Blue, Green, Cyan, Red, Purple, Yellow, White}
 use Rattle.zed_types.specs.declared.header.FlagSlot.{FlagSlot}
 use Rattle.zed_types.specs.declared.header.FlagSlot.TheVariants.{First, Second, Third, Fourth, Fifth, Sixth, Seventh, Eighth, Ninth, Tenth}
 use Rattle.zed_types.specs.declared.header.HeaderSetting.{HeaderSetting}
 use Rattle.zed_types.specs.declared.header.HeaderSetting.TheVariants as header
+use Rattle.zed_types.specs.declared.property.Side.{Side}
 use Rattle.zed_types.specs.declared.property.Side.TheVariants.{North, South, West, East}
+use Rattle.zed_types.specs.declared.property.BoardByte.{BoardByte}
 use Rattle.zed_types.specs.declared.property.BoardByte.TheVariants.{MaxShots, StartX, StartY}
+use Rattle.zed_types.specs.declared.property.BoardFlag.{BoardFlag}
 use Rattle.zed_types.specs.declared.property.BoardFlag.TheVariants.{Dark, ReEnter}
+use Rattle.zed_types.specs.declared.property.BoardText.{BoardText}
 use Rattle.zed_types.specs.declared.property.BoardText.TheVariants.{Name, Message}
 use Rattle.zed_types.specs.declared.property.BoardSetting.{BoardSetting}
 use Rattle.zed_types.specs.declared.property.BoardSetting.TheVariants as board
+use Rattle.zed_types.specs.declared.stat_field.StatByte.{StatByte}
 use Rattle.zed_types.specs.declared.stat_field.StatByte.TheVariants.{X, Y, P1, P2, UnderElement, UnderColour}
+use Rattle.zed_types.specs.declared.stat_field.StatNumber.{StatNumber}
 use Rattle.zed_types.specs.declared.stat_field.StatNumber.TheVariants.{StepX, StepY, Cycle, Position}
+use Rattle.zed_types.specs.declared.stat_field.ThirdParameter.{ThirdParameter}
 use Rattle.zed_types.specs.declared.stat_field.ThirdParameter.TheVariants as third
 use Rattle.zed_types.specs.declared.stat_field.StatSetting.{StatSetting}
 use Rattle.zed_types.specs.declared.stat_field.StatSetting.TheVariants as stat
 use Rattle.zed_op.specs.declared.op.Op.TheVariants.{SetHeader, SetBoard, SetStat}
 use Rattle.zed_op.specs.Fit.{is_header_in_range, is_property_in_range}
 use Rattle.zed_op.specs.Sizes.{IsBoardSetting, IsHeaderSetting, IsName, IsStatSetting}
-use Rattle.zed_log.specs.Fields.{board_name, name, number, optional, stat_name, text_name, third_parameter}
-use Rattle.zed_log.specs.Line.{op_text}
+use Rattle.zed_log.specs.Fields.{board_name, element, integer, name, number, optional, quoted, stat_name, text_name, third_parameter}
+use Rattle.zed_log.specs.Line.{board_setting, header_setting, op_text, stat_setting}
 use Rattle.zed_set_words.specs.declared.wishes.BoardPlace.{BoardPlace}
 use Rattle.zed_set_words.specs.declared.wishes.BoardPlace.TheVariants as board_place
 use Rattle.zed_set_words.specs.declared.wishes.StatPlace.{StatPlace}
 use Rattle.zed_set_words.specs.declared.wishes.StatPlace.TheVariants as stat_place
+use Rattle.zed_set_words.specs.declared.wishes.WorldWish.{WorldWish}
+use Rattle.zed_set_words.specs.declared.wishes.BoardWish.{BoardWish}
+use Rattle.zed_set_words.specs.declared.wishes.StatWish.{StatWish}
 use Rattle.zed_set_words.specs.declared.wishes.Wish.TheVariants as wish
-use Rattle.zed_set_laws.specs.Printed.{FieldIsRead, HasBytes, HeaderIsRead, Plain, PropertyIsRead, TextHasBytes, board_words, field_wish, header_wish, header_words, line_of, property_wish, stat_words, word_of}
-use Rattle.zed_set_words.specs.Rows.{board as board_read, board_byte, board_flag, board_name as board_title, board_rank, board_thing, current_board, exit, field_of, follower, key, leader, max_shots, message, number_register_of, other_field_of, other_register_of, p3, p3_board, place_field_of, property_of, register_of, saved, start, start_board, stat as stat_read, stat_byte, stat_number, stat_text, stat_thing, stat_wish_at, step, text_of, time_limit, under, under_colour, under_element, wish_of, world as world_read, world_and_name, world_flag, world_name, world_number, world_number_behind, world_thing}
-use Rattle.zed_set_words.specs.Values.{Word, board_of, name_of, other_of, slot_of, unless_none}
+use Rattle.zed_set_laws.specs.Printed.{FieldIsRead, HasBytes, HeaderIsRead, Plain, PropertyIsRead, Quoted, TextHasBytes, board_words, field_wish, header_wish, header_words, line_of, property_wish, stat_words, word_of}
+use Rattle.zed_set_words.specs.Readers.{Reader}
+use Rattle.zed_set_words.specs.Rows.{board as board_read, board_byte, board_flag, board_name as board_title, board_rank, board_thing, current_board, exit, follower, key, leader, max_shots, message, p3, p3_board, p3_byte, saved, start, start_board, start_place, stat as stat_read, stat_byte, stat_number, stat_text, stat_thing, stat_wish_at, step, text_of, time_limit, under, under_colour, under_element, wish_of, world as world_read, world_and_name, world_flag, world_name, world_number, world_number_behind, world_thing}
+use Rattle.zed_set_words.specs.Values.{Word, board_of, integer_of, name_of, number_of, other_of, slot_of, unless_none}
 use Rattle.zed_set_laws.proofs.Back.{colour_back, integer_back, name_back, number_back, number_digits, string_back}
 use Rattle.zed_set_laws.proofs.ElementBack.{element_back}
 
@@ -117,7 +132,7 @@ stat_line k (stat.Text t) = refl
 
 header_read : (s : HeaderSetting) → IsHeaderSetting s → HasBytes s → is_header_in_range s ≡ true
     → wish_of (map word_of (Plain (codes "header") ∷ header_words s)) ≡ Ok (wish.World (header_wish s))
-unfolding wish_of world_read world_thing register_of number_register_of other_register_of world_number world_number_behind key world_flag saved start_board current_board world_name world_and_name
+unfolding wish_of world_read world_thing world_number world_number_behind key world_flag saved start_board current_board world_name world_and_name
 header_read (header.Number Ammo n) fits bytes short = rw (integer_back n fits) refl
 header_read (header.Number Gems n) fits bytes short = rw (integer_back n fits) refl
 header_read (header.Number Health n) fits bytes short = rw (integer_back n fits) refl
@@ -180,7 +195,7 @@ exit_found None fits = refl
 exit_found (Some b) fits = not_none b.name fits BoardPlace board_of (board_place.Named b) (board_found b fits)
 
 property_read : (s : BoardSetting) → IsBoardSetting s → TextHasBytes s → is_property_in_range s ≡ true → board_read (map word_of (board_words s)) ≡ Ok (property_wish s)
-unfolding board_read property_of board_byte board_flag board_title message max_shots time_limit board_rank exit start
+unfolding board_read board_byte board_flag board_title message max_shots time_limit board_rank exit start_place start
 property_read (board.Byte MaxShots n) fits bytes short = rw (number_back 255 n (omega arith)) refl
 property_read (board.Byte StartX n) fits bytes short = rw (number_back 255 n (omega arith)) refl
 property_read (board.Byte StartY n) fits bytes short = rw (number_back 255 n (omega arith)) refl
@@ -219,7 +234,7 @@ text_found None fits = refl
 text_found (Some t) fits = not_none t.name fits TextId text_of t (a_text t fits)
 
 field_read : (at : StatId) (s : StatSetting) → IsStatSetting s → stat_read (stat_place.Named at) (map word_of (stat_words s)) ≡ Ok (field_wish s)
-unfolding stat_read field_of place_field_of other_field_of stat_byte stat_number p3_board p3 step follower leader stat_text under_element under_colour under
+unfolding stat_read stat_byte stat_number p3_board p3_byte p3 step follower leader stat_text under_element under_colour under
 field_read at (stat.Byte X n) fits = rw (number_back 255 n (omega arith)) refl
 field_read at (stat.Byte Y n) fits = rw (number_back 255 n (omega arith)) refl
 field_read at (stat.Byte P1 n) fits = rw (number_back 255 n (omega arith)) refl

@@ -1,5 +1,5 @@
 -- The words of a setting, as a list of edits prints it.
-use Rattle.std.specs.Prelude.{◌≡◌, ℕ, ◌+◌, ◌<◌, true, List, [], ◌∷◌, ◌++◌, map, codes, Option, Some, None, option_map, Ok, Err}
+use Rattle.std.specs.Prelude.{◌≡◌, ℕ, ◌+◌, ◌<◌, ◌≤◌, Bool, true, List, [], ◌∷◌, ◌++◌, length, map, codes, Option, Some, None, option_map, Result, Ok, Err}
 use Rattle.std.specs.List.{AllByRecursion}
 use Rattle.zed_program_text.specs.Text.{text_of}
 use Rattle.zed_types.specs.Header.{flag_index}
@@ -36,7 +36,9 @@ use Rattle.zed_op.specs.Sizes.{IsBoardSetting, IsHeaderSetting, IsName, IsStatSe
 use Rattle.zed_log.specs.Fields.{boolean, board_name, colour, element, integer, number, optional, quoted, stat_name, text_name}
 use Rattle.zed_log.specs.Line.{op_text}
 use Rattle.zed_set_words.specs.declared.bad.Expected.TheVariants.{Thing}
+use Rattle.zed_set_words.specs.declared.wishes.BoardPlace.{BoardPlace}
 use Rattle.zed_set_words.specs.declared.wishes.BoardPlace.TheVariants as board_place
+use Rattle.zed_set_words.specs.declared.wishes.StatPlace.{StatPlace}
 use Rattle.zed_set_words.specs.declared.wishes.StatPlace.TheVariants as stat_place
 use Rattle.zed_set_words.specs.declared.wishes.WorldWish.{WorldWish}
 use Rattle.zed_set_words.specs.declared.wishes.WorldWish.TheVariants as world_wish

@@ -3,6 +3,7 @@ ghost use Rattle.zed_set_laws.specs.Printed.{FieldIsRead, HeaderIsRead, OtherIsN
 
 /// What a list of edits prints of a setting is read as it: its words, cut at the spaces, with a
 /// string as one word.
+#[tactic(auto, using(crate::proofs::Read::header_is_read, crate::proofs::Read::property_is_read, crate::proofs::Read::field_is_read))]
 pub fn printed_settings_are_read()
     ensures header { HeaderIsRead }
     ensures property { PropertyIsRead }

@@ -3,7 +3,7 @@ use Rattle.zed_drawing.specs.declared.error.DrawingError.{DrawingError}
 use Rattle.zed_files.specs.declared.refusal.Refusal.{Refusal}
 use Rattle.zed_host.specs.declared.host.WriteError.{WriteError}
 use Rattle.std.proofs.Common.{◌≡◌, ◌≤◌, ◌∙◌, ℕ, Bool, true, false, cond, nat_lt, List, [], ◌∷◌, arith, Option, Some, None, Result, Ok, Err, OnErr, OnOk, ap, is_err, refl, subst, inl, inr}
-use Rattle.std.specs.Prelude.{⊤, ◌⊎◌, IfSome, IsSome, option_and_then}
+use Rattle.std.specs.Prelude.{⊤, ◌⊎◌, IfOk, IfSome, IsSome, MatchResult, option_and_then}
 use Rattle.clap.specs.Faults.{fault_of}
 use Rattle.clap.specs.Kinds.{IsAmong, Kinds}
 use Rattle.clap.specs.Simple.{subcommand_of}
@@ -35,12 +35,13 @@ use Rattle.zed_drawing.specs.Opening.{ComesToOpen, OpenReads}
 use Rattle.zed_drawing.specs.Taking.{ComesToTake, TakeReads}
 use Rattle.zed_tool_words.specs.Grammar.{tool_app}
 use Rattle.zed_tool_words.specs.Version.{version_text}
-use Rattle.zed_tool_words.specs.Commands.{AsksHelp, AsksVersion, Command, Open, Take, Log, Lists, Show, Lint, Set, ProgramOf, SetProgram, command_of, subcommand_asks, unless_refused}
+use Rattle.zed_tool_words.specs.Commands.{AsksHelp, AsksVersion, Command, Open, Take, Log, Lists, Show, Play, Lint, Set, ProgramOf, SetProgram, command_of, subcommand_asks, unless_refused}
 use Rattle.zed_tool.specs.Answers.{Answer, Failure, Refused, drawing_failure, drawn_as, lint_status, linted_as, memory, told_as, wrong_word}
 use Rattle.zed_tool.specs.Calm.{ComesTo, ComesToSetting, Ending, EndsCalmly, Leaves, left_by, lint_left, told_left}
 use Rattle.zed_tool.specs.Commands.{AsksCommand, AsksSet, EndsCommand, EndsSet, filter_of, forcing_of, form_of, length_of, listing_of}
-use Rattle.zed_tool.specs.Lines.{line_of}
-use Rattle.zed_tool.specs.Outcome.{Complained, Hosts, IsComplained, IsLineOf, Prints as PrintsText, Runs, RunsAs}
+use Rattle.zed_tool.specs.Lines.{line_of, tells_more}
+use Rattle.zed_tool.specs.Playing.{Playtests, is_playtest}
+use Rattle.zed_tool.specs.Outcome.{Complained, Hosts, IsComplained, IsLineOf, Prints as PrintsText, Runs, RunsAs, TellsOf}
 use Rattle.zed_tool.proofs.Steps.{open_so, set_program_so, set_so, show_so, take_so, tell_so}
 
 -- a text was written to the standard error, or the host failed at it
@@ -49,6 +50,12 @@ pub complained : (result : Result ⊤ WriteError) (old new : ℕ) (text : List �
     → Counts (is_err result) old new → IsComplained (Rose old new) text t after
 complained (Ok u) old new text t before after at told half count = inl told
 complained (Err e) old new text t before after at told half count = inr (count, rw at at half)
+
+-- a line that took memory is told, or that of want of it
+pub told_of : {H X E : Type 0} (h : Hosts H) (e : Failure) (bytes : X → List ℕ) (r : Result X E) (old new : H) → tells_more e ≡ true → IfOk r (λ text. bytes text ≡ line_of e)
+    → MatchResult r (λ text. Complained h (bytes text) old new) (λ _. Complained h (line_of memory) old new) → TellsOf h e old new
+told_of h e bytes (Ok text) old new more is told = (bytes text, inl is, told)
+told_of h e bytes (Err none) old new more is told = (line_of memory, inr (more, refl), told)
 
 abbrev answered : ℕ → Answer
 answered status = Ok status
@@ -162,57 +169,59 @@ set_stopped p t file replica words (Err bad) e left never is = (is.1, inr (ap (�
 
 -- ---- each command
 
-done : {H : Type 0} (called : H → Call → H → Type 0) (p : Type 0) (command : Command) (old new : H) (t : HostContents) (status : ℕ) (left : Option HostContents) → (p → ⊥)
-    → EndsCommand called p command old new t (Ok status) left → IsDone (ComesTo ⊥ t command) status left
-done called p (Open until forcing file world) old new t status left never is =
+done : {H : Type 0} (called : H → Call → H → Type 0) (played : Playtests) (p : Type 0) (command : Command) (old new : H) (t : HostContents) (status : ℕ) (left : Option HostContents) → is_playtest command ≡ false → (p → ⊥)
+    → EndsCommand called played p command old new t (Ok status) left → IsDone (ComesTo ⊥ t command) status left
+done called played p (Open until forcing file world) old new t status left other never is =
     drawn_done file p (ComesToOpen p t until (forcing_of forcing) file world) (ComesToOpen ⊥ t until (forcing_of forcing) file world) (Did called (OpenReads (forcing_of forcing) file world) old new) t is.0 status left
     (λ x. open_so p ⊥ t until (forcing_of forcing) file world x never) is.1 is.2
-done called p (Take base file replica world) old new t status left never is =
+done called played p (Take base file replica world) old new t status left other never is =
     drawn_done file p (ComesToTake p t base file replica world) (ComesToTake ⊥ t base file replica world) (Did called (TakeReads (presence_of base) (base_word base world) file world) old new) t is.0 status left
     (λ x. take_so p ⊥ t base file replica world x never) is.1 is.2
-done called p (Log length board cell replica since files) old new t status left never is =
+done called played p (Log length board cell replica since files) old new t status left other never is =
     let tell = log_of (length_of length) (filter_of board cell replica since) in
     told_done p (ComesToTell p t tell files) (ComesToTell ⊥ t tell files) t is.0 status left (λ x. tell_so p ⊥ t tell files x never) is.1 is.2
-done called p (Lists listing files) old new t status left never is =
+done called played p (Lists listing files) old new t status left other never is =
     let tell = list_of (listing_of listing) in
     told_done p (ComesToTell p t tell files) (ComesToTell ⊥ t tell files) t is.0 status left (λ x. tell_so p ⊥ t tell files x never) is.1 is.2
-done called p (Show form board files) old new t status left never is =
+done called played p (Show form board files) old new t status left other never is =
     told_done p (ComesToShow p t (form_of form) board files) (ComesToShow ⊥ t (form_of form) board files) t is.0 status left
     (λ x. show_so p ⊥ t (form_of form) board files x never) is.1 is.2
-done called p (Lint strictness files) old new t status left never is =
+done called played p (Play rows words keys board files) old new t status left other never is = absurd (cc)
+done called played p (Lint strictness files) old new t status left other never is =
     lint_done strictness p (ComesToTell p t lint_of files) (ComesToTell ⊥ t lint_of files) t is.0 status left (λ x. tell_so p ⊥ t lint_of files x never) is.1 is.2
-done called p (Set file replica words) old new t status left never is = set_done p t file replica words (wish_of words) status left never is
-done called p (ProgramOf board stat files) old new t status left never is =
+done called played p (Set file replica words) old new t status left other never is = set_done p t file replica words (wish_of words) status left never is
+done called played p (ProgramOf board stat files) old new t status left other never is =
     let tell = printed board stat in
     told_done p (ComesToTell p t tell files) (ComesToTell ⊥ t tell files) t is.0 status left (λ x. tell_so p ⊥ t tell files x never) is.1 is.2
-done called p (SetProgram file replica board stat text) old new t status left never is =
+done called played p (SetProgram file replica board stat text) old new t status left other never is =
     drawn_done text p (ComesToSetProgram p t file replica board stat text) (ComesToSetProgram ⊥ t file replica board stat text) (Did called (SetReads file text) old new) t is.0 status left
     (λ x. set_program_so p ⊥ t file replica board stat text x never) is.1 is.2
 
-stopped : {H : Type 0} (called : H → Call → H → Type 0) (p : Type 0) (command : Command) (old new : H) (t : HostContents) (e : Failure) (left : Option HostContents) → (p → ⊥)
-    → EndsCommand called p command old new t (Err e) left → IsStopped t (ComesTo ⊥ t command) e left
-stopped called p (Open until forcing file world) old new t e left never is =
+stopped : {H : Type 0} (called : H → Call → H → Type 0) (played : Playtests) (p : Type 0) (command : Command) (old new : H) (t : HostContents) (e : Failure) (left : Option HostContents) → is_playtest command ≡ false → (p → ⊥)
+    → EndsCommand called played p command old new t (Err e) left → IsStopped t (ComesTo ⊥ t command) e left
+stopped called played p (Open until forcing file world) old new t e left other never is =
     drawn_stopped file p (ComesToOpen p t until (forcing_of forcing) file world) (ComesToOpen ⊥ t until (forcing_of forcing) file world) (Did called (OpenReads (forcing_of forcing) file world) old new) t is.0 e left
     (λ x. open_so p ⊥ t until (forcing_of forcing) file world x never) never is.1 is.2
-stopped called p (Take base file replica world) old new t e left never is =
+stopped called played p (Take base file replica world) old new t e left other never is =
     drawn_stopped file p (ComesToTake p t base file replica world) (ComesToTake ⊥ t base file replica world) (Did called (TakeReads (presence_of base) (base_word base world) file world) old new) t is.0 e left
     (λ x. take_so p ⊥ t base file replica world x never) never is.1 is.2
-stopped called p (Log length board cell replica since files) old new t e left never is =
+stopped called played p (Log length board cell replica since files) old new t e left other never is =
     let tell = log_of (length_of length) (filter_of board cell replica since) in
     told_stopped p (ComesToTell p t tell files) (ComesToTell ⊥ t tell files) t is.0 e left (λ x. tell_so p ⊥ t tell files x never) never is.1 is.2
-stopped called p (Lists listing files) old new t e left never is =
+stopped called played p (Lists listing files) old new t e left other never is =
     let tell = list_of (listing_of listing) in
     told_stopped p (ComesToTell p t tell files) (ComesToTell ⊥ t tell files) t is.0 e left (λ x. tell_so p ⊥ t tell files x never) never is.1 is.2
-stopped called p (Show form board files) old new t e left never is =
+stopped called played p (Show form board files) old new t e left other never is =
     told_stopped p (ComesToShow p t (form_of form) board files) (ComesToShow ⊥ t (form_of form) board files) t is.0 e left
     (λ x. show_so p ⊥ t (form_of form) board files x never) never is.1 is.2
-stopped called p (Lint strictness files) old new t e left never is =
+stopped called played p (Play rows words keys board files) old new t e left other never is = absurd (cc)
+stopped called played p (Lint strictness files) old new t e left other never is =
     lint_stopped strictness p (ComesToTell p t lint_of files) (ComesToTell ⊥ t lint_of files) t is.0 e left (λ x. tell_so p ⊥ t lint_of files x never) never is.1 is.2
-stopped called p (Set file replica words) old new t e left never is = set_stopped p t file replica words (wish_of words) e left never is
-stopped called p (ProgramOf board stat files) old new t e left never is =
+stopped called played p (Set file replica words) old new t e left other never is = set_stopped p t file replica words (wish_of words) e left never is
+stopped called played p (ProgramOf board stat files) old new t e left other never is =
     let tell = printed board stat in
     told_stopped p (ComesToTell p t tell files) (ComesToTell ⊥ t tell files) t is.0 e left (λ x. tell_so p ⊥ t tell files x never) never is.1 is.2
-stopped called p (SetProgram file replica board stat text) old new t e left never is =
+stopped called played p (SetProgram file replica board stat text) old new t e left other never is =
     drawn_stopped text p (ComesToSetProgram p t file replica board stat text) (ComesToSetProgram ⊥ t file replica board stat text) (Did called (SetReads file text) old new) t is.0 e left
     (λ x. set_program_so p ⊥ t file replica board stat text x never) never is.1 is.2
 
@@ -234,11 +243,11 @@ refused_calmly t command e line status new is tells why left = elim tells [
   ]
 ]
 
-as_calmly : {H : Type 0} (h : Hosts H) (words : List Text) (command : Command) (t : HostContents) (status : ℕ) (old new : H)
-    → h.contents old ≡ Some t → NothingFailed (h.faults old) (h.faults new) → RunsAs h words (Some command) status old new → EndsCalmly t command status (h.contents new)
-as_calmly h words command t status old new at calm runs = elim runs [
+as_calmly : {H : Type 0} (h : Hosts H) (played : Playtests) (words : List Text) (command : Command) (t : HostContents) (status : ℕ) (old new : H)
+    → is_playtest command ≡ false → h.contents old ≡ Some t → NothingFailed (h.faults old) (h.faults new) → RunsAs h played words (Some command) status old new → EndsCalmly t command status (h.contents new)
+as_calmly h played words command t status old new other at calm runs = elim runs [
   | inl carried ↦ (
-      let ended = done h.called _ command old new t status (h.contents new) (no_rise (h.faults old) (h.faults new) (h.faults new) (omega arith) calm) (carried.ends t at) in
+      let ended = done h.called played _ command old new t status (h.contents new) other (no_rise (h.faults old) (h.faults new) (h.faults new) (omega arith) calm) (carried.ends t at) in
       inl (Ok (status, ended.0), ended.1, (refl, ended.2)))
   | inr refused ↦ (
       let rest = refused.1 in
@@ -251,14 +260,14 @@ as_calmly h words command t status old new at calm runs = elim runs [
       let same = calm.0 in
       let low = calm.1 in
       let later : NothingFailed (h.faults mid) (h.faults new) = (omega arith, omega arith) in
-      let before = stopped h.called _ command old mid t e (h.contents mid) (no_rise (h.faults old) (h.faults mid) (h.faults new) more calm) (acted.ends t at) in
+      let before = stopped h.called played _ command old mid t e (h.contents mid) other (no_rise (h.faults old) (h.faults mid) (h.faults new) more calm) (acted.ends t at) in
       refused_calmly t command e tells.0 status (h.contents new) refused.0 tells.1 before.1 (told_calmly h tells.0 t mid new later before.0 tells.2))
 ]
 
-pub run_calmly : {H : Type 0} (h : Hosts H) (words : List Text) (command : Command) (t : HostContents) (status : ℕ) (old new : H) → command_of words ≡ Some command
-    → h.contents old ≡ Some t → NothingFailed (h.faults old) (h.faults new) → Runs h words status old new → EndsCalmly t command status (h.contents new)
-run_calmly h words command t status old new asked at calm runs = elim runs [
-  | inl ran ↦ as_calmly h words command t status old new at calm (subst (λ c. RunsAs h words c status old new) asked ran)
+pub run_calmly : {H : Type 0} (h : Hosts H) (played : Playtests) (words : List Text) (command : Command) (t : HostContents) (status : ℕ) (old new : H) → command_of words ≡ Some command
+    → is_playtest command ≡ false → h.contents old ≡ Some t → NothingFailed (h.faults old) (h.faults new) → Runs h played words status old new → EndsCalmly t command status (h.contents new)
+run_calmly h played words command t status old new asked other at calm runs = elim runs [
+  | inl ran ↦ as_calmly h played words command t status old new other at calm (subst (λ c. RunsAs h played words c status old new) asked ran)
   | inr lacks ↦ inr (lacks.0, told_calmly h (line_of memory) t old new calm at lacks.1)
 ]
 
@@ -272,17 +281,13 @@ drawn_status : (text : List ℕ) (r : Result ⊤ DrawingError) (status : ℕ) �
 drawn_status text (Ok u) status same = inl (status_is status 0 same)
 drawn_status text (Err e) status same = absurd (cc)
 
--- 1 for what is so
-abbrev one_if : Bool → ℕ
-one_if b = cond b 1 0
-
-zero_or_one : (b : Bool) → (one_if b ≡ 0) ⊎ (one_if b ≡ 1)
-zero_or_one true = inr refl
-zero_or_one false = inl refl
-
 found_status : (strictness : Strictness) (n : ℕ) → (lint_status strictness n ≡ 0) ⊎ (lint_status strictness n ≡ 1)
 found_status Lenient n = inl refl
-found_status Strict n = zero_or_one (nat_lt 0 n)
+found_status Strict n = go (nat_lt 0 n)
+  where
+    go : (b : Bool) → (cond b 1 0 ≡ 0) ⊎ (cond b 1 0 ≡ 1)
+    go true = inr refl
+    go false = inl refl
 
 linted_status : (strictness : Strictness) (r : Result ℕ Refusal) (status : ℕ) → Ok status ≡ linted_as strictness r → (status ≡ 0) ⊎ (status ≡ 1)
 linted_status strictness (Ok n) status same =
@@ -302,22 +307,23 @@ command_status called (Take base file replica world) status old new asks = drawn
 command_status called (Log length board cell replica since files) status old new asks = told_status asks.0 status asks.2
 command_status called (Lists listing files) status old new asks = told_status asks.0 status asks.2
 command_status called (Show form board files) status old new asks = told_status asks.0 status asks.2
+command_status called (Play rows words keys board files) status old new asks = inl asks
 command_status called (Lint strictness files) status old new asks = linted_status strictness asks.0 status asks.2
 command_status called (Set file replica words) status old new asks = set_status called file words (wish_of words) status old new asks
 command_status called (ProgramOf board stat files) status old new asks = told_status asks.0 status asks.2
 command_status called (SetProgram file replica board stat text) status old new asks = drawn_status text asks.0 status asks.2
 
-as_accepted : {H : Type 0} (h : Hosts H) (words : List Text) (command : Option Command) (status : ℕ) (old new : H) → IsSome command → RunsAs h words command status old new
+as_accepted : {H : Type 0} (h : Hosts H) (played : Playtests) (words : List Text) (command : Option Command) (status : ℕ) (old new : H) → IsSome command → RunsAs h played words command status old new
     → (status ≡ 0) ⊎ (status ≡ 1)
-as_accepted h words None status old new some ran = absurd (cc)
-as_accepted h words (Some command) status old new some ran = elim ran [
+as_accepted h played words None status old new some ran = absurd (cc)
+as_accepted h played words (Some command) status old new some ran = elim ran [
   | inl carried ↦ command_status h.called command status old new carried.asked
   | inr refused ↦ inr refused.0
 ]
 
-pub run_accepted : {H : Type 0} (h : Hosts H) (words : List Text) (status : ℕ) (old new : H) → IsSome (command_of words) → Runs h words status old new → (status ≡ 0) ⊎ (status ≡ 1)
-run_accepted h words status old new some runs = elim runs [
-  | inl ran ↦ as_accepted h words (command_of words) status old new some ran
+pub run_accepted : {H : Type 0} (h : Hosts H) (played : Playtests) (words : List Text) (status : ℕ) (old new : H) → IsSome (command_of words) → Runs h played words status old new → (status ≡ 0) ⊎ (status ≡ 1)
+run_accepted h played words status old new some runs = elim runs [
+  | inl ran ↦ as_accepted h played words (command_of words) status old new some ran
   | inr lacks ↦ inr lacks.0
 ]
 
@@ -328,9 +334,9 @@ no_command : (words : List Text) (k : ErrorKind) → fault_of tool_app words ≡
 unfolding command_of
 no_command words k is = ap (λ (ks : Kinds). unless_refused ks (option_and_then subcommand_asks (subcommand_of tool_app words))) is
 
-pub run_helped : {H : Type 0} (h : Hosts H) (words : List Text) (status : ℕ) (old new : H) → AsksHelp words → Runs h words status old new → (status ≡ 0) ⊎ (status ≡ 1)
-run_helped h words status old new help runs = elim runs [
-  | inl ran ↦ elim (subst (λ c. RunsAs h words c status old new) (no_command words kind.DisplayHelp help) ran) [
+pub run_helped : {H : Type 0} (h : Hosts H) (played : Playtests) (words : List Text) (status : ℕ) (old new : H) → AsksHelp words → Runs h played words status old new → (status ≡ 0) ⊎ (status ≡ 1)
+run_helped h played words status old new help runs = elim runs [
+  | inl ran ↦ elim (subst (λ c. RunsAs h played words c status old new) (no_command words kind.DisplayHelp help) ran) [
     | inl refused ↦ absurd (refused.1 help)
     | inr other ↦ elim other [
       | inl helped ↦ (let printed = helped.1 in printed_status h printed.0 status old new printed.1)
@@ -347,10 +353,10 @@ no_help kinds is among = elim (subst (λ ks. IsAmong kind.DisplayHelp ks) is amo
   | inr none ↦ none
 ]
 
-pub run_versioned : {H : Type 0} (h : Hosts H) (words : List Text) (status : ℕ) (old new : H) → AsksVersion words → Runs h words status old new
+pub run_versioned : {H : Type 0} (h : Hosts H) (played : Playtests) (words : List Text) (status : ℕ) (old new : H) → AsksVersion words → Runs h played words status old new
     → PrintsText h version_text status old new ⊎ ((status ≡ 1) × Complained h (line_of memory) old new)
-run_versioned h words status old new version runs = elim runs [
-  | inl ran ↦ elim (subst (λ c. RunsAs h words c status old new) (no_command words kind.DisplayVersion version) ran) [
+run_versioned h played words status old new version runs = elim runs [
+  | inl ran ↦ elim (subst (λ c. RunsAs h played words c status old new) (no_command words kind.DisplayVersion version) ran) [
     | inl refused ↦ absurd (refused.2 version)
     | inr other ↦ elim other [
       | inl helped ↦ absurd (no_help (fault_of tool_app words) version helped.0)

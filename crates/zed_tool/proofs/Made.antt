@@ -7,12 +7,13 @@ use Rattle.zed_host.specs.Calls.{Call, Complaining, Leads, Printing, call, passe
 use Rattle.zed_host.specs.Counting.{NothingFailed}
 use Rattle.zed_host.proofs.Calls.{CountsFailures, CountsNoFault, calm_calls, leads_one, leads_then}
 use Rattle.zed_drawing.specs.Asked.{Asks, writing}
-use Rattle.zed_tool_words.specs.Commands.{Command, Open, Take, Log, Lists, Show, Lint, Set, ProgramOf, SetProgram, command_of}
+use Rattle.zed_tool_words.specs.Commands.{Command, Open, Take, Log, Lists, Show, Play, Lint, Set, ProgramOf, SetProgram, command_of}
 use Rattle.zed_tool.specs.Answers.{Answer, Handed, drawn_as}
 use Rattle.zed_set_words.specs.declared.bad.BadWord.{BadWord as WrongWord}
 use Rattle.zed_set_words.specs.declared.wishes.Wish.{Wish}
 use Rattle.zed_set_words.specs.Rows.{wish_of}
 use Rattle.zed_tool.specs.Commands.{AsksCommand, AsksSet, AsksTold}
+use Rattle.zed_tool.specs.Playing.{Playtests, is_playtest, plays}
 use Rattle.zed_tool.specs.Outcome.{Complained, Hosts, Prints, Runs, RunsAs}
 
 -- such calls lead from the one state of a host to the other
@@ -39,16 +40,18 @@ set_made : {H : Type 0} (called : H → Call → H → Type 0) (file : List ℕ)
 set_made called file words (Ok wish) answer old new handed = let asks = handed.1 in (asks.0, asks.1)
 set_made called file words (Err bad) answer old new wrong = ([], wrong.1)
 
-command_made : {H : Type 0} (called : H → Call → H → Type 0) (command : Command) (answer : Answer) (old new : H) → AsksCommand called command answer old new → Made called old new
-command_made called (Open until forcing file world) answer old new asks = drawn_made called file _ _ answer old new asks
-command_made called (Take base file replica world) answer old new asks = drawn_made called file _ _ answer old new asks
-command_made called (Log length board cell replica since files) answer old new asks = telling_made called files answer old new asks
-command_made called (Lists listing files) answer old new asks = telling_made called files answer old new asks
-command_made called (Show form board files) answer old new asks = telling_made called files answer old new asks
-command_made called (Lint strictness files) answer old new handed = let asks = handed.1 in (asks.0, asks.1)
-command_made called (Set file replica words) answer old new asks = set_made called file words (wish_of words) answer old new asks
-command_made called (ProgramOf board stat files) answer old new asks = telling_made called files answer old new asks
-command_made called (SetProgram file replica board stat text) answer old new asks = drawn_made called text _ _ answer old new asks
+command_made : {H : Type 0} (called : H → Call → H → Type 0) (command : Command) (answer : Answer) (old new : H) → is_playtest command ≡ false → AsksCommand called command answer old new
+    → Made called old new
+command_made called (Open until forcing file world) answer old new other asks = drawn_made called file _ _ answer old new asks
+command_made called (Take base file replica world) answer old new other asks = drawn_made called file _ _ answer old new asks
+command_made called (Log length board cell replica since files) answer old new other asks = telling_made called files answer old new asks
+command_made called (Lists listing files) answer old new other asks = telling_made called files answer old new asks
+command_made called (Show form board files) answer old new other asks = telling_made called files answer old new asks
+command_made called (Play rows words keys board files) answer old new other asks = absurd (cc)
+command_made called (Lint strictness files) answer old new other handed = let asks = handed.1 in (asks.0, asks.1)
+command_made called (Set file replica words) answer old new other asks = set_made called file words (wish_of words) answer old new asks
+command_made called (ProgramOf board stat files) answer old new other asks = telling_made called files answer old new asks
+command_made called (SetProgram file replica board stat text) answer old new other asks = drawn_made called text _ _ answer old new asks
 
 told_made : {H : Type 0} (h : Hosts H) (text : List ℕ) (old new : H) → Complained h text old new → Made h.called old new
 told_made h text old new told =
@@ -65,33 +68,35 @@ prints_made h text status old new prints = elim prints [
       then_made h.called old rest.0 new first (told_made h tells.0 rest.0 new tells.2))
 ]
 
-as_made : {H : Type 0} (h : Hosts H) (words : List Text) (command : Option Command) (status : ℕ) (old new : H) → RunsAs h words command status old new → Made h.called old new
-as_made h words (Some command) status old new runs = elim runs [
-  | inl done ↦ command_made h.called command (Ok status) old new done.asked
+as_made : {H : Type 0} (h : Hosts H) (played : Playtests) (words : List Text) (command : Option Command) (status : ℕ) (old new : H) → plays command ≡ false
+    → RunsAs h played words command status old new → Made h.called old new
+as_made h played words (Some command) status old new other runs = elim runs [
+  | inl done ↦ command_made h.called command (Ok status) old new other done.asked
   | inr refused ↦ (
       let rest = refused.1 in
       let tells = rest.3 in
-      then_made h.called old rest.1 new (command_made h.called command (Err rest.0) old rest.1 rest.2.asked) (told_made h tells.0 rest.1 new tells.2))
+      then_made h.called old rest.1 new (command_made h.called command (Err rest.0) old rest.1 other rest.2.asked) (told_made h tells.0 rest.1 new tells.2))
 ]
-as_made h words None status old new runs = elim runs [
+as_made h played words None status old new other runs = elim runs [
   | inl refused ↦ (let told = refused.3 in told_made h told.0 old new told.1)
-  | inr other ↦ elim other [
+  | inr answered ↦ elim answered [
     | inl helped ↦ (let printed = helped.1 in prints_made h printed.0 status old new printed.1)
     | inr versioned ↦ prints_made h _ status old new versioned.1
   ]
 ]
 
-run_made : {H : Type 0} (h : Hosts H) (words : List Text) (status : ℕ) (old new : H) → Runs h words status old new → Made h.called old new
-run_made h words status old new runs = elim runs [
-  | inl ran ↦ as_made h words (command_of words) status old new ran
+run_made : {H : Type 0} (h : Hosts H) (played : Playtests) (words : List Text) (status : ℕ) (old new : H) → plays (command_of words) ≡ false → Runs h played words status old new
+    → Made h.called old new
+run_made h played words status old new other runs = elim runs [
+  | inl ran ↦ as_made h played words (command_of words) status old new other ran
   | inr memory ↦ told_made h _ old new memory.1
 ]
 
 -- where no failure was counted, no fault was
 pub run_calm : {H : Type 0} (h : Hosts H) → CountsFailures h.called h.failed → CountsNoFault h.called h.faults
-    → (words : List Text) (status : ℕ) (old new : H) → Runs h words status old new
+    → (played : Playtests) (words : List Text) (status : ℕ) (old new : H) → plays (command_of words) ≡ false → Runs h played words status old new
     → h.faults old ≤ h.failed old → NothingFailed (h.failed old) (h.failed new) → NothingFailed (h.faults old) (h.faults new)
-run_calm h law none words status old new runs within calm =
-    let made = run_made h words status old new runs in
+run_calm h law none played words status old new other runs within calm =
+    let made = run_made h played words status old new other runs in
     let low = calm.1 in
     (calm_calls h.called h.failed h.faults law none made.0 old new made.1 calm, omega arith)

@@ -1,10 +1,11 @@
-//! The work of the program `zztool`, over any host.
+//! `zztool` over any host: which command runs, and what it leaves.
 #![tactic(auto)]
 
 mod answers;
 mod asked;
 mod error;
 mod lines;
+mod playing;
 mod program;
 
 pub use program::run;

@@ -1,20 +1,22 @@
 //! The lines that the program writes where a command was not carried out: those of `zzted`, under its own name, and some more.
-ghost use Rattle.std.specs.Prelude.{◌≡◌, IfOk, IfSome, None, option_map, string_bytes, true};
+ghost use Rattle.std.specs.Prelude.{◌≡◌, ◌≤◌, IfOk, IfSome, None, length, option_map, string_bytes, true};
 ghost use Rattle.zed_files.specs.declared.refusal.Refusal.TheVariants.{BadEdit};
-ghost use Rattle.zed_tool.specs.Answers.{BadText as TextFailure, BadWord, Refused, failure_of};
-ghost use Rattle.zed_tool.specs.Lines.{line_of as line_for, tells_more};
+ghost use Rattle.zed_files.specs.Lines.{has_numbers};
+ghost use Rattle.zed_tool.specs.Answers.{BadText as TextFailure, BadWord, Refused};
+ghost use Rattle.zed_tool.specs.Lines.{line_of as line_for};
 
-use crate::error::ToolError;
 use std::alloc::{AllocError, Global};
 use zed_edit::Cause;
 use zed_files::Refusal;
+use zed_lines::Line;
 use zed_program_text::BadText;
 use zed_set_words::Expected;
 use zed_types::Stamp;
 
 // The line of an edit that doesn't fit.
 fn bad_edit_line(cause: Cause) -> &'static str
-    ensures { result.now ≡ line_for (Refused (BadEdit cause)) }
+    ensures line { result.now ≡ line_for (Refused (BadEdit cause)) }
+    ensures short { length result.now ≤ 64 }
 {
     match cause {
         Cause::Short => "zztool: BadEdit Short\n",
@@ -28,10 +30,11 @@ fn bad_edit_line(cause: Cause) -> &'static str
     }
 }
 
-// The line of a refusal that `zzted` has too, if it has no numbers.
-fn shared_line(refusal: Refusal) -> Option<&'static str>
+// The line of a refusal that has no numbers.
+fn plain_line(refusal: Refusal) -> Option<&'static str>
     ensures line { IfSome result (λ text. text.now ≡ line_for (Refused refusal)) }
-    ensures none { result ≡ None → tells_more (Refused refusal) ≡ true }
+    ensures none { result ≡ None → has_numbers refusal ≡ true }
+    ensures short { IfSome result (λ text. length text.now ≤ 64) }
 {
     let text = match refusal {
         Refusal::Memory => "zztool: Memory\n",
@@ -70,40 +73,36 @@ fn shared_line(refusal: Refusal) -> Option<&'static str>
     Some(text)
 }
 
-/// The line of a failure that tells nothing but its name, for the standard error.
-pub(crate) fn plain_line(error: ToolError<'_>) -> Option<&'static str>
-    ensures line { IfSome result (λ text. text.now ≡ line_for (failure_of error.entry)) }
-    ensures none { result ≡ None → tells_more (failure_of error.entry) ≡ true }
+// The same number, of 64 bits.
+fn widened(number: u16) -> u64
+    ensures { result ≡ number }
 {
-    match error {
-        ToolError::Refused(refusal) => shared_line(refusal),
-        ToolError::NotTaken => Some("zztool: NotTaken\n"),
-        ToolError::BadWord(_, _) | ToolError::BadText(_, _) => None,
-    }
+    u64::from(number)
 }
 
-// The line of a refusal that `zzted` has too.
-fn shared_line_of(alloc: Global, refusal: Refusal) -> Result<String, AllocError>
-    ensures { IfOk result (λ text. string_bytes text ≡ line_for (Refused refusal)) }
+/// The line of a refusal that `zzted` has too: `zztool: `, its name, and its numbers or cause, each after a space. It takes no memory, so
+/// that it can always be told.
+pub(crate) fn refusal_line(alloc: Global, refusal: Refusal) -> Line
+    ensures { result ≡ line_for (Refused refusal) }
 {
     match refusal {
         Refusal::Clash(stamp) => {
             let Stamp { time, replica } = stamp;
-            format!(in alloc; "zztool: Clash {time} {replica}\n")
+            Line::of_numbers(alloc, "zztool: Clash ", time, widened(replica))
         }
-        Refusal::BoardsOver(boards) => format!(in alloc; "zztool: BoardsOver {boards}\n"),
-        Refusal::StatsOver { board, stats } => format!(in alloc;
-            "zztool: StatsOver {board} {stats}\n"
-        ),
-        Refusal::BoardOver { board, bytes } => format!(in alloc;
-            "zztool: BoardOver {board} {bytes}\n"
-        ),
-        _ => String::from_str(alloc, shared_line(refusal).unwrap_or("")),
+        Refusal::BoardsOver(boards) => Line::of_number(alloc, "zztool: BoardsOver ", boards as u64),
+        Refusal::StatsOver { board, stats } => {
+            Line::of_numbers(alloc, "zztool: StatsOver ", board as u64, stats as u64)
+        }
+        Refusal::BoardOver { board, bytes } => {
+            Line::of_numbers(alloc, "zztool: BoardOver ", board as u64, bytes as u64)
+        }
+        _ => Line::of_text(alloc, plain_line(refusal).unwrap_or("")),
     }
 }
 
-// The line of a word that may not be there.
-fn bad_word_line(
+/// The line of a word that may not be there, or of none where more are wanted, with what may be there.
+pub(crate) fn bad_word_line(
     alloc: Global,
     word: Option<&str>,
     expected: Expected,
@@ -118,24 +117,11 @@ fn bad_word_line(
     }
 }
 
-// The line of a text that is no program.
-fn bad_text_line(alloc: Global, file: &str, bad: BadText) -> Result<String, AllocError>
+/// The line of a text that is no program: the file, the line and the column, in front of the name.
+pub(crate) fn bad_text_line(alloc: Global, file: &str, bad: BadText) -> Result<String, AllocError>
     ensures { IfOk result (λ text.
         string_bytes text ≡ line_for (TextFailure file.now bad.line bad.column)) }
 {
     let BadText { line, column } = bad;
     format!(in alloc; "zztool: {file}:{line}:{column}: BadText\n")
-}
-
-/// The line for the standard error: `zztool: `, the name of the refusal, and its numbers or cause, each after a space; or what a wrong
-/// word or a wrong text is told with.
-pub(crate) fn line_of(alloc: Global, error: ToolError<'_>) -> Result<String, AllocError>
-    ensures { IfOk result (λ text. string_bytes text ≡ line_for (failure_of error.entry)) }
-{
-    match error {
-        ToolError::Refused(refusal) => shared_line_of(alloc, refusal),
-        ToolError::NotTaken => String::from_str(alloc, "zztool: NotTaken\n"),
-        ToolError::BadWord(word, expected) => bad_word_line(alloc, word, expected),
-        ToolError::BadText(file, bad) => bad_text_line(alloc, file, bad),
-    }
 }

@@ -1,24 +1,27 @@
 //! The program, over any host.
-ghost use Rattle.std.specs.Prelude.{◌≡◌, ◌≤◌, ◌⊎◌, ℕ, IsSome, List, Some, map, string_bytes};
+ghost use Rattle.std.specs.Prelude.{◌≡◌, ◌≤◌, ◌⊎◌, ℕ, IsSome, List, MatchResult, None, Some, drop, false, map, string_bytes};
 ghost use Rattle.zed_op.specs.declared.op.Edit.{Edit as TheEdit};
 ghost use Rattle.zed_op.specs.Set.{set_of};
 ghost use Rattle.zed_world.specs.Contents.{Contents};
 ghost use Rattle.zed_host.specs.Counting.{NothingFailed, Rose};
 ghost use Rattle.zed_host.specs.HostContents.{HostContents};
+ghost use Rattle.zed_turns.specs.Stage.{stage};
 ghost use Rattle.zed_tool_words.specs.Commands.{AsksHelp, AsksVersion, Command as Asked, command_of, meaning_of};
 ghost use Rattle.zed_tool_words.specs.Version.{version_text};
 ghost use Rattle.zed_tool.specs.Answers.{answer_of, failure_of, memory};
 ghost use Rattle.zed_tool.specs.Calm.{EndsCalmly};
 ghost use Rattle.zed_tool.specs.Commands.{AsksCommand, EndsCommand};
 ghost use Rattle.zed_tool.specs.Lines.{line_of as line_for};
+ghost use Rattle.zed_tool.specs.Playing.{between, is_playtest, plays};
 ghost use Rattle.zed_tool.specs.Taking.{AsksToTake, TakesSet};
 ghost use Rattle.zed_tool.specs.Outcome.{Complained, Prints, Runs, TellsFailures, TellsOf, hosts};
 
 use crate::answers::{drawn, linted, set_told, told};
 use crate::asked::{forcing_of, form_of, length_of, listing_of};
 use crate::error::ToolError;
-use crate::lines::{line_of, plain_line};
-use std::alloc::Global;
+use crate::lines::{bad_text_line, bad_word_line, refusal_line};
+use crate::playing::{playtest, rows_of};
+use std::alloc::{AllocError, Global};
 use zed_drawing::{open, take};
 use zed_editfile::one_reading;
 use zed_files::Refusal;
@@ -26,10 +29,14 @@ use zed_host::Host;
 use zed_programs::set_program;
 use zed_set::set;
 use zed_showing::show;
+use zed_staging::Inputs;
 use zed_telling::{Filter, lint, list, log};
 use zed_tool_words::{Command, ParseError, parse, version};
+use zed_turns::{Chance, Console, Terminal};
 
 const MEMORY_LINE: &[u8] = b"zztool: Memory\n";
+
+const NOT_TAKEN_LINE: &[u8] = b"zztool: NotTaken\n";
 
 // Writes a text to the standard error.
 fn complain<H: Host>(host: &mut H, text: &[u8])
@@ -39,28 +46,57 @@ fn complain<H: Host>(host: &mut H, text: &[u8])
     let _ = host.complain(text);
 }
 
+// Writes a line that took memory, or that of want of it.
+fn complain_if_told<H: Host>(host: &mut H, line: Result<String, AllocError>)
+    ensures { let all = hosts H.contents H.called H.failed H.faults in MatchResult line.entry
+        (λ text. Complained all (string_bytes text) host.old host.new)
+        (λ _. Complained all (line_for memory) host.old host.new) }
+{
+    match line {
+        Ok(text) => complain(host, text.as_bytes()),
+        Err(_) => complain(host, MEMORY_LINE),
+    }
+}
+
 // Writes the line of a failure to the standard error.
 fn complain_of<H: Host>(alloc: Global, host: &mut H, error: ToolError<'_>)
     ensures { TellsOf (hosts H.contents H.called H.failed H.faults) (failure_of error.entry)
         host.old host.new }
 {
-    match plain_line(error) {
-        Some(text) => complain(host, text.as_bytes()),
-        None => match line_of(alloc, error) {
-            Ok(text) => complain(host, text.as_bytes()),
-            Err(_) => complain(host, MEMORY_LINE),
-        },
+    match error {
+        ToolError::Refused(refusal) => {
+            let line = refusal_line(alloc, refusal);
+            complain(host, line.as_slice());
+        }
+        ToolError::NotTaken => complain(host, NOT_TAKEN_LINE),
+        ToolError::BadWord(word, expected) => {
+            complain_if_told(host, bad_word_line(alloc, word, expected));
+        }
+        ToolError::BadText(file, bad) => complain_if_told(host, bad_text_line(alloc, file, bad)),
     }
 }
 
 // Carries a command out, and answers its status.
-fn act<'a, H: Host>(alloc: Global, host: &mut H, command: &Command<'a>) -> Result<u8, ToolError<'a>>
+fn act<'a, H: Host, T: Terminal, I: Inputs, C: Chance>(
+    alloc: Global,
+    host: &mut H,
+    console: &mut Console<T, I, C>,
+    command: &Command<'a>,
+) -> Result<u8, ToolError<'a>>
     ensures ends { (t : HostContents) → H.contents host.old ≡ Some t
-        → EndsCommand H.called (Rose (H.faults host.old) (H.faults host.new))
+        → let before = stage (T.drawn console.old.terminal) (T.draws_foretell console.old.terminal)
+        (I.left console.old.inputs.source) None (C.to_come console.old.chance) in
+        let rest = drop console.new.inputs.taken console.new.inputs.kept.items in
+        let after = stage (T.drawn console.new.terminal) (T.draws_foretell console.new.terminal)
+        (I.left console.new.inputs.source) None (C.to_come console.new.chance) in
+        EndsCommand H.called (between before rest after) (Rose (H.faults host.old) (H.faults host.new))
         (meaning_of command.now) host.old host.new t (answer_of result) (H.contents host.new) }
     ensures asked { AsksCommand H.called (meaning_of command.now) (answer_of result)
         host.old host.new }
     ensures failures { TellsFailures H.faults H.failed (answer_of result) host.old host.new }
+    ensures idle { is_playtest (meaning_of command.now) ≡ false → console.new ≡ console.old }
+    ensures left { T.is_entered console.old.terminal ≡ false
+        → T.is_entered console.new.terminal ≡ false }
 {
     match command {
         Command::Open {
@@ -108,6 +144,22 @@ fn act<'a, H: Host>(alloc: Global, host: &mut H, command: &Command<'a>) -> Resul
             *board,
             files.as_slice(),
         )),
+        Command::Play {
+            rows,
+            words,
+            keys,
+            board,
+            files,
+        } => playtest(
+            alloc,
+            host,
+            console,
+            *words,
+            *keys,
+            rows_of(*rows),
+            *board,
+            files.as_slice(),
+        ),
         Command::Lint { strictness, files } => {
             linted(*strictness, lint(alloc, host, files.as_slice()))
         }
@@ -150,12 +202,26 @@ fn print_text<H: Host>(alloc: Global, host: &mut H, text: &[u8]) -> u8
 }
 
 // What `run` does.
-fn run_words<H: Host>(alloc: Global, words: &[String], host: &mut H) -> u8
-    ensures { Runs (hosts H.contents H.called H.failed H.faults) (map string_bytes words.now)
-        result host.old host.new }
+fn run_words<H: Host, T: Terminal, I: Inputs, C: Chance>(
+    alloc: Global,
+    words: &[String],
+    host: &mut H,
+    console: &mut Console<T, I, C>,
+) -> u8
+    ensures runs { let before = stage (T.drawn console.old.terminal) (T.draws_foretell console.old.terminal)
+        (I.left console.old.inputs.source) None (C.to_come console.old.chance) in
+        let rest = drop console.new.inputs.taken console.new.inputs.kept.items in
+        let after = stage (T.drawn console.new.terminal) (T.draws_foretell console.new.terminal)
+        (I.left console.new.inputs.source) None (C.to_come console.new.chance) in
+        Runs (hosts H.contents H.called H.failed H.faults) (between before rest after)
+        (map string_bytes words.now) result host.old host.new }
+    ensures idle { plays (command_of (map string_bytes words.now)) ≡ false
+        → console.new ≡ console.old }
+    ensures left { T.is_entered console.old.terminal ≡ false
+        → T.is_entered console.new.terminal ≡ false }
 {
     match parse(alloc, words) {
-        Ok(command) => match act(alloc, host, &command) {
+        Ok(command) => match act(alloc, host, console, &command) {
             Ok(status) => status,
             Err(error) => {
                 complain_of(alloc, host, error);
@@ -181,19 +247,37 @@ fn run_words<H: Host>(alloc: Global, words: &[String], host: &mut H) -> u8
 ///
 /// A refusal comes before the first write, but for `File` where the host fails at a write: then the files that were written before are whole,
 /// and the one that it failed at is as that left it.
-pub fn run<H: Host>(alloc: Global, words: &[String], host: &mut H) -> u8
-    // What is left in a host that tells what it holds, what was asked of it, call by call, and that no failure was forgotten.
-    ensures runs { Runs (hosts H.contents H.called H.failed H.faults) (map string_bytes words.now)
-        result host.old host.new }
+pub fn run<H: Host, T: Terminal, I: Inputs, C: Chance>(
+    alloc: Global,
+    words: &[String],
+    host: &mut H,
+    console: &mut Console<T, I, C>,
+) -> u8
+    // What is left in a host that tells what it holds, what was asked of it, call by call, and that no failure was forgotten; and where
+    // the devices of a playtest were led.
+    ensures runs { let before = stage (T.drawn console.old.terminal) (T.draws_foretell console.old.terminal)
+        (I.left console.old.inputs.source) None (C.to_come console.old.chance) in
+        let rest = drop console.new.inputs.taken console.new.inputs.kept.items in
+        let after = stage (T.drawn console.new.terminal) (T.draws_foretell console.new.terminal)
+        (I.left console.new.inputs.source) None (C.to_come console.new.chance) in
+        Runs (hosts H.contents H.called H.failed H.faults) (between before rest after)
+        (map string_bytes words.now) result host.old host.new }
 
-    // Where its `failures()` stay as they were, nothing failed.
-    ensures calm { H.faults host.old ≤ H.failed host.old
+    // The devices are called only where words ask to play, and the terminal is left then.
+    ensures idle { plays (command_of (map string_bytes words.now)) ≡ false
+        → console.new ≡ console.old }
+    ensures left { T.is_entered console.old.terminal ≡ false
+        → T.is_entered console.new.terminal ≡ false }
+
+    // Where the `failures()` of the host stay as they were, nothing failed; of a playtest it isn't told which calls it makes.
+    ensures calm { plays (command_of (map string_bytes words.now)) ≡ false
+        → H.faults host.old ≤ H.failed host.old
         → NothingFailed (H.failed host.old) (H.failed host.new)
         → NothingFailed (H.faults host.old) (H.faults host.new) }
 
     // Where nothing fails.
     ensures ends_calmly { (t : HostContents) (command : Asked)
-        → command_of (map string_bytes words.now) ≡ Some command
+        → command_of (map string_bytes words.now) ≡ Some command → is_playtest command ≡ false
         → H.contents host.old ≡ Some t → NothingFailed (H.faults host.old) (H.faults host.new)
         → EndsCalmly t command result (H.contents host.new) }
 
@@ -218,5 +302,5 @@ pub fn run<H: Host>(alloc: Global, words: &[String], host: &mut H) -> u8
         ⊎ ((result ≡ 1) × Complained all (line_for memory) host.old host.new) }
 {
     one_reading();
-    run_words(alloc, words, host)
+    run_words(alloc, words, host, console)
 }

@@ -2,7 +2,7 @@
 ghost use Rattle.std.specs.Prelude.{◌≡◌, codes, false, IfOk};
 ghost use Rattle.clap.specs.Words.{app_of, new_app, rule_of, shape_of, with_rule, with_subcommand};
 ghost use Rattle.clap.specs.declared.builder.command.Command.TheViews.{out-Command};
-ghost use Rattle.zed_tool_words.specs.Grammar.{cell_rule, flag_rule, lint_shape, list_shape, log_shape, number_option, number_rule, open_shape, option_rule, program_shape, required_rule, set_shape, several_rule, show_shape, take_shape, time_option, tool_app, top_app, trailing_rule};
+ghost use Rattle.zed_tool_words.specs.Grammar.{cell_rule, flag_rule, lint_shape, list_shape, log_shape, number_option, number_rule, open_shape, option_rule, play_shape, program_shape, required_rule, set_shape, several_rule, show_shape, take_shape, time_option, tool_app, top_app, trailing_rule};
 
 use crate::release::VERSION;
 use clap::{Arg, ArgAction, Command};
@@ -114,12 +114,12 @@ fn files_argument<'a>(alloc: Global) -> Arg<'a>
     )
 }
 
-// A command of this name, without arguments.
-fn bare_command<'a>(alloc: Global, name: &'a str, about: &'a str) -> Command<'a>
+// A command of this name, without arguments; its help ends with an example.
+fn bare_command<'a>(alloc: Global, name: &'a str, about: &'a str, example: &'a str) -> Command<'a>
     ensures app { app_of result ≡ new_app name.entry.now }
     ensures local { (out-Command result).has_globals ≡ false }
 {
-    Command::new(alloc, name).about(about)
+    Command::new(alloc, name).about(about).after_help(example)
 }
 
 // A command with one argument more.
@@ -142,6 +142,7 @@ fn open_command<'a>(alloc: Global) -> Result<Command<'a>, AllocError>
         alloc,
         "open",
         "Write the world file of an edit file, to draw in with another editor; take brings the drawing back",
+        "Example, to draw in a world with another editor:\n  zztool open orchard.zed orchard.zzt",
     );
     let command = with_argument(command, required_argument(alloc, "FILE", "The edit file"))?;
     let command = with_argument(
@@ -179,6 +180,7 @@ fn take_command<'a>(alloc: Global) -> Result<Command<'a>, AllocError>
         alloc,
         "take",
         "Add what another editor drew in a world file to an edit file, as edits of an author",
+        "Example, to take what author 7 drew in orchard.zzt:\n  zztool take orchard.zed 7 orchard.zzt",
     );
     let command = with_argument(
         command,
@@ -212,7 +214,8 @@ fn log_command<'a>(alloc: Global) -> Result<Command<'a>, AllocError>
     let command = bare_command(
         alloc,
         "log",
-        "List the edits of edit files, a line each: when, by whom and what",
+        "List the edits of edit files, a line each: when, by whom and what, and whether it still holds",
+        "Example, to see who changed the cell in column 30, row 20 of board 1:\n  zztool log --cell 1 30 20 orchard.zed",
     );
     let command = with_argument(command, files_argument(alloc))?;
     let command = with_argument(
@@ -261,6 +264,7 @@ fn list_command<'a>(alloc: Global) -> Result<Command<'a>, AllocError>
         alloc,
         "list",
         "List the world of edit files: list FILES its boards, list B FILES the stats of board B, list B S FILES the program of stat S there",
+        "Example, to see the boards, the stats of board 1, and the program of stat 2 there:\n  zztool list orchard.zed\n  zztool list 1 orchard.zed\n  zztool list 1 2 orchard.zed",
     );
     with_argument(
         command,
@@ -281,6 +285,7 @@ fn show_command<'a>(alloc: Global) -> Result<Command<'a>, AllocError>
         alloc,
         "show",
         "Show a board of the world of edit files as ZZT shows it: in colours for a terminal, as plain text, or as a picture",
+        "Example, to see the title, and to make a picture of board 1 for a web page:\n  zztool show 0 orchard.zed\n  zztool show --svg 1 orchard.zed > board.svg",
     );
     let command = with_argument(
         command,
@@ -301,6 +306,55 @@ fn show_command<'a>(alloc: Global) -> Result<Command<'a>, AllocError>
     )
 }
 
+/// `play [--rows ROWS] [--words WORDS] [--keys KEYS] BOARD FILES...`
+fn play_command<'a>(alloc: Global) -> Result<Command<'a>, AllocError>
+    ensures shape { IfOk result (λ c. shape_of c ≡ play_shape) }
+    ensures local { IfOk result (λ c. (out-Command c).has_globals ≡ false) }
+{
+    let command = bare_command(
+        alloc,
+        "play",
+        "Play a board of the world of edit files at a terminal, by keys as they are typed; scripts/playtest sets the terminal up",
+        "Example, to play board 1, to keep what was played, and to go on with it later:\n  scripts/playtest --words chance --keys keys 1 orchard.zed",
+    );
+    let command = with_argument(
+        command,
+        number_word(
+            alloc,
+            "BOARD",
+            "The number of the board, 0 for the title; list tells the numbers",
+        ),
+    )?;
+    let command = with_argument(command, files_argument(alloc))?;
+    let command = with_argument(
+        command,
+        number_argument(
+            alloc,
+            "rows",
+            "ROWS",
+            "The number of rows of the terminal, 27 without it",
+        ),
+    )?;
+    let command = with_argument(
+        command,
+        option_argument(
+            alloc,
+            "words",
+            "WORDS",
+            "A file of chance: what it has comes first, and at the end it has all that was played",
+        ),
+    )?;
+    with_argument(
+        command,
+        option_argument(
+            alloc,
+            "keys",
+            "KEYS",
+            "A file of keys: what it has is played first, and at the end it has all that was played",
+        ),
+    )
+}
+
 /// `lint [--strict] FILES...`
 fn lint_command<'a>(alloc: Global) -> Result<Command<'a>, AllocError>
     ensures shape { IfOk result (λ c. shape_of c ≡ lint_shape) }
@@ -310,6 +364,7 @@ fn lint_command<'a>(alloc: Global) -> Result<Command<'a>, AllocError>
         alloc,
         "lint",
         "List what ZZT, or who plays, would stumble over in the world of edit files, a line each",
+        "Example, to stop a script where something is wrong:\n  zztool lint --strict orchard.zed",
     );
     let command = with_argument(command, files_argument(alloc))?;
     with_argument(
@@ -331,6 +386,7 @@ fn set_command<'a>(alloc: Global) -> Result<Command<'a>, AllocError>
         alloc,
         "set",
         "Set a register of the world, a property of a board or a field of a stat in an edit file, as an edit of an author",
+        "Example, as author 7 to let the game begin on board 1, to make that dark, and to let stat 3 there act at each step:\n  zztool set orchard.zed 7 world start-board 1\n  zztool set orchard.zed 7 board 1 dark yes\n  zztool set orchard.zed 7 stat 1 3 cycle 1",
     );
     let command = with_argument(
         command,
@@ -360,6 +416,7 @@ fn program_command<'a>(alloc: Global) -> Result<Command<'a>, AllocError>
         alloc,
         "program",
         "Print the program of a stat: program B S FILES; or put the text of a file in its place, as edits of an author: program --set FILE REPLICA B S TEXT",
+        "Example, as author 7 to change the program of stat 2 on board 1 with a text editor:\n  zztool program 1 2 orchard.zed > object.txt\n  zztool program --set orchard.zed 7 1 2 object.txt",
     );
     let command = with_argument(
         command,
@@ -385,8 +442,9 @@ fn top_command<'a>(alloc: Global) -> Result<Command<'a>, AllocError>
 {
     Command::new(alloc, "zztool")
         .about(
-            "Shows, lists and checks the worlds of zzted edit files, sets what is in them, opens them to another editor and takes back what was drawn",
+            "Shows, lists, checks and plays the worlds of zzted edit files, sets what is in them, opens them to another editor and takes back what was drawn",
         )
+        .after_help("zztool COMMAND --help tells what a command takes, with an example.")
         .version(VERSION)
         .no_binary_name(true)
         .arg_required_else_help(true)
@@ -412,6 +470,7 @@ pub(crate) fn tool_command<'a>(alloc: Global) -> Result<Command<'a>, AllocError>
     let program = with_command(program, log_command(alloc)?)?;
     let program = with_command(program, list_command(alloc)?)?;
     let program = with_command(program, show_command(alloc)?)?;
+    let program = with_command(program, play_command(alloc)?)?;
     let program = with_command(program, lint_command(alloc)?)?;
     let program = with_command(program, set_command(alloc)?)?;
     with_command(program, program_command(alloc)?)

@@ -1,4 +1,4 @@
-use Rattle.std.proofs.Common.{◌≡◌, ◌∙◌, sym}
+use Rattle.std.proofs.Common.{◌∙◌, sym}
 use Rattle.zed_program_text.specs.Characters.{byte_of}
 use Rattle.zed_program_text.proofs.Lists.{found, not_found}
 use Rattle.zed_program_text.proofs.characters.byte_of.Goals as goal

@@ -1,4 +1,4 @@
-use Rattle.std.proofs.Common.{◌≡◌, [], ◌∷◌, arith, false, None}
+use Rattle.std.proofs.Common.{◌≡◌, [], ◌∷◌, false, None}
 use Rattle.std.proofs.lemmas.Result.{err_from_is_err_and}
 use Rattle.zed_host.specs.Calls.{Reading, call}
 use Rattle.zed_drawing.specs.Files.{OpensAs}
@@ -37,10 +37,6 @@ returns-in_err-document-clause-failures g c =
 
 pub set_on-requires : goal.set_on-requires
 set_on-requires g c = c.in_ok-document.ensures.sound
-
--- the memory of the document that was read
-pub array_drop-document-inside-requires : goal.array_drop-document-inside-requires
-array_drop-document-inside-requires g c = omega arith
 
 pub returns-clause-comes : goal.returns-clause-comes
 returns-clause-comes g c = λ t at.

@@ -1,4 +1,5 @@
 use Rattle.std.proofs.Common.{map}
+use Rattle.zed_tool.proofs.Played.{ok_is_none}
 use Rattle.zed_tool.proofs.Handing.{drawn_tells, linted_tells, set_asks, set_ends, set_tells, told_tells}
 use Rattle.zed_tool.proofs.program.act.Goals as goal
 
@@ -63,6 +64,14 @@ returns-in-Show-clause-asked g c =
 pub returns-in-Show-clause-failures : goal.returns-in-Show-clause-failures
 returns-in-Show-clause-failures g c = told_tells g.H.Host.faults g.H.Host.failed c.show.result _ _ _ c.told-in-Show.ensures c.show.ensures.failures
 
+pub returns-in-Play-clause-ends : goal.returns-in-Play-clause-ends
+returns-in-Play-clause-ends g c = λ t at.
+    let ended = c.playtest.ensures.ends t at in
+    rw c.in-Play.is (rw (c.rows_of.ensures, c.as_slice-in-Play.ensures.value) at ended)
+
+pub returns-in-Play-clause-asked : goal.returns-in-Play-clause-asked
+returns-in-Play-clause-asked g c = rw c.in-Play.is (ok_is_none c.playtest.result c.playtest.ensures.status)
+
 pub returns-in-Lint-clause-ends : goal.returns-in-Lint-clause-ends
 returns-in-Lint-clause-ends g c = λ t at.
     let ended = c.lint.ensures.ends t at in
@@ -78,17 +87,16 @@ returns-in-Lint-clause-failures g c = linted_tells g.H.Host.faults g.H.Host.fail
 
 pub returns-in-Set-clause-ends : goal.returns-in-Set-clause-ends
 returns-in-Set-clause-ends g c = λ t at.
-    let value = c.as_slice-words.ensures.value in
+    let value = c.as_slice-in-Set.ensures.value in
     let told = c.set_told.ensures in
     let wrong = c.set.ensures.bad_word in
-    let ends = c.set.ensures.ends in
-    let all = rw value at ends in
+    let ends = λ w is. c.set.ensures.ends w is t at in
     rw c.in-Set.is (set_ends g.H.Host.contents _ t c.in-Set.file.now c.in-Set.replica (map (λ s. s.now) c.in-Set.words.items) c.set.result _ _ _ at
-    (rw value at told) (rw value at wrong) (λ w is. all w is t at))
+    (rw value at told) (rw value at wrong) (rw value at ends))
 
 pub returns-in-Set-clause-asked : goal.returns-in-Set-clause-asked
 returns-in-Set-clause-asked g c =
-    let value = c.as_slice-words.ensures.value in
+    let value = c.as_slice-in-Set.ensures.value in
     let told = c.set_told.ensures in
     let wrong = c.set.ensures.bad_word in
     let asked = c.set.ensures.asked in
@@ -97,7 +105,7 @@ returns-in-Set-clause-asked g c =
 
 pub returns-in-Set-clause-failures : goal.returns-in-Set-clause-failures
 returns-in-Set-clause-failures g c =
-    set_tells g.H.Host.faults g.H.Host.failed (map (λ s. s.now) c.as_slice-words.result.now) c.set.result _ _ _ c.set_told.ensures c.set.ensures.bad_word c.set.ensures.failures
+    set_tells g.H.Host.faults g.H.Host.failed (map (λ s. s.now) c.as_slice-in-Set.result.now) c.set.result _ _ _ c.set_told.ensures c.set.ensures.bad_word c.set.ensures.failures
 
 pub returns-in-Program-clause-ends : goal.returns-in-Program-clause-ends
 returns-in-Program-clause-ends g c = λ t at.
