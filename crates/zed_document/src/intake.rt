@@ -1,5 +1,5 @@
 //! A document that takes many edits as they come.
-ghost use Rattle.std.specs.Prelude.{◌≡◌, ◌≢◌, ◌⊎◌, if◌then◌else◌, is_ok, true, false, None, Err, IfOk, IfSome, IfNone, Some, OnErr, OnOk, IsOkAnd};
+ghost use Rattle.std.specs.Prelude.{◌≡◌, ◌≢◌, ◌⊎◌, if◌then◌else◌, is_ok, true, false, None, Err, IfOk, OnErr, OnOk, IsOkAnd};
 ghost use Rattle.zed_history.specs.Finding.{edit_with};
 ghost use Rattle.zed_document.specs.Delivery.{Answers, TellsNew};
 ghost use Rattle.zed_document.specs.Visits.{TellsVisits};
@@ -17,7 +17,6 @@ use zed_edit::Edit;
 use zed_history::History;
 use zed_laws::held_edits_are_remembered;
 use zed_op::{edit_has_sizes, edit_joins_a_set, sets_rise, sets_stay_fit};
-use zed_types::Stamp;
 
 /// A document that takes many edits, one after the other in whatever order, with the work of edits that come in stamp order. Contracts
 /// see it as the document that it is when it is closed.
@@ -74,24 +73,6 @@ impl Intake {
         ensures { result ≡ self.now.world }
     {
         self.world
-    }
-
-    /// Looks for the place of a stamp, where the next call seeks it first.
-    pub fn seek(&mut self, stamp: Stamp)
-        ensures { self.new ≡ self.old }
-    {
-        self.log.seek(stamp);
-    }
-
-    /// The edit with a stamp, if it came, taken or held.
-    pub fn find(&self, stamp: Stamp) -> Option<&Edit>
-        ensures some { IfSome result (λ f. edit_with stamp self.now.edits ≡ Some f.now) }
-        ensures none { IfNone result (edit_with stamp self.now.edits ≡ None) }
-        ensures fits { IfSome result (λ f. Fits f.now) }
-        ensures known { IfSome result (λ f. with_edit f.now self.now.edits ≡ self.now.edits) }
-    {
-        edit_joins_a_set();
-        self.log.find(stamp)
     }
 
     /// Accepts an edit that fits, in whatever order edits come. In this order: Stale; Clash where another edit has its stamp, held or

@@ -108,7 +108,7 @@ feeds_empty before p = record {
 
 -- ---- going on
 
-abbrev pub at_rest : Option ℕ → Option ℕ → ℕ → List ℕ → Progress
+abbrev at_rest : Option ℕ → Option ℕ → ℕ → List ℕ → Progress
 at_rest asked world version rest = record { asked = asked; world = world; version = version; rest = rest; fault = None }
 
 abbrev moved : Option ℕ → Option ℕ → ℕ → Stop → Progress

@@ -7,7 +7,6 @@ pub mod Fitting
 pub mod Found
 pub mod Fronts
 pub mod Heads
-pub mod Passing
 pub mod Names
 pub mod Numbers
 pub mod Once

@@ -4,4 +4,3 @@ pub mod Stream
 pub mod Laws
 pub mod Refusals
 pub mod Room
-pub mod Known

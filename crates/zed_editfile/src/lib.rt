@@ -1,10 +1,8 @@
 //! Edit files: the spelling of an edit, a writer, and a reader for files in any pieces.
 #![tactic(auto)]
 
-mod ahead;
 mod error;
 mod fields;
-mod known;
 mod laws;
 mod ops;
 mod put;
@@ -16,7 +14,6 @@ mod sizes;
 mod stream;
 mod writing;
 
-pub use ahead::stamp_ahead;
 pub use error::EditFileError;
 pub use laws::{
     fitting_edits_are_records, fitting_edits_make_a_file, fronts_are_read,

@@ -1,15 +1,9 @@
 //! The reader of an edit file.
-ghost use Rattle.std.specs.Prelude.{◌≡◌, ◌⊎◌, ◌<◌, ℕ, List, [], Option, Some, None, IfSome, IfNone, IsOk, OnOk, IfErr, Err, ◌++◌, ◌∷◌, length};
+ghost use Rattle.std.specs.Prelude.{◌≡◌, ◌⊎◌, ◌<◌, ℕ, List, [], Option, Some, None, IfSome, IsOk, OnOk, IfErr, Err, ◌++◌, length};
 ghost use Rattle.zed_op.specs.declared.op.Edit.{Edit};
-ghost use Rattle.zed_op.specs.Fit.{Fits};
-ghost use Rattle.zed_editfile.specs.Known.{IsBetween, Lacks};
-ghost use Rattle.zed_editfile.specs.Spelling.{IsOf, record_text};
 ghost use Rattle.zed_editfile.specs.Stream.{Reads, Feeds, Steps, AreRecords, IsTextOf, ending, verdict_of};
 
-use crate::ahead::record_len;
 use crate::error::EditFileError;
-use crate::known::{is_of, past_record};
-use crate::laws::fitting_edits_are_records;
 use crate::stream::advance;
 use smallvec::SmallVec;
 use std::alloc::Global;
@@ -102,50 +96,6 @@ impl EditReader {
                 Err(fault)
             }
         }
-    }
-
-    /// What follows the record of an edit that is at hand, where the reader stands between records and the piece begins with that record:
-    /// the reader is where it was then, with one edit more. Takes no memory.
-    pub fn pass<'a>(&self, edit: &Edit, piece: &'a [u8]) -> Option<&'a [u8]>
-        requires { Fits edit.now }
-        ensures some { IfSome result (λ rest. (piece.now ≡ record_text edit.now ++ rest.now)
-            × ((before : List Edit)
-            → Feeds (record_text edit.now) before (before ++ edit.now ∷ []) self.now self.now)) }
-        ensures none { IfNone result (IsBetween self.now → IsOf self.now.version edit.now
-            → Lacks (record_text edit.now) piece.now) }
-    {
-        if self.world.is_none() || self.fault.is_some() || !self.kept.is_empty() {
-            return None;
-        }
-        if !is_of(self.version, edit) {
-            return None;
-        }
-        fitting_edits_are_records(edit);
-        past_record(piece, edit)
-    }
-
-    /// How many bytes complete the head or the record that isn't whole, or else the record at the front of a piece.
-    fn missing(&self, piece: &[u8]) -> usize {
-        let kept = self.kept.len();
-        if self.world.is_none() {
-            return 12usize.saturating_sub(kept);
-        }
-        if kept == 0 {
-            return record_len(piece);
-        }
-        if kept < 4 {
-            return 4usize.saturating_sub(kept);
-        }
-        record_len(self.kept.as_slice()).saturating_sub(kept)
-    }
-
-    /// The front of a piece that is best read at once, so that the reader stands between records behind it, where that can be; and what
-    /// follows it. Takes no memory.
-    pub fn first<'a>(&self, piece: &'a [u8]) -> (&'a [u8], &'a [u8])
-        ensures whole { piece.now ≡ result.0.now ++ result.1.now }
-        ensures some { 0 < length piece.now → 0 < length result.0.now }
-    {
-        piece.split_at(self.missing(piece).max(1).min(piece.len()))
     }
 
     /// Whether the file may end here. Takes no memory.

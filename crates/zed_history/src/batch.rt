@@ -6,7 +6,7 @@ ghost use Rattle.zed_history.specs.Batch.{HasNew, IsBatch, first_of};
 ghost use Rattle.zed_history.specs.Finding.{edit_with};
 
 use crate::history::History;
-use crate::place::spot_from;
+use crate::place::spot_of;
 use std::alloc::{AllocError, Global};
 use zed_op::{Edit, edit_joins_a_set, rising_lists_are_sets, sets_rise, sets_stay_fit};
 use zed_types::Stamp;
@@ -19,13 +19,8 @@ pub struct Batch {
 }
 
 /// Puts an edit among those gathered, unless the log or they have it. Where they have another one of its stamp it tells that, and nothing
-/// changes. In the log it is sought where the last one was.
-fn put(
-    log: &[Edit],
-    at: &mut usize,
-    gathered: &mut History,
-    edit: Edit,
-) -> Result<Option<Stamp>, AllocError>
+/// changes.
+fn put(log: &[Edit], gathered: &mut History, edit: Edit) -> Result<Option<Stamp>, AllocError>
     requires { IsRising log.now }
     ensures none { IfOk result (λ clash. IfNone clash (MatchOption
         (first_of (edit_with edit.stamp log.now) (edit_with edit.stamp gathered.old))
@@ -40,7 +35,7 @@ fn put(
 {
     let stamp = edit.stamp;
     gathered.seek(stamp);
-    let there = match spot_from(log, at, stamp) {
+    let there = match spot_of(log, log.len(), stamp) {
         Ok(there) => Some(there),
         Err(_) => gathered.find(stamp),
     };
@@ -70,9 +65,8 @@ fn put_all(
     rising_lists_are_sets();
     sets_stay_fit();
     edit_joins_a_set();
-    let mut at = 0;
     for edit in edits {
-        match put(log, &mut at, gathered, edit)? {
+        match put(log, gathered, edit)? {
             Some(stamp) => return Ok(Some(stamp)),
             None => {}
         }

@@ -8,7 +8,7 @@ ghost use Rattle.zed_history.specs.Finding.{AllBelow, edit_with};
 ghost use Rattle.zed_history.specs.Runs.{AreRuns, HasRoom, SettleTo, count_in, found_in, joined};
 
 use crate::moving::move_in;
-use crate::place::{ends_with, is_latest, place_of, spot_of};
+use crate::place::{is_latest, place_of, spot_of};
 use crate::run::{Run, find_in, seek_in, settle};
 use std::alloc::{AllocError, Global};
 use std::marker::Model;
@@ -177,9 +177,7 @@ impl History {
         ensures { self.new ≡ self.old }
     {
         self.at = place_of(&self.log, self.at, stamp);
-        if !ends_with(&self.log, self.at, stamp) {
-            seek_in(&mut self.settled, stamp);
-        }
+        seek_in(&mut self.settled, stamp);
     }
 
     /// The edit with a stamp, if there is one.

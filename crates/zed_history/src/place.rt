@@ -28,22 +28,19 @@ pub(crate) fn is_latest(log: &[Edit], stamp: Stamp) -> bool
     }
 }
 
-/// From a place on, on by steps of 1, 2, 4 and so on while no edit after a stamp is met, and then by halves within the last step.
-fn place_on(edits: &[Edit], from: usize, stamp: Stamp) -> usize {
-    let (_, mut rest) = edits.split_at(from.min(edits.len()));
-    let mut step = 1usize;
-    for _ in 0..usize::BITS {
-        match rest.get(step.saturating_sub(1)) {
-            Some(edit) if is_up_to(edit, stamp) => {
-                (_, rest) = rest.split_at(step.min(rest.len()));
-                step = step.saturating_mul(2);
-            }
-            _ => break,
+/// So many edits behind the last place are looked at, before a place is sought by halves.
+const STEPS: usize = 16;
+
+/// From a place on, a few edits further on, while they don't come after a stamp.
+fn few_on(edits: &[Edit], from: usize, stamp: Stamp) -> usize {
+    let mut place = from;
+    for _ in 0..STEPS {
+        match edits.get(place) {
+            Some(edit) if is_up_to(edit, stamp) => place += 1,
+            _ => return place,
         }
     }
-    let (part, _) = rest.split_at(step.min(rest.len()));
-    let passed = edits.len().saturating_sub(rest.len());
-    passed.saturating_add(part.partition_point(|edit| is_up_to(edit, stamp)))
+    place
 }
 
 /// Whether the edit at a place of a log comes after a stamp.
@@ -88,7 +85,7 @@ pub(crate) fn place_of(edits: &[Edit], hint: usize, stamp: Stamp) -> usize
     if is_latest(edits, stamp) {
         return edits.len();
     }
-    let near = place_on(edits, hint, stamp);
+    let near = few_on(edits, hint, stamp);
     if is_above(edits, near, stamp) && is_below(edits, near, stamp) {
         return near;
     }
@@ -96,7 +93,7 @@ pub(crate) fn place_of(edits: &[Edit], hint: usize, stamp: Stamp) -> usize
 }
 
 /// Whether the edit before a place of a log has a stamp.
-pub(crate) fn ends_with(edits: &[Edit], place: usize, stamp: Stamp) -> bool
+fn ends_with(edits: &[Edit], place: usize, stamp: Stamp) -> bool
     requires { place ≤ length edits.now }
     ensures yes { OnTrue result
         ((0 < place) × IfSome (slice_get edits.now (place - 1)) (λ e. e.stamp ≡ stamp)) }
@@ -104,31 +101,6 @@ pub(crate) fn ends_with(edits: &[Edit], place: usize, stamp: Stamp) -> bool
         → IfSome (slice_get edits.now (place - 1)) (λ e. same_stamp stamp e.stamp ≡ false)) }
 {
     place > 0 && edits[place - 1].stamp == stamp
-}
-
-/// The edit with a stamp in a log, or else where one belongs, sought where the last one was, which changes to this place.
-pub(crate) fn spot_from<'a>(
-    edits: &'a [Edit],
-    at: &mut usize,
-    stamp: Stamp,
-) -> Result<&'a Edit, usize>
-    requires { IsRising edits.now }
-    ensures there { IfOk result (λ f. edit_with stamp edits.now ≡ Some f.now) }
-    ensures known { OnOk result ((e : TheEdit) → e.stamp ≡ stamp
-        → with_edit e edits.now ≡ edits.now) }
-    ensures free { OnErr result (edit_with stamp edits.now ≡ None) }
-    ensures within { IfErr result (λ i. i ≤ length edits.now) }
-    ensures below { IfErr result (λ i. AllBelow stamp (take i edits.now)) }
-    ensures belongs { IfErr result (λ i. (e : TheEdit) → e.stamp ≡ stamp
-        → with_edit e edits.now ≡ insert edits.now i e) }
-{
-    let place = place_of(edits, *at, stamp);
-    *at = place;
-    if ends_with(edits, place, stamp) {
-        Ok(&edits[place - 1])
-    } else {
-        Err(place)
-    }
 }
 
 /// The edit with a stamp in a log, or else where one belongs, sought at a place first.
@@ -143,6 +115,10 @@ pub fn spot_of(edits: &[Edit], hint: usize, stamp: Stamp) -> Result<&Edit, usize
     ensures belongs { IfErr result (λ i. (e : TheEdit) → e.stamp ≡ stamp
         → with_edit e edits.now ≡ insert edits.now i e) }
 {
-    let mut at = hint;
-    spot_from(edits, &mut at, stamp)
+    let place = place_of(edits, hint, stamp);
+    if ends_with(edits, place, stamp) {
+        Ok(&edits[place - 1])
+    } else {
+        Err(place)
+    }
 }

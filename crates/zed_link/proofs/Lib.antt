@@ -1,6 +1,5 @@
 pub mod CountsAside
 pub mod EndsLaws
-pub mod WritesLaws
 pub mod Falls
 pub mod Deliveries
 pub mod Tallies
@@ -8,4 +7,3 @@ pub mod Readings
 pub mod Outcomes
 pub mod Paces
 pub mod Files
-pub mod Feeding

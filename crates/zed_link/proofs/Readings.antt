@@ -18,7 +18,7 @@ records_fit [] h = tt
 records_fit (e ∷ es) h = (h.0.0, records_fit es h.1)
 
 -- a record has a byte at least
-pub record_long : (e : Edit) → 1 ≤ length (record_text e)
+record_long : (e : Edit) → 1 ≤ length (record_text e)
 unfolding record_text
 record_long e =
     let four = length_number 4 (length (spelling e)) in

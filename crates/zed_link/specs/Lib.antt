@@ -1,5 +1,4 @@
 pub mod Counting
-pub mod Writing
 pub mod Ends
 pub mod Refusals
 pub mod Tally

@@ -1,12 +1,11 @@
 -- What becomes of the edits that one piece of a file completes.
-use Rattle.std.specs.Prelude.{◌≡◌, ◌⊎◌, ◌<◌, ◌+◌, ◌++◌, ◌^◌, ℕ, length, List, [], ◌∷◌, Some, None, Result, Ok, Err}
+use Rattle.std.specs.Prelude.{◌≡◌, ◌⊎◌, List, [], ◌∷◌, Some, None, Result, Ok, Err}
 use Rattle.zed_types.specs.declared.stamp.Stamp.{Stamp}
 use Rattle.zed_op.specs.declared.op.Edit.{Edit}
 use Rattle.zed_editfile.specs.declared.error.EditFileError.{EditFileError}
-use Rattle.zed_editfile.specs.Stream.{Feeds, Progress, Reads}
+use Rattle.zed_editfile.specs.Stream.{Progress}
 use Rattle.zed_document.specs.declared.error.DocumentError.TheVariants as document
 use Rattle.zed_document.specs.declared.delivered.State.{State}
-use Rattle.zed_document.specs.declared.delivered.State.TheVariants.{Known}
 use Rattle.zed_document.specs.Delivery.{DeliversEach, MayTakeMemoryFor}
 use Rattle.zed_document.specs.Replica.{Replica}
 use Rattle.zed_link.specs.declared.error.LinkError.{LinkError}
@@ -40,15 +39,3 @@ TakesPiece d es p (Ok pulled) left = (p.fault ≡ None) × AllDelivered d es lef
 TakesPiece d es p (Err e) left =
     IsStopped d es e left
     ⊎ ((f : EditFileError) × (e ≡ file_refusal f) × (p.fault ≡ Some f) × AllDelivered d es left)
-
--- the piece begins with the record of an edit that the document has: the reader is where it was behind it
-pub record IsPassed (front : List ℕ) (e : Edit) (piece rest : List ℕ) (p : Progress) (d : Replica) : Type 0 where
-  pub whole : piece ≡ front ++ rest
-  pub some : 0 < length front
-  pub feeds : Feeds front [] (e ∷ []) p p
-  pub all : AllDelivered d (e ∷ []) d.edits
-  pub known : state_in d.edits e ≡ Known
-
--- what the reader has read, and the piece behind it, are so few bytes that their edits can be counted
-abbrev pub HasRoomFor : List ℕ → Progress → Type 0
-HasRoomFor piece p = (handed : List ℕ) × (found : List Edit) × Reads handed found p × (length handed + length piece < 2 ^ 63)

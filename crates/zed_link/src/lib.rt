@@ -8,7 +8,6 @@ mod memory;
 mod pulled;
 mod receiving;
 mod sending;
-mod writes;
 
 pub use error::LinkError;
 pub use laws::{deliveries_go_on, files_are_pulled};
@@ -17,4 +16,3 @@ pub use memory::MemoryLink;
 pub use pulled::Pulled;
 pub use receiving::receive;
 pub use sending::send;
-pub use writes::Writes;

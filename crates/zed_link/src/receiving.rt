@@ -1,5 +1,5 @@
 //! Edit files received over a link.
-ghost use Rattle.std.specs.Prelude.{◌≡◌, ◌≢◌, ◌≤◌, ◌+◌, ◌↔◌, List, [], ◌∷◌, length, take, true, false, Some, None, Ok, Err, IfOk, IfErr, IfSome, ℕ, OnOk, OnErr, MatchResult};
+ghost use Rattle.std.specs.Prelude.{◌≡◌, ◌≢◌, ◌≤◌, ◌+◌, ◌↔◌, List, [], ◌∷◌, length, take, true, false, Some, None, Ok, Err, IfOk, IfErr, OnOk, OnErr, MatchResult};
 ghost use Rattle.zed_types.specs.declared.stamp.Stamp.{Stamp as TheStamp};
 ghost use Rattle.zed_document.specs.Counts.{NoCountFalls};
 ghost use Rattle.zed_op.specs.declared.op.Edit.{Edit as TheEdit};
@@ -9,7 +9,7 @@ ghost use Rattle.zed_editfile.specs.Stream.{Feeds};
 ghost use Rattle.zed_host.specs.Counting.{Counts};
 ghost use Rattle.zed_link.specs.Counting.{Counted};
 ghost use Rattle.zed_link.specs.Ends.{Changed, FailedBehind, HandedAll, HandedOver, KeepsPace};
-ghost use Rattle.zed_link.specs.Pieces.{DeliversCounting, DeliversOne, HasRoomFor, IsPassed, TakesPiece};
+ghost use Rattle.zed_link.specs.Pieces.{DeliversCounting, DeliversOne, TakesPiece};
 ghost use Rattle.zed_link.specs.Pull.{Pull, most_reads};
 ghost use Rattle.zed_link.specs.Refusals.{is_fault};
 ghost use Rattle.zed_link.specs.Tally.{state_in};
@@ -21,7 +21,7 @@ use std::alloc::Global;
 use std::mem::replace;
 use zed_document::{Document, DocumentError, Intake, State};
 use zed_edit::Edit;
-use zed_editfile::{EditReader, fronts_are_read, stamp_ahead};
+use zed_editfile::{EditReader, fronts_are_read};
 
 /// The most bytes that one read asks for.
 const PIECE: usize = 4096;
@@ -75,9 +75,9 @@ fn deliver_each(intake: &mut Intake, edits: Vec<Edit>) -> Result<Pulled, LinkErr
     Ok(pulled)
 }
 
-/// Reads a record, or what is there of one, and delivers the edits that it completes, before any fault that it shows.
+/// Reads a piece of an edit file, and delivers the edits that it completes, before any fault that it shows.
 #[tactic(auto, using(crate::proofs::Readings::fed_edits_fit))]
-fn take_record(
+fn take_piece(
     alloc: Global,
     reader: &mut EditReader,
     piece: &[u8],
@@ -100,69 +100,6 @@ fn take_record(
     Ok(pulled)
 }
 
-/// Passes over the record at the front of a piece, where the document has its edit.
-fn pass_known<'a>(reader: &EditReader, piece: &'a [u8], intake: &mut Intake) -> Option<&'a [u8]>
-    requires sound { intake.old.is_stale ≡ false }
-    ensures some { IfSome result (λ rest. (front : List ℕ) × (e : TheEdit)
-        × IsPassed front e piece.now rest.now reader.now intake.old) }
-    ensures kept { intake.new ≡ intake.old }
-{
-    let stamp = stamp_ahead(piece)?;
-    intake.seek(stamp);
-    reader.pass(intake.find(stamp)?, piece)
-}
-
-/// Reads what is left of a piece whose edits are delivered no more.
-fn drain(alloc: Global, reader: &mut EditReader, left: &[u8])
-    ensures feeds { (es : List TheEdit) × Feeds left.now [] es reader.old reader.new
-        × IfSome reader.old.fault (λ f. (es ≡ []) × (reader.new ≡ reader.old)) }
-    ensures asked { reader.new.asked ≡ reader.old.asked }
-{
-    let mut edits = Vec::new(alloc);
-    let _ = reader.feed(left, &mut edits);
-}
-
-/// Reads a piece of an edit file, and delivers the edits that it completes, before any fault that it shows. A record whose edit is there
-/// already is not read into an edit.
-fn take_piece(
-    alloc: Global,
-    reader: &mut EditReader,
-    piece: &[u8],
-    intake: &mut Intake,
-) -> Result<Pulled, LinkError>
-    requires sound { intake.old.is_stale ≡ false }
-    requires calm { reader.old.fault ≡ None }
-    requires small { HasRoomFor piece.now reader.old }
-    ensures result { (es : List TheEdit) × Feeds piece.now [] es reader.old reader.new
-        × TakesPiece intake.old es reader.new result intake.new.edits }
-    ensures asked { reader.new.asked ≡ reader.old.asked }
-    ensures world { intake.new.world ≡ intake.old.world }
-    ensures stale { (result ≢ Err LinkError.Memory)
-        → intake.new.is_stale ≡ intake.old.is_stale }
-    ensures visits { (result ≢ Err LinkError.Memory)
-        → NoCountFalls intake.old.counts intake.new.counts }
-{
-    let mut pulled = Pulled::NONE;
-    let mut rest = piece;
-    while !rest.is_empty() {
-        if let Some(after) = pass_known(reader, rest, intake) {
-            pulled.count(State::Known);
-            rest = after;
-            continue;
-        }
-        let (record, after) = reader.first(rest);
-        match take_record(alloc, reader, record, intake) {
-            Ok(more) => pulled = pulled.plus(more),
-            Err(error) => {
-                drain(alloc, reader, after);
-                return Err(error);
-            }
-        }
-        rest = after;
-    }
-    Ok(pulled)
-}
-
 /// Reads the next bytes of a link to the front of `into`, and answers how many.
 #[tactic(auto, using(crate::proofs::EndsLaws::end_comes))]
 fn read_some(link: &mut dyn Link, into: &mut [u8]) -> Result<usize, LinkError>
@@ -177,7 +114,6 @@ fn read_some(link: &mut dyn Link, into: &mut [u8]) -> Result<usize, LinkError>
     ensures length { length into.new ≡ length into.old }
     ensures reads { Counted 1 (reads link.old) (reads link.new) }
     ensures failures { Counts (is_fault result) (failed link.old) (failed link.new) }
-    ensures writes { writes link.new ≡ writes link.old }
     ensures stalls { stalls link.new ≡ stalls link.old }
     ensures accepts { accepts link.new ≡ accepts link.old }
 {
@@ -203,7 +139,6 @@ fn receive_into(
         → NoCountFalls intake.old.counts intake.new.counts }
     ensures reads { reads link.new ≤ reads link.old + most_reads }
     ensures failures { Counts (is_fault result) (failed link.old) (failed link.new) }
-    ensures writes { writes link.new ≡ writes link.old }
     ensures stalls { stalls link.new ≡ stalls link.old }
     ensures accepts { accepts link.new ≡ accepts link.old }
 {
@@ -248,7 +183,6 @@ pub fn receive(
         → NoCountFalls document.old.counts document.new.counts }
     ensures reads { reads link.new ≤ reads link.old + most_reads }
     ensures failures { Counts (is_fault result) (failed link.old) (failed link.new) }
-    ensures writes { writes link.new ≡ writes link.old }
     ensures stalls { stalls link.new ≡ stalls link.old }
     ensures accepts { accepts link.new ≡ accepts link.old }
 {

@@ -12,3 +12,4 @@ pub mod Playtest
 pub mod Step
 pub mod Opening
 pub mod Laws
+pub mod Entering

@@ -5,6 +5,7 @@ mod acts;
 mod bullets;
 mod creatures;
 mod ending;
+mod entering;
 mod error;
 mod game;
 mod key;
@@ -22,6 +23,7 @@ mod ticking;
 mod touching;
 
 pub use ending::Ending;
+pub use entering::Way;
 pub use error::PlayError;
 pub use game::Game;
 pub use key::{Asked, Bounds, Intent, Key};
