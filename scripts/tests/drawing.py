@@ -128,7 +128,6 @@ def change(world, path, value):
 REGISTERS = [
     ("ammo", 77), ("gems", 5), ("keys.0", 1), ("keys.6", 1), ("health", -3), ("current", 3), ("torches", 2), ("torch_ticks", 4), ("energizer", 9),
     ("score", 30000), ("name", b"OTHER NAME, TWENTY B"), ("flags.0", b""), ("flags.9", b"LAST"), ("passed", 12), ("hundredths", 99), ("saved", 1),
-    # renamed, a board is still the same one: a planner that knows boards by their names alone would make more than one edit
     ("board.1.name", b"Great hall"), ("board.1.shots", 3), ("board.1.dark", 1), ("board.1.exits.0", 3), ("board.1.exits.1", 0), ("board.1.exits.2", 1),
     ("board.1.exits.3", 2), ("board.1.re_enter", 1), ("board.1.message", b"x" * 58), ("board.1.start", (6, 5)), ("board.1.start", (5, 6)),
     ("board.1.time_limit", -1), ("board.0.name", b"The title"),
@@ -265,7 +264,6 @@ def shapes():
         ("a passage more", one(lambda b: add_stat(b, 7, 3, 3, (11, 0x2F), p3=3)), None),
         ("no passage any more", one(lambda b: b.put(40, 12, (22, 1))), None),
         ("a tile that becomes a passage", one(lambda b: b.put(20, 10, (11, 1))), None),
-        # a planner that drops the last board would have take answer NotTaken
         ("a board at the end", lambda world: move_boards(world, [0, 1, 2, 3, -1]), None),
         ("a board in the middle", lambda world: move_boards(world, [0, 1, -1, 2, 3]), None),
         ("a board in front", lambda world: move_boards(world, [0, -1, 1, 2, 3]), None),

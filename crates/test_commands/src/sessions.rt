@@ -161,13 +161,7 @@ fn have_session(room: &Room, document: Document, parts: Parts, rows: &[Row], sig
             Call::Play(i) => Told::Done(session.play(*i, BODY_LIMIT)),
             Call::Push(i) => Told::Number(session.push(*i)),
             Call::Pull(i) => Told::Pulled(session.pull(*i)),
-            Call::Detach(i) => match session.detach(*i) {
-                Ok(link) => {
-                    drop(link);
-                    Told::Done(Ok(()))
-                }
-                Err(error) => Told::Done(Err(error)),
-            },
+            Call::Detach(i) => Told::Done(session.detach(*i)),
             Call::Press(words) => Told::Used(session.play_key(words.as_slice())),
             Call::Attach => match next_of(&mut links) {
                 Some(link) => match session.attach(link) {

@@ -6,7 +6,7 @@ use crate::traces::{Counts, End, Ended, Traces};
 use std::alloc::{AllocError, Global};
 use std::cell::Cell;
 use std::rc::Rc;
-use zed_link::{Link, LinkFailed, MemoryLink, Writes};
+use zed_link::{Link, LinkFailed, MemoryLink};
 
 /// A link over memory that leaves what it took when it is let go, and then tells whether it was read.
 pub struct Wire {
@@ -48,8 +48,6 @@ impl Link for Wire {
 
     ghost reads = { λ wire. ⟦<MemoryLink as Link>⟧.reads wire.link };
 
-    ghost writes = { λ wire. ⟦<MemoryLink as Link>⟧.writes wire.link };
-
     ghost failed = { λ wire. ⟦<MemoryLink as Link>⟧.failed wire.link };
 
     ghost stalls = { λ wire. ⟦<MemoryLink as Link>⟧.stalls wire.link };
@@ -75,7 +73,6 @@ pub struct Sink {
     handed: Vec<u8>,
     at: usize,
     reads: u64,
-    writes: Writes,
     counts: Rc<Cell<Counts>>,
     end: End,
 }
@@ -91,8 +88,6 @@ impl Link for Sink {
     ghost ends = { λ _. None };
 
     ghost reads = { λ sink. sink.reads };
-
-    ghost writes = { λ sink. sink.writes };
 
     ghost failed = { λ _. 0 };
 
@@ -114,7 +109,6 @@ impl Link for Sink {
     }
 
     fn write(&mut self, bytes: &[u8]) -> Result<usize, LinkFailed> {
-        self.writes.count(bytes);
         count_taken(&self.counts, bytes.len());
         Ok(bytes.len())
     }
@@ -143,7 +137,6 @@ pub fn sink_of(alloc: Global, wired: &Wired, traces: &Traces) -> Result<Box<Sink
         handed: wired.handed.clone()?,
         at: 0,
         reads: 0,
-        writes: Writes::NONE,
         counts: Rc::clone(&traces.counts)?,
         end: traces.end_of(Ended::Link)?,
     };

@@ -1,24 +1,124 @@
 //! The document of edits that come file by file.
-ghost use Rattle.std.specs.Prelude.{◌≡◌, ◌⊎◌, IfErr, OnOk, Some, None, [], ◌++◌, false, List};
+ghost use Rattle.std.specs.Prelude.{◌≡◌, ◌≢◌, ◌⊎◌, IfErr, IfNone, IfOk, IfSome, OnOk, MatchOption, MatchResult, Ok, Err, Some, None, [], ◌++◌, false, drop, length, ◌<◌, ◌≤◌, List, ℕ};
+ghost use Rattle.byteorder.specs.Endian.{little_number};
 ghost use Rattle.zed_types.specs.declared.stamp.Stamp.{Stamp as TheStamp};
 ghost use Rattle.zed_op.specs.declared.op.Edit.{Edit as TheEdit};
 ghost use Rattle.zed_op.specs.Set.{Agrees, AllFit, set_of};
-ghost use Rattle.zed_document.specs.Delivery.{IsFirstClash};
-ghost use Rattle.zed_files.specs.Collected.{CameTo};
+ghost use Rattle.zed_document.specs.Delivery.{DeliversEach, IsFirstClash, unless_clash};
+ghost use Rattle.zed_editfile.specs.Stream.{Feeds, verdict_of};
+ghost use Rattle.zed_link.specs.Pieces.{HasRoomFor};
+ghost use Rattle.zed_files.specs.Collected.{CameInto, world_in};
+ghost use Rattle.zed_files.specs.Files.{IsFile, ReadsFile};
 
+use crate::collect::append_edits;
 use crate::refusal::Refusal;
 use std::alloc::Global;
-use zed_document::{Document, DocumentError, deliveries_come_to_sets};
+use zed_document::{Document, deliveries_come_to_sets};
 use zed_edit::Edit;
-use zed_link::deliveries_go_on;
+use zed_editfile::{EditFileError, world_ahead};
+use zed_link::{Feed, LinkError, deliveries_go_on};
 use zed_types::Stamp;
 
-/// What edit files came to so far. The edits of a file are delivered before the next one is read.
+/// Delivers the edits of a file up to the first that clashes, whose stamp is told, and reads it to its end.
+fn deliver(feed: &mut Feed, bytes: &[u8]) -> Result<Option<Stamp>, Refusal>
+    requires sound { feed.old.document.is_stale ≡ false }
+    requires calm { feed.old.progress.fault ≡ None }
+    requires small { HasRoomFor bytes.now feed.old.progress }
+    ensures took { IfOk result (λ clash. (es : List TheEdit)
+        × Feeds bytes.now [] es feed.old.progress feed.new.progress
+        × DeliversEach feed.old.document es (unless_clash clash) feed.new.document.edits) }
+    ensures asked { feed.new.progress.asked ≡ feed.old.progress.asked }
+    ensures world { feed.new.document.world ≡ feed.old.document.world }
+    ensures sound { OnOk result (feed.new.document.is_stale ≡ false) }
+    ensures err { IfErr result (λ e. e ≡ Refusal.Memory) }
+{
+    match feed.put(bytes) {
+        Ok(_) => Ok(None),
+        Err(LinkError::Memory) => Err(Refusal::Memory),
+        Err(LinkError::Clash(stamp)) => Ok(Some(stamp)),
+        // a fault of the file, which is told at its end
+        Err(_) => Ok(None),
+    }
+}
+
+/// What is wrong with a file, by what its reader answers at the end.
+fn fault_at(end: Result<(), EditFileError>) -> Result<Option<EditFileError>, Refusal>
+    ensures { MatchResult result
+        (λ fault. (end ≡ verdict_of fault) × (fault ≢ Some EditFileError.Memory))
+        (λ e. e ≡ Refusal.Memory) }
+{
+    match end {
+        Ok(()) => Ok(None),
+        Err(EditFileError::Memory) => Err(Refusal::Memory),
+        Err(error) => Ok(Some(error)),
+    }
+}
+
+/// What one file came to.
+#[derive(Drop)]
+struct FileEnd {
+    /// The stamp of its first edit that clashes.
+    clash: Option<Stamp>,
+    /// What is wrong with it.
+    fault: Option<EditFileError>,
+}
+
+/// Reads a file of the world of a document into it.
+fn read_into(feed: &mut Feed, bytes: &[u8]) -> Result<FileEnd, Refusal>
+    requires sound { feed.old.document.is_stale ≡ false }
+    ensures took { IfOk result (λ end. (es : List TheEdit)
+        × ReadsFile (Some feed.old.document.world) bytes.now es end.fault
+        (Some feed.old.document.world)
+        × DeliversEach feed.old.document es (unless_clash end.clash) feed.new.document.edits) }
+    ensures world { feed.new.document.world ≡ feed.old.document.world }
+    ensures sound { OnOk result (feed.new.document.is_stale ≡ false) }
+    ensures err { IfErr result (λ e. e ≡ Refusal.Memory) }
+{
+    feed.begin();
+    let clash = deliver(feed, bytes)?;
+    let fault = fault_at(feed.finish())?;
+    Ok(FileEnd { clash, fault })
+}
+
+/// Reads a file of which nothing is delivered.
+fn read_past(
+    alloc: Global,
+    asked: Option<u64>,
+    bytes: &[u8],
+) -> Result<Option<EditFileError>, Refusal>
+    ensures file { IfOk result (λ fault. (es : List TheEdit) × MatchOption fault
+        ((world : ℕ) × IsFile asked bytes.now es (Ok world))
+        (λ e. IsFile asked bytes.now es (Err e))) }
+    ensures err { IfErr result (λ e. e ≡ Refusal.Memory) }
+{
+    let mut edits = Vec::new(alloc);
+    match append_edits(alloc, asked, bytes, &mut edits) {
+        Ok(_) => Ok(None),
+        Err(EditFileError::Memory) => Err(Refusal::Memory),
+        Err(error) => Ok(Some(error)),
+    }
+}
+
+/// Where the next file goes. The head of the first one tells the world of all, if it isn't cut.
+fn feed_for(alloc: Global, feed: Option<Feed>, bytes: &[u8]) -> Option<Feed>
+    ensures next { IfSome feed (λ f. result ≡ Some f) }
+    ensures first { feed ≡ None → IfSome result (λ f. (12 ≤ length bytes.now)
+        × (f.document.world ≡ little_number 8 (drop 4 bytes.now))
+        × (f.document.edits ≡ []) × (f.document.is_stale ≡ false)) }
+    ensures none { IfNone result ((feed ≡ None) × (length bytes.now < 12)) }
+{
+    if feed.is_some() {
+        return feed;
+    }
+    let world = world_ahead(bytes)?;
+    Some(Feed::of(alloc, Document::new(alloc, world)))
+}
+
+/// What edit files came to so far. The edits of a file are delivered as they are read.
 #[derive(Drop)]
 pub(crate) struct Gathered {
-    /// The world of the files, where one was read whole.
-    pub(crate) world: Option<u64>,
-    pub(crate) document: Document,
+    /// The document, from the first file on.
+    pub(crate) feed: Option<Feed>,
     /// The first clash of two edits. Behind it none is delivered.
     pub(crate) clash: Option<Stamp>,
     /// Why a file was refused. Behind it none is read.
@@ -27,55 +127,51 @@ pub(crate) struct Gathered {
 
 impl Gathered {
     /// Before a file was read.
-    pub(crate) fn new(alloc: Global) -> Gathered
-        ensures world { result.world ≡ None }
-        ensures nothing { CameTo [] result.document result.clash }
+    pub(crate) fn new() -> Gathered
+        ensures feed { result.feed ≡ None }
+        ensures nothing { CameInto [] result.feed result.clash }
     {
         Gathered {
-            world: None,
-            document: Document::new(alloc, 0),
+            feed: None,
             clash: None,
             refusal: None,
         }
     }
 
-    /// A file of this world was read whole. The first one's world is that of the document.
-    pub(crate) fn set_world(&mut self, alloc: Global, world: u64)
-        ensures world { self.new.world ≡ Some world }
-        ensures first { self.old.world ≡ None → self.new.document.world ≡ world }
-        ensures same { (es : List TheEdit) → (self.old.world ≡ None → es ≡ [])
-            → CameTo es self.old.document self.old.clash
-            → CameTo es self.new.document self.new.clash }
+    /// The world of the files, where one was read.
+    pub(crate) fn world(&self) -> Option<u64>
+        ensures { result ≡ world_in self.now.feed }
     {
-        if self.world.is_none() {
-            self.document = Document::new(alloc, world);
+        match &self.feed {
+            Some(feed) => Some(feed.world()),
+            None => None,
         }
-        self.world = Some(world);
     }
 
-    /// Delivers the edits of the next file, unless two edits clashed before.
-    pub(crate) fn take(&mut self, edits: Vec<Edit>) -> Result<(), Refusal>
-        requires { AllFit edits.items }
-        ensures took { (es : List TheEdit) → AllFit es
-            → CameTo es self.old.document self.old.clash
-            → OnOk result (CameTo (es ++ edits.items) self.new.document self.new.clash) }
+    /// Reads the next file, and delivers its edits, unless two edits clashed before. Tells what is wrong with it.
+    pub(crate) fn read(
+        &mut self,
+        alloc: Global,
+        bytes: &[u8],
+    ) -> Result<Option<EditFileError>, Refusal>
+        ensures took { (es : List TheEdit) → AllFit es → CameInto es self.old.feed self.old.clash
+            → IfOk result (λ fault. (more : List TheEdit)
+            × ReadsFile (world_in self.old.feed) bytes.now more fault (world_in self.new.feed)
+            × CameInto (es ++ more) self.new.feed self.new.clash) }
         ensures err { IfErr result (λ e. e ≡ Refusal.Memory) }
-        ensures world { self.new.world ≡ self.old.world }
     {
         deliveries_go_on();
         deliveries_come_to_sets();
         if self.clash.is_some() {
-            return Ok(());
+            return read_past(alloc, self.world(), bytes);
         }
-        match self.document.deliver_all(edits) {
-            Ok(()) => Ok(()),
-            Err(DocumentError::Clash(stamp)) => {
-                self.clash = Some(stamp);
-                Ok(())
-            }
-            // it isn't stale, and the edits fit
-            Err(_) => Err(Refusal::Memory),
-        }
+        let Some(mut feed) = feed_for(alloc, self.feed.take(), bytes) else {
+            return read_past(alloc, None, bytes);
+        };
+        let end = read_into(&mut feed, bytes)?;
+        self.feed = Some(feed);
+        self.clash = end.clash;
+        Ok(end.fault)
     }
 }
 

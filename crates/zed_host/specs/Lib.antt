@@ -2,5 +2,4 @@ pub mod Calls
 pub mod Counting
 pub mod Faults
 pub mod HostContents
-pub mod Log
 pub mod Memory

@@ -2,9 +2,7 @@
 #![tactic(auto)]
 
 mod host;
-mod logged;
 mod memory;
 
 pub use host::{Host, ReadError, WriteError};
-pub use logged::{Asked, CallLog, Logged, Made, calls_are_logged};
 pub use memory::MemoryHost;

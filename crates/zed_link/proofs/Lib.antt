@@ -1,6 +1,5 @@
 pub mod CountsAside
 pub mod EndsLaws
-pub mod WritesLaws
 pub mod Falls
 pub mod Deliveries
 pub mod Tallies

@@ -1,8 +1,8 @@
 pub mod Counting
-pub mod Writing
 pub mod Ends
 pub mod Refusals
 pub mod Tally
 pub mod Pull
 pub mod Pieces
 pub mod Laws
+pub mod Feed

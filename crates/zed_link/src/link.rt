@@ -3,8 +3,6 @@ ghost use Rattle.std.specs.Prelude.{◌≡◌, ◌≢◌, ◌≤◌, ◌||◌, �
 ghost use Rattle.zed_host.specs.Counting.{Counts};
 ghost use Rattle.zed_link.specs.Counting.{Counted, takes_none};
 ghost use Rattle.zed_link.specs.Ends.{LinkEnds, Changed, FailedBehind, HandedOver, KeepsPace, Took, TookFront, AtItsEnd};
-ghost use Rattle.zed_link.specs.Writing.{CountsWrite};
-ghost use Rattle.zed_link.specs.declared.writes.Writes.{Writes};
 
 /// A call of a link failed.
 #[derive(Clone, Copy, Debug, PartialEq, Eq)]
@@ -17,9 +15,6 @@ pub trait Link: Drop {
 
     /// How many reads were made.
     ghost reads: { Self → ℕ };
-
-    /// How many writes were made.
-    ghost writes: { Self → Writes };
 
     /// How many calls failed.
     ghost failed: { Self → ℕ };
@@ -40,7 +35,6 @@ pub trait Link: Drop {
         ensures pace { IfOk result (λ n. KeepsPace n (length into.old) (ends self.old)) }
         ensures half { OnErr result (Changed (FailedBehind []) (ends self.old) (ends self.new)) }
         ensures reads { Counted 1 (reads self.old) (reads self.new) }
-        ensures writes { writes self.new ≡ writes self.old }
         ensures failures { Counts (is_err result) (failed self.old) (failed self.new) }
         ensures stalls { stalls self.new ≡ stalls self.old }
         ensures accepts { accepts self.new ≡ accepts self.old };
@@ -52,7 +46,6 @@ pub trait Link: Drop {
             Changed (Took (take n bytes.now)) (ends self.old) (ends self.new)) }
         ensures half { OnErr result (Changed (TookFront bytes.now) (ends self.old) (ends self.new)) }
         ensures reads { reads self.new ≡ reads self.old }
-        ensures writes { CountsWrite bytes.now (writes self.old) (writes self.new) }
         ensures failures { Counts (is_err result) (failed self.old) (failed self.new) }
         ensures stalls { Counts (takes_none bytes.now result)
             (stalls self.old) (stalls self.new) }

@@ -4,7 +4,6 @@ ghost use Rattle.zed_host.specs.Counting.{Rose, most_counted};
 ghost use Rattle.zed_link.specs.Counting.{Counted};
 
 use crate::link::{Link, LinkFailed};
-use crate::writes::Writes;
 use std::alloc::Global;
 
 /// A link over memory. It hands over and takes at most so many bytes by a call, and the device may be told to fail at one of its calls.
@@ -16,7 +15,6 @@ pub struct MemoryLink {
     taken: Vec<u8>,
     piece: usize,
     reads: u64,
-    writes: Writes,
     failures: u64,
     // the writes of some bytes that took none
     stalls: u64,
@@ -35,8 +33,6 @@ impl MemoryLink {
               promise = record { unfailing = is_none passing; pace = max piece 1 };
             }) }
         ensures reads { ⟦<MemoryLink as Link>⟧.reads result ≡ 0 }
-        ensures writes { ⟦<MemoryLink as Link>⟧.writes result
-            ≡ record { made = 0; empty = 0 } }
         ensures failures { ⟦<MemoryLink as Link>⟧.failed result ≡ 0 }
         ensures stalls { ⟦<MemoryLink as Link>⟧.stalls result ≡ 0 }
     {
@@ -46,7 +42,6 @@ impl MemoryLink {
             taken: Vec::new(alloc),
             piece,
             reads: 0,
-            writes: Writes::NONE,
             failures: 0,
             stalls: 0,
             passing,
@@ -65,13 +60,6 @@ impl MemoryLink {
         ensures { result ≡ ⟦<MemoryLink as Link>⟧.reads self.now }
     {
         self.reads
-    }
-
-    /// How many writes were made, each count up to the greatest `u64`.
-    pub fn writes(&self) -> Writes
-        ensures { result ≡ ⟦<MemoryLink as Link>⟧.writes self.now }
-    {
-        self.writes
     }
 }
 
@@ -136,8 +124,6 @@ impl Link for MemoryLink {
 
     ghost reads = { λ link. link.reads };
 
-    ghost writes = { λ link. link.writes };
-
     ghost failed = { λ link. link.failures };
 
     ghost stalls = { λ link. link.stalls };
@@ -158,7 +144,6 @@ impl Link for MemoryLink {
     }
 
     fn write(&mut self, bytes: &[u8]) -> Result<usize, LinkFailed> {
-        self.writes.count(bytes);
         if !passes(&mut self.passing) {
             count(&mut self.failures);
             return Err(LinkFailed);

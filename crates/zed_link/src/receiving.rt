@@ -124,7 +124,7 @@ fn drain(alloc: Global, reader: &mut EditReader, left: &[u8])
 
 /// Reads a piece of an edit file, and delivers the edits that it completes, before any fault that it shows. A record whose edit is there
 /// already is not read into an edit.
-fn take_piece(
+pub(crate) fn take_piece(
     alloc: Global,
     reader: &mut EditReader,
     piece: &[u8],
@@ -177,7 +177,6 @@ fn read_some(link: &mut dyn Link, into: &mut [u8]) -> Result<usize, LinkError>
     ensures length { length into.new ≡ length into.old }
     ensures reads { Counted 1 (reads link.old) (reads link.new) }
     ensures failures { Counts (is_fault result) (failed link.old) (failed link.new) }
-    ensures writes { writes link.new ≡ writes link.old }
     ensures stalls { stalls link.new ≡ stalls link.old }
     ensures accepts { accepts link.new ≡ accepts link.old }
 {
@@ -203,7 +202,6 @@ fn receive_into(
         → NoCountFalls intake.old.counts intake.new.counts }
     ensures reads { reads link.new ≤ reads link.old + most_reads }
     ensures failures { Counts (is_fault result) (failed link.old) (failed link.new) }
-    ensures writes { writes link.new ≡ writes link.old }
     ensures stalls { stalls link.new ≡ stalls link.old }
     ensures accepts { accepts link.new ≡ accepts link.old }
 {
@@ -248,7 +246,6 @@ pub fn receive(
         → NoCountFalls document.old.counts document.new.counts }
     ensures reads { reads link.new ≤ reads link.old + most_reads }
     ensures failures { Counts (is_fault result) (failed link.old) (failed link.new) }
-    ensures writes { writes link.new ≡ writes link.old }
     ensures stalls { stalls link.new ≡ stalls link.old }
     ensures accepts { accepts link.new ≡ accepts link.old }
 {

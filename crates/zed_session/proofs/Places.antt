@@ -1,5 +1,5 @@
 -- A list in which one element is replaced.
-use Rattle.std.proofs.Common.{◌≡◌, ◌≢◌, ◌<◌, ◌∙◌, ℕ, List, [], ◌∷◌, length, map, remove, set, slice_get, get_or, refl, ap, zero, suc}
+use Rattle.std.proofs.Common.{◌≡◌, ◌≢◌, ◌<◌, ◌∙◌, ℕ, List, [], ◌∷◌, length, map, remove, set, slice_get, get_or, refl, sym, ap, zero, suc}
 use Rattle.std.proofs.lemmas.List.{get_or-map, get_or-set_same}
 use Rattle.std.proofs.Math.Seq.{lt-length-set, map-set_same}
 
@@ -17,12 +17,9 @@ pub replaced_at : {X Y : Type 0} (f : X → Y) (R : Y → Y → Type 0) (xs : Li
 replaced_at f R xs i old new y within is h =
     rw (get_or-map f xs i old y within, ← is, get_or-map f (set xs i new) i new y (lt-length-set xs i new within), get_or-set_same xs i new new within) h
 
--- what is so of an element and the one in its place is so of what the list showed there and what is taken out of it then
-pub gone_at : {X Y : Type 0} (f : X → Y) (R : Y → Y → Type 0) (xs : List X) (i : ℕ) (old new gone : X) (y : Y)
-    → i < length xs → old ≡ get_or xs i old → gone ≡ get_or (set xs i new) i gone → R (f old) (f new) → R (get_or (map f xs) i y) (f gone)
-gone_at f R xs i old new gone y within is out h =
-    let same : gone ≡ new = out ∙ get_or-set_same xs i new gone within in
-    rw (get_or-map f xs i old y within, ← is, same) h
+-- what an element shows, the list shows at its place
+pub shown_at : {X Y : Type 0} (f : X → Y) (xs : List X) (i : ℕ) (x : X) (y : Y) → i < length xs → x ≡ get_or xs i x → get_or (map f xs) i y ≡ f x
+shown_at f xs i x y within is = get_or-map f xs i x y within ∙ ap f (sym is)
 
 -- where the new element shows what the old one did, all show what they did
 pub shown_same : {X Y : Type 0} (f : X → Y) (xs : List X) (i : ℕ) (old new : X) → old ≡ get_or xs i old → f new ≡ f old → map f (set xs i new) ≡ map f xs

@@ -4,5 +4,4 @@ pub mod Boards
 pub mod Play
 pub mod Told
 pub mod Links
-pub mod Gone
 pub mod Gains

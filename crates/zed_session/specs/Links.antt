@@ -6,17 +6,12 @@ use Rattle.zed_link.specs.Ends.{LinkEnds}
 use Rattle.zed_link.specs.Pull.{Pull}
 use Rattle.zed_link.specs.declared.error.LinkError.{LinkError}
 use Rattle.zed_link.specs.declared.pulled.Pulled.{Pulled}
-use Rattle.zed_link.specs.declared.writes.Writes.{Writes}
 use Rattle.zed_session.specs.declared.error.SessionError.{SessionError}
 use Rattle.zed_session.specs.Told.{link_refusal}
 
 -- the ends of the link of this place, by those of all links
 abbrev pub ends_at : ℕ → List (Option LinkEnds) → Option LinkEnds
 ends_at i links = slice_index_or links i None
-
--- how many writes were made to the link of this place, by those of all links
-abbrev pub writes_at : ℕ → List Writes → Writes
-writes_at i links = slice_index_or links i (record { made = 0; empty = 0 })
 
 -- what is seen of a link: its ends, and how many reads were made
 pub record LinkSeen : Type 0 where

@@ -19,8 +19,8 @@ use zed_screen::draw_play;
 /// The playtest that was started last, if one was, and the key that waits for its next step, if one does.
 #[derive(Drop)]
 pub struct Playing {
-    playtest: Option<Play>,
-    kept: Option<Key>,
+    pub playtest: Option<Play>,
+    pub kept: Option<Key>,
 }
 
 impl Playing {

@@ -4,19 +4,18 @@ ghost use Rattle.zed_types.specs.declared.limits.TheConstants.{READ_BODY_LIMIT};
 ghost use Rattle.zed_document.specs.Counts.{NoCountFalls};
 ghost use Rattle.zed_editfile.specs.Spelling.{file_text};
 ghost use Rattle.zed_link.specs.Ends.{Changed, Took};
-ghost use Rattle.zed_link.specs.Writing.{WritesAtMost};
 ghost use Rattle.zed_session.specs.Boards.{Answers, ShowsBoard, Starts, world_shown};
 ghost use Rattle.zed_host.specs.Counting.{Counts};
 ghost use Rattle.zed_session.specs.Devices.{AsksOnce};
 ghost use Rattle.zed_session.specs.Play.{PlaysKey, ShowsKey, ShowsStep, goes_on};
 ghost use Rattle.zed_session.specs.Refusals.{ShownAfter, ShowsOnce, is_key_fault, is_screen_fault};
-ghost use Rattle.zed_session.specs.Links.{PullsOver, RefusesPull, ends_at, seen, seen_at, writes_at};
+ghost use Rattle.zed_session.specs.Links.{PullsOver, RefusesPull, ends_at, seen, seen_at};
 
 use crate::error::SessionError;
 use crate::file::file_of;
 use crate::holding::HoldsDocument;
 use crate::keys::Keys;
-use crate::over::{receive_at, send_at};
+use crate::over::{receive_over, send_over};
 use crate::screen::Screen;
 use crate::stage::Stage;
 use std::alloc::{AllocFailed, Global};
@@ -28,9 +27,9 @@ use zed_play::Play;
 #[derive(Drop)]
 pub struct Session {
     alloc: Global,
-    document: Document,
-    links: Vec<Box<dyn Link>>,
-    stage: Stage,
+    pub document: Document,
+    pub links: Vec<Box<dyn Link>>,
+    pub stage: Stage,
 }
 
 impl Session {
@@ -71,11 +70,10 @@ impl Session {
         Ok(place)
     }
 
-    /// Hands over the link of this place, as it is; those behind it move down by one. NoLink where no link has this place.
-    pub fn detach(&mut self, i: usize) -> Result<Box<dyn Link>, SessionError>
+    /// Lets the link of this place go; those behind it move down by one. NoLink where no link has this place.
+    pub fn detach(&mut self, i: usize) -> Result<(), SessionError>
         ensures no_link { (result ≡ Err SessionError.NoLink) ↔ (length self.old.links.items ≤ i) }
         ensures ok { OnOk result (self.new.links.items ≡ remove self.old.links.items i) }
-        ensures handed { IfOk result (λ link. slice_get self.old.links.items i ≡ Some link) }
         ensures err { IfErr result (λ e. e ≡ SessionError.NoLink) }
         ensures kept { OnErr result (self.new.links.items ≡ self.old.links.items) }
         ensures document { self.new.document ≡ self.old.document }
@@ -84,7 +82,8 @@ impl Session {
         if i >= self.links() {
             return Err(SessionError::NoLink);
         }
-        Ok(self.links.remove(i))
+        drop(self.links.remove(i));
+        Ok(())
     }
 
     /// How many links there are.
@@ -183,10 +182,6 @@ impl Session {
             (Took (file_text self.old.document.world self.old.document.edits))
             (ends_at i (map (λ link. ends link) self.old.links.items))
             (ends_at i (map (λ link. ends link) self.new.links.items))) }
-        ensures wrote { OnOk result (WritesAtMost
-            (length (file_text self.old.document.world self.old.document.edits))
-            (writes_at i (map (λ link. writes link) self.old.links.items))
-            (writes_at i (map (λ link. writes link) self.new.links.items))) }
         ensures others { OnOk result ((j : ℕ) → j ≢ i
             → slice_get self.new.links.items j ≡ slice_get self.old.links.items j) }
         ensures calm { OnOk result (map (λ link. failed link) self.new.links.items
@@ -212,9 +207,13 @@ impl Session {
             return Err(SessionError::NoLink);
         }
         let file = file_of(self.alloc, &self.document)?;
-        match send_at(&mut self.links, i, file.as_slice()) {
+        match send_over(&mut self.links[i], file.as_slice()) {
             Ok(()) => Ok(self.document.edits().len()),
-            Err(_) => Err(SessionError::LinkFault),
+            Err(error) => {
+                let broken = self.links.remove(i);
+                drop(broken);
+                Err(SessionError::from(error))
+            }
         }
     }
 
@@ -242,8 +241,6 @@ impl Session {
             ≡ map (λ link. failed link) self.old.links.items) }
         ensures stalls { OnOk result (map (λ link. stalls link) self.new.links.items
             ≡ map (λ link. stalls link) self.old.links.items) }
-        ensures writes { OnOk result (map (λ link. writes link) self.new.links.items
-            ≡ map (λ link. writes link) self.old.links.items) }
         ensures accepts { OnOk result (map (λ link. accepts link) self.new.links.items
             ≡ map (λ link. accepts link) self.old.links.items) }
         ensures kept { (result ≡ Err SessionError.NoLink) ⊎ (result ≡ Err SessionError.Stale)
@@ -264,9 +261,13 @@ impl Session {
         if self.document.view().is_err() {
             return Err(SessionError::Stale);
         }
-        match receive_at(self.alloc, &mut self.links, i, &mut self.document) {
+        match receive_over(self.alloc, &mut self.links[i], &mut self.document) {
             Ok(pulled) => Ok(pulled),
-            Err(failed) => Err(SessionError::from(failed.error)),
+            Err(error) => {
+                let faulty = self.links.remove(i);
+                drop(faulty);
+                Err(SessionError::from(error))
+            }
         }
     }
 }

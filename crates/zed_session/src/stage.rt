@@ -20,9 +20,9 @@ use zed_play::Play;
 #[derive(Drop)]
 pub struct Stage {
     alloc: Global,
-    screen: Box<dyn Screen>,
-    keys: Box<dyn Keys>,
-    playing: Playing,
+    pub screen: Box<dyn Screen>,
+    pub keys: Box<dyn Keys>,
+    pub playing: Playing,
 }
 
 impl Stage {

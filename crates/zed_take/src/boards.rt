@@ -1,12 +1,11 @@
 //! Boards that are removed, added, and put into an order.
-use crate::fresh::new_seen;
+use crate::fresh::{new_board, new_seen};
 use crate::pairing::pair_boards;
 use crate::plan::Plan;
 use crate::plan_error::PlanError;
 use crate::ranks::{Ranked, plan_ranks};
 use crate::sight::SeenBoard;
 use std::alloc::{AllocError, Global};
-use zed_fresh::new_board;
 use zed_op::Op;
 use zed_types::BoardId;
 use zed_world::BoardData;
@@ -98,10 +97,7 @@ fn plan_new(
     after: &BoardData,
 ) -> Result<(), PlanError> {
     let stamp = plan.add(Op::BoardAdd(after.name.copy()?))?;
-    boards.add(
-        new_seen(alloc, stamp)?,
-        new_board(alloc, after.name.copy()?)?,
-    )?;
+    boards.add(new_seen(alloc, stamp)?, new_board(alloc, &after.name)?)?;
     Ok(())
 }
 

@@ -5,7 +5,7 @@ ghost use Rattle.zzted.specs.Typing.{byte_of};
 
 use std::fs::{self, File};
 use std::io::{self, ErrorKind, Read, Write};
-use zed_link::{Link, LinkFailed, Writes};
+use zed_link::{Link, LinkFailed};
 use zed_play::Key;
 use zed_screen::{Frame, ascii};
 use zed_session::{DeviceFailed, Keys, Screen};
@@ -41,7 +41,6 @@ pub struct FileLink {
     file: Option<File>,
     taken: u64,
     reads: u64,
-    writes: Writes,
     failures: u64,
 }
 
@@ -57,7 +56,6 @@ impl FileLink {
             file: None,
             taken: 0,
             reads: 0,
-            writes: Writes::NONE,
             failures: 0,
         })
     }
@@ -66,7 +64,6 @@ impl FileLink {
     fn read_within(&mut self, into: &mut [u8]) -> io::Result<usize>
         ensures within { IfOk result (λ n. n ≤ length into.old) }
         ensures reads { self.new.reads ≡ self.old.reads }
-        ensures writes { self.new.writes ≡ self.old.writes }
         ensures failures { self.new.failures ≡ self.old.failures }
     {
         let count = self.read_file(into)?;
@@ -81,7 +78,6 @@ impl FileLink {
     fn read_file(&mut self, into: &mut [u8]) -> io::Result<usize>
         ensures within { IfOk result (λ n. n ≤ length into.old) }
         ensures reads { self.new.reads ≡ self.old.reads }
-        ensures writes { self.new.writes ≡ self.old.writes }
         ensures failures { self.new.failures ≡ self.old.failures }
     {
         if self.name.as_str() == "stdin" {
@@ -102,8 +98,6 @@ impl Link for FileLink {
 
     ghost reads = { λ l. l.reads };
 
-    ghost writes = { λ l. l.writes };
-
     ghost failed = { λ l. l.failures };
 
     ghost stalls = { λ _. 0 };
@@ -121,8 +115,7 @@ impl Link for FileLink {
         }
     }
 
-    fn write(&mut self, bytes: &[u8]) -> Result<usize, LinkFailed> {
-        self.writes.count(bytes);
+    fn write(&mut self, _bytes: &[u8]) -> Result<usize, LinkFailed> {
         self.failures = self.failures.saturating_add(1);
         Err(LinkFailed)
     }

@@ -1,20 +1,22 @@
 use Rattle.zed_files.specs.Asked.{reading}
 use Rattle.zed_files.specs.Texts.{texts_of}
-use Rattle.zed_files.proofs.Settled.{settled_asks, settled_collects, settled_off, settled_sound, settled_tells}
+use Rattle.zed_files.proofs.Settled.{came_into, settled_asks, settled_collects, settled_off, settled_sound, settled_tells}
 use Rattle.zed_files.proofs.collect.load.Goals as goal
 
 pub returns-clause-collected : goal.returns-clause-collected
 returns-clause-collected g c = λ t at.
     let read = c.in_ok-gathered.ensures.stream in
     let all = c.in_ok-gathered.gathered in
-    settled_collects c.deliveries_come_to_sets.ensures _ t (texts_of c.args.names.now) read.0 all.document all.clash all.refusal c.settled.result
-    read.1 read.2 (read.3 t at) c.settled.ensures.refusal c.settled.ensures.document
+    let into = came_into all.feed read.0 all.clash c.settled.result read.2 c.settled.ensures.document in
+    settled_collects c.deliveries_come_to_sets.ensures _ t (texts_of c.args.names.now) read.0 into.0 all.clash all.refusal c.settled.result
+    read.1 into.1 (read.3 t at) c.settled.ensures.refusal into.2
 
 pub returns-clause-sound : goal.returns-clause-sound
 returns-clause-sound g c =
     let read = c.in_ok-gathered.ensures.stream in
     let all = c.in_ok-gathered.gathered in
-    settled_sound read.0 all.document all.clash all.refusal c.settled.result read.2 c.settled.ensures.refusal c.settled.ensures.document
+    let into = came_into all.feed read.0 all.clash c.settled.result read.2 c.settled.ensures.document in
+    settled_sound read.0 into.0 all.clash all.refusal c.settled.result into.1 c.settled.ensures.refusal into.2
 
 pub returns-clause-err : goal.returns-clause-err
 returns-clause-err g c =

@@ -80,7 +80,6 @@ loop-reads-preserved g c =
           c.in_ok-take_piece.ensures.asked piece.2 c.in_ok-take_piece.ensures.world (c.in_ok-take_piece.ensures.stale (λ bad. cc)) c.plus-pulled.ensures;
       calm = c.in_ok-count.ensures.failures ∙ old.calm;
       flowing = c.in_ok-count.ensures.stalls ∙ old.flowing;
-      unwritten = c.in_ok-count.ensures.writes ∙ old.unwritten;
       steady = c.in_ok-count.ensures.accepts ∙ old.steady;
       falls = falls_more _ _ _ old.falls (c.in_ok-take_piece.ensures.visits (λ bad. cc));
     }

@@ -1,4 +1,4 @@
-use Rattle.std.proofs.Common.{◌≡◌, ◌∙◌, ap, sym}
+use Rattle.std.proofs.Common.{◌≡◌, ◌∙◌, Some, None, ap, sym}
 use Rattle.zed_edit.specs.Numbers.{board_numbered}
 use Rattle.zed_edit.specs.Replay.{replay}
 use Rattle.zed_session.proofs.Given.{lack_by, lack_named}
