@@ -4,14 +4,13 @@ use std::fmt::Write;
 use test_rows::{Line, Trouble};
 use zed_files::Refusal;
 use zed_host::MemoryHost;
-use zed_telling::{Filter, Length, Listing, lint, list, log};
+use zed_telling::{Filter, Length, Listing, list, log};
 
 /// What is asked of files.
 #[derive(Clone, Copy)]
 enum Told {
     List(Listing),
     Log(Length, Filter),
-    Lint,
 }
 
 /// A command of a row.
@@ -59,9 +58,6 @@ fn told_of(words: &str) -> Result<Told, Trouble> {
     if words == "list" {
         return Ok(Told::List(Listing::Boards));
     }
-    if words == "lint" {
-        return Ok(Told::Lint);
-    }
     if words == "log" {
         return Ok(Told::Log(Length::Full, filter_of("")?));
     }
@@ -93,15 +89,13 @@ impl<'a> Command<'a> {
         })
     }
 
-    /// What it answers, and of `lint` how many lines.
-    pub fn answer(&self, alloc: Global, host: &mut MemoryHost) -> Result<Option<usize>, Refusal> {
+    /// What it answers.
+    pub fn answer(&self, alloc: Global, host: &mut MemoryHost) -> Result<(), Refusal> {
         let files = self.files.as_slice();
         match &self.told {
-            Told::List(listing) => list(alloc, host, *listing, files)?,
-            Told::Log(length, filter) => log(alloc, host, *length, filter, files)?,
-            Told::Lint => return Ok(Some(lint(alloc, host, files)?)),
+            Told::List(listing) => list(alloc, host, *listing, files),
+            Told::Log(length, filter) => log(alloc, host, *length, filter, files),
         }
-        Ok(None)
     }
 }
 
@@ -122,8 +116,7 @@ pub fn put_row(
         }
     }
     match answer {
-        Ok(None) => Ok(()),
-        Ok(Some(lines)) => writeln!(out, "lines: {lines}"),
+        Ok(()) => Ok(()),
         Err(refusal) => writeln!(out, "refused: {refusal:?}"),
     }
 }

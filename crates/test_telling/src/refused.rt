@@ -12,7 +12,7 @@ fn turn(
     host: &mut MemoryHost,
     command: &Command,
     nth: usize,
-    whole: Result<Option<usize>, Refusal>,
+    whole: Result<(), Refusal>,
 ) -> Turn {
     let failures = host.failures();
     let printed = host.printed().len();

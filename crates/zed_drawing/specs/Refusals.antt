@@ -3,9 +3,7 @@ use Rattle.zed_take.specs.declared.error.TakeError.{TakeError}
 use Rattle.zed_take.specs.declared.error.TakeError.TheVariants as taking
 use Rattle.zed_files.specs.declared.refusal.Refusal.TheVariants as refusal
 use Rattle.zed_drawing.specs.declared.error.DrawingError.{DrawingError}
-use Rattle.zed_drawing.specs.declared.error.DrawingError.TheVariants.{BadText, NotTaken, Refused}
-use Rattle.zed_program_text.specs.declared.error.TextError.{TextError}
-use Rattle.zed_program_text.specs.declared.error.TextError.TheVariants as text
+use Rattle.zed_drawing.specs.declared.error.DrawingError.TheVariants.{Refused, NotTaken}
 use Rattle.std.specs.Prelude.{Bool, true, false, Option, Some, None, Result, Ok, Err}
 use Rattle.zed_files.specs.Refusals.{export_refusal}
 
@@ -24,11 +22,6 @@ take_refusal (taking.Base e) = Refused (export_refusal e)
 take_refusal (taking.WorldOver b n) = Refused (refusal.BoardOver b n)
 take_refusal taking.ClockSpent = Refused refusal.ClockSpent
 take_refusal taking.NotTaken = NotTaken
-
--- the refusal of a command for one of the text of a program
-abbrev pub text_refusal : TextError → DrawingError
-text_refusal text.Memory = memory
-text_refusal (text.Bad bad) = BadText bad
 
 -- whether an answer tells of a host that failed
 abbrev pub is_fault : {X : Type 0} → Result X DrawingError → Bool

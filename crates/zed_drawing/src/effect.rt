@@ -13,7 +13,7 @@ use zed_host::Host;
 
 /// A whole file that is to be written.
 #[derive(Drop)]
-pub struct Output {
+pub(crate) struct Output {
     name: String,
     bytes: Vec<u8>,
 }
@@ -51,7 +51,7 @@ impl Output {
 
 /// What a command does at its end: it writes these files, one after the other, and prints a text behind them.
 #[derive(Drop)]
-pub struct Effect {
+pub(crate) struct Effect {
     files: Vec<Output>,
     text: String,
 }
@@ -104,7 +104,7 @@ fn write_files<H: Host>(host: &mut H, files: &[Output]) -> Result<(), DrawingErr
 }
 
 /// Writes the files of an effect, and prints its text behind them. File where the host fails.
-pub fn carry_out<H: Host>(host: &mut H, effect: &Effect) -> Result<(), DrawingError>
+pub(crate) fn carry_out<H: Host>(host: &mut H, effect: &Effect) -> Result<(), DrawingError>
     ensures ok { (t : HostContents) → H.contents host.old ≡ Some t
         → OnOk result (H.contents host.new ≡ Some (after effect.now t)) }
     ensures half { (t : HostContents) → H.contents host.old ≡ Some t

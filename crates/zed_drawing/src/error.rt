@@ -1,7 +1,7 @@
 //! Why a command that draws was not carried out.
 ghost use Rattle.std.specs.Prelude.{◌≡◌};
 ghost use Rattle.zed_drawing.specs.declared.error.DrawingError.TheVariants.{Refused};
-ghost use Rattle.zed_drawing.specs.Refusals.{file, memory, take_refusal, text_refusal};
+ghost use Rattle.zed_drawing.specs.Refusals.{file, memory, take_refusal};
 ghost use Rattle.zed_files.specs.declared.refusal.Refusal.{Refusal as TheRefusal};
 ghost use Rattle.zed_files.specs.Refusals.{document_refusal, export_refusal, file_refusal, world_refusal};
 
@@ -12,12 +12,10 @@ use zed_editfile::EditFileError;
 use zed_export::ExportError;
 use zed_files::Refusal;
 use zed_host::WriteError;
-use zed_program_text::{BadText, TextError};
 use zed_take::TakeError;
 use zed_world::WorldError;
 
-/// Why `open`, `take` or the setting of a program was not carried out. The texts are for a reader of
-/// an error value; the program prints none of them.
+/// Why `open` or `take` was not carried out. The texts are for a reader of an error value; the program prints none of them.
 #[derive(Clone, Copy, Debug, PartialEq, Eq, Error)]
 pub enum DrawingError {
     /// What other commands are refused for too.
@@ -26,9 +24,6 @@ pub enum DrawingError {
     /// To `open`: the world file was drawn in since it was written. To `take`: no edits were found that lead to it.
     #[error("what was drawn was not taken")]
     NotTaken,
-    /// To the setting of a program: its text has here what no program has.
-    #[error("no program has what stands in the text at {0:?}")]
-    BadText(BadText),
 }
 
 impl From<Refusal> for DrawingError {
@@ -51,17 +46,6 @@ impl From<TakeError> for DrawingError {
             }
             TakeError::ClockSpent => DrawingError::Refused(Refusal::ClockSpent),
             TakeError::NotTaken => DrawingError::NotTaken,
-        }
-    }
-}
-
-impl From<TextError> for DrawingError {
-    ghost from_gives = { λ error e. e ≡ text_refusal error };
-
-    fn from(error: TextError) -> DrawingError {
-        match error {
-            TextError::Memory => DrawingError::Refused(Refusal::Memory),
-            TextError::Bad(bad) => DrawingError::BadText(bad),
         }
     }
 }

@@ -75,9 +75,8 @@ pub(crate) fn opened(
     }
 }
 
-/// The document of the edit file of a name, of the world asked for or of any. Refused is what the
-/// file is refused for, and File where it can't be read.
-pub fn open_file<H: Host>(
+/// The document of the edit file of a name, of the world asked for or of any.
+pub(crate) fn open_file<H: Host>(
     alloc: Global,
     host: &mut H,
     asked: Option<u64>,

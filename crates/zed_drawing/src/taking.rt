@@ -115,11 +115,9 @@ fn alone_effect(
     Ok(Effect::new(files, text))
 }
 
-/// What is done with a file that is its own base: edits of a replica are added to its document that
-/// lead to a world, and what is to be written and told is told. Refused or NotTaken where no edits
-/// are taken; Memory.
+// What is done with a file that is its own base.
 #[tactic(none)]
-pub fn draw_alone(
+fn draw_alone(
     alloc: Global,
     file: &str,
     document: &mut Document,
@@ -287,8 +285,8 @@ fn draw(
     }
 }
 
-/// Refuses 0, which is no author's number.
-pub fn check_replica(replica: u16) -> Result<(), DrawingError>
+// 0 is no author's number.
+fn check_replica(replica: u16) -> Result<(), DrawingError>
     ensures ok { OnOk result (replica ≢ 0) }
     ensures err { IfErr result (λ e.
         (replica ≡ 0) × (e ≡ DrawingError.Refused (Refusal.BadEdit Cause.Stamp))) }

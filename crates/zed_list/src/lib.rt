@@ -1,6 +1,5 @@
 //! Lines that tell the numbers of a world: its boards, the stats of a board, the lines of a
-//! program. docs/LIST.md has their forms. What these lines are made of is there for other lines on
-//! worlds too.
+//! program. docs/LIST.md has their forms.
 #![tactic(auto)]
 
 mod board_lines;

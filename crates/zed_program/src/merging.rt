@@ -27,7 +27,6 @@ fn pull_over(
     requires { document.old.is_stale ≡ false }
     ensures pull { PullsOver document.old (seen (ends link.old) (reads link.old))
         (seen (ends link.new) (reads link.new)) result document.new.edits }
-    ensures writes { writes link.new ≡ writes link.old }
     ensures world { document.new.world ≡ document.old.world }
     ensures sound { OnOk result (document.new.is_stale ≡ false) }
     ensures visits { OnOk result (NoCountFalls document.old.counts document.new.counts) }
@@ -47,8 +46,6 @@ fn pulled_from(
         MatchResult result
         (λ d. IsMerged world count before after (Ok d.edits))
         (λ e. IsMerged world count before after (Err e)) }
-    ensures writes { map (λ link. writes link) links.new.items
-        ≡ map (λ link. writes link) links.old.items }
     ensures no_link { length links.old.items < count
         → (result ≡ Err Refusal.NoLink) × (links.new ≡ links.old) }
     ensures world { IfOk result (λ d. d.world ≡ world) }
@@ -83,8 +80,6 @@ pub(crate) fn merge<H: Host>(
     ensures links { (r : Result (List TheEdit) Refusal) × IsMerged world (length files.now)
         (map (λ link. seen (ends link) (reads link)) links.old.items)
         (map (λ link. seen (ends link) (reads link)) links.new.items) r }
-    ensures writes { map (λ link. writes link) links.new.items
-        ≡ map (λ link. writes link) links.old.items }
     ensures no_link { length links.old.items < length files.now
         → (result ≡ Err Refusal.NoLink) × (links.new ≡ links.old) }
     ensures asked { Asks H.called [] (writing out.now) (refusal_in result) host.old host.new }

@@ -93,8 +93,6 @@ fn act<H: Host>(
         (map (λ link. seen (ends link) (reads link)) links.new.items)
         (screen_foretells screen.old) (screen_foretells screen.new)
         (links.new ≡ links.old) (screen.new ≡ screen.old) (keys.new ≡ keys.old) }
-    ensures writes { map (λ link. writes link) links.new.items
-        ≡ map (λ link. writes link) links.old.items }
     ensures pulls { PullsLinks (Some (meaning_of command.now))
         (map (λ link. seen (ends link) (reads link)) links.old.items)
         (map (λ link. seen (ends link) (reads link)) links.new.items) }
@@ -193,8 +191,6 @@ fn run_words<H: Host>(
         (map (λ link. seen (ends link) (reads link)) links.new.items)
         (screen_foretells screen.old) (screen_foretells screen.new)
         (links.new ≡ links.old) (screen.new ≡ screen.old) (keys.new ≡ keys.old) }
-    ensures writes { map (λ link. writes link) links.new.items
-        ≡ map (λ link. writes link) links.old.items }
     ensures idle { IdleUnlessPlayed H.called result host.new
         ((screen.new ≡ screen.old) × (keys.new ≡ keys.old)) }
     ensures screen_faults { TellsFault H.called is_of_screen result host.new
@@ -259,10 +255,6 @@ pub fn run<H: Host>(
         (map (λ link. seen (ends link) (reads link)) links.new.items)
         (screen_foretells screen.old) (screen_foretells screen.new)
         (links.new ≡ links.old) (screen.new ≡ screen.old) (keys.new ≡ keys.old) }
-
-    // No link is written to, not even no bytes.
-    ensures writes { map (λ link. writes link) links.new.items
-        ≡ map (λ link. writes link) links.old.items }
 
     // Where `play` is refused before a playtest is begun, but for want of memory, nothing was asked of the screen and of the source of
     // keys, whatever these tell.

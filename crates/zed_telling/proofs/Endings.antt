@@ -1,13 +1,9 @@
--- How `list`, `log` and `lint` end.
+-- How `list` and `log` end.
 use Rattle.zed_op.specs.declared.op.Edit.{Edit}
 use Rattle.zed_files.specs.declared.refusal.Refusal.{Refusal}
 use Rattle.zed_files.specs.declared.refusal.Refusal.TheVariants.{Memory}
 use Rattle.std.proofs.Common.{◌≡◌, ℕ, List, Result, Ok, Err, MatchResult, refl, sym, inl, inr}
 use Rattle.std.specs.Global.{Vec}
-use Rattle.std.specs.Prelude.{◌==◌}
-use Rattle.std.specs.List.{count_by}
-use Rattle.std.proofs.lemmas.List.Sums.{length-filter}
-use Rattle.zed_list.specs.Laws.{lines_in}
 use mathlib.Core.Logic.{◌⊎◌}
 use Rattle.zed_host.specs.HostContents.{HostContents}
 use Rattle.zed_files.specs.Collected.{Collects}
@@ -37,7 +33,3 @@ made_result failed (Err e) t names tell es all why = elim why [ inl memory ↦ i
 pub not_told : (failed : Type 0) (tell : List Edit → Result (List ℕ) Refusal) (names : List (List ℕ)) (t : HostContents) (e : Refusal)
     → (e ≡ Memory) ⊎ IsMade failed t names tell (Err e) → (e ≡ Memory) ⊎ ComesToTell failed t tell names (Err e)
 not_told failed tell names t e why = elim why [ inl memory ↦ inl memory | inr made ↦ inr (Err e, made, refl) ]
-
--- what is counted are lines
-pub lines_counted : (text : List ℕ) → lines_in text ≡ count_by (λ c. c == 10) text
-lines_counted text = length-filter (λ c. c == 10) text

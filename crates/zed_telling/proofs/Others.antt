@@ -10,7 +10,6 @@ use Rattle.zed_export.specs.World.{world_of}
 use Rattle.zed_files.specs.declared.refusal.Refusal.{Refusal}
 use Rattle.zed_files.specs.declared.refusal.Refusal.TheVariants.{File, NoBoard, NoSuch, OutOfRange}
 use Rattle.zed_files.specs.Refusals.{IsOffStage, export_refusal}
-use Rattle.zed_lint.specs.Lines.{lines_of}
 use Rattle.zed_files.proofs.Failures.{session_is_other}
 use Rattle.zed_files.proofs.OffStage.{export_off}
 use Rattle.zed_log.specs.declared.length.Length.{Length}
@@ -26,7 +25,7 @@ use Rattle.zed_telling.specs.declared.listing.Listing.TheVariants.{Boards, Stats
 use Rattle.zed_telling.specs.declared.sought.Cell.{Cell}
 use Rattle.zed_telling.specs.declared.sought.Sought.{Sought}
 use Rattle.zed_telling.specs.declared.telling.Telling.{Telling}
-use Rattle.zed_telling.specs.declared.telling.Telling.TheVariants.{Edits, Findings, Numbers}
+use Rattle.zed_telling.specs.declared.telling.Telling.TheVariants.{Edits, Numbers}
 use Rattle.zed_telling.specs.Listed.{listed, program_of, program_on, ranks_of, stats_of, unless_over}
 use Rattle.zed_telling.specs.Logged.{board_or_none, board_sought, cell_at, cell_on, cell_sought, log_with, named_board, place_of, sought_of, sought_with, there}
 use Rattle.zed_telling.specs.Told.{text_of}
@@ -125,8 +124,6 @@ text_plain : (telling : Telling) (es : List Edit) → RefusesPlainly (text_of te
 text_plain (Numbers listing) es e is = list_plain (refusal_of 32767 (replay es)) (listed (ranks_of (replay es)) (world_of (replay es)) listing) (listed_plain (ranks_of (replay es)) (world_of (replay es)) listing) e is
 text_plain (Edits l f) es e is =
     log_plain l es (sought_of (replay es) f) (with_plain f.replica f.since (board_sought (replay es) f.board) (cell_sought (replay es) f.cell) (board_plain (replay es) f.board) (cell_plain (replay es) f.cell)) e is
-text_plain Findings es e is =
-    list_plain (refusal_of 32767 (replay es)) (Ok (lines_of (world_of (replay es)))) (λ f is. absurd cc) e is
 
 pub text_is_other : (telling : Telling) (es : List Edit) (e : Refusal) → text_of telling es ≡ Err e → e ≡ File → ⊥
 text_is_other telling es e is = (text_plain telling es e is).0

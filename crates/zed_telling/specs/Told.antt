@@ -1,14 +1,12 @@
 -- What is told of a set of edits, and printed.
-use Rattle.std.specs.Prelude.{◌≡◌, ℕ, List, Option, Some, Result, Ok, Err, MatchResult}
+use Rattle.std.specs.Prelude.{◌≡◌, ℕ, List, Result, Ok, Err}
 use Rattle.zed_op.specs.declared.op.Edit.{Edit}
-use Rattle.zed_host.specs.HostContents.{HostContents, StillTells, with_printed}
-use Rattle.zed_list.specs.Laws.{lines_in}
+use Rattle.zed_host.specs.HostContents.{HostContents}
 use Rattle.zed_files.specs.declared.refusal.Refusal.{Refusal}
 use Rattle.zed_files.specs.Collected.{Collects}
-use Rattle.zed_files.specs.Effects.{Effect, IsRefused, Prints}
+use Rattle.zed_files.specs.Effects.{Effect, Prints}
 use Rattle.zed_telling.specs.declared.telling.Telling.{Telling}
-use Rattle.zed_telling.specs.declared.telling.Telling.TheVariants.{Numbers, Edits, Findings}
-use Rattle.zed_telling.specs.Linted.{lint_of}
+use Rattle.zed_telling.specs.declared.telling.Telling.TheVariants.{Numbers, Edits}
 use Rattle.zed_telling.specs.Listed.{list_of}
 use Rattle.zed_telling.specs.Logged.{log_of}
 
@@ -16,7 +14,6 @@ use Rattle.zed_telling.specs.Logged.{log_of}
 abbrev pub text_of : Telling → List Edit → Result (List ℕ) Refusal
 text_of (Numbers listing) = list_of listing
 text_of (Edits l f) = log_of l f
-text_of Findings = lint_of
 
 -- what is told of a set of edits, unless there is none
 abbrev pub told_of : (List Edit → Result (List ℕ) Refusal) → Result (List Edit) Refusal → Result (List ℕ) Refusal
@@ -35,9 +32,3 @@ prints (Err e) = Err e
 -- what a command that tells this comes to: its effect, or the first refusal
 abbrev pub ComesToTell : Type 0 → HostContents → (List Edit → Result (List ℕ) Refusal) → List (List ℕ) → Result Effect Refusal → Type 0
 ComesToTell failed t tell files r = (m : Result (List ℕ) Refusal) × IsMade failed t files tell m × (r ≡ prints m)
-
--- a command that comes to this ends so: it printed a text and answers how many lines that has, or it was refused
-abbrev pub EndsCounted : Type 0 → (Result Effect Refusal → Type 0) → HostContents → Result ℕ Refusal → Option HostContents → Type 0
-EndsCounted failed Comes t result new = MatchResult result
-    (λ n. (text : List ℕ) × Comes (Ok (Prints text)) × (n ≡ lines_in text) × (new ≡ Some (with_printed text t)))
-    (λ e. StillTells (IsRefused failed Comes t e) new)

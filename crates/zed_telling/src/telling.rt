@@ -8,11 +8,9 @@ ghost use Rattle.zed_files.specs.Effects.{Ends};
 ghost use Rattle.zed_files.specs.Faults.{TellsFailures};
 ghost use Rattle.zed_files.specs.Refusals.{IsOffStage};
 ghost use Rattle.zed_files.specs.Texts.{texts_of};
-ghost use Rattle.zed_list.specs.Laws.{lines_in};
-ghost use Rattle.zed_telling.specs.Told.{ComesToTell, EndsCounted, IsMade, text_of as text_for};
+ghost use Rattle.zed_telling.specs.Told.{ComesToTell, IsMade, text_of as text_for};
 
 use crate::filter::Filter;
-use crate::linting::findings_text;
 use crate::listing::{Listing, listing_text};
 use crate::logging::log_text;
 use std::alloc::Global;
@@ -26,7 +24,6 @@ use zed_log::Length;
 pub(crate) enum Telling {
     Numbers(Listing),
     Edits(Length, Filter),
-    Findings,
 }
 
 // What is told of a document that isn't stale.
@@ -39,7 +36,6 @@ fn text_of(alloc: Global, document: &Document, telling: Telling) -> Result<Vec<u
     match telling {
         Telling::Numbers(listing) => listing_text(alloc, document, listing),
         Telling::Edits(length, filter) => log_text(alloc, document, length, &filter),
-        Telling::Findings => findings_text(alloc, document),
     }
 }
 
@@ -64,39 +60,8 @@ fn text_of_files<H: Host>(
     text_of(alloc, &document, telling)
 }
 
-// How many lines a text has, by their line feeds.
-#[tactic(auto, using(crate::proofs::Endings::lines_counted))]
-fn count_lines(text: &[u8]) -> usize
-    ensures { result ≡ lines_in text.now }
-{
-    text.iter().filter(|byte| **byte == b'\n').count()
-}
-
-/// Prints what is told of edit files, and answers how many lines that has. Up to here `list`, `log`
-/// and `lint` differ in that text alone: what they read, how they are refused and what they leave in
-/// their host is proved of all here, once.
-pub(crate) fn tell_counted<H: Host>(
-    alloc: Global,
-    host: &mut H,
-    telling: Telling,
-    files: &[&str],
-) -> Result<usize, Refusal>
-    ensures ends { (t : HostContents) → H.contents host.old ≡ Some t
-        → let failed = Rose (H.faults host.old) (H.faults host.new) in
-        EndsCounted failed (ComesToTell failed t (text_for telling) (texts_of files.now)) t
-        result (H.contents host.new) }
-    ensures err { IfErr result IsOffStage }
-    ensures asked { Asks H.called (reading (texts_of files.now)) (Printing ∷ [])
-        (refusal_in result) host.old host.new }
-    ensures failures { TellsFailures H.faults H.failed result host.old host.new }
-{
-    let text = text_of_files(alloc, host, telling, files)?;
-    let bytes = text.as_slice();
-    print_out(host, bytes)?;
-    Ok(count_lines(bytes))
-}
-
-/// Prints what is told of edit files.
+/// Prints what is told of edit files. Up to here `list` and `log` differ in that text alone: what they read, how they are refused and what they leave in
+/// their host is proved of both here, once.
 pub(crate) fn tell<H: Host>(
     alloc: Global,
     host: &mut H,
@@ -112,6 +77,6 @@ pub(crate) fn tell<H: Host>(
         (refusal_in result) host.old host.new }
     ensures failures { TellsFailures H.faults H.failed result host.old host.new }
 {
-    tell_counted(alloc, host, telling, files)?;
-    Ok(())
+    let text = text_of_files(alloc, host, telling, files)?;
+    print_out(host, text.as_slice())
 }

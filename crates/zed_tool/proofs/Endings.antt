@@ -15,18 +15,9 @@ use Rattle.zed_host.specs.Counting.{Counts, NothingFailed, Rose}
 use Rattle.zed_host.specs.HostContents.{HalfComplained, HostContents, StillTells, with_complaint}
 use Rattle.zed_host.proofs.Counts.{no_rise}
 use Rattle.zed_files.specs.Effects.{Effect as Told, Ends as EndsTelling, IsRefused as IsToldOff, Prints, after as told_by}
-use Rattle.zed_telling.specs.Linted.{lint_of}
 use Rattle.zed_telling.specs.Listed.{list_of}
 use Rattle.zed_telling.specs.Logged.{log_of}
-use Rattle.zed_telling.specs.Told.{ComesToTell, EndsCounted}
-use Rattle.zed_set_words.specs.declared.bad.BadWord.{BadWord as WrongWord}
-use Rattle.zed_set_words.specs.declared.wishes.Wish.{Wish}
-use Rattle.zed_set_words.specs.Rows.{wish_of}
-use Rattle.zed_set.specs.Setting.{ComesToSet}
-use Rattle.zed_programs.specs.Printed.{printed}
-use Rattle.zed_programs.specs.Setting.{ComesToSet as ComesToSetProgram, SetReads}
-use Rattle.zed_tool_words.specs.declared.asked.Strictness.{Strictness}
-use Rattle.zed_tool_words.specs.declared.asked.Strictness.TheVariants.{Lenient, Strict}
+use Rattle.zed_telling.specs.Told.{ComesToTell}
 use Rattle.zed_showing.specs.Shown.{ComesToShow}
 use Rattle.zed_drawing.specs.Effects.{Effect as Drawn, Ends, IsRefused, after as drawn_by}
 use Rattle.zed_drawing.specs.Asked.{Did}
@@ -35,13 +26,13 @@ use Rattle.zed_drawing.specs.Opening.{ComesToOpen, OpenReads}
 use Rattle.zed_drawing.specs.Taking.{ComesToTake, TakeReads}
 use Rattle.zed_tool_words.specs.Grammar.{tool_app}
 use Rattle.zed_tool_words.specs.Version.{version_text}
-use Rattle.zed_tool_words.specs.Commands.{AsksHelp, AsksVersion, Command, Open, Take, Log, Lists, Show, Lint, Set, ProgramOf, SetProgram, command_of, subcommand_asks, unless_refused}
-use Rattle.zed_tool.specs.Answers.{Answer, Failure, Refused, drawing_failure, drawn_as, lint_status, linted_as, memory, told_as, wrong_word}
-use Rattle.zed_tool.specs.Calm.{ComesTo, ComesToSetting, Ending, EndsCalmly, Leaves, left_by, lint_left, told_left}
-use Rattle.zed_tool.specs.Commands.{AsksCommand, AsksSet, EndsCommand, EndsSet, filter_of, forcing_of, form_of, length_of, listing_of}
+use Rattle.zed_tool_words.specs.Commands.{AsksHelp, AsksVersion, Command, Open, Take, Log, Lists, Show, command_of, subcommand_asks, unless_refused}
+use Rattle.zed_tool.specs.Answers.{Answer, Failure, Refused, drawing_failure, drawn_as, memory, told_as, NotTaken}
+use Rattle.zed_tool.specs.Calm.{ComesTo, Ending, EndsCalmly, Leaves, left_by, told_left}
+use Rattle.zed_tool.specs.Commands.{AsksCommand, EndsCommand, filter_of, forcing_of, form_of, length_of, listing_of}
 use Rattle.zed_tool.specs.Lines.{line_of}
 use Rattle.zed_tool.specs.Outcome.{Complained, Hosts, IsComplained, IsLineOf, Prints as PrintsText, Runs, RunsAs}
-use Rattle.zed_tool.proofs.Steps.{open_so, set_program_so, set_so, show_so, take_so, tell_so}
+use Rattle.zed_tool.proofs.Steps.{open_so, show_so, take_so, tell_so}
 
 -- a text was written to the standard error, or the host failed at it
 pub complained : (result : Result ⊤ WriteError) (old new : ℕ) (text : List ℕ) (t : HostContents) (before after : Option HostContents) → before ≡ Some t
@@ -122,44 +113,6 @@ drawn_stopped : (text : List ℕ) (p : Type 0) (P Q : Result Drawn DrawingError 
 drawn_stopped text p P Q Wrote t (Ok u) e left so never is same = absurd (cc)
 drawn_stopped text p P Q Wrote t (Err f) e left so never is same = draw_stopped text p P Q t e f left so never (failure_is e (drawing_failure text f) same) is
 
--- ---- `lint`
-
-lint_done : (strictness : Strictness) (p : Type 0) (P Q : Result Told Refusal → Type 0) (t : HostContents) (r : Result ℕ Refusal) (status : ℕ) (left : Option HostContents)
-    → ((x : Result Told Refusal) → P x → Q x) → EndsCounted p P t r left → Ok status ≡ linted_as strictness r → IsDone (Leaves (lint_left strictness t) Q) status left
-lint_done strictness p P Q t (Ok n) status left so is same =
-    let x = Prints is.0 in
-    let lines = status_is status (lint_status strictness n) same ∙ ap (lint_status strictness) is.2 in
-    (told_by x t, (Ok x, so (Ok x) is.1, ap (λ s. Ok (s, told_by x t)) lines), is.3)
-lint_done strictness p P Q t (Err e) status left so is same = absurd (cc)
-
--- a refusal leaves what that of `list` leaves
-as_lint : (strictness : Strictness) (t : HostContents) (e : Failure) (left : Option HostContents) (Q : Result Told Refusal → Type 0) → IsStopped t (Leaves (told_left t) Q) e left
-    → IsStopped t (Leaves (lint_left strictness t) Q) e left
-as_lint strictness t e left Q stops = (stops.0, elim stops.1 [ inl lacks ↦ inl lacks | inr comes ↦ inr (of_refusal comes.0 comes.1 comes.2) ])
-  where
-    of_refusal : (x : Result Told Refusal) → Q x → Err e ≡ told_left t x → Leaves (lint_left strictness t) Q (Err e)
-    of_refusal (Ok x) q same = absurd (cc)
-    of_refusal (Err f) q same = (Err f, q, same)
-
-lint_stopped : (strictness : Strictness) (p : Type 0) (P Q : Result Told Refusal → Type 0) (t : HostContents) (r : Result ℕ Refusal) (e : Failure) (left : Option HostContents)
-    → ((x : Result Told Refusal) → P x → Q x) → (p → ⊥) → EndsCounted p P t r left → Err e ≡ linted_as strictness r → IsStopped t (Leaves (lint_left strictness t) Q) e left
-lint_stopped strictness p P Q t (Ok n) e left so never is same = absurd (cc)
-lint_stopped strictness p P Q t (Err f) e left so never is same = as_lint strictness t e left Q (tell_stopped p P Q t e f left so never (failure_is e (Refused f) same) is)
-
--- ---- `set`
-
-set_done : (p : Type 0) (t : HostContents) (file : List ℕ) (replica : ℕ) (words : List (List ℕ)) (wished : Result Wish WrongWord) (status : ℕ) (left : Option HostContents) → (p → ⊥)
-    → EndsSet p t file replica words wished (Ok status) left → IsDone (ComesToSetting ⊥ t file replica words wished) status left
-set_done p t file replica words (Ok wish) status left never is =
-    told_done p (ComesToSet p t file replica wish) (ComesToSet ⊥ t file replica wish) t is.0 status left (λ x. set_so p ⊥ t file replica wish x never) is.1 is.2
-set_done p t file replica words (Err bad) status left never is = let wrong = is.0 in absurd (cc)
-
-set_stopped : (p : Type 0) (t : HostContents) (file : List ℕ) (replica : ℕ) (words : List (List ℕ)) (wished : Result Wish WrongWord) (e : Failure) (left : Option HostContents) → (p → ⊥)
-    → EndsSet p t file replica words wished (Err e) left → IsStopped t (ComesToSetting ⊥ t file replica words wished) e left
-set_stopped p t file replica words (Ok wish) e left never is =
-    told_stopped p (ComesToSet p t file replica wish) (ComesToSet ⊥ t file replica wish) t is.0 e left (λ x. set_so p ⊥ t file replica wish x never) never is.1 is.2
-set_stopped p t file replica words (Err bad) e left never is = (is.1, inr (ap (λ x. Err x) (failure_is e (wrong_word words bad) is.0)))
-
 -- ---- each command
 
 done : {H : Type 0} (called : H → Call → H → Type 0) (p : Type 0) (command : Command) (old new : H) (t : HostContents) (status : ℕ) (left : Option HostContents) → (p → ⊥)
@@ -179,15 +132,6 @@ done called p (Lists listing files) old new t status left never is =
 done called p (Show form board files) old new t status left never is =
     told_done p (ComesToShow p t (form_of form) board files) (ComesToShow ⊥ t (form_of form) board files) t is.0 status left
     (λ x. show_so p ⊥ t (form_of form) board files x never) is.1 is.2
-done called p (Lint strictness files) old new t status left never is =
-    lint_done strictness p (ComesToTell p t lint_of files) (ComesToTell ⊥ t lint_of files) t is.0 status left (λ x. tell_so p ⊥ t lint_of files x never) is.1 is.2
-done called p (Set file replica words) old new t status left never is = set_done p t file replica words (wish_of words) status left never is
-done called p (ProgramOf board stat files) old new t status left never is =
-    let tell = printed board stat in
-    told_done p (ComesToTell p t tell files) (ComesToTell ⊥ t tell files) t is.0 status left (λ x. tell_so p ⊥ t tell files x never) is.1 is.2
-done called p (SetProgram file replica board stat text) old new t status left never is =
-    drawn_done text p (ComesToSetProgram p t file replica board stat text) (ComesToSetProgram ⊥ t file replica board stat text) (Did called (SetReads file text) old new) t is.0 status left
-    (λ x. set_program_so p ⊥ t file replica board stat text x never) is.1 is.2
 
 stopped : {H : Type 0} (called : H → Call → H → Type 0) (p : Type 0) (command : Command) (old new : H) (t : HostContents) (e : Failure) (left : Option HostContents) → (p → ⊥)
     → EndsCommand called p command old new t (Err e) left → IsStopped t (ComesTo ⊥ t command) e left
@@ -206,15 +150,6 @@ stopped called p (Lists listing files) old new t e left never is =
 stopped called p (Show form board files) old new t e left never is =
     told_stopped p (ComesToShow p t (form_of form) board files) (ComesToShow ⊥ t (form_of form) board files) t is.0 e left
     (λ x. show_so p ⊥ t (form_of form) board files x never) never is.1 is.2
-stopped called p (Lint strictness files) old new t e left never is =
-    lint_stopped strictness p (ComesToTell p t lint_of files) (ComesToTell ⊥ t lint_of files) t is.0 e left (λ x. tell_so p ⊥ t lint_of files x never) never is.1 is.2
-stopped called p (Set file replica words) old new t e left never is = set_stopped p t file replica words (wish_of words) e left never is
-stopped called p (ProgramOf board stat files) old new t e left never is =
-    let tell = printed board stat in
-    told_stopped p (ComesToTell p t tell files) (ComesToTell ⊥ t tell files) t is.0 e left (λ x. tell_so p ⊥ t tell files x never) never is.1 is.2
-stopped called p (SetProgram file replica board stat text) old new t e left never is =
-    drawn_stopped text p (ComesToSetProgram p t file replica board stat text) (ComesToSetProgram ⊥ t file replica board stat text) (Did called (SetReads file text) old new) t is.0 e left
-    (λ x. set_program_so p ⊥ t file replica board stat text x never) never is.1 is.2
 
 told_calmly : {H : Type 0} (h : Hosts H) (text : List ℕ) (t : HostContents) (old new : H) → NothingFailed (h.faults old) (h.faults new) → h.contents old ≡ Some t → Complained h text old new
     → h.contents new ≡ Some (with_complaint text t)
@@ -272,29 +207,6 @@ drawn_status : (text : List ℕ) (r : Result ⊤ DrawingError) (status : ℕ) �
 drawn_status text (Ok u) status same = inl (status_is status 0 same)
 drawn_status text (Err e) status same = absurd (cc)
 
--- 1 for what is so
-abbrev one_if : Bool → ℕ
-one_if b = cond b 1 0
-
-zero_or_one : (b : Bool) → (one_if b ≡ 0) ⊎ (one_if b ≡ 1)
-zero_or_one true = inr refl
-zero_or_one false = inl refl
-
-found_status : (strictness : Strictness) (n : ℕ) → (lint_status strictness n ≡ 0) ⊎ (lint_status strictness n ≡ 1)
-found_status Lenient n = inl refl
-found_status Strict n = zero_or_one (nat_lt 0 n)
-
-linted_status : (strictness : Strictness) (r : Result ℕ Refusal) (status : ℕ) → Ok status ≡ linted_as strictness r → (status ≡ 0) ⊎ (status ≡ 1)
-linted_status strictness (Ok n) status same =
-    let is = status_is status (lint_status strictness n) same in
-    elim (found_status strictness n) [ inl none ↦ inl (is ∙ none) | inr some ↦ inr (is ∙ some) ]
-linted_status strictness (Err e) status same = absurd (cc)
-
-set_status : {H : Type 0} (called : H → Call → H → Type 0) (file : List ℕ) (words : List (List ℕ)) (wished : Result Wish WrongWord) (status : ℕ) (old new : H)
-    → AsksSet called file words wished (Ok status) old new → (status ≡ 0) ⊎ (status ≡ 1)
-set_status called file words (Ok wish) status old new asks = told_status asks.0 status asks.2
-set_status called file words (Err bad) status old new asks = let wrong = asks.0 in absurd (cc)
-
 command_status : {H : Type 0} (called : H → Call → H → Type 0) (command : Command) (status : ℕ) (old new : H) → AsksCommand called command (Ok status) old new
     → (status ≡ 0) ⊎ (status ≡ 1)
 command_status called (Open until forcing file world) status old new asks = drawn_status file asks.0 status asks.2
@@ -302,10 +214,6 @@ command_status called (Take base file replica world) status old new asks = drawn
 command_status called (Log length board cell replica since files) status old new asks = told_status asks.0 status asks.2
 command_status called (Lists listing files) status old new asks = told_status asks.0 status asks.2
 command_status called (Show form board files) status old new asks = told_status asks.0 status asks.2
-command_status called (Lint strictness files) status old new asks = linted_status strictness asks.0 status asks.2
-command_status called (Set file replica words) status old new asks = set_status called file words (wish_of words) status old new asks
-command_status called (ProgramOf board stat files) status old new asks = told_status asks.0 status asks.2
-command_status called (SetProgram file replica board stat text) status old new asks = drawn_status text asks.0 status asks.2
 
 as_accepted : {H : Type 0} (h : Hosts H) (words : List Text) (command : Option Command) (status : ℕ) (old new : H) → IsSome command → RunsAs h words command status old new
     → (status ≡ 0) ⊎ (status ≡ 1)

@@ -7,12 +7,9 @@ use Rattle.zed_host.specs.Calls.{Call, Complaining, Leads, Printing, call, passe
 use Rattle.zed_host.specs.Counting.{NothingFailed}
 use Rattle.zed_host.proofs.Calls.{CountsFailures, CountsNoFault, calm_calls, leads_one, leads_then}
 use Rattle.zed_drawing.specs.Asked.{Asks, writing}
-use Rattle.zed_tool_words.specs.Commands.{Command, Open, Take, Log, Lists, Show, Lint, Set, ProgramOf, SetProgram, command_of}
+use Rattle.zed_tool_words.specs.Commands.{Command, Open, Take, Log, Lists, Show, command_of}
 use Rattle.zed_tool.specs.Answers.{Answer, Handed, drawn_as}
-use Rattle.zed_set_words.specs.declared.bad.BadWord.{BadWord as WrongWord}
-use Rattle.zed_set_words.specs.declared.wishes.Wish.{Wish}
-use Rattle.zed_set_words.specs.Rows.{wish_of}
-use Rattle.zed_tool.specs.Commands.{AsksCommand, AsksSet, AsksTold}
+use Rattle.zed_tool.specs.Commands.{AsksCommand, AsksTold}
 use Rattle.zed_tool.specs.Outcome.{Complained, Hosts, Prints, Runs, RunsAs}
 
 -- such calls lead from the one state of a host to the other
@@ -34,21 +31,12 @@ drawn_made called text Course Names answer old new handed = drawing_made called 
 telling_made : {H : Type 0} (called : H → Call → H → Type 0) (files : List (List ℕ)) (answer : Answer) (old new : H) → AsksTold called files answer old new → Made called old new
 telling_made called files answer old new handed = let asks = handed.1 in (asks.0, asks.1)
 
-set_made : {H : Type 0} (called : H → Call → H → Type 0) (file : List ℕ) (words : List (List ℕ)) (wished : Result Wish WrongWord) (answer : Answer) (old new : H)
-    → AsksSet called file words wished answer old new → Made called old new
-set_made called file words (Ok wish) answer old new handed = let asks = handed.1 in (asks.0, asks.1)
-set_made called file words (Err bad) answer old new wrong = ([], wrong.1)
-
 command_made : {H : Type 0} (called : H → Call → H → Type 0) (command : Command) (answer : Answer) (old new : H) → AsksCommand called command answer old new → Made called old new
 command_made called (Open until forcing file world) answer old new asks = drawn_made called file _ _ answer old new asks
 command_made called (Take base file replica world) answer old new asks = drawn_made called file _ _ answer old new asks
 command_made called (Log length board cell replica since files) answer old new asks = telling_made called files answer old new asks
 command_made called (Lists listing files) answer old new asks = telling_made called files answer old new asks
 command_made called (Show form board files) answer old new asks = telling_made called files answer old new asks
-command_made called (Lint strictness files) answer old new handed = let asks = handed.1 in (asks.0, asks.1)
-command_made called (Set file replica words) answer old new asks = set_made called file words (wish_of words) answer old new asks
-command_made called (ProgramOf board stat files) answer old new asks = telling_made called files answer old new asks
-command_made called (SetProgram file replica board stat text) answer old new asks = drawn_made called text _ _ answer old new asks
 
 told_made : {H : Type 0} (h : Hosts H) (text : List ℕ) (old new : H) → Complained h text old new → Made h.called old new
 told_made h text old new told =

@@ -5,7 +5,7 @@ use Rattle.zed_files.specs.declared.refusal.Refusal.TheVariants as refusal
 use Rattle.zed_op.specs.declared.cause.Cause.TheVariants as cause
 use Rattle.zed_drawing.specs.declared.opening.Forcing.{Forcing}
 use Rattle.zed_drawing.specs.declared.opening.Forcing.TheVariants.{Careful, Forced}
-use Rattle.std.proofs.Common.{◌≡◌, ◌==◌, ℕ, zero, suc, Bool, true, false, List, Option, Some, None, Result, Ok, Err, inl, inr}
+use Rattle.std.proofs.Common.{◌≡◌, ◌==◌, ℕ, Bool, true, false, List, Option, Some, None, Result, Ok, Err, inl, inr}
 use Rattle.std.specs.Prelude.{⊤, MatchBool}
 use Rattle.std.specs.Str.{bytes_eq}
 use Rattle.zed_world.specs.Contents.{Contents}
@@ -15,10 +15,6 @@ use Rattle.zed_host.proofs.ReadFiles.{read_so}
 use Rattle.zed_files.specs.declared.refusal.Refusal.{Refusal}
 use Rattle.zed_files.specs.Effects.{Effect as Told}
 use Rattle.zed_files.proofs.Endings.{collected_so}
-use Rattle.zed_making.specs.Edited.{FileEdits as SetEdits, IsOpened as IsSetOpened, OpensAs as SetOpens}
-use Rattle.zed_programs.specs.Setting.{ComesToSet as ComesToSetProgram, IsSpelled, Sets, SetsIn, SetsText}
-use Rattle.zed_set.specs.Setting.{ComesToSet, IsSet}
-use Rattle.zed_set_words.specs.declared.wishes.Wish.{Wish}
 use Rattle.zed_look.specs.declared.form.Form.{Form}
 use Rattle.zed_showing.specs.Shown.{ComesToShow}
 use Rattle.zed_telling.specs.Told.{ComesToTell}
@@ -120,30 +116,3 @@ tell_so p q t tell files r so is = let made = is.1 in (is.0, (made.0, collected_
 pub show_so : (p q : Type 0) (t : HostContents) (form : Form) (board : ℕ) (files : List (List ℕ)) (r : Result Told Refusal) → (p → q)
     → ComesToShow p t form board files r → ComesToShow q t form board files r
 show_so p q t form board files r so is = let shown = is.1 in (is.0, (shown.0, collected_so p q t files shown.0 so shown.1, shown.2), is.2)
-
-is_set_so : (p q : Type 0) (t : HostContents) (file : List ℕ) (replica : ℕ) (wish : Wish) (r : Result SetEdits Refusal) → (p → q) → IsSet p t file replica wish r → IsSet q t file replica wish r
-is_set_so p q t file zero wish r so is = is
-is_set_so p q t file (suc n) wish r so is = let opened = is.1 in (is.0, (opened.0, read_so p q t file opened.0 so opened.1, opened.2), is.2)
-
-pub set_so : (p q : Type 0) (t : HostContents) (file : List ℕ) (replica : ℕ) (wish : Wish) (r : Result Told Refusal) → (p → q)
-    → ComesToSet p t file replica wish r → ComesToSet q t file replica wish r
-set_so p q t file replica wish r so is = (is.0, is_set_so p q t file replica wish is.0 so is.1, is.2)
-
-sets_so : (p q : Type 0) (t : HostContents) (file : List ℕ) (replica board stat : ℕ) (text : List ℕ) (r : Result Effect DrawingError) → (p → q)
-    → SetsText p t file replica board stat text r → SetsText q t file replica board stat text r
-unfolding SetsText
-sets_so p q t file replica board stat text r so is =
-    steps_so _ _ _ _ r (λ m is. name_so p q t text IsSpelled m so is)
-    (λ program r is. steps_so _ _ _ _ r (λ m is. name_so p q t file (IsOpened None) m so is) (λ x r is. is) is) is
-
-pub set_program_so : (p q : Type 0) (t : HostContents) (file : List ℕ) (replica board stat : ℕ) (text : List ℕ) (r : Result Effect DrawingError) → (p → q)
-    → ComesToSetProgram p t file replica board stat text r → ComesToSetProgram q t file replica board stat text r
-unfolding ComesToSetProgram
-set_program_so p q t file replica board stat text r so is = go (replica == 0) is
-  where
-    Begins : Type 0 → Bool → Type 0
-    Begins s b = MatchBool b (r ≡ Err (Refused (refusal.BadEdit cause.Stamp))) (SetsText s t file replica board stat text r)
-
-    go : (b : Bool) → Begins p b → Begins q b
-    go true is = is
-    go false is = sets_so p q t file replica board stat text r so is

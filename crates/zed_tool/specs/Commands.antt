@@ -16,30 +16,23 @@ use Rattle.zed_tool_words.specs.declared.asked.Length.{Length as LengthWord}
 use Rattle.zed_tool_words.specs.declared.asked.Length.TheVariants.{Short, Full}
 use Rattle.zed_tool_words.specs.declared.asked.Listing.{Listing as ListingWords}
 use Rattle.zed_tool_words.specs.declared.asked.Listing.TheVariants.{Boards, Stats, Program}
-use Rattle.zed_tool_words.specs.Commands.{Command, Open, Take, Log, Lists, Show, Lint, Set, ProgramOf, SetProgram}
+use Rattle.zed_tool_words.specs.Commands.{Command, Open, Take, Log, Lists, Show}
 use Rattle.std.specs.Prelude.{◌≡◌, ℕ, List, [], ◌∷◌, Option, Some, Result, Ok, Err}
 use Rattle.zed_host.specs.Calls.{Call, Printing}
 use Rattle.zed_host.specs.HostContents.{HostContents}
 use Rattle.zed_files.specs.declared.refusal.Refusal.{Refusal}
 use Rattle.zed_files.specs.Asked.{Asks as AsksFiles, reading, refusal_in, writing}
 use Rattle.zed_files.specs.Effects.{Effect, Ends as EndsTelling}
-use Rattle.zed_telling.specs.Linted.{lint_of}
 use Rattle.zed_telling.specs.Listed.{list_of}
 use Rattle.zed_telling.specs.Logged.{log_of}
-use Rattle.zed_telling.specs.Told.{ComesToTell, EndsCounted}
+use Rattle.zed_telling.specs.Told.{ComesToTell}
 use Rattle.zed_showing.specs.Shown.{ComesToShow}
-use Rattle.zed_set_words.specs.declared.bad.BadWord.{BadWord as WrongWord}
-use Rattle.zed_set_words.specs.declared.wishes.Wish.{Wish}
-use Rattle.zed_set_words.specs.Rows.{wish_of}
-use Rattle.zed_set.specs.Setting.{ComesToSet}
-use Rattle.zed_programs.specs.Printed.{printed}
-use Rattle.zed_programs.specs.Setting.{ComesToSet as ComesToSetProgram, SetReads, SetWrites}
 use Rattle.zed_drawing.specs.Asked.{Asks, Did}
 use Rattle.zed_drawing.specs.Base.{base_word, presence_of}
 use Rattle.zed_drawing.specs.Effects.{Ends}
 use Rattle.zed_drawing.specs.Opening.{ComesToOpen, OpenReads, OpenWrites}
 use Rattle.zed_drawing.specs.Taking.{ComesToTake, TakeReads, TakeWrites}
-use Rattle.zed_tool.specs.Answers.{Answer, Handed, drawn_as, linted_as, told_as, wrong_word}
+use Rattle.zed_tool.specs.Answers.{Answer, Handed, drawn_as, told_as, NotTaken}
 
 -- ---- what words ask for, as the commands take it
 
@@ -79,17 +72,6 @@ EndsTold failed Comes t answer left = Handed told_as (λ r. EndsTelling failed C
 abbrev pub AsksTold : {H : Type 0} → (H → Call → H → Type 0) → List (List ℕ) → Answer → H → H → Type 0
 AsksTold called files answer old new = Handed told_as (λ r. AsksFiles called (reading files) (Printing ∷ []) (refusal_in r) old new) answer
 
--- `set` ends so, where its words wish this; where one of them is wrong, it left all as it was
-abbrev pub EndsSet : Type 0 → HostContents → List ℕ → ℕ → List (List ℕ) → Result Wish WrongWord → Answer → Option HostContents → Type 0
-EndsSet failed t file replica words (Ok wish) answer left = EndsTold failed (ComesToSet failed t file replica wish) t answer left
-EndsSet failed t file replica words (Err bad) answer left = (answer ≡ Err (wrong_word words bad)) × (left ≡ Some t)
-
--- it reads a file and writes it; where a word is wrong, it asks for nothing
-abbrev pub AsksSet : {H : Type 0} → (H → Call → H → Type 0) → List ℕ → List (List ℕ) → Result Wish WrongWord → Answer → H → H → Type 0
-AsksSet called file words (Ok wish) answer old new =
-    Handed told_as (λ r. AsksFiles called (reading (file ∷ [])) (writing file) (refusal_in r) old new) answer
-AsksSet called file words (Err bad) answer old new = (answer ≡ Err (wrong_word words bad)) × (new ≡ old)
-
 -- so a command ends, with this in its host
 abbrev pub EndsCommand : {H : Type 0} → (H → Call → H → Type 0) → Type 0 → Command → H → H → HostContents → Answer → Option HostContents → Type 0
 EndsCommand called failed (Open until forcing file world) old new t answer left =
@@ -102,13 +84,6 @@ EndsCommand called failed (Log length board cell replica since files) old new t 
     EndsTold failed (ComesToTell failed t (log_of (length_of length) (filter_of board cell replica since)) files) t answer left
 EndsCommand called failed (Lists listing files) old new t answer left = EndsTold failed (ComesToTell failed t (list_of (listing_of listing)) files) t answer left
 EndsCommand called failed (Show form board files) old new t answer left = EndsTold failed (ComesToShow failed t (form_of form) board files) t answer left
-EndsCommand called failed (Lint strictness files) old new t answer left =
-    Handed (linted_as strictness) (λ r. EndsCounted failed (ComesToTell failed t lint_of files) t r left) answer
-EndsCommand called failed (Set file replica words) old new t answer left = EndsSet failed t file replica words (wish_of words) answer left
-EndsCommand called failed (ProgramOf board stat files) old new t answer left = EndsTold failed (ComesToTell failed t (printed board stat) files) t answer left
-EndsCommand called failed (SetProgram file replica board stat text) old new t answer left =
-    Handed (drawn_as text) (λ r. Ends failed (ComesToSetProgram failed t file replica board stat text)
-    (Did called (SetReads file text) old new) t r left) answer
 
 -- and this it asks of its host, call by call
 abbrev pub AsksCommand : {H : Type 0} → (H → Call → H → Type 0) → Command → Answer → H → H → Type 0
@@ -119,9 +94,3 @@ AsksCommand called (Take base file replica world) answer old new =
 AsksCommand called (Log length board cell replica since files) answer old new = AsksTold called files answer old new
 AsksCommand called (Lists listing files) answer old new = AsksTold called files answer old new
 AsksCommand called (Show form board files) answer old new = AsksTold called files answer old new
-AsksCommand called (Lint strictness files) answer old new =
-    Handed (linted_as strictness) (λ r. AsksFiles called (reading files) (Printing ∷ []) (refusal_in r) old new) answer
-AsksCommand called (Set file replica words) answer old new = AsksSet called file words (wish_of words) answer old new
-AsksCommand called (ProgramOf board stat files) answer old new = AsksTold called files answer old new
-AsksCommand called (SetProgram file replica board stat text) answer old new =
-    Handed (drawn_as text) (λ r. Asks called (SetReads file text) (SetWrites file) r old new) answer

@@ -1,4 +1,4 @@
-//! The work of the program `zztool`, over any host.
+//! `zztool` over any host: which command runs, and what it leaves.
 #![tactic(auto)]
 
 mod answers;

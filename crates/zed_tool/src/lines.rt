@@ -1,15 +1,13 @@
 //! The lines that the program writes where a command was not carried out: those of `zzted`, under its own name, and some more.
-ghost use Rattle.std.specs.Prelude.{◌≡◌, IfOk, IfSome, None, option_map, string_bytes, true};
+ghost use Rattle.std.specs.Prelude.{◌≡◌, IfOk, IfSome, None, string_bytes, true};
 ghost use Rattle.zed_files.specs.declared.refusal.Refusal.TheVariants.{BadEdit};
-ghost use Rattle.zed_tool.specs.Answers.{BadText as TextFailure, BadWord, Refused, failure_of};
+ghost use Rattle.zed_tool.specs.Answers.{Refused, failure_of};
 ghost use Rattle.zed_tool.specs.Lines.{line_of as line_for, tells_more};
 
 use crate::error::ToolError;
 use std::alloc::{AllocError, Global};
 use zed_edit::Cause;
 use zed_files::Refusal;
-use zed_program_text::BadText;
-use zed_set_words::Expected;
 use zed_types::Stamp;
 
 // The line of an edit that doesn't fit.
@@ -71,14 +69,13 @@ fn shared_line(refusal: Refusal) -> Option<&'static str>
 }
 
 /// The line of a failure that tells nothing but its name, for the standard error.
-pub(crate) fn plain_line(error: ToolError<'_>) -> Option<&'static str>
-    ensures line { IfSome result (λ text. text.now ≡ line_for (failure_of error.entry)) }
-    ensures none { result ≡ None → tells_more (failure_of error.entry) ≡ true }
+pub(crate) fn plain_line(error: ToolError) -> Option<&'static str>
+    ensures line { IfSome result (λ text. text.now ≡ line_for (failure_of error)) }
+    ensures none { result ≡ None → tells_more (failure_of error) ≡ true }
 {
     match error {
         ToolError::Refused(refusal) => shared_line(refusal),
         ToolError::NotTaken => Some("zztool: NotTaken\n"),
-        ToolError::BadWord(_, _) | ToolError::BadText(_, _) => None,
     }
 }
 
@@ -102,40 +99,12 @@ fn shared_line_of(alloc: Global, refusal: Refusal) -> Result<String, AllocError>
     }
 }
 
-// The line of a word that may not be there.
-fn bad_word_line(
-    alloc: Global,
-    word: Option<&str>,
-    expected: Expected,
-) -> Result<String, AllocError>
-    ensures { IfOk result (λ text.
-        string_bytes text ≡ line_for (BadWord (option_map (λ s. s.now) word.entry) expected)) }
-{
-    let may_be = expected.text();
-    match word {
-        Some(word) => format!(in alloc; "zztool: BadWord '{word}': expected {may_be}\n"),
-        None => format!(in alloc; "zztool: BadWord the end: expected {may_be}\n"),
-    }
-}
-
-// The line of a text that is no program.
-fn bad_text_line(alloc: Global, file: &str, bad: BadText) -> Result<String, AllocError>
-    ensures { IfOk result (λ text.
-        string_bytes text ≡ line_for (TextFailure file.now bad.line bad.column)) }
-{
-    let BadText { line, column } = bad;
-    format!(in alloc; "zztool: {file}:{line}:{column}: BadText\n")
-}
-
-/// The line for the standard error: `zztool: `, the name of the refusal, and its numbers or cause, each after a space; or what a wrong
-/// word or a wrong text is told with.
-pub(crate) fn line_of(alloc: Global, error: ToolError<'_>) -> Result<String, AllocError>
-    ensures { IfOk result (λ text. string_bytes text ≡ line_for (failure_of error.entry)) }
+/// The line for the standard error: `zztool: `, the name of the refusal, and its numbers or cause, each after a space.
+pub(crate) fn line_of(alloc: Global, error: ToolError) -> Result<String, AllocError>
+    ensures { IfOk result (λ text. string_bytes text ≡ line_for (failure_of error)) }
 {
     match error {
         ToolError::Refused(refusal) => shared_line_of(alloc, refusal),
         ToolError::NotTaken => String::from_str(alloc, "zztool: NotTaken\n"),
-        ToolError::BadWord(word, expected) => bad_word_line(alloc, word, expected),
-        ToolError::BadText(file, bad) => bad_text_line(alloc, file, bad),
     }
 }

@@ -14,7 +14,7 @@ ghost use Rattle.zed_tool.specs.Lines.{line_of as line_for};
 ghost use Rattle.zed_tool.specs.Taking.{AsksToTake, TakesSet};
 ghost use Rattle.zed_tool.specs.Outcome.{Complained, Prints, Runs, TellsFailures, TellsOf, hosts};
 
-use crate::answers::{drawn, linted, set_told, told};
+use crate::answers::{drawn, told};
 use crate::asked::{forcing_of, form_of, length_of, listing_of};
 use crate::error::ToolError;
 use crate::lines::{line_of, plain_line};
@@ -23,10 +23,8 @@ use zed_drawing::{open, take};
 use zed_editfile::one_reading;
 use zed_files::Refusal;
 use zed_host::Host;
-use zed_programs::set_program;
-use zed_set::set;
 use zed_showing::show;
-use zed_telling::{Filter, lint, list, log};
+use zed_telling::{Filter, list, log};
 use zed_tool_words::{Command, ParseError, parse, version};
 
 const MEMORY_LINE: &[u8] = b"zztool: Memory\n";
@@ -40,8 +38,8 @@ fn complain<H: Host>(host: &mut H, text: &[u8])
 }
 
 // Writes the line of a failure to the standard error.
-fn complain_of<H: Host>(alloc: Global, host: &mut H, error: ToolError<'_>)
-    ensures { TellsOf (hosts H.contents H.called H.failed H.faults) (failure_of error.entry)
+fn complain_of<H: Host>(alloc: Global, host: &mut H, error: ToolError)
+    ensures { TellsOf (hosts H.contents H.called H.failed H.faults) (failure_of error)
         host.old host.new }
 {
     match plain_line(error) {
@@ -54,7 +52,7 @@ fn complain_of<H: Host>(alloc: Global, host: &mut H, error: ToolError<'_>)
 }
 
 // Carries a command out, and answers its status.
-fn act<'a, H: Host>(alloc: Global, host: &mut H, command: &Command<'a>) -> Result<u8, ToolError<'a>>
+fn act<H: Host>(alloc: Global, host: &mut H, command: &Command<'_>) -> Result<u8, ToolError>
     ensures ends { (t : HostContents) → H.contents host.old ≡ Some t
         → EndsCommand H.called (Rose (H.faults host.old) (H.faults host.new))
         (meaning_of command.now) host.old host.new t (answer_of result) (H.contents host.new) }
@@ -108,30 +106,6 @@ fn act<'a, H: Host>(alloc: Global, host: &mut H, command: &Command<'a>) -> Resul
             *board,
             files.as_slice(),
         )),
-        Command::Lint { strictness, files } => {
-            linted(*strictness, lint(alloc, host, files.as_slice()))
-        }
-        Command::Set {
-            file,
-            replica,
-            words,
-        } => {
-            let words = words.as_slice();
-            set_told(words, set(alloc, host, file, *replica, words))
-        }
-        Command::Program { board, stat, files } => {
-            told(zed_programs::program(alloc, host, *board, *stat, files.as_slice()))
-        }
-        Command::SetProgram {
-            file,
-            replica,
-            board,
-            stat,
-            text,
-        } => drawn(
-            *text,
-            set_program(alloc, host, file, *replica, *board, *stat, text),
-        ),
     }
 }
 
@@ -175,8 +149,8 @@ fn run_words<H: Host>(alloc: Global, words: &[String], host: &mut H) -> u8
     }
 }
 
-/// Does what the words after the program's name ask for, and answers the exit status: 0, or 1 for what `lint --strict` finds; or 1, with a
-/// line on the standard error that names the refusal; or 2 for words that are no command. Help that words ask for is printed, with status 0,
+/// Does what the words after the program's name ask for, and answers the exit status: 0; or 1, with a line on the standard error that
+/// names the refusal; or 2 for words that are no command. Help that words ask for is printed, with status 0,
 /// and so is the version.
 ///
 /// A refusal comes before the first write, but for `File` where the host fails at a write: then the files that were written before are whole,

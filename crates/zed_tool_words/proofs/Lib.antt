@@ -6,7 +6,4 @@ pub mod TakeWords
 pub mod LogWords
 pub mod ListWords
 pub mod ShowWords
-pub mod LintWords
-pub mod SetWords
-pub mod ProgramWords
 pub mod HelpWords

@@ -17,8 +17,6 @@ use Rattle.zed_tool_words.specs.declared.asked.Length.{Length}
 use Rattle.zed_tool_words.specs.declared.asked.Length.TheVariants.{Short, Full}
 use Rattle.zed_tool_words.specs.declared.asked.Listing.{Listing}
 use Rattle.zed_tool_words.specs.declared.asked.Listing.TheVariants.{Boards, Stats, Program}
-use Rattle.zed_tool_words.specs.declared.asked.Strictness.{Strictness}
-use Rattle.zed_tool_words.specs.declared.asked.Strictness.TheVariants.{Lenient, Strict}
 use Rattle.zed_tool_words.specs.declared.asked.Command.{Command as Spoken}
 use Rattle.zed_tool_words.specs.declared.asked.Command.TheVariants as spoken
 use Rattle.zed_tool_words.specs.declared.words.ParseError.{ParseError}
@@ -32,10 +30,6 @@ pub data Command : Type 0 where
   Log : (length : Length) → (board : Option ℕ) → (cell : Option (ℕ × ℕ × ℕ)) → (replica : Option ℕ) → (since : Option ℕ) → (files : List Text) → Command
   Lists : (listing : Listing) → (files : List Text) → Command
   Show : (form : Form) → (board : ℕ) → (files : List Text) → Command
-  Lint : (strictness : Strictness) → (files : List Text) → Command
-  Set : (file : Text) → (replica : ℕ) → (words : List Text) → Command
-  ProgramOf : (board : ℕ) → (stat : ℕ) → (files : List Text) → Command
-  SetProgram : (file : Text) → (replica : ℕ) → (board : ℕ) → (stat : ℕ) → (text : Text) → Command
 
 -- what a command of the code says
 abbrev pub meaning_of : Spoken → Command
@@ -44,10 +38,6 @@ meaning_of (spoken.Take base file replica world) = Take (option_map (λ s. s.now
 meaning_of (spoken.Log length board cell replica since files) = Log length board cell replica since (map (λ s. s.now) files.items)
 meaning_of (spoken.List listing files) = Lists listing (map (λ s. s.now) files.items)
 meaning_of (spoken.Show form board files) = Show form board (map (λ s. s.now) files.items)
-meaning_of (spoken.Lint strictness files) = Lint strictness (map (λ s. s.now) files.items)
-meaning_of (spoken.Set file replica words) = Set file.now replica (map (λ s. s.now) words.items)
-meaning_of (spoken.Program board stat files) = ProgramOf board stat (map (λ s. s.now) files.items)
-meaning_of (spoken.SetProgram file replica board stat text) = SetProgram file.now replica board stat text.now
 
 -- whether this is the word that a flag has
 abbrev pub is_true : Option Text → Bool
@@ -65,10 +55,6 @@ forcing_of rows = if has_flag (codes "force") rows then Forced else Careful
 -- what `--full` says
 abbrev pub length_of : List Row → Length
 length_of rows = if has_flag (codes "full") rows then Full else Short
-
--- what `--strict` says
-abbrev pub strictness_of : List Row → Strictness
-strictness_of rows = if has_flag (codes "strict") rows then Strict else Lenient
 
 -- by whether `--plain` is there, and `--svg`: not both
 abbrev pub form_by : Bool → Bool → Option Form
@@ -151,44 +137,6 @@ abbrev pub show_of : List Row → Option Command
 show_of rows = option_and_then (λ form. option_and_then (λ board. option_map (λ files.
     Show form board files) (all_of (codes "FILES") rows)) (option_number 16 (codes "BOARD") rows)) (form_of rows)
 
--- for `lint`
-abbrev pub lint_of : List Row → Option Command
-lint_of rows = option_map (λ files. Lint (strictness_of rows) files) (all_of (codes "FILES") rows)
-
--- for `set`
-abbrev pub set_of : List Row → Option Command
-set_of rows = option_and_then (λ file. option_and_then (λ replica. option_map (λ words.
-    Set file replica words)
-    (all_of (codes "WORDS") rows)) (option_number 16 (codes "REPLICA") rows)) (first_of (codes "FILE") rows)
-
--- behind the numbers of a board and of a stat: files, of which there is one at least
-abbrev pub program_files : ℕ → ℕ → List Text → Option Command
-program_files board stat [] = None
-program_files board stat (file ∷ files) = Some (ProgramOf board stat (file ∷ files))
-
--- behind the number of a board: that of a stat, and files
-abbrev pub program_board : ℕ → List Text → Option Command
-program_board board [] = None
-program_board board (word ∷ words) = option_and_then (λ stat. program_files board stat words) (number_of 16 word)
-
--- behind `program`: both numbers, and files
-abbrev pub program_words : List Text → Option Command
-program_words [] = None
-program_words (word ∷ words) = option_and_then (λ board. program_board board words) (number_of 16 word)
-
--- with `--set`: a file, the number of a replica, both numbers, and the file of a text
-abbrev pub set_program_words : List Text → Option Command
-set_program_words (file ∷ r ∷ b ∷ s ∷ text ∷ []) =
-    option_and_then (λ replica. option_and_then (λ board. option_map (λ stat.
-    SetProgram file replica board stat text) (number_of 16 s)) (number_of 16 b)) (number_of 16 r)
-set_program_words words = None
-
--- for `program`
-abbrev pub program_of : List Row → Option Command
-program_of rows = option_and_then (λ words.
-    if has_flag (codes "set") rows then set_program_words words else program_words words)
-    (all_of (codes "WORDS") rows)
-
 -- by the name of the subcommand
 abbrev pub subcommand_asks : Text × List Row → Option Command
 subcommand_asks p =
@@ -196,10 +144,7 @@ subcommand_asks p =
     else (if bytes_eq p.0 (codes "take") then take_of p.1
     else (if bytes_eq p.0 (codes "log") then log_of p.1
     else (if bytes_eq p.0 (codes "list") then list_of p.1
-    else (if bytes_eq p.0 (codes "show") then show_of p.1
-    else (if bytes_eq p.0 (codes "lint") then lint_of p.1
-    else (if bytes_eq p.0 (codes "set") then set_of p.1
-    else (if bytes_eq p.0 (codes "program") then program_of p.1 else None)))))))
+    else (if bytes_eq p.0 (codes "show") then show_of p.1 else None))))
 
 -- what is asked for where `clap` finds no fault
 abbrev pub unless_refused : Kinds → Option Command → Option Command

@@ -40,10 +40,6 @@ flag_rule id = record (new_rule id) { long = Some id; action = Some SetTrue }
 abbrev pub number_rule : List ℕ → Rule
 number_rule id = record (required_rule id) { parser = Some (value.Signed (pos 0) (pos 65535)) }
 
--- one word or more, of which all but the first may begin with a hyphen
-abbrev pub trailing_rule : List ℕ → Rule
-trailing_rule id = record (several_rule id) { trailing_var_arg = true }
-
 -- a subcommand by its name and arguments
 abbrev pub shape_with : List ℕ → List Rule → Shape
 shape_with name rules = record (new_shape name) { rules = rules }
@@ -73,18 +69,6 @@ abbrev pub show_shape : Shape
 show_shape = shape_with (codes "show")
     (number_rule (codes "BOARD") ∷ several_rule (codes "FILES") ∷ flag_rule (codes "plain") ∷ flag_rule (codes "svg") ∷ [])
 
--- `lint [--strict] FILES...`
-abbrev pub lint_shape : Shape
-lint_shape = shape_with (codes "lint") (several_rule (codes "FILES") ∷ flag_rule (codes "strict") ∷ [])
-
--- `set FILE REPLICA WORDS...`
-abbrev pub set_shape : Shape
-set_shape = shape_with (codes "set") (required_rule (codes "FILE") ∷ number_rule (codes "REPLICA") ∷ trailing_rule (codes "WORDS") ∷ [])
-
--- `program B S FILES...` and `program --set FILE REPLICA B S TEXT`, where numbers and files are words alike
-abbrev pub program_shape : Shape
-program_shape = shape_with (codes "program") (several_rule (codes "WORDS") ∷ flag_rule (codes "set") ∷ [])
-
 -- the program without its subcommands; it has a version, and without words it is refused, with a text of help
 abbrev pub top_app : App
 top_app = on_top (λ s. record s { no_binary_name = true; arg_required_else_help = true; has_version = true }) (new_app (codes "zztool"))
@@ -92,4 +76,4 @@ top_app = on_top (λ s. record s { no_binary_name = true; arg_required_else_help
 -- the whole command line
 abbrev pub tool_app : App
 tool_app = fold with_subcommand top_app
-    (open_shape ∷ take_shape ∷ log_shape ∷ list_shape ∷ show_shape ∷ lint_shape ∷ set_shape ∷ program_shape ∷ [])
+    (open_shape ∷ take_shape ∷ log_shape ∷ list_shape ∷ show_shape ∷ [])

@@ -11,9 +11,7 @@ use Rattle.zed_tool_words.specs.declared.asked.Form.TheVariants.{Coloured, Plain
 use Rattle.zed_tool_words.specs.declared.asked.Length.{Length}
 use Rattle.zed_tool_words.specs.declared.asked.Length.TheVariants.{Short, Full}
 use Rattle.zed_tool_words.specs.declared.asked.Listing.TheVariants.{Boards, Stats, Program}
-use Rattle.zed_tool_words.specs.declared.asked.Strictness.{Strictness}
-use Rattle.zed_tool_words.specs.declared.asked.Strictness.TheVariants.{Lenient, Strict}
-use Rattle.zed_tool_words.specs.Commands.{AsksHelp, AsksVersion, Open, Take, Log, Lists, Show, Lint, Set, ProgramOf, SetProgram, command_of, is_decimal, number_within}
+use Rattle.zed_tool_words.specs.Commands.{AsksHelp, AsksVersion, Open, Take, Log, Lists, Show, command_of, is_decimal, number_within}
 
 -- the words that force, if it is forced
 abbrev pub force_words : Forcing → List Text
@@ -116,46 +114,6 @@ PlainWordsShow =
     → length (file ∷ files) ≤ 18446744073709551615
     → command_of (codes "show" ∷ form_words form ++ number ∷ file ∷ files) ≡ Some (Show form board (file ∷ files))
 
--- the words that ask to be strict, if it is asked for
-abbrev pub strict_words : Strictness → List Text
-strict_words Lenient = []
-strict_words Strict = codes "--strict" ∷ []
-
--- `lint FILES...` asks what is wrong in the world of these files, and so it does with `--strict` in front
-abbrev pub PlainWordsLint : Type 0
-PlainWordsLint =
-    (strictness : Strictness) (file : Text) (files : List Text)
-    → list_all is_plain (file ∷ files) ≡ true
-    → length (file ∷ files) ≤ 18446744073709551615
-    → command_of (codes "lint" ∷ strict_words strictness ++ file ∷ files) ≡ Some (Lint strictness (file ∷ files))
-
--- `set FILE REPLICA WORDS...` asks to set what the words say, as the author with the replica of this number; words behind the first may begin
--- with a hyphen
-abbrev pub PlainWordsSet : Type 0
-PlainWordsSet =
-    (file number word : Text) (words : List Text) (replica : ℕ)
-    → number_of 16 number ≡ Some replica
-    → list_all is_plain (file ∷ word ∷ []) ≡ true
-    → length (word ∷ words) ≤ 18446744073709551615
-    → command_of (codes "set" ∷ file ∷ number ∷ word ∷ words) ≡ Some (Set file replica (word ∷ words))
-
--- `program B S FILES...` asks for the program of stat S of board B
-abbrev pub PlainWordsProgram : Type 0
-PlainWordsProgram =
-    (number other file : Text) (files : List Text) (board stat : ℕ)
-    → number_of 16 number ≡ Some board → number_of 16 other ≡ Some stat
-    → list_all is_plain (file ∷ files) ≡ true
-    → length (number ∷ other ∷ file ∷ files) ≤ 18446744073709551615
-    → command_of (codes "program" ∷ number ∷ other ∷ file ∷ files) ≡ Some (ProgramOf board stat (file ∷ files))
-
--- `program --set FILE REPLICA B S TEXT` asks to put the text of a file in its place, as the author with the replica of this number
-abbrev pub SetsProgram : Type 0
-SetsProgram =
-    (file author number other text : Text) (replica board stat : ℕ)
-    → number_of 16 author ≡ Some replica → number_of 16 number ≡ Some board → number_of 16 other ≡ Some stat
-    → list_all is_plain (file ∷ text ∷ []) ≡ true
-    → command_of (codes "program" ∷ codes "--set" ∷ file ∷ author ∷ number ∷ other ∷ text ∷ []) ≡ Some (SetProgram file replica board stat text)
-
 -- `--help` asks for help
 abbrev pub HelpAsksHelp : Type 0
 HelpAsksHelp = AsksHelp (codes "--help" ∷ [])
@@ -165,8 +123,7 @@ abbrev pub HelpOfCommands : Type 0
 HelpOfCommands =
     AsksHelp (codes "open" ∷ codes "--help" ∷ []) × AsksHelp (codes "take" ∷ codes "--help" ∷ [])
     × AsksHelp (codes "log" ∷ codes "--help" ∷ []) × AsksHelp (codes "list" ∷ codes "--help" ∷ [])
-    × AsksHelp (codes "show" ∷ codes "--help" ∷ []) × AsksHelp (codes "lint" ∷ codes "--help" ∷ [])
-    × AsksHelp (codes "set" ∷ codes "--help" ∷ []) × AsksHelp (codes "program" ∷ codes "--help" ∷ [])
+    × AsksHelp (codes "show" ∷ codes "--help" ∷ [])
 
 -- `--version` asks for the version
 abbrev pub VersionAsksVersion : Type 0

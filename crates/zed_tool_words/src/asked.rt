@@ -29,15 +29,6 @@ pub enum Length {
     Full,
 }
 
-/// Whether what is found in a world makes a command fail.
-#[derive(Clone, Copy)]
-pub enum Strictness {
-    /// It doesn't.
-    Lenient,
-    /// It does: `--strict`.
-    Strict,
-}
-
 /// What of a world is listed.
 #[derive(Clone, Copy)]
 pub enum Listing {
@@ -88,30 +79,5 @@ pub enum Command<'a> {
         form: Form,
         board: u16,
         files: Vec<&'a str>,
-    },
-    /// What is wrong in the world of edit files is to be listed.
-    Lint {
-        strictness: Strictness,
-        files: Vec<&'a str>,
-    },
-    /// What these words say is to be set in an edit file, as edits of an author.
-    Set {
-        file: &'a str,
-        replica: u16,
-        words: Vec<&'a str>,
-    },
-    /// The program of a stat in the world of edit files is to be printed.
-    Program {
-        board: u16,
-        stat: u16,
-        files: Vec<&'a str>,
-    },
-    /// The text of a file is to be the program of a stat in an edit file, as edits of an author.
-    SetProgram {
-        file: &'a str,
-        replica: u16,
-        board: u16,
-        stat: u16,
-        text: &'a str,
     },
 }

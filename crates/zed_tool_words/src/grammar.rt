@@ -2,7 +2,7 @@
 ghost use Rattle.std.specs.Prelude.{◌≡◌, codes, false, IfOk};
 ghost use Rattle.clap.specs.Words.{app_of, new_app, rule_of, shape_of, with_rule, with_subcommand};
 ghost use Rattle.clap.specs.declared.builder.command.Command.TheViews.{out-Command};
-ghost use Rattle.zed_tool_words.specs.Grammar.{cell_rule, flag_rule, lint_shape, list_shape, log_shape, number_option, number_rule, open_shape, option_rule, program_shape, required_rule, set_shape, several_rule, show_shape, take_shape, time_option, tool_app, top_app, trailing_rule};
+ghost use Rattle.zed_tool_words.specs.Grammar.{cell_rule, flag_rule, list_shape, log_shape, number_option, number_rule, open_shape, option_rule, required_rule, several_rule, show_shape, take_shape, time_option, tool_app, top_app};
 
 use crate::release::VERSION;
 use clap::{Arg, ArgAction, Command};
@@ -71,14 +71,6 @@ fn number_word<'a>(alloc: Global, name: &'a str, help: &'a str) -> Arg<'a>
     ensures local { result.global ≡ false }
 {
     required_argument(alloc, name, help).value_parser(clap::value_parser!(u16))
-}
-
-// One word or more, of which all but the first may begin with a hyphen.
-fn trailing_argument<'a>(alloc: Global, name: &'a str, help: &'a str) -> Arg<'a>
-    ensures rule { rule_of result ≡ trailing_rule name.entry.now }
-    ensures local { result.global ≡ false }
-{
-    several_argument(alloc, name, help).trailing_var_arg(true)
 }
 
 fn replica_argument<'a>(alloc: Global) -> Arg<'a>
@@ -212,7 +204,7 @@ fn log_command<'a>(alloc: Global) -> Result<Command<'a>, AllocError>
     let command = bare_command(
         alloc,
         "log",
-        "List the edits of edit files, a line each: when, by whom and what",
+        "List the edits of edit files, a line each: when, by whom and what, and whether it still holds",
     );
     let command = with_argument(command, files_argument(alloc))?;
     let command = with_argument(
@@ -301,91 +293,13 @@ fn show_command<'a>(alloc: Global) -> Result<Command<'a>, AllocError>
     )
 }
 
-/// `lint [--strict] FILES...`
-fn lint_command<'a>(alloc: Global) -> Result<Command<'a>, AllocError>
-    ensures shape { IfOk result (λ c. shape_of c ≡ lint_shape) }
-    ensures local { IfOk result (λ c. (out-Command c).has_globals ≡ false) }
-{
-    let command = bare_command(
-        alloc,
-        "lint",
-        "List what ZZT, or who plays, would stumble over in the world of edit files, a line each",
-    );
-    let command = with_argument(command, files_argument(alloc))?;
-    with_argument(
-        command,
-        flag_argument(
-            alloc,
-            "strict",
-            "Fail with status 1 where a line is printed",
-        ),
-    )
-}
-
-/// `set FILE REPLICA WORDS...`
-fn set_command<'a>(alloc: Global) -> Result<Command<'a>, AllocError>
-    ensures shape { IfOk result (λ c. shape_of c ≡ set_shape) }
-    ensures local { IfOk result (λ c. (out-Command c).has_globals ≡ false) }
-{
-    let command = bare_command(
-        alloc,
-        "set",
-        "Set a register of the world, a property of a board or a field of a stat in an edit file, as an edit of an author",
-    );
-    let command = with_argument(
-        command,
-        required_argument(
-            alloc,
-            "FILE",
-            "The edit file, which is read and written again",
-        ),
-    )?;
-    let command = with_argument(command, replica_argument(alloc))?;
-    with_argument(
-        command,
-        trailing_argument(
-            alloc,
-            "WORDS",
-            "What is set, and to what: world ammo 10, board 1 exit north 2, stat 1 3 cycle -1; of a wrong word it is told what may be in its place",
-        ),
-    )
-}
-
-/// `program B S FILES...`, or `program --set FILE REPLICA B S TEXT`
-fn program_command<'a>(alloc: Global) -> Result<Command<'a>, AllocError>
-    ensures shape { IfOk result (λ c. shape_of c ≡ program_shape) }
-    ensures local { IfOk result (λ c. (out-Command c).has_globals ≡ false) }
-{
-    let command = bare_command(
-        alloc,
-        "program",
-        "Print the program of a stat: program B S FILES; or put the text of a file in its place, as edits of an author: program --set FILE REPLICA B S TEXT",
-    );
-    let command = with_argument(
-        command,
-        several_argument(
-            alloc,
-            "WORDS",
-            "The numbers of a board (0 for the title) and of a stat on it (0 for the player), which list tells, and edit files; with --set an edit file, the author's own number, both numbers, and the file of a text",
-        ),
-    )?;
-    with_argument(
-        command,
-        flag_argument(
-            alloc,
-            "set",
-            "Put the text of a file in the place of the program",
-        ),
-    )
-}
-
 // The program without its commands.
 fn top_command<'a>(alloc: Global) -> Result<Command<'a>, AllocError>
     ensures { IfOk result (λ c. app_of c ≡ top_app) }
 {
     Command::new(alloc, "zztool")
         .about(
-            "Shows, lists and checks the worlds of zzted edit files, sets what is in them, opens them to another editor and takes back what was drawn",
+            "Shows and lists the worlds of zzted edit files, opens them to another editor and takes back what was drawn",
         )
         .version(VERSION)
         .no_binary_name(true)
@@ -411,8 +325,5 @@ pub(crate) fn tool_command<'a>(alloc: Global) -> Result<Command<'a>, AllocError>
     let program = with_command(program, take_command(alloc)?)?;
     let program = with_command(program, log_command(alloc)?)?;
     let program = with_command(program, list_command(alloc)?)?;
-    let program = with_command(program, show_command(alloc)?)?;
-    let program = with_command(program, lint_command(alloc)?)?;
-    let program = with_command(program, set_command(alloc)?)?;
-    with_command(program, program_command(alloc)?)
+    with_command(program, show_command(alloc)?)
 }

@@ -1,5 +1,5 @@
 //! What plain words ask for. A number is written in decimal digits, where a plus may stand first, so its word begins with no hyphen.
-ghost use Rattle.zed_tool_words.specs.Laws.{HelpAsksHelp, HelpOfCommands, ListsBoards, ListsProgram, ListsStats, LogInFull, LogOfBoard, LogOfCell, LogOfReplica, LogSince, PlainWordsLint, PlainWordsLog, PlainWordsOpen, PlainWordsProgram, PlainWordsSet, PlainWordsShow, PlainWordsTake, SetsProgram, VersionAsksVersion};
+ghost use Rattle.zed_tool_words.specs.Laws.{HelpAsksHelp, HelpOfCommands, ListsBoards, ListsProgram, ListsStats, LogInFull, LogOfBoard, LogOfCell, LogOfReplica, LogSince, PlainWordsLog, PlainWordsOpen, PlainWordsShow, PlainWordsTake, VersionAsksVersion};
 
 /// `open FILE WORLD`, where no word begins with a hyphen, asks to open; in front of them may stand `--until TIME`, where `TIME` is a number
 /// below 2^64, and then `--force`.
@@ -36,25 +36,6 @@ pub fn plain_words_list()
 /// `--plain` or `--svg` in front of them in another form.
 pub fn plain_words_show()
     ensures { PlainWordsShow }
-{}
-
-/// `lint FILES...`, where no word begins with a hyphen, asks what is wrong in the world of the files, and so it does with `--strict` in front
-/// of them.
-pub fn plain_words_lint()
-    ensures { PlainWordsLint }
-{}
-
-/// `set FILE REPLICA WORDS...`, where `REPLICA` is a number below 2^16, and neither `FILE` nor the first of `WORDS` begins with a hyphen,
-/// asks to set what the words say.
-pub fn plain_words_set()
-    ensures { PlainWordsSet }
-{}
-
-/// `program B S FILES...`, where `B` and `S` are numbers below 2^16 and no other word begins with a hyphen, asks for a program;
-/// `program --set FILE REPLICA B S TEXT` asks to put the text of a file in its place.
-pub fn plain_words_program()
-    ensures told { PlainWordsProgram }
-    ensures put { SetsProgram }
 {}
 
 /// `--help` asks for help, alone or behind the name of a command.

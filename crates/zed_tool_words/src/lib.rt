@@ -1,18 +1,17 @@
-//! The words of the command line of `zztool`: what they may be, which `clap` is told, and what they ask for.
+//! The command line of `zztool`: what `clap` is told, and which command the words ask for.
 #![tactic(auto)]
 
 mod asked;
 mod grammar;
 mod laws;
 mod listed;
-mod programs;
 mod release;
 mod words;
 
-pub use asked::{Command, Forcing, Form, Length, Listing, Strictness};
+pub use asked::{Command, Forcing, Form, Length, Listing};
 pub use laws::{
-    help_words, plain_words_lint, plain_words_list, plain_words_log, plain_words_open,
-    plain_words_program, plain_words_set, plain_words_show, plain_words_take, version_words,
+    help_words, plain_words_list, plain_words_log, plain_words_open, plain_words_show,
+    plain_words_take, version_words,
 };
 pub use release::version;
 pub use words::{ParseError, parse};

@@ -4,12 +4,11 @@ ghost use Rattle.clap.specs.Walk.{all_of, first_of, one_of};
 ghost use Rattle.clap.specs.Words.{FailsBy, fault_of, found_of, rows_of, subcommand_of, subcommand_rows_of};
 ghost use Rattle.zed_tool_words.specs.declared.words.ParseError.TheVariants.{Memory};
 ghost use Rattle.zed_tool_words.specs.Grammar.{tool_app};
-ghost use Rattle.zed_tool_words.specs.Commands.{AsksNothing, command_of, forcing_of, form_of, has_flag as has_that_flag, length_of, lint_of, list_of, log_of, meaning_of, open_of, option_number, program_of, set_of, show_of, strictness_of, subcommand_asks, take_of};
+ghost use Rattle.zed_tool_words.specs.Commands.{AsksNothing, command_of, forcing_of, form_of, has_flag as has_that_flag, length_of, list_of, log_of, meaning_of, open_of, option_number, show_of, subcommand_asks, take_of};
 
-use crate::asked::{Command, Forcing, Form, Length, Strictness};
+use crate::asked::{Command, Forcing, Form, Length};
 use crate::grammar::tool_command;
 use crate::listed::{cell_in, listed};
-use crate::programs::{program, program_to_set};
 use clap::error::ErrorKind;
 use clap::{ArgMatches, Error};
 use std::alloc::{AllocError, Global};
@@ -22,9 +21,6 @@ const NO_FILES: &str =
 
 const TWO_FORMS: &str =
     "error: '--plain' and '--svg' can't both be there\n\nFor more information, try '--help'.\n";
-
-const NO_PROGRAM: &str =
-    "error: 'program' takes the numbers of a board and of a stat, up to 65535, and a file behind them; with '--set' FILE REPLICA B S TEXT\n\nFor more information, try '--help'.\n";
 
 /// Why the words ask for nothing.
 #[derive(Debug, Drop)]
@@ -82,17 +78,6 @@ fn length_in(matches: &ArgMatches<'_>) -> Length
         Length::Full
     } else {
         Length::Short
-    }
-}
-
-// Whether what is found makes the command fail.
-fn strictness_in(matches: &ArgMatches<'_>) -> Strictness
-    ensures { result ≡ strictness_of (rows_of (found_of matches.now)) }
-{
-    if has_flag(matches, "strict") {
-        Strictness::Strict
-    } else {
-        Strictness::Lenient
     }
 }
 
@@ -215,58 +200,6 @@ fn show_in<'a>(alloc: Global, matches: &ArgMatches<'a>) -> Result<Option<Command
     }
 }
 
-fn lint_in<'a>(alloc: Global, matches: &ArgMatches<'a>) -> Result<Option<Command<'a>>, AllocError>
-    ensures { IfOk result (λ a.
-        option_map meaning_of a ≡ lint_of (rows_of (found_of matches.now))) }
-{
-    let strictness = strictness_in(matches);
-    match words_in(matches, "FILES") {
-        Some(files) => {
-            let files = Vec::from_slice(alloc, files)?;
-            Ok(Some(Command::Lint { strictness, files }))
-        }
-        None => Ok(None),
-    }
-}
-
-fn set_in<'a>(alloc: Global, matches: &ArgMatches<'a>) -> Result<Option<Command<'a>>, AllocError>
-    ensures { IfOk result (λ a.
-        option_map meaning_of a ≡ set_of (rows_of (found_of matches.now))) }
-{
-    let file = word_in(matches, "FILE");
-    let replica = number_in(matches, "REPLICA");
-    let words = words_in(matches, "WORDS");
-    if let (Some(file), Some(replica), Some(words)) = (file, replica, words) {
-        let words = Vec::from_slice(alloc, words)?;
-        Ok(Some(Command::Set {
-            file,
-            replica,
-            words,
-        }))
-    } else {
-        Ok(None)
-    }
-}
-
-fn program_in<'a>(
-    alloc: Global,
-    matches: &ArgMatches<'a>,
-) -> Result<Option<Command<'a>>, AllocError>
-    ensures { IfOk result (λ a.
-        option_map meaning_of a ≡ program_of (rows_of (found_of matches.now))) }
-{
-    match words_in(matches, "WORDS") {
-        Some(words) => {
-            if has_flag(matches, "set") {
-                Ok(program_to_set(words))
-            } else {
-                program(alloc, words)
-            }
-        }
-        None => Ok(None),
-    }
-}
-
 fn command_named<'a>(
     alloc: Global,
     matches: &ArgMatches<'a>,
@@ -287,12 +220,6 @@ fn command_named<'a>(
         list_in(alloc, inner)
     } else if name == "show" {
         show_in(alloc, inner)
-    } else if name == "lint" {
-        lint_in(alloc, inner)
-    } else if name == "set" {
-        set_in(alloc, inner)
-    } else if name == "program" {
-        program_in(alloc, inner)
     } else {
         Ok(None)
     }
@@ -311,7 +238,6 @@ fn no_command(alloc: Global, matches: &ArgMatches<'_>) -> Result<String, AllocEr
     match matches.subcommand_name() {
         Some("list") => String::from_str(alloc, NO_FILES),
         Some("show") => String::from_str(alloc, TWO_FORMS),
-        Some("program") => String::from_str(alloc, NO_PROGRAM),
         _ => String::from_str(alloc, NO_CELL),
     }
 }

@@ -61,14 +61,7 @@ fn prepare(rt: &HostRuntime, words: &[String], host: &mut SystemHost) -> io::Res
                 None => holds(host, &base_of(rt.alloc(), world)?),
             }
         }
-        Ok(Command::Set { file, .. } | Command::SetProgram { file, .. }) => holds(host, file),
-        Ok(
-            Command::Log { .. }
-            | Command::List { .. }
-            | Command::Show { .. }
-            | Command::Lint { .. }
-            | Command::Program { .. },
-        ) => Ok(()),
+        Ok(Command::Log { .. } | Command::List { .. } | Command::Show { .. }) => Ok(()),
         Err(ParseError::Refused(_) | ParseError::Help(_) | ParseError::Version) => Ok(()),
         Err(ParseError::Memory) => Err(io::Error::from(ErrorKind::OutOfMemory)),
     }

@@ -3,7 +3,6 @@ use Rattle.std.proofs.lemmas.List.{length-set}
 use Rattle.std.proofs.lemmas.Result.{err_from_is_err_and}
 use Rattle.zed_document.specs.Replica.{Replica}
 use Rattle.zed_files.specs.Refusals.{link_refusal}
-use Rattle.zed_session.proofs.Places.{shown_same}
 use Rattle.zed_making.proofs.Pulls.{is_merged, not_merged_few, pulling_begins, pulling_ends, pulling_goes_on, pulling_stops}
 use Rattle.zed_program.proofs.merging.pulled_from.Goals as goal
 
@@ -14,7 +13,6 @@ loop-i-init g c =
     let past = c.if-len-count.false in
     record {
       pulling = pulling_begins _ c.new-document.result c.args.world c.args.count c.args.links.now.items c.new-document.ensures;
-      unwritten = refl;
       many = refl;
       enough = omega (arith, is, ok, past);
       world = ap (λ (q : Replica). q.world) c.new-document.ensures;
@@ -29,7 +27,6 @@ loop-i-preserved g c =
     record {
       pulling = pulling_goes_on _ c.loop-i.document c.pull_over.new.document _ _ _ _ c.loop-i.i _ c.pull_over.new.link c.in_ok-pull_over.field-0 old.pulling c.loop-i-test.true within
           c.index_mut.ensures.value c.in_ok-pull_over.ensures.world (c.in_ok-pull_over.ensures.sound ∙ sym old.sound) c.in_ok-pull_over.ensures.pull;
-      unwritten = shown_same _ _ c.loop-i.i _ c.pull_over.new.link c.index_mut.ensures.value c.in_ok-pull_over.ensures.writes ∙ old.unwritten;
       many = length-set _ _ _ ∙ old.many;
       enough = old.enough;
       world = c.in_ok-pull_over.ensures.world ∙ old.world;
@@ -49,10 +46,6 @@ returns-in_err-pull_over-clause-pulled g c =
     rw (p.1, same) (is_merged _ c.args.world c.args.count c.len.result c.args.links.now.items _ (Err (link_refusal c.in_err-pull_over.field-0.0)) all c.if-len-count.false
     (pulling_stops _ c.loop-i.document _ _ _ _ c.loop-i.i _ c.pull_over.new.link c.in_err-pull_over.field-0.0 _ old.pulling c.loop-i-test.true within
     c.index_mut.ensures.value c.in_err-pull_over.ensures.pull))
-
-pub returns-in_err-pull_over-clause-writes : goal.returns-in_err-pull_over-clause-writes
-returns-in_err-pull_over-clause-writes g c =
-    shown_same _ _ c.loop-i.i _ c.pull_over.new.link c.index_mut.ensures.value c.in_err-pull_over.ensures.writes ∙ c.loop-i.invariant.unwritten
 
 pub returns-clause-pulled : goal.returns-clause-pulled
 returns-clause-pulled g c =

@@ -1,4 +1,0 @@
-pub mod Back
-pub mod ElementBack
-pub mod Others
-pub mod Read
