@@ -13,8 +13,6 @@ mod edits;
 #[cfg(test)]
 mod growths;
 #[cfg(test)]
-mod hosts;
-#[cfg(test)]
 mod inbox;
 #[cfg(test)]
 mod programs;
