@@ -13,6 +13,8 @@ mod edits;
 #[cfg(test)]
 mod growths;
 #[cfg(test)]
+mod hosts;
+#[cfg(test)]
 mod inbox;
 #[cfg(test)]
 mod programs;
