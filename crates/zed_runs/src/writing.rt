@@ -70,9 +70,10 @@ pub fn runs_len(tiles: &[Tile; TILES]) -> usize
     bytes
 }
 
-/// Appends the greedy runs of the tiles, which are row after row: each run is as long as it can be, up to 255 tiles.
+/// Appends the greedy runs of the tiles, row after row: each run is as long as it can be, up to 255
+/// tiles.
 ///
-/// `Memory` where a growth was refused; nothing is appended then.
+/// `Memory` if a growth was refused; then nothing is appended.
 pub fn write_runs(tiles: &[Tile; TILES], out: &mut Vec<u8>) -> Result<(), RunsError>
     ensures result { OnOk result (AppendsGreedy tiles.now out.old.items out.new.items) }
     ensures err { IfErr result (λ e. e ≡ RunsError.Memory) }
