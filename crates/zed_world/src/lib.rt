@@ -1,5 +1,4 @@
-//! World files of ZZT 3.2: what they say, how they are read and written. docs/FORMATS.md has the
-//! layout.
+//! World files of ZZT 3.2: reading and writing them. docs/FORMATS.md has the layout.
 #![tactic(auto)]
 
 mod blocks;

@@ -1,4 +1,4 @@
-//! How many bytes a board takes, told without writing it.
+//! How many bytes a board takes, counted without writing it.
 ghost use Rattle.std.specs.Prelude.{◌≡◌, ◌≤◌, ◌*◌, None, Some, length, OnOk, IfErr, FitsSigned};
 ghost use Rattle.std.specs.Int.{w16};
 ghost use Rattle.std.specs.List.{flat_map, AllByRecursion};
