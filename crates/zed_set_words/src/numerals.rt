@@ -24,7 +24,7 @@ fn digits(word: &str, most: u64) -> Option<u64>
     }
 }
 
-/// Whether a 0 stands in front of something.
+/// Whether a 0 is in front of something.
 fn has_idle_zero(word: &[u8]) -> bool
     ensures { result ≡ idles word.now }
 {
@@ -88,7 +88,7 @@ fn above_zero(word: &str) -> Option<i16>
     Some(n as i16)
 }
 
-/// What stands behind `-`.
+/// What follows `-`.
 fn behind_minus(word: &str) -> Option<&str>
     ensures { MatchOption result
         ((rest : List ℕ) → word.now ≢ 45 ∷ rest)
