@@ -21,7 +21,7 @@ pub fn made_things_stay()
     ensures edits { MadeOutlastsEdits }
 {}
 
-/// Whether an edit is taken depends on the made things alone.
+/// Only the things made decide whether an edit is taken.
 pub fn made_things_decide()
     ensures taken { TakenByWhatIsMade }
     ensures held { HeldByWhatIsMade }
@@ -40,7 +40,8 @@ pub fn taken_edits_make_all()
     ensures { TakenMakeAll }
 {}
 
-/// What an edit does to a text when it comes behind later ones: an insertion passes the bytes of later edits, and a deletion is as it would be.
+/// What an edit does to a text if it comes after later ones: an insertion goes past the bytes of
+/// later edits, and a deletion does what it would have done in order.
 pub fn late_edits_find_their_place()
     ensures held { LateEditHoldsNone }
     ensures others { LateEditHoldsNoOther }
@@ -48,7 +49,8 @@ pub fn late_edits_find_their_place()
     ensures deletion { LateDeletion }
 {}
 
-/// A late write stands where it is later than what is kept, in whatever order writes come. `V` is the type of the register's values.
+/// A late write wins exactly if its stamp is greater than that of the value kept, in whatever order
+/// writes come. `V` is the type of the register's values.
 pub fn late_writes_are_compared<V>()
     ensures { LateWriteIsCompared V }
 {}

@@ -1,5 +1,5 @@
-//! Laws on the replay: what holds of it, whatever the edits and however they came. Each is the
-//! contract of a function with an empty body.
+//! Laws of the replay, for any edits in any order. Each law is the contract of a function with an
+//! empty body.
 #![tactic(auto)]
 
 mod laws;
