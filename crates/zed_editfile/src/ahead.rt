@@ -1,4 +1,4 @@
-//! What stands at the front of bytes, told before they are read.
+//! What is at the front of bytes, found before they are read.
 ghost use Rattle.std.specs.Prelude.{◌≡◌, ◌<◌, length, IfSome, IfNone, drop};
 ghost use Rattle.byteorder.specs.Endian.{little_number};
 
@@ -22,7 +22,8 @@ pub fn stamp_ahead(piece: &[u8]) -> Option<Stamp>
     })
 }
 
-/// How many bytes the record at the front takes, by its length; all of them where the length isn't whole.
+/// How many bytes the record at the front takes, by its length; all of them if the length isn't
+/// whole.
 pub(crate) fn record_len(piece: &[u8]) -> usize {
     if piece.len() < 4 {
         return piece.len();
