@@ -16,8 +16,8 @@ use std::mem::replace;
 use zed_op::{Edit, rising_lists_are_sets, sets_rise};
 use zed_types::Stamp;
 
-/// The edits of a replica in stamp order, to which others come in any order: one that comes late moves none of those that are there,
-/// until the history is closed. Contracts see the edits.
+/// The edits of a replica in stamp order, to which others come in any order. Until the history is
+/// closed, a late edit moves none of the others. Contracts see the edits.
 #[derive(Drop)]
 pub struct History {
     /// Those that the log began with, and those that came as the latest.
@@ -49,7 +49,8 @@ impl Model for History {
         × (count_in (l.settled.items ++ l.run.items ∷ []) ≤ l.late) };
 }
 
-/// Makes room behind a log for so many late edits and one more, and elsewhere for all of them, unless none is late.
+/// Makes room at the end of a log for so many late edits and one more, and elsewhere for all of
+/// them, unless none is late.
 fn make_room(
     log: &mut Vec<Edit>,
     late: usize,
@@ -172,7 +173,7 @@ impl History {
         *self.log.allocator()
     }
 
-    /// Looks for the place of a stamp, where the next call seeks it first.
+    /// Looks for the place of a stamp. The next search begins there.
     pub fn seek(&mut self, stamp: Stamp)
         ensures { self.new ≡ self.old }
     {
@@ -198,7 +199,7 @@ impl History {
         find_last(&self.run, stamp)
     }
 
-    /// Adds an edit of a new stamp. Memory leaves the edits as they were.
+    /// Adds an edit with a new stamp. Memory leaves the edits as they were.
     pub fn add(&mut self, edit: Edit) -> Result<(), AllocError>
         requires new { edit_with edit.stamp self.old ≡ None }
         ensures ok { OnOk result (self.new ≡ with_edit edit self.old) }

@@ -45,7 +45,7 @@ impl Run {
         edits
     }
 
-    /// Looks for the place of a stamp, where the next call seeks it first.
+    /// Looks for the place of a stamp. The next search begins there.
     fn seek(&mut self, stamp: Stamp)
         ensures { self.new ≡ self.old }
     {
