@@ -1,4 +1,4 @@
-//! A line for each edit, in words: time, replica, what it does, what it names and sets. Different
+//! A line of text for each edit: time, replica, what it does, what it names and sets. Different
 //! edits have different lines.
 #![tactic(auto)]
 

@@ -43,7 +43,7 @@ fn put_short_world(out: &mut Vec<u8>, bytes: &Bytes) -> Result<(), AllocError>
     put_text(out, " bytes ..")
 }
 
-/// Appends a rectangle of a board, and what stands there.
+/// Appends a rectangle of a board, and the tile there.
 fn put_cells(
     out: &mut Vec<u8>,
     board: BoardId,
