@@ -1,6 +1,5 @@
-//! Lines that tell the numbers of a world: its boards, the stats of a board, the lines of a
-//! program. docs/LIST.md has their forms. What these lines are made of is there for other lines on
-//! worlds too.
+//! Lines with the numbers of boards, of stats and of lines of programs. docs/LIST.md has their
+//! forms. The parts of these lines also serve other lines about worlds.
 #![tactic(auto)]
 
 mod board_lines;

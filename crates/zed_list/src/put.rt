@@ -1,4 +1,5 @@
-//! Writing the kinds of fields, as lists of edits spell them. Where memory is refused, a front of one may have been written.
+//! Writing the kinds of fields, as lists of edits spell them. If memory is refused, a front of a
+//! field may be written.
 ghost use Rattle.std.specs.Prelude.{◌≡◌, ◌<◌, ◌++◌, false, map, OnOk};
 ghost use Rattle.std.specs.Fmt.{digit_glyph};
 ghost use Rattle.std.specs.List.{flat_map};
@@ -73,7 +74,7 @@ fn put_escapes(out: &mut Vec<u8>, bytes: &[u8]) -> Result<(), AllocError>
     Ok(())
 }
 
-/// Appends a string between quotes; what doesn't print in it is escaped.
+/// Appends a string between quotes. What doesn't print is escaped.
 #[tactic(auto, unfolding(zed_log::specs::Fields::quoted))]
 pub fn put_quoted(out: &mut Vec<u8>, bytes: &[u8]) -> Result<(), AllocError>
     ensures { OnOk result (out.new.items ≡ out.old.items ++ quoted bytes.now) }
