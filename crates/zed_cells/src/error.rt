@@ -21,7 +21,7 @@ impl<T: Drop> From<AllocFailed<T>> for CellsError {
     }
 }
 
-/// A growth that was refused is all that can be wrong.
+/// Only a refused growth can be wrong.
 impl From<CellsError> for AllocError {
     fn from(_error: CellsError) -> AllocError {
         AllocError

@@ -1,4 +1,4 @@
-//! The rule of registers, that the latest write stays, and the cells of a board.
+//! Registers, which keep the latest write, and the cells of a board.
 #![tactic(auto)]
 
 mod cells;
