@@ -11,7 +11,7 @@ pub enum StatsError {
     Memory,
 }
 
-/// A growth that was refused is all that can be wrong.
+/// Only a refused growth can be wrong.
 impl From<StatsError> for AllocError {
     fn from(_error: StatsError) -> AllocError {
         AllocError

@@ -60,7 +60,7 @@ impl Stats {
         }
     }
 
-    /// Adds a stat at its place. One that was added before stays as it is, removed or not.
+    /// Adds a stat at its place. A stat that is there already stays as it is, removed or not.
     pub fn add(&mut self, id: StatId, is_player: bool, values: StatValues) -> Result<(), StatsError>
         ensures ok { OnOk result
             (self.new ≡ added id (new_stat is_player id.name.stamp values) self.old) }
@@ -82,7 +82,7 @@ impl Stats {
         seek(&self.entries, self.last, id).is_some()
     }
 
-    /// Seeks a stat, so that it is found at once when it is asked for or changed. Nothing changes.
+    /// Looks for a stat, so that the next call finds it at once. Nothing changes.
     pub fn hint(&mut self, id: StatId)
         ensures { self.new ≡ self.old }
     {
@@ -91,7 +91,7 @@ impl Stats {
         }
     }
 
-    /// Marks a stat removed, but for a player. It keeps its name and its fields.
+    /// Marks a stat removed, unless it is a player. It keeps its name and its fields.
     pub fn remove(&mut self, id: StatId)
         ensures { self.new ≡ change id removed self.old }
     {
