@@ -29,7 +29,7 @@ impl<T: Drop> From<AllocFailed<T>> for CodeError {
     }
 }
 
-/// A growth that was refused is all that can be wrong.
+/// Only a refused growth can be wrong.
 impl From<CodeError> for AllocError {
     fn from(_error: CodeError) -> AllocError {
         AllocError

@@ -10,7 +10,8 @@ use crate::error::CodeError;
 use std::collections::BTreeMap;
 use zed_types::ElemId;
 
-/// A block before which no run stands that has a byte or later ones of its insertion, as the hints tell, or the first.
+/// A block to search from, by the hints, or the first one. No run before it has the byte, or later
+/// bytes of its insertion.
 pub(crate) fn start_of(
     hints: &BTreeMap<ElemId, usize>,
     places: &[usize],

@@ -129,7 +129,7 @@ fn make_room(
     Ok(Target { at, cut: aim.cut })
 }
 
-/// Puts a run where it goes. Answers where it stands then.
+/// Puts a run into its place, and answers that place.
 fn put_at_aim(blocks: &mut Vec<Block>, aim: Target, run: Run) -> Spot
     requires aim { IsTarget aim (lists blocks.old.items) }
     requires each { AllByRecursion IsSound (runs_of blocks.old.items) }
@@ -145,7 +145,7 @@ fn put_at_aim(blocks: &mut Vec<Block>, aim: Target, run: Run) -> Spot
     }
 }
 
-/// The first run of a text. Answers where it stands.
+/// Puts the first run into a text, and answers its place.
 fn put_alone(blocks: &mut Vec<Block>, places: &mut Vec<usize>, run: Run) -> Result<Spot, CodeError>
     requires { blocks.old.items ≡ [] }
     ensures ok { OnOk result (lists blocks.new.items ≡ (run ∷ []) ∷ []) }
@@ -161,8 +161,8 @@ fn put_alone(blocks: &mut Vec<Block>, places: &mut Vec<usize>, run: Run) -> Resu
     Ok(Spot { block: 0, place: 0 })
 }
 
-/// Puts a run behind the byte named, or at the head, past the runs of later edits. Answers where it stands. Memory leaves
-/// all runs as they were.
+/// Puts a run after the byte named, or at the head, past the runs of later edits. Answers its
+/// place. Memory leaves all runs as they were.
 pub(crate) fn put(
     blocks: &mut Vec<Block>,
     places: &mut Vec<usize>,

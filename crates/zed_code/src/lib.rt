@@ -1,4 +1,4 @@
-//! One text as runs of bytes, deleted ones too, for edits in any order.
+//! A text as runs of bytes, deleted ones too, for edits in any order.
 #![tactic(auto)]
 
 mod block;

@@ -15,12 +15,13 @@ use crate::place::{find, look};
 use std::collections::BTreeMap;
 use zed_types::ElemId;
 
-/// A byte of a text that was found, and where the run stands that has it or, first, later ones of its insertion.
+/// A byte of a text that was looked for, and the place of the first run that has it or later bytes
+/// of its insertion.
 #[derive(Clone, Copy, Debug)]
 pub struct Found {
     pub id: ElemId,
     pub at: Spot,
-    /// Whether the hints told an earlier block, so that its own is still to be kept.
+    /// Whether the hints gave an earlier block, so that its own is still to be kept.
     pub is_far: bool,
 }
 
@@ -35,7 +36,7 @@ pub(crate) fn found_of(found: Option<Found>, id: ElemId) -> Option<Found>
     }
 }
 
-/// Keeps the block of a byte that was found, where the hints told an earlier one.
+/// Keeps the block of a byte that was found, if the hints gave an earlier one.
 fn keep_far(
     blocks: &[Block],
     places: &[usize],
@@ -53,8 +54,8 @@ fn keep_far(
     }
 }
 
-/// The first run that has a byte of an insertion or later ones, or the end of all blocks. It stands where it was found,
-/// or it is sought by the hints.
+/// The first run that has a byte of an insertion or later ones, or the end of all blocks. It is
+/// where it was found before, or the search is by the hints.
 pub(crate) fn seek(
     blocks: &[Block],
     places: &[usize],
@@ -88,7 +89,7 @@ pub(crate) fn seek(
     }
 }
 
-/// The same by the hints. Where the run stands behind the block that they told, its own block is kept.
+/// The same by the hints. If the run is after the block that they gave, its own block is kept.
 fn seek_by_hints(
     blocks: &[Block],
     places: &[usize],
@@ -154,7 +155,7 @@ fn found_has(blocks: &[Block], found: Option<Found>, id: ElemId) -> bool
     }
 }
 
-/// Whether some run has a byte: the one that was found, or that which the hints tell.
+/// Whether some run has a byte: the one that was found, or the one that the hints give.
 pub(crate) fn any_has(
     blocks: &[Block],
     places: &[usize],

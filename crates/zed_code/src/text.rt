@@ -112,9 +112,8 @@ impl Text {
         })
     }
 
-    /// Puts bytes behind the byte named, or at the head, past the bytes of later edits.
-    /// The edit that puts them has this stamp, and its bytes are numbered from 0.
-    /// Memory leaves the text as it was.
+    /// Puts bytes after the byte named, or at the head, past the bytes of later edits. The edit has
+    /// this stamp, and its bytes are numbered from 0. Memory leaves the text as it was.
     pub fn insert(
         &mut self,
         after: Option<ElemId>,
@@ -185,8 +184,9 @@ impl Text {
         Ok(())
     }
 
-    /// Marks bytes from..to, both included, of the insertion with a stamp dead. Memory leaves the text as it was. None is
-    /// taken where the range is empty, or the text has no byte of the insertion from its start on.
+    /// Marks the bytes `from` to `to`, both included, of the insertion with this stamp dead. Memory
+    /// leaves the text as it was. No memory is taken if the range is empty, or if the text has no
+    /// byte of the insertion from `from` on.
     pub fn delete(&mut self, stamp: Stamp, from: u32, to: u32) -> Result<(), CodeError>
         ensures ok { OnOk result (elements self.new
             ≡ kill (bytes_from stamp from to) (elements self.old)) }
@@ -229,7 +229,8 @@ impl Text {
         Ok(out)
     }
 
-    /// Appends the live bytes, in order. Refused with Memory, only where the vector has no room for them; nothing is appended then.
+    /// Appends the live bytes, in order. Memory comes only if the vector has no room for them; then
+    /// nothing is appended.
     pub fn append_to(&self, out: &mut Vec<u8>) -> Result<(), CodeError>
         ensures ok { OnOk result
             (out.new.items ≡ out.old.items ++ alive_bytes (elements self.now)) }
@@ -259,7 +260,8 @@ impl Text {
         any_has(&self.blocks, &self.places, &self.hints, self.found, id)
     }
 
-    /// Seeks a byte that the next edit names, so that it is found at once then. Nothing of the text changes.
+    /// Looks for a byte that the next edit names, so that it is found at once then. The text
+    /// doesn't change.
     pub fn hint(&mut self, id: ElemId)
         ensures { self.new ≡ self.old }
     {
@@ -296,8 +298,9 @@ impl Text {
         }
     }
 
-    /// Appends the names of the live bytes from a position to another, without that, in order; of those that there are. It walks
-    /// through the runs once. Refused with Memory, only where the vector has no room for so many names; nothing is appended then.
+    /// Appends the names of the live bytes from one position up to another, without the latter, as
+    /// far as there are any. It walks through the runs once. Memory comes only if the vector has no
+    /// room for so many names; then nothing is appended.
     pub fn append_names(
         &self,
         from: usize,
