@@ -1,11 +1,11 @@
-//! Why an inbox doesn't do what it is asked.
+//! Why an inbox refuses a call.
 ghost use Rattle.std.specs.Prelude.{◌≡◌};
 ghost use Rattle.zed_inbox.specs.declared.error.InboxError.TheVariants.{Memory};
 
 use std::alloc::AllocError;
 use thiserror::Error;
 
-/// Why an inbox doesn't do what it is asked. Its text is for whoever debugs; the program prints none of it.
+/// Why an inbox refuses a call. Its text is for whoever debugs; the program prints none of it.
 #[derive(Clone, Copy, Debug, PartialEq, Eq, Error)]
 pub enum InboxError {
     #[error("out of memory")]
@@ -20,7 +20,7 @@ impl From<AllocError> for InboxError {
     }
 }
 
-/// A growth that was refused is all that can be wrong.
+/// Only a refused growth can be wrong.
 impl From<InboxError> for AllocError {
     fn from(_error: InboxError) -> AllocError {
         AllocError

@@ -49,7 +49,7 @@ impl Inbox {
         }
     }
 
-    /// An edit waits from now on, unless one of its stamp does. Memory leaves the inbox as it was.
+    /// Holds an edit, unless one with its stamp waits already. Memory leaves the inbox as it was.
     pub fn hold(&mut self, edit: Edit) -> Result<(), InboxError>
         ensures ok { OnOk result (self.new ≡ with_edit edit self.old) }
         ensures err { IfErr result (λ e. e ≡ InboxError.Memory) }
@@ -63,8 +63,8 @@ impl Inbox {
         put(self.alloc, &mut self.edits, &mut self.waits, edit)
     }
 
-    /// The edits that wait for a thing, in stamp order. They no longer wait, and the others do. It takes no memory where none does.
-    /// Memory leaves the inbox as it was.
+    /// Takes out the edits that wait for a thing, in stamp order. The others still wait. If none
+    /// waits for it, this takes no memory. Memory leaves the inbox as it was.
     pub fn release(&mut self, thing: Thing) -> Result<Vec<Edit>, InboxError>
         ensures ok { IfOk result (λ edits. edits.items ≡ naming thing self.old) }
         ensures others { OnOk result (self.new ≡ not_naming thing self.old) }
@@ -91,7 +91,7 @@ impl Inbox {
         has(&self.edits, stamp)
     }
 
-    /// The stamps of the edits that wait, in order. It takes no memory where nothing waits.
+    /// The stamps of the edits that wait, in order. If nothing waits, this takes no memory.
     pub fn stamps(&self) -> Result<Vec<Stamp>, InboxError>
         ensures ok { IfOk result (λ stamps. stamps.items ≡ stamps_of self.now) }
         ensures err { IfErr result (λ e. e ≡ InboxError.Memory) }
@@ -133,7 +133,8 @@ impl Inbox {
         Ok(stamps)
     }
 
-    /// The edits that wait for a thing, by their stamps. They no longer wait, and the others do. Memory leaves the inbox as it was.
+    /// Takes out the edits that wait for a thing, by their stamps. The others still wait. Memory
+    /// leaves the inbox as it was.
     fn take_all(&mut self, _thing: Thing, stamps: &[Stamp]) -> Result<Vec<Edit>, InboxError>
         requires { stamps.now ≡ stamps_of (naming _thing self.old) }
         ensures ok { IfOk result (λ edits. edits.items ≡ naming _thing self.old) }
