@@ -19,14 +19,15 @@ pub fn header_shows_its_edits()
     read_is_normal();
 }
 
-/// A header that has the latest write of the edits taken in each register shows the one of their replay.
+/// A header with the latest writes of the edits taken shows the header of their replay.
 pub fn header_shows_the_replay()
     ensures { ReplayIsShown }
 {
     read_is_normal();
 }
 
-/// Each property of a board has the latest write of the edits that were put in, its making counted as a write of all.
+/// Each property of a board has the latest write of the edits that were put in. Its making counts
+/// as a write of all of them.
 pub fn properties_show_their_edits()
     ensures none { NoneAreUnwritten }
     ensures settings { PropertiesTakeSettings }
@@ -41,8 +42,8 @@ pub fn properties_show_the_replay()
     read_is_normal();
 }
 
-/// Each register of a board, and of its stats, has the latest write of the edits that were put in, its making counted as a write
-/// of all.
+/// Each register of a board, and of its stats, has the latest write of the edits that were put in.
+/// Its making counts as a write of all of them.
 pub fn board_shows_its_edits()
     ensures making { BoardIsMade }
     ensures edits { BoardTakes }
@@ -59,7 +60,8 @@ pub fn board_shows_the_replay()
     read_is_normal();
 }
 
-/// Boards stand in the order of their names, each with the latest writes of the edits that were put in.
+/// Boards are in the order of their names, each with the latest writes of the edits that were put
+/// in.
 pub fn boards_show_their_edits()
     ensures none { NoBoardIsMade }
     ensures takes { BoardsTake }
@@ -69,7 +71,8 @@ pub fn boards_show_their_edits()
     fields_hold_the_latest();
 }
 
-/// Boards have just the boards and the stats that the edits that were put in make, each stat on the board that its making names.
+/// The boards and stats are exactly those that the edits put in make, each stat on the board that
+/// its making names.
 pub fn boards_have_what_is_made()
     ensures { MadeThingsAreThere }
 {}
@@ -98,8 +101,8 @@ pub fn document_shows_the_replay()
     read_is_normal();
 }
 
-/// Each field of a stat has the latest write of the edits that were put in, its making counted as a write of all, and a stat
-/// that one of them removes is removed, unless it is a player.
+/// Each field of a stat has the latest write of the edits that were put in. Its making counts as a
+/// write of all of them. A stat that one of them removes is removed, unless it is a player.
 pub fn stat_shows_its_edits()
     ensures making { StatIsMade }
     ensures edits { StatTakes }
