@@ -1,4 +1,5 @@
-//! The bytes of a text that a view shows, and their names, appended. This may take memory, so it stands beside the view.
+//! Appending the bytes of a text that a view shows, and their names. This may take memory, and
+//! calls of the view itself don't.
 ghost use Rattle.std.specs.Prelude.{◌≡◌, ◌<◌, ◌+◌, ◌-◌, ◌++◌, length, vec_len, vec_capacity, OnOk, OnErr};
 ghost use Rattle.zed_types.specs.Text.{alive_bytes};
 ghost use Rattle.zed_code.specs.Text.{elements, names_between};
@@ -23,7 +24,8 @@ fn append_live(text: &Text, out: &mut Vec<u8>) -> Result<(), AllocError>
     }
 }
 
-/// Appends the live bytes of a text, or nothing. Memory comes only where the vector has no room for them; nothing is appended then.
+/// Appends the live bytes of a text, or nothing if the text wasn't made. Memory comes only if the
+/// vector has no room for them; then nothing is appended.
 #[tactic(auto, using(crate::proofs::NamedTexts::of_some_text, crate::proofs::NamedTexts::of_no_text))]
 pub fn append_text(view: &View, id: TextId, out: &mut Vec<u8>) -> Result<(), AllocError>
     ensures ok { OnOk result (out.new.items ≡ out.old.items ++ text_shown view.now id) }
@@ -55,8 +57,9 @@ fn append_live_names(
     }
 }
 
-/// Appends the names of the live bytes of a text from a position to another, without that, or nothing. It walks through the text
-/// once. Memory comes only where the vector has no room for so many names; nothing is appended then.
+/// Appends the names of the live bytes of a text from one position up to another, without the
+/// latter, or nothing if the text wasn't made. It walks through the text once. Memory comes only if
+/// the vector has no room for so many names; then nothing is appended.
 #[tactic(auto, using(crate::proofs::NamedTexts::of_some_text, crate::proofs::NamedTexts::no_names))]
 pub fn append_names(
     view: &View,

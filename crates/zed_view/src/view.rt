@@ -1,4 +1,4 @@
-//! What a document shows, lent from its live parts to who exports it.
+//! What a document shows, lent from its live parts, for an export.
 ghost use Rattle.std.specs.Prelude.{◌≡◌, ◌<◌, ◌≤◌, if◌then◌else◌, length, slice_get, None, Some};
 ghost use Rattle.zed_live.specs.Board.{shown_board};
 ghost use Rattle.zed_live.specs.Shown.{shown as shown_header, shown_properties};
@@ -17,9 +17,10 @@ use zed_stats::{LiveStat, Stats};
 use zed_texts::LiveTexts;
 use zed_types::{BoardId, COLUMNS, Place, ROWS, StatId, TILES, TextId, Tile};
 
-/// What a document shows, lent: its header, boards, cells, stats and texts, removed and dead things included.
-/// Boards, and the stats of each, go by their numbers in the order in which they were made, which the caller keeps below those told.
-/// Contracts see the plain document. None of its calls takes memory.
+/// What a document shows, lent: its header, boards, cells, stats and texts, removed and dead things
+/// included. Boards, and the stats of each board, are numbered in the order in which they were
+/// made. The caller keeps these numbers below `boards` and `stats`. Contracts see the plain
+/// document. None of its calls takes memory.
 #[derive(Drop)]
 pub struct View<'a> {
     pub(crate) live: &'a LiveDocument,
