@@ -1,4 +1,4 @@
-//! Numbers in the words of an action: decimal digits alone.
+//! Numbers in the words of an action: only decimal digits.
 ghost use Rattle.std.specs.Prelude.{◌≡◌, ◌<◌, ◌^◌, pos, option_map};
 ghost use Rattle.std.specs.Char.{is_ascii_digit};
 ghost use Rattle.std.specs.List.{list_all};
@@ -47,7 +47,7 @@ pub(crate) fn long(word: &str) -> Option<u32>
     Some(n as u32)
 }
 
-/// A cycle, which has a sign in its field, but is spelled without.
+/// A cycle: its field has a sign, its word doesn't.
 pub(crate) fn cycle(word: &str) -> Option<i16>
     ensures { result ≡ option_map pos (number_of 32767 word.now) }
 {
