@@ -47,8 +47,8 @@ pub(crate) fn put_glyph(out: &mut Vec<u8>, character: u8) -> Result<(), AllocErr
     out.extend_from_slice(text.as_bytes())
 }
 
-/// Appends bytes as characters of code page 437, none of which is a control character. Where memory is wanting part of them may have
-/// been appended.
+/// Appends bytes as characters of code page 437, none of which is a control character. If memory
+/// runs out, some of them may be appended.
 pub fn put_glyphs(bytes: &[u8], out: &mut Vec<u8>) -> Result<(), AllocError>
     ensures { OnOk result (out.new.items ≡ out.old.items ++ flat_map glyph bytes.now) }
 {
