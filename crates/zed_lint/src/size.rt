@@ -1,4 +1,4 @@
-//! How many bytes a board and a world take in a file, told without writing them.
+//! How many bytes a board and a world take in a file, counted without writing them.
 ghost use Rattle.std.specs.Int.{w16};
 ghost use Rattle.std.specs.List.{AllByRecursion, flat_map};
 ghost use Rattle.std.specs.Prelude.{◌≡◌, ◌≤◌, ◌*◌, FitsSigned, length};
@@ -10,10 +10,10 @@ use zed_runs::{greedy_is_the_one, runs_len};
 use zed_types::{TILES, Tile};
 use zed_world::{BoardData, Code, StatData, World};
 
-/// The bytes of a world in front of its boards.
+/// The bytes of a world before its boards.
 const HEADER: usize = 512;
 
-/// The bytes of a board in front of its body, which say how long the body is.
+/// The bytes of a board before its body, which say how long the body is.
 const SIZE: usize = 2;
 
 /// The bytes of a body beside its runs and its stats: the name, the properties, the number of stats.
