@@ -56,7 +56,7 @@ fn deliver_one(intake: &mut Intake, edit: Edit) -> Result<State, LinkError>
     }
 }
 
-/// Delivers edits one after the other, up to the first that is refused, and counts them.
+/// Delivers edits one after the other, up to the first refusal, and counts them.
 fn deliver_each(intake: &mut Intake, edits: Vec<Edit>) -> Result<Pulled, LinkError>
     requires sound { intake.old.is_stale ≡ false }
     requires fit { AllFit edits.items }
@@ -75,7 +75,8 @@ fn deliver_each(intake: &mut Intake, edits: Vec<Edit>) -> Result<Pulled, LinkErr
     Ok(pulled)
 }
 
-/// Reads a record, or what is there of one, and delivers the edits that it completes, before any fault that it shows.
+/// Reads a record, or as much of it as is there, and delivers the edits that it completes, before
+/// any fault that it shows.
 #[tactic(auto, using(crate::proofs::Readings::fed_edits_fit))]
 fn take_record(
     alloc: Global,
@@ -100,7 +101,7 @@ fn take_record(
     Ok(pulled)
 }
 
-/// Passes over the record at the front of a piece, where the document has its edit.
+/// Skips the record at the front of a piece, if the document has its edit.
 fn pass_known<'a>(reader: &EditReader, piece: &'a [u8], intake: &mut Intake) -> Option<&'a [u8]>
     requires sound { intake.old.is_stale ≡ false }
     ensures some { IfSome result (λ rest. (front : List ℕ) × (e : TheEdit)
@@ -227,9 +228,10 @@ fn receive_into(
 /// Reads an edit file of the document's world from a link, to the end of input, and delivers each of its edits as soon as it is whole.
 ///
 /// # Errors
-/// Stale first, and then nothing is read. Else what comes first: LinkFault where a read fails; the refusals of an edit file; Clash; Memory,
-/// after which the document may be stale; TooManyTurns after 1,048,576 reads that weren't the end. What was delivered before stays,
-/// and after what comes first nothing more is read. But for Memory no count of looks is lower than before.
+/// Stale comes first, before any read. After that the first refusal ends it, and nothing more is
+/// read: LinkFault if a read fails; the refusals of an edit file; Clash; Memory, after which the
+/// document may be stale; TooManyTurns after 1,048,576 reads that weren't the end. What was
+/// delivered before stays. Except after Memory, no count of looks is lower than before.
 pub fn receive(
     alloc: Global,
     link: &mut dyn Link,
