@@ -1,4 +1,4 @@
-//! The commands that make edit files: `new`, `edit`, and what `merge` comes to.
+//! The commands `new` and `edit`, and what `merge` makes.
 #![tactic(auto)]
 
 mod editing;
