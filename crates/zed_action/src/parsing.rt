@@ -164,8 +164,8 @@ fn numbered(verb: &str, rest: &[&str]) -> Option<Action>
 /// `delete B S FROM TO`. Numbers have only digits.
 ///
 /// # Errors
-/// `BadAction` exactly where the words are none of these, or a number is unreadable or too large for its field; `Memory`, only where a
-/// name or a text has bytes, which the action keeps.
+/// `BadAction` exactly if the words are none of these, or a number is unreadable or too large for
+/// its field; `Memory` only if the action keeps bytes of a name or a text.
 #[tactic(auto, unfolding(crate::specs::Words::action_of))]
 pub fn parse(alloc: Global, words: &[&str]) -> Result<Action, ActionError>
     ensures { Says result (action_of (words_of words.now)) }

@@ -43,8 +43,8 @@ pub fn one_reading()
 {}
 
 /// A reader of a good file never gives a fault before its end: after any front of the text of edits
-/// it has the first of these edits, and no fault unless memory ran out. `CutShort` comes only at
-/// the end.
+/// it has the first of these edits, and no fault unless memory ran out. Only the end shows that
+/// bytes are missing.
 pub fn fronts_are_read()
     ensures front { FrontsAreRead }
     ensures cut { CutIsToldAtTheEnd }

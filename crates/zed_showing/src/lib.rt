@@ -1,4 +1,4 @@
-//! The command `show` of `zztool`.
+//! The picture of a board as `zztool` prints it.
 #![tactic(auto)]
 
 mod picturing;
