@@ -139,13 +139,18 @@ impl EditReader {
         record_len(self.kept.as_slice()).saturating_sub(kept)
     }
 
-    /// The front of a piece that is best read at once, so that the reader stands between records behind it, where that can be; and what
-    /// follows it. Takes no memory.
-    pub fn first<'a>(&self, piece: &'a [u8]) -> (&'a [u8], &'a [u8])
+    /// The front of a piece that is best read at once, so that the reader stands between records behind it, where that can be: so many
+    /// records, of which the first may be cut; and what follows it. Takes no memory.
+    pub fn first<'a>(&self, piece: &'a [u8], records: usize) -> (&'a [u8], &'a [u8])
         ensures whole { piece.now ≡ result.0.now ++ result.1.now }
         ensures some { 0 < length piece.now → 0 < length result.0.now }
     {
-        piece.split_at(self.missing(piece).max(1).min(piece.len()))
+        let mut len = self.missing(piece);
+        for _ in 1..records {
+            let (_, rest) = piece.split_at(len.min(piece.len()));
+            len = len.saturating_add(record_len(rest));
+        }
+        piece.split_at(len.max(1).min(piece.len()))
     }
 
     /// Whether the file may end here. Takes no memory.
