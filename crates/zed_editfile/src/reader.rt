@@ -142,13 +142,19 @@ impl EditReader {
         record_len(self.kept.as_slice()).saturating_sub(kept)
     }
 
-    /// The front of a piece that is best read at once, and what follows it. If it can be, the
-    /// reader is between records after that front. Takes no memory.
-    pub fn first<'a>(&self, piece: &'a [u8]) -> (&'a [u8], &'a [u8])
+    /// The front of a piece that is best read at once, and what follows it. The front has so many
+    /// records, the first of which may be cut. If it can be, the reader is between records after it.
+    /// Takes no memory.
+    pub fn first<'a>(&self, piece: &'a [u8], records: usize) -> (&'a [u8], &'a [u8])
         ensures whole { piece.now ≡ result.0.now ++ result.1.now }
         ensures some { 0 < length piece.now → 0 < length result.0.now }
     {
-        piece.split_at(self.missing(piece).max(1).min(piece.len()))
+        let mut len = self.missing(piece);
+        for _ in 1..records {
+            let (_, rest) = piece.split_at(len.min(piece.len()));
+            len = len.saturating_add(record_len(rest));
+        }
+        piece.split_at(len.max(1).min(piece.len()))
     }
 
     /// Whether the file may end here. Takes no memory.
