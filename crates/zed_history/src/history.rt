@@ -189,7 +189,7 @@ impl History {
     {
         sets_rise();
         rising_lists_are_sets();
-        if let Ok(there) = spot_of(&self.log, self.at.saturating_sub(1), stamp) {
+        if let Ok(there) = spot_of(&self.log, self.at, stamp) {
             return Some(there);
         }
         if let Some(there) = find_in(&self.settled, stamp) {
