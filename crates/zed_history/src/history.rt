@@ -1,5 +1,5 @@
 //! The edits of a replica, to which others come in any order.
-ghost use Rattle.std.specs.Prelude.{◌≡◌, ◌≢◌, ◌≤◌, ◌<◌, ◌+◌, ◌++◌, ◌∷◌, [], true, false, None, Some, List, length, vec_len, vec_capacity, IfSome, IfNone, OnOk, OnErr};
+ghost use Rattle.std.specs.Prelude.{◌≡◌, ◌≢◌, ◌≤◌, ◌<◌, ◌+◌, ◌++◌, ◌∷◌, [], true, false, None, Some, List, length, vec_len, vec_capacity, IfSome, IfNone, OnOk, OnErr, insert};
 ghost use Rattle.zed_types.specs.declared.stamp.Stamp.{Stamp as TheStamp};
 ghost use Rattle.zed_op.specs.declared.op.Edit.{Edit as TheEdit};
 ghost use Rattle.zed_op.specs.Set.{IsRising, with_edit};
@@ -16,7 +16,10 @@ use std::mem::replace;
 use zed_op::{Edit, rising_lists_are_sets, sets_rise};
 use zed_types::Stamp;
 
-/// The edits of a replica in stamp order, to which others come in any order: one that comes late moves none of those that are there,
+/// So many edits are few: one that comes late moves those of the last run, and begins no run of its own.
+const SHORT: usize = 32;
+
+/// The edits of a replica in stamp order, to which others come in any order: one that comes late moves few of those that are there,
 /// until the history is closed. Contracts see the edits.
 #[derive(Drop)]
 pub struct History {
@@ -100,7 +103,33 @@ fn start_run(
     Ok(())
 }
 
-/// Puts a new edit behind the last run, or begins one. Memory leaves all as it was.
+/// Where an edit belongs in a run that doesn't have its stamp, if that is short.
+fn place_in(run: &[Edit], edit: &Edit) -> Option<usize>
+    requires { IsRising run.now }
+    ensures within { IfSome result (λ i. i ≤ length run.now) }
+    ensures belongs { IfSome result (λ i. with_edit edit.now run.now ≡ insert run.now i edit.now) }
+{
+    if run.len() >= SHORT {
+        return None;
+    }
+    match spot_of(run, run.len(), edit.stamp) {
+        Ok(_) => None,
+        Err(place) => Some(place),
+    }
+}
+
+/// Puts an edit at its place in a run. Memory leaves the run as it was.
+fn put_at(run: &mut Vec<Edit>, place: usize, edit: Edit) -> Result<(), AllocError>
+    requires { place ≤ length run.old.items }
+    ensures ok { OnOk result (run.new.items ≡ insert run.old.items place edit) }
+    ensures kept { OnErr result (run.new.items ≡ run.old.items) }
+{
+    run.reserve(1)?;
+    run.insert(place, edit).unwrap();
+    Ok(())
+}
+
+/// Puts a new edit behind the last run, into it where it is short, or begins one. Memory leaves all as it was.
 fn put_late(
     alloc: Global,
     settled: &mut Vec<Run>,
@@ -131,6 +160,10 @@ fn put_late(
     if is_latest(run, edit.stamp) {
         run.reserve(1)?;
         run.push_reserved(edit);
+        return Ok(());
+    }
+    if let Some(place) = place_in(run, &edit) {
+        put_at(run, place, edit)?;
         return Ok(());
     }
     start_run(alloc, settled, run, spare)?;
