@@ -82,10 +82,13 @@ pub(crate) fn place_of(edits: &[Edit], hint: usize, stamp: Stamp) -> usize
     ensures below { 0 < result
         → IfSome (slice_get edits.now (result - 1)) (λ e. before stamp e.stamp ≡ false) }
 {
+    if is_above(edits, hint, stamp) && is_below(edits, hint, stamp) {
+        return hint;
+    }
     if stands_at(edits, hint, stamp) {
         return hint + 1;
     }
-    if is_latest(edits, stamp) {
+    if is_below(edits, edits.len(), stamp) {
         return edits.len();
     }
     let near = place_on(edits, hint, stamp);
