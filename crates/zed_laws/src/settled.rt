@@ -1,24 +1,13 @@
 //! What holds of edits, however they came.
 ghost use Rattle.zed_laws.specs.HeldAlone.{HeldChangesNothing, HeldTakesNothing, HeldIsOneMore};
 ghost use Rattle.zed_laws.specs.Making.{LateEditMakes, TakenMake, ThingsAreOfEdits};
-ghost use Rattle.zed_laws.specs.Ordered.{OrderedAreTheirMembers};
 ghost use Rattle.zed_laws.specs.OwnNames.{BoardsHaveOwnNames, StatsHaveOwnNames, TextsHaveOwnNames};
-ghost use Rattle.zed_laws.specs.Settled.{SettledAreTaken, EarlierIsMadeBefore, EarlierDecide};
-
-/// Edits of which some are done by themselves and the others can't be done after them are those taken and those held.
-pub fn settled_edits_are_taken()
-    ensures { SettledAreTaken }
-{}
+ghost use Rattle.zed_laws.specs.Settled.{EarlierIsMadeBefore, EarlierDecide};
 
 /// What isn't made yet at the place of an edit isn't made behind it either, if it names only what came before it.
 pub fn earlier_edits_decide()
     ensures made { EarlierIsMadeBefore }
     ensures can { EarlierDecide }
-{}
-
-/// A list in the order of names is told by what each name finds in it. `X` is the type of its members.
-pub fn ordered_lists_are_their_members<X>()
-    ensures { OrderedAreTheirMembers X }
 {}
 
 /// An edit that can't be done at its place is held there, and changes nothing else.
