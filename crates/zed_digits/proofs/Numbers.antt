@@ -7,7 +7,7 @@ use Rattle.std.specs.Str.Parse.{AllDigits, ParsesUnsigned, digits_value, without
 use Rattle.std.proofs.lemmas.Bool.Decides.{nat_tests}
 use Rattle.std.proofs.lemmas.Bool.{le-leb, leb-true}
 use Rattle.std.proofs.lemmas.Str.{digit_value_digit}
-use Rattle.zed_set_words.specs.Values.{digits_of as number_of, is_number}
+use Rattle.zed_digits.specs.Digits.{digits_of, is_number}
 
 and_parts : (a b : Bool) → (a && b) ≡ true → (a ≡ true) × (b ≡ true)
 and_parts true b h = (refl, h)
@@ -40,7 +40,7 @@ up_to most (Err e) = None
 
 -- what `parse` reads of digits is the number
 pub number_read : {E : Type 0} (most : ℕ) (word : List ℕ) (r : Result ℕ E) → list_all is_ascii_digit word ≡ true → most < 2 ^ 64
-    → ParsesUnsigned 64 10 word r → up_to most r ≡ number_of most word
+    → ParsesUnsigned 64 10 word r → up_to most r ≡ digits_of most word
 number_read most word (Ok n) digits small reads =
     let numeral = rw (without_sign word digits) at reads.0.0.0 in
     let some : nat_le 1 (length word) ≡ true = le-leb 1 (length word) numeral in
@@ -48,7 +48,7 @@ number_read most word (Ok n) digits small reads =
     rw (some, digits, is) refl
 number_read most word (Err e) digits small reads = go (is_number word && nat_le (digits_value 10 word) most) refl
   where
-    go : (b : Bool) → (is_number word && nat_le (digits_value 10 word) most) ≡ b → None ≡ number_of most word
+    go : (b : Bool) → (is_number word && nat_le (digits_value 10 word) most) ≡ b → None ≡ digits_of most word
     go false t = rw t refl
     go true t =
         let outer = and_parts _ _ t in
