@@ -13,11 +13,11 @@ ghost use Rattle.zed_code.specs.Visits.{raised, LooksAtSome, LooksAtLeast};
 
 use crate::block::{Block, Cut, Spot, put_in, runs_at};
 use crate::blocks::{reserve_at, split_full};
-use crate::error::CodeError;
 use crate::hints::keep_hint;
 use crate::place::{look, pass};
 use crate::run::Run;
 use crate::search::{Found, seek};
+use std::alloc::AllocError;
 use std::collections::BTreeMap;
 use zed_types::ElemId;
 
@@ -81,7 +81,7 @@ fn aim(
     after: Option<ElemId>,
     run: Run,
     visits: &mut u64,
-) -> Result<Target, CodeError>
+) -> Result<Target, AllocError>
     requires some { 0 < length blocks.now }
     requires full { NoneEmpty (lists blocks.now) }
     requires each { AllByRecursion IsSound (runs_of blocks.now) }
@@ -113,7 +113,7 @@ fn make_room(
     blocks: &mut Vec<Block>,
     places: &mut Vec<usize>,
     aim: Target,
-) -> Result<Target, CodeError>
+) -> Result<Target, AllocError>
     requires { IsTarget aim (lists blocks.old.items) }
     ensures same { IsSameText (lists blocks.old.items) (lists blocks.new.items)
         places.old.items places.new.items }
@@ -146,7 +146,7 @@ fn put_at_aim(blocks: &mut Vec<Block>, aim: Target, run: Run) -> Spot
 }
 
 /// Puts the first run into a text, and answers its place.
-fn put_alone(blocks: &mut Vec<Block>, places: &mut Vec<usize>, run: Run) -> Result<Spot, CodeError>
+fn put_alone(blocks: &mut Vec<Block>, places: &mut Vec<usize>, run: Run) -> Result<Spot, AllocError>
     requires { blocks.old.items ≡ [] }
     ensures ok { OnOk result (lists blocks.new.items ≡ (run ∷ []) ∷ []) }
     ensures spot { IfOk result (λ at. at ≡ record { block = 0; place = 0 }) }
@@ -171,7 +171,7 @@ pub(crate) fn put(
     after: Option<ElemId>,
     run: Run,
     visits: &mut u64,
-) -> Result<Spot, CodeError>
+) -> Result<Spot, AllocError>
     requires full { NoneEmpty (lists blocks.old.items) }
     requires each { AllByRecursion IsSound (runs_of blocks.old.items) }
     requires ordered { AllInOrder (runs_of blocks.old.items) }

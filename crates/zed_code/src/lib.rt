@@ -4,7 +4,6 @@
 mod block;
 mod blocks;
 mod cut;
-mod error;
 mod hints;
 mod insertion;
 mod laws;
@@ -15,6 +14,5 @@ mod same;
 mod search;
 mod text;
 
-pub use error::CodeError;
 pub use laws::rising_insertions_go_directly;
 pub use text::Text;

@@ -9,9 +9,9 @@ ghost use Rattle.zed_code.specs.Runs.{sought, has as is_in};
 ghost use Rattle.zed_code.specs.Visits.{raised};
 
 use crate::block::{Block, Spot, runs_at};
-use crate::error::CodeError;
 use crate::hints::{keep_hint, start_of};
 use crate::place::{find, look};
+use std::alloc::AllocError;
 use std::collections::BTreeMap;
 use zed_types::ElemId;
 
@@ -42,7 +42,7 @@ fn keep_far(
     places: &[usize],
     hints: &mut BTreeMap<ElemId, usize>,
     last: Found,
-) -> Result<(), CodeError>
+) -> Result<(), AllocError>
     requires hints { AreHints hints.old.entries places.now (lists blocks.now) }
     requires found { IsFound (Some last) (lists blocks.now) }
     ensures { AreHints hints.new.entries places.now (lists blocks.now) }
@@ -63,7 +63,7 @@ pub(crate) fn seek(
     found: Option<Found>,
     id: ElemId,
     visits: &mut u64,
-) -> Result<Spot, CodeError>
+) -> Result<Spot, AllocError>
     requires full { NoneEmpty (lists blocks.now) }
     requires hints { AreHints hints.old.entries places.now (lists blocks.now) }
     requires found { IsFound found (lists blocks.now) }
@@ -96,7 +96,7 @@ fn seek_by_hints(
     hints: &mut BTreeMap<ElemId, usize>,
     id: ElemId,
     visits: &mut u64,
-) -> Result<Spot, CodeError>
+) -> Result<Spot, AllocError>
     requires full { NoneEmpty (lists blocks.now) }
     requires hints { AreHints hints.old.entries places.now (lists blocks.now) }
     ensures place { IfOk result (λ at. before_spot at (lists blocks.now)

@@ -1,27 +1,14 @@
 //! What holds of edits, in whatever order they came.
 ghost use Rattle.zed_laws.specs.HeldAlone.{HeldChangesNothing, HeldTakesNothing, HeldIsOneMore};
 ghost use Rattle.zed_laws.specs.Making.{LateEditMakes, TakenMake, ThingsAreOfEdits};
-ghost use Rattle.zed_laws.specs.Ordered.{OrderedAreTheirMembers};
 ghost use Rattle.zed_laws.specs.OwnNames.{BoardsHaveOwnNames, StatsHaveOwnNames, TextsHaveOwnNames};
-ghost use Rattle.zed_laws.specs.Settled.{SettledAreTaken, EarlierIsMadeBefore, EarlierDecide};
-
-/// If some edits can be done by themselves, and none of the others can be done after them, then
-/// these are the edits taken, and those the edits held.
-pub fn settled_edits_are_taken()
-    ensures { SettledAreTaken }
-{}
+ghost use Rattle.zed_laws.specs.Settled.{EarlierIsMadeBefore, EarlierDecide};
 
 /// If an edit names only what came before it, then what isn't made at its place isn't made after it
 /// either.
 pub fn earlier_edits_decide()
     ensures made { EarlierIsMadeBefore }
     ensures can { EarlierDecide }
-{}
-
-/// Lists in the order of names are equal if each name finds the same in both. `X` is the type of
-/// their members.
-pub fn ordered_lists_are_their_members<X>()
-    ensures { OrderedAreTheirMembers X }
 {}
 
 /// An edit that can't be done at its place is held there, and changes nothing else.

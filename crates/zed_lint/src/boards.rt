@@ -5,10 +5,9 @@ ghost use Rattle.zed_world.specs.Normal.{IsWritable};
 
 use crate::finding::{Finding, Spot, What};
 use crate::noting::note;
-use crate::size::body_len;
 use std::alloc::AllocError;
 use zed_types::{BODY_LIMIT, PLAYER, Side, Tile};
-use zed_world::{BoardData, Properties};
+use zed_world::{BoardData, Properties, body_len};
 
 /// Most bytes of a world file that ZZT loads with room to play.
 const FILE_LIMIT: usize = 350_000;

@@ -2,8 +2,8 @@
 ghost use Rattle.std.specs.Prelude.{◌≡◌, ◌-◌, ◌++◌, IfOk, OnErr, OnOk, length, slice_index_or};
 ghost use Rattle.zed_list.specs.Boards.{board_line, board_lines, boards_text, exit, exits};
 
-use crate::put::{put_number, put_quoted, put_text};
 use std::alloc::{AllocError, Global};
+use zed_log::{put_number, put_quoted, put_text};
 use zed_world::{BoardData, Properties, World};
 
 fn put_exit(out: &mut Vec<u8>, board: u8) -> Result<(), AllocError>

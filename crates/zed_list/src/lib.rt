@@ -5,11 +5,9 @@
 mod board_lines;
 mod laws;
 mod program_lines;
-mod put;
 mod stat_lines;
 
 pub use board_lines::boards;
 pub use laws::{each_is_on_its_line, lines_are_the_program};
 pub use program_lines::program;
-pub use put::{put_number, put_place, put_quoted, put_text};
 pub use stat_lines::{put_element_of, stats, tile_at};

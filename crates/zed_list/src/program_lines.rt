@@ -2,8 +2,8 @@
 ghost use Rattle.std.specs.Prelude.{◌≡◌, [], ◌∷◌, ◌++◌, IfOk, OnErr, OnOk};
 ghost use Rattle.zed_list.specs.Program.{first_line as line_first, line_words, lines_of as lines_in, numbered, own_bytes as bytes_had, program_bytes as bytes_of, program_text};
 
-use crate::put::{put_number, put_quoted, put_text};
 use std::alloc::{AllocError, Global};
+use zed_log::{put_number, put_quoted, put_text};
 use zed_world::{BoardData, Code, StatData};
 
 // The end of a line of a program.

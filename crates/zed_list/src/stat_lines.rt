@@ -3,8 +3,8 @@ ghost use Rattle.std.specs.Prelude.{◌≡◌, ◌++◌, IfOk, OnErr, OnOk, opti
 ghost use Rattle.zed_list.specs.Stats.{element_of, fields, program_words, stat_line, stat_lines, stats_text, tile_at};
 
 use crate::program_lines::{first_line, program_bytes};
-use crate::put::{put_element, put_integer, put_number, put_place, put_quoted, put_text};
 use std::alloc::{AllocError, Global};
+use zed_log::{put_element, put_integer, put_number, put_place, put_quoted, put_text};
 use zed_types::{TILES, Tile};
 use zed_world::{BoardData, Code, StatData};
 

@@ -1,7 +1,7 @@
 //! Writing runs.
 ghost use Rattle.std.specs.Prelude.{◌≡◌, ◌<◌, ◌≤◌, ◌+◌, ◌≢◌, [], ◌∷◌, ◌++◌, ℕ, List, length, take, replicate, slice_get, Some, OnOk, OnErr, IfErr, vec_len};
 ghost use Rattle.std.specs.Vec.{vec_capacity};
-ghost use Rattle.zed_runs.specs.Runs.{AppendsGreedy, IsGreedy, NoRoomForGreedy, greedy};
+ghost use Rattle.zed_runs.specs.Runs.{AppendsGreedy, NoRoomForGreedy, greedy};
 
 use crate::error::RunsError;
 use std::alloc::AllocError;
@@ -57,7 +57,7 @@ fn push_runs(tiles: &[Tile], out: &mut Vec<u8>) -> Result<(), AllocError>
 
 /// How many bytes the greedy runs of the tiles take. Takes no memory.
 pub fn runs_len(tiles: &[Tile; TILES]) -> usize
-    ensures result { (bytes : List ℕ) → IsGreedy tiles.now bytes → result ≡ length bytes }
+    ensures result { result ≡ length (greedy tiles.now) }
     ensures within { result ≤ 4500 }
 {
     let mut rest: &[Tile] = tiles;

@@ -15,13 +15,12 @@ ghost use Rattle.zed_set_words.specs.Readers.{words_of};
 ghost use Rattle.zed_set_words.specs.Rows.{wish_of};
 
 use crate::error::{SetError, answer};
-use crate::opening::open;
 use std::alloc::Global;
 use zed_document::Document;
 use zed_edit::Cause;
 use zed_files::{Refusal, edits_told};
 use zed_host::Host;
-use zed_making::write_document;
+use zed_making::{open, write_document};
 use zed_set_words::{Wish, wish};
 use zed_wishes::grant;
 

@@ -4,11 +4,10 @@ ghost use Rattle.std.specs.Prelude.{◌≡◌, ◌<◌, ◌&&◌, not, [], lengt
 ghost use Rattle.zed_stats.specs.Fields.{new_stat, value_of, write, remove as removed};
 ghost use Rattle.zed_stats.specs.Stats.{has as is_there, add as added, change, number_of as number_in};
 
-use crate::error::StatsError;
 use crate::field::StatField;
 use crate::stat::{LiveStat, StatValues};
 use indexmap::IndexMap;
-use std::alloc::Global;
+use std::alloc::{AllocError, Global};
 use std::marker::Model;
 use zed_names::{add, seek};
 use zed_types::{Stamp, StatId, StatSetting};
@@ -61,18 +60,14 @@ impl Stats {
     }
 
     /// Adds a stat at its place. A stat that is there already stays as it is, removed or not.
-    pub fn add(&mut self, id: StatId, is_player: bool, values: StatValues) -> Result<(), StatsError>
+    pub fn add(&mut self, id: StatId, is_player: bool, values: StatValues) -> Result<(), AllocError>
         ensures ok { OnOk result
             (self.new ≡ added id (new_stat is_player id.name.stamp values) self.old) }
-        ensures err { IfErr result (λ e. e ≡ StatsError.Memory) }
         ensures kept { OnErr result (self.new ≡ self.old) }
         ensures memory_only_when { OnErr result (is_there id self.old ≡ false) }
     {
         let stat = LiveStat::new(is_player, id.name.stamp, values);
-        match add(&mut self.entries, id, stat) {
-            Ok(()) => Ok(()),
-            Err(_) => Err(StatsError::Memory),
-        }
+        add(&mut self.entries, id, stat)
     }
 
     /// Whether a stat of this name was added, removed or not.
