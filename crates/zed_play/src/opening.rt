@@ -79,7 +79,7 @@ fn stat_from(i: usize, stat: &StatData) -> Stat
 }
 
 #[tactic(auto, using(crate::proofs::Numbering::one_more))]
-fn stats_of(alloc: Global, stats: &[StatData]) -> Result<Seq<Stat>, AllocError>
+pub(crate) fn stats_of(alloc: Global, stats: &[StatData]) -> Result<Seq<Stat>, AllocError>
     ensures { IfOk result (λ a. a ≡ stats_from 0 stats.now) }
 {
     let mut out = Seq::new(alloc);
@@ -90,7 +90,7 @@ fn stats_of(alloc: Global, stats: &[StatData]) -> Result<Seq<Stat>, AllocError>
     Ok(out)
 }
 
-fn programs_of(alloc: Global, stats: &[StatData]) -> Result<Seq<Bytes>, AllocError>
+pub(crate) fn programs_of(alloc: Global, stats: &[StatData]) -> Result<Seq<Bytes>, AllocError>
     ensures { IfOk result (λ p. p ≡ map bytes_of stats.now) }
 {
     let mut out = Seq::new(alloc);
@@ -123,7 +123,7 @@ fn scene_of(alloc: Global, header: &Header, board: &BoardData) -> Result<Scene, 
     Ok(Scene::new(board.tiles, stats, programs, counters_in(header), flags))
 }
 
-fn bounds_of(properties: &Properties) -> Bounds
+pub(crate) fn bounds_of(properties: &Properties) -> Bounds
     ensures result { result ≡ bounds_of properties.now }
 {
     Bounds {
@@ -146,7 +146,7 @@ fn play_of(alloc: Global, header: &Header, board: &BoardData, tick: u16) -> Resu
         left: None,
         messages: Messages::new(alloc)?,
     };
-    Play::begin(alloc, game, bounds_of(&board.properties), tick)
+    Play::begin(alloc, game, bounds_of(&board.properties), tick, None)
 }
 
 impl Play {
