@@ -150,8 +150,8 @@ fn play_of(alloc: Global, header: &Header, board: &BoardData, tick: u16) -> Resu
 }
 
 impl Play {
-    /// The playtest of the board of this number, which begins at a tick of 1 to 420. The refusals, the first that applies: NoBoard
-    /// where the world has no such board, Memory where a growth was refused.
+    /// The playtest of the board of this number, which begins at a tick of 1 to 420. Refusals, in
+    /// order: NoBoard if the world has no such board; Memory.
     pub fn new(alloc: Global, world: World, board: usize, tick: u16) -> Result<Play, PlayError>
         ensures result { Opens result world board tick }
         ensures within { IsTick tick → IfOk result (λ p. IsTick p.tick) }
