@@ -55,6 +55,11 @@ def put(name, data):
         it.write(data)
 
 
+def written(name):
+    """A file's bytes, and which file it is: one that is written anew is another one, though its bytes be the same."""
+    return os.stat(at(name)).st_ino, bytes_of(name)
+
+
 def world_of(name):
     """The world of an edit file, saved by zzted."""
     said = zzted("save", "--big", "seen.zzt", name)
@@ -148,15 +153,17 @@ def programs():
         ("a line at the end", old + b":shot\r", 1),
         ("a line less", old.replace(b"#char 33\r", b""), None),
         ("a byte in a line", old.replace(b"Halt", b"Hault"), 1),
-        ("a word for another", old.replace(b"Halt", b"Stop"), None),
-        ("two lines", old.replace(b"33", b"34").replace(b"Halt", b"Stop"), None),
-        ("lines changed places", b"@guard\r#end\r#char 33\r:touch\rHalt!\r#end\r", None),
-        ("emptied", b"", None),
-        ("quite another", b"hello\rworld", None),
-        ("every byte there is", bytes(range(1, 256)), None),
-        ("the same twice", old + old, None),
+        ("a byte less in a line", old.replace(b"Halt", b"Hat"), 1),
+        ("a word for another", old.replace(b"Halt", b"Stop"), 2),
+        ("two lines", old.replace(b"33", b"34").replace(b"Halt", b"Stop"), 4),
+        ("lines changed places", b"@guard\r#end\r#char 33\r:touch\rHalt!\r#end\r", 2),
+        # what stands there is a part of the first world, a line of another edit, and the rest of the first world
+        ("emptied", b"", 3),
+        ("quite another", b"hello\rworld", 4),
+        ("every byte there is", bytes(range(1, 256)), 4),
+        ("the same twice", old + old, 1),
         ("without its last end", old[:-1], 1),
-        ("of ends alone", b"\r" * 40, None),
+        ("of ends alone", b"\r" * 40, 4),
     ]
 
 
@@ -213,6 +220,12 @@ def move_boards(world, order):
     world.boards = new
 
 
+def hundred(world):
+    move_boards(world, [0, 1, 2, 3] + [-1] * 97)
+    for number, board in enumerate(world.boards[4:]):
+        board.name = b"Room %d" % number
+
+
 def shapes():
     """Larger changes: a name, what is done to a world, and how many edits lead there, where that is plain."""
     hall = 1
@@ -220,17 +233,21 @@ def shapes():
     def one(what):
         return lambda world: what(world.boards[hall])
 
-    def hundred(world):
-        move_boards(world, [0, 1, 2, 3] + [-1] * 97)
-        for number, board in enumerate(world.boards[4:]):
-            board.name = b"Room %d" % number
-
     def all_other(world):
         world.boards = start().boards[:1] + [Board(name=b"B%d" % n, stats=[Stat(3, 3, cycle=1), Stat(4, 4, program=b"x\r")]) for n in range(7)]
 
     def many_stats(board):
         for number in range(140):
             board.stats.append(Stat(number % 60 + 1, number // 60 + 15, cycle=number, program=b"@n%d\r" % number))
+
+    def move_guard(board):
+        board.put(20, 10, (0, 0))
+        board.put(21, 11, (36, 0x0F))
+        change_stat(board, 1, x=21, y=11)
+
+    def rename(world, *names):
+        for board, name in zip(world.boards[1:], names):
+            board.name = name
 
     def swap(board):
         board.stats[1], board.stats[2] = board.stats[2], board.stats[1]
@@ -241,43 +258,48 @@ def shapes():
         ("a cell", one(lambda b: b.put(33, 3, (21, 14))), 1),
         ("a colour", one(lambda b: b.put(20, 10, (36, 0x0A))), 1),
         ("a rectangle", one(lambda b: b.fill(30, 14, 45, 18, (22, 2))), 1),
-        ("a frame", one(lambda b: (b.fill(30, 14, 45, 18, (22, 2)), b.fill(31, 15, 44, 17, (0, 0)))), None),
-        ("every cell", one(lambda b: b.fill(1, 1, 60, 25, (27, 3))), None),
-        ("a pattern", one(lambda b: [b.put(x, y, (21, x * y % 256)) for x in range(1, 61) for y in range(13, 20)]), None),
-        ("a stat at the end", one(lambda b: add_stat(b, 7, 44, 4, (36, 9), cycle=3, program=b"@new\r")), None),
-        ("a stat without a program", one(lambda b: add_stat(b, 7, 44, 4, (13, 9), cycle=6, p1=9)), None),
-        ("a stat in the middle", one(lambda b: add_stat(b, 3, 44, 4, (36, 9), cycle=3, program=b"@mid\r")), None),
+        ("a frame", one(lambda b: (b.fill(30, 14, 45, 18, (22, 2)), b.fill(31, 15, 44, 17, (0, 0)))), 4),
+        ("every cell", one(lambda b: b.fill(1, 1, 60, 25, (27, 3))), 1),
+        ("a pattern", one(lambda b: [b.put(x, y, (21, x * y % 256)) for x in range(1, 61) for y in range(13, 20)]), 420),
+        ("a stat at the end", one(lambda b: add_stat(b, 7, 44, 4, (36, 9), cycle=3, program=b"@new\r")), 4),
+        ("a stat without a program", one(lambda b: add_stat(b, 7, 44, 4, (13, 9), cycle=6, p1=9)), 2),
+        ("a stat in the middle", one(lambda b: add_stat(b, 3, 44, 4, (36, 9), cycle=3, program=b"@mid\r")), 13),
         ("a stat in front", one(lambda b: add_stat(b, 1, 44, 4, (34, 9), cycle=3)), None),
-        ("a stat less", one(lambda b: remove_stat(b, 5)), None),
-        ("a stat less in the middle", one(lambda b: remove_stat(b, 2)), None),
-        ("the first stat less", one(lambda b: remove_stat(b, 1)), None),
-        ("no stats", one(lambda b: b.stats.__delitem__(slice(1, None))), None),
+        ("a stat less", one(lambda b: remove_stat(b, 5)), 2),
+        ("a stat less in the middle", one(lambda b: remove_stat(b, 2)), 2),
+        ("the first stat less", one(lambda b: remove_stat(b, 1)), 2),
+        ("no stats", one(lambda b: b.stats.__delitem__(slice(1, None))), 6),
         ("stats that changed places", one(swap), None),
-        ("a hundred and forty stats more", one(many_stats), None),
-        ("a share split", one(lambda b: change_stat(b, 3, program=b"@twin\r/e/w\r#restart\r")), None),
-        ("a share changed", one(lambda b: change_stat(b, 2, program=b"@twin\r/w/e\r#restart\r")), None),
-        ("a share more", one(lambda b: change_stat(b, 5, program=2)), None),
-        ("a share with another", one(lambda b: change_stat(b, 3, program=1)), None),
-        ("a player who moved", one(move_player), None),
-        ("a player with a program", one(lambda b: change_stat(b, 0, program=b"@me\r")), None),
-        ("a player outside", one(lambda b: change_stat(b, 0, x=0, y=0)), None),
-        ("a passage elsewhere", one(lambda b: change_stat(b, 4, p3=0)), None),
-        ("a passage more", one(lambda b: add_stat(b, 7, 3, 3, (11, 0x2F), p3=3)), None),
-        ("no passage any more", one(lambda b: b.put(40, 12, (22, 1))), None),
-        ("a tile that becomes a passage", one(lambda b: b.put(20, 10, (11, 1))), None),
+        ("a stat that moved", one(move_guard), 4),
+        ("a hundred and forty stats more", one(many_stats), 420),
+        ("a share split", one(lambda b: change_stat(b, 3, program=b"@twin\r/e/w\r#restart\r")), 3),
+        ("a share changed", one(lambda b: change_stat(b, 2, program=b"@twin\r/w/e\r#restart\r")), 2),
+        ("a share more", one(lambda b: change_stat(b, 5, program=2)), 1),
+        ("a share with another", one(lambda b: change_stat(b, 3, program=1)), 1),
+        ("a player who moved", one(move_player), 4),
+        ("a player with a program", one(lambda b: change_stat(b, 0, program=b"@me\r")), 3),
+        ("a player outside", one(lambda b: change_stat(b, 0, x=0, y=0)), 2),
+        ("a passage elsewhere", one(lambda b: change_stat(b, 4, p3=0)), 1),
+        ("a passage more", one(lambda b: add_stat(b, 7, 3, 3, (11, 0x2F), p3=3)), 2),
+        ("no passage any more", one(lambda b: b.put(40, 12, (22, 1))), 1),
+        ("a tile that becomes a passage", one(lambda b: b.put(20, 10, (11, 1))), 1),
         # a planner that drops the last board would have take answer NotTaken
-        ("a board at the end", lambda world: move_boards(world, [0, 1, 2, 3, -1]), None),
-        ("a board in the middle", lambda world: move_boards(world, [0, 1, -1, 2, 3]), None),
-        ("a board in front", lambda world: move_boards(world, [0, -1, 1, 2, 3]), None),
-        ("a board less", lambda world: move_boards(world, [0, 1, 3]), None),
-        ("the first board less", lambda world: move_boards(world, [0, 2, 3]), None),
-        ("boards that changed places", lambda world: move_boards(world, [0, 3, 1, 2]), None),
-        ("boards turned round", lambda world: move_boards(world, [0, 3, 2, 1]), None),
-        ("one board", lambda world: move_boards(world, [0]), None),
-        ("a board that moved and changed", lambda world: (move_boards(world, [0, 2, 3, 1]), world.boards[3].put(1, 1, (9, 9))), None),
-        ("a hundred boards beside the title", hundred, None),
+        ("a board at the end", lambda world: move_boards(world, [0, 1, 2, 3, -1]), 5),
+        ("a board in the middle", lambda world: move_boards(world, [0, 1, -1, 2, 3]), 7),
+        ("a board in front", lambda world: move_boards(world, [0, -1, 1, 2, 3]), 8),
+        ("a board less", lambda world: move_boards(world, [0, 1, 3]), 1),
+        ("the first board less", lambda world: move_boards(world, [0, 2, 3]), 1),
+        ("boards that changed places", lambda world: move_boards(world, [0, 3, 1, 2]), 2),
+        ("boards turned round", lambda world: move_boards(world, [0, 3, 2, 1]), 2),
+        ("one board", lambda world: move_boards(world, [0]), 3),
+        ("a board that moved and changed", lambda world: (move_boards(world, [0, 2, 3, 1]), world.boards[3].put(1, 1, (9, 9))), 2),
+        ("a hundred boards beside the title", hundred, 485),
         ("quite another world", all_other, None),
-        ("two boards of one name", lambda world: change(world, "board.2.name", b"Hall"), None),
+        ("two boards of one name", lambda world: change(world, "board.2.name", b"Hall"), 1),
+        ("boards renamed", lambda world: rename(world, b"Great hall", b"Cellar", b"Keep"), 3),
+        ("boards that exchanged names", lambda world: rename(world, b"Cave", b"Hall"), None),
+        ("a board renamed, and another less", lambda world: (rename(world, b"Great hall"), move_boards(world, [0, 1, 3])), 2),
+        ("a board less, and one at the end", lambda world: move_boards(world, [0, 1, 3, -1]), None),
     ]
 
 
@@ -317,8 +339,27 @@ def differences(one, other):
     return "nothing"
 
 
-def draws(what, change_it, wanted=None, rubbish=0, longest=255):
-    """Opens a world, changes it, has it taken beside what others did, and looks at all that comes of it."""
+# drawings that put a stat before the twin, which is made anew then and loses the line that others put into its program meanwhile
+MADE_ANEW = ("a stat in front", "stats that changed places")
+# boards are found by their names, so these are drawn anew
+NOT_FOUND = ("boards that exchanged names",)
+
+
+def others_stay(what, world, hall, twin):
+    """What others did meanwhile is there: their cells, unless they were drawn over, and the line in front of the twin's program."""
+    for number, board in enumerate(world.boards):
+        if board is not hall or what in NOT_FOUND:
+            continue
+        seen = world_of("mine.zed").boards[number]
+        wanted = [(19, 9) if hall.at(x, y) == (0, 0) else hall.at(x, y) for x in (59, 60) for y in (24, 25)]
+        is_so(f"{what}: the others' cells", [seen.at(x, y) for x in (59, 60) for y in (24, 25)], wanted)
+        for stat, then in zip(hall.stats, seen.stats):
+            if stat is twin and what not in MADE_ANEW:
+                is_so(f"{what}: the others' line", then.program, b"#lock\r" + twin.program)
+
+
+def draws(what, change_it, wanted=None, rubbish=0, longest=255, spell=lambda data: data, beside=others_stay):
+    """Opens a world, changes it, has it taken beside what others did, and looks at all that comes of it. `spell` spells the world otherwise."""
     for name in ("mine.zed", "mine.zzt", "mine.zzt.base", "mine.zzt.base~", "mine.zed~"):
         if os.path.exists(at(name)):
             os.remove(at(name))
@@ -327,9 +368,11 @@ def draws(what, change_it, wanted=None, rubbish=0, longest=255):
     is_so(f"{what}: open", told, f"0 {len(bytes_of('mine.zzt') or b'')} bytes")
     is_so(f"{what}: the base", bytes_of("mine.zzt.base"), bytes_of("start.zed"))
     world = zzt.read(bytes_of("mine.zzt"))
+    hall, twin = world.boards[1], world.boards[1].stats[2]
     change_it(world)
-    put("mine.zzt", zzt.write(world, rubbish, longest))
+    put("mine.zzt", spell(zzt.write(world, rubbish, longest)))
     shutil.copy(at("others.zed"), at("mine.zed"))
+    before = written("mine.zed"), written("mine.zzt.base")
     told = counts(zztool("take", "mine.zed", 1, "mine.zzt"))
     is_so(f"{what}: take", isinstance(told, tuple), True)
     if not isinstance(told, tuple):
@@ -341,16 +384,51 @@ def draws(what, change_it, wanted=None, rubbish=0, longest=255):
         is_so(f"{what}: edits made", made, wanted)
     is_so(f"{what}: the base's world", differences(world_of("mine.zzt.base"), zzt.normal(world)), "nothing")
     if made == 0:
-        is_so(f"{what}: nothing is written", bytes_of("mine.zed"), bytes_of("others.zed"))
-    before = bytes_of("mine.zed"), bytes_of("mine.zzt.base")
+        is_so(f"{what}: nothing is written", (written("mine.zed"), written("mine.zzt.base")), before)
+    before = written("mine.zed"), written("mine.zzt.base")
     is_so(f"{what}: taken again", zztool("take", "mine.zed", 1, "mine.zzt"), f"0 0 taken, {there} edits")
-    is_so(f"{what}: nothing is written again", (bytes_of("mine.zed"), bytes_of("mine.zzt.base")), before)
-    # what others did meanwhile is there, unless it was drawn over or its board is gone
-    seen = world_of("mine.zed")
-    if not isinstance(seen, str):
-        hall = next((b for b in seen.boards if b.name in (b"Hall", b"Great hall")), None)
-        if hall and what.startswith(("a cell", "a rectangle", "board.1", "a stat at", "a player")):
-            is_so(f"{what}: the others' cells", hall.at(60, 25), (19, 9))
+    is_so(f"{what}: nothing is written again", (written("mine.zed"), written("mine.zzt.base")), before)
+    if beside:
+        beside(what, world, hall, twin)
+
+
+# ---- worlds that are spelled as no writer of Wergozil spells them
+
+
+def filled(world):
+    """Each string is as long as it may be."""
+    world.name, world.boards[1].name, world.boards[1].message = b"n" * 20, b"b" * 50, b"m" * 58
+    world.flags = [b"F" * 20] * 10
+
+
+def long_strings(data):
+    """The lengths of the world's name, a flag, a board's name and its message are greater than their fields."""
+    data = zzt.poked(zzt.poked(data, 29, 21), 50, 255)
+    return zzt.with_body(data, 1, lambda body: zzt.poked(zzt.poked(body, 0, 255), body.index(b":" + b"m" * 58), 59))
+
+
+def lenient():
+    """What the reader reads leniently: the world counts, and not how it is spelled."""
+    plain = [
+        ("rubbish in what is unused", {"rubbish": 170}),
+        ("runs of one", {"longest": 1}),
+        ("runs of 256", {"longest": 256}),
+        ("bytes behind the last board", {"spell": lambda data: data + b"more"}),
+        ("bytes behind the last stat", {"spell": lambda data: zzt.with_body(data, 1, lambda body: body + bytes(40))}),
+        ("a run past the board", {"spell": lambda data: zzt.with_body(data, 0, zzt.long_last_run)}),
+    ]
+    for what, how in plain:
+        draws(f"a cell, with {what}", lambda world: world.boards[1].put(33, 3, (21, 14)), 1, **how)
+        draws(f"nothing but {what}", lambda world: None, 0, **how)
+    draws("lengths past their strings", filled, 13, spell=long_strings)
+    # what is read as another value makes an edit where that one is new
+    for path, value, wanted in [
+        ("keys.3", 200, 1), ("saved", 255, 1), ("board.1.dark", 2, 1), ("board.1.re_enter", 255, 1), ("board.2.dark", 9, 0),
+        ("current", 99, 1), ("current", -1, 1), ("board.1.exits.0", 4, 0), ("board.1.exits.1", 255, 1), ("board.1.stat.4.p3", 4, 1),
+        ("board.1.stat.1.follower", 7, 0), ("board.1.stat.1.leader", -7, 0), ("board.1.stat.6.follower", 7, 1),
+        ("board.1.stat.5.program", 3, 1), ("board.1.stat.6.program", 4, 0),
+    ]:  # fmt: skip
+        draws(f"{path} read leniently", lambda world, p=path, v=value: change(world, p, v), wanted)
 
 
 # ---- a world drawn at random
@@ -416,6 +494,59 @@ def at_random(seed):
 # ---- two authors, and what is refused
 
 
+def draws_on(name, replica, change_it, wanted):
+    """An author goes on in a world file, as it is, and takes it again."""
+    world = zzt.read(bytes_of(f"{name}.zzt"))
+    change_it(world)
+    put(f"{name}.zzt", zzt.write(world))
+    told = counts(zztool("take", f"{name}.zed", replica, f"{name}.zzt"))
+    is_so(f"{name} draws on", told[0] if isinstance(told, tuple) else told, wanted)
+
+
+def goes_on():
+    """An author draws in one world file and takes it again and again, while others' edits come into FILE."""
+    shutil.copy(at("start.zed"), at("mine.zed"))
+    is_so("open", zztool("open", "--force", "mine.zed", "mine.zzt")[:2], "0 ")
+    for turn in range(1, 4):
+        draws_on("mine", 1, lambda world: world.boards[1].put(30 + turn, 1, (21, turn)), 1)
+        is_so("others", zzted("edit", "mine.zed", 9, "cells", 1, 50, turn, 50, turn, 19, 9), f"0 {3 + 2 * turn} edits")
+    drawn = zzt.read(bytes_of("mine.zzt"))
+    is_so("the base's world", differences(world_of("mine.zzt.base"), zzt.normal(drawn)), "nothing")
+    drawn.boards[1].fill(50, 1, 50, 3, (19, 9))
+    is_so("all of it", differences(world_of("mine.zed"), zzt.normal(drawn)), "nothing")
+    # without a base FILE stands for it, so that what others did is undone; and none is made
+    os.remove(at("mine.zzt.base"))
+    draws_on("mine", 1, lambda world: world.boards[1].put(40, 1, (21, 9)), 2)
+    is_so("no base is made", bytes_of("mine.zzt.base"), None)
+    is_so("FILE shows what was drawn", differences(world_of("mine.zed"), zzt.normal(zzt.read(bytes_of("mine.zzt")))), "nothing")
+
+
+def over_dead_bytes():
+    """Bytes that are deleted already don't part what is deleted around them."""
+    shutil.copy(at("start.zed"), at("mine.zed"))
+    is_so("bytes of a line less", zzted("edit", "mine.zed", 5, "delete", 1, 1, 9, 12), "0 4 edits")
+    is_so("open", zztool("open", "--force", "mine.zed", "mine.zzt")[:2], "0 ")
+    draws_on("mine", 1, lambda world: change_stat(world.boards[1], 1, program=b""), 3)
+
+
+def many_boards():
+    """A world of as many boards as there may be."""
+    world = start()
+    hundred(world)
+    put("many.zzt", zzt.write(world))
+    is_so("new of many boards", zzted("new", "mine.zed", 7, "--from", "many.zzt"), "0 1 edits")
+    is_so("open", zztool("open", "--force", "mine.zed", "mine.zzt")[:2], "0 ")
+
+    def redraw(world):
+        move_boards(world, [*range(50), *range(51, 101)])
+        world.boards[70].name = b"Renamed"
+        world.boards[99].put(1, 1, (21, 9))
+
+    draws_on("mine", 1, redraw, 3)
+    draws_on("mine", 1, lambda world: move_boards(world, [*range(100), -1]), 5)
+    is_so("all of it", differences(world_of("mine.zed"), zzt.normal(zzt.read(bytes_of("mine.zzt")))), "nothing")
+
+
 def two_authors():
     def author(name, replica, change_it):
         shutil.copy(at("start.zed"), at(f"{name}.zed"))
@@ -438,9 +569,12 @@ def two_authors():
 
     seen = merged(hall(lambda b: b.fill(30, 1, 33, 4, (21, 1))), hall(lambda b: b.fill(40, 1, 43, 4, (20, 2))))
     is_so("two places", (seen.boards[1].at(31, 2), seen.boards[1].at(41, 2)), ((21, 1), (20, 2)))
-    # in one cell the later stamp: the second author made more edits, so the time of the last is later
     seen = merged(hall(lambda b: b.put(30, 1, (21, 1))), hall(lambda b: b.put(30, 1, (20, 2))))
     is_so("one cell, one time: the higher replica", seen.boards[1].at(30, 1), (20, 2))
+    # the first author draws on, so that the time of the last edit is the later one
+    draws_on("one", 1, hall(lambda b: b.put(30, 1, (21, 3))), 1)
+    is_so("merged", zzted("merge", "both.zed", 7, "one.zed", "two.zed")[:2], "0 ")
+    is_so("one cell: the later stamp", world_of("both.zed").boards[1].at(30, 1), (21, 3))
     seen = merged(
         hall(lambda b: change_stat(b, 1, program=b.stats[1].program.replace(b"@guard\r", b"@guard\r#lock\r"))),
         hall(lambda b: change_stat(b, 1, program=b.stats[1].program.replace(b"Halt!", b"Halt, you!"))),
@@ -550,14 +684,19 @@ def main():
         draws(f"program: {what}", lambda world, p=program: change_stat(world.boards[1], 1, program=p), wanted)
     for what, change_it, wanted in shapes():
         draws(what, change_it, wanted, longest=256)
+    lenient()
     two_authors()
+    goes_on()
+    over_dead_bytes()
+    many_boards()
     undoes()
     refused()
     at_once()
     broken_off()
     for seed in range(COUNT):
         draw, dice = at_random(seed)
-        draws(f"at random {seed}", draw, rubbish=dice.randrange(256), longest=dice.choice([1, 60, 255, 256]))
+        # boards at random may be taken for one another
+        draws(f"at random {seed}", draw, rubbish=dice.randrange(256), longest=dice.choice([1, 60, 255, 256]), beside=None)
     print(f"drawing: {passed} passed, {failed} failed")
     return 1 if failed else 0
 
