@@ -609,46 +609,122 @@ def undoes():
     is_so("all of it", differences(seen, zzt.normal(drawn)), "nothing")
 
 
+def all_files():
+    """What the folder holds but for the world file that is drawn in."""
+    return {name: bytes_of(name) for name in os.listdir(ROOM) if name != "mine.zzt"}
+
+
+def refuses(what, wanted, *words, data=None):
+    """A command is refused, and nothing changes."""
+    if data is not None:
+        put("mine.zzt", data)
+    held = all_files(), bytes_of("mine.zzt")
+    is_so(what, zztool(*words), f"1 zztool: {wanted}")
+    is_so(f"{what}: nothing changes", (all_files(), bytes_of("mine.zzt")) == held, True)
+
+
 def refused():
-    """Worlds and files that are no good: nothing changes."""
+    """Worlds and files that are no good: nothing changes, and the first of them is told."""
     shutil.copy(at("start.zed"), at("mine.zed"))
     is_so("open", zztool("open", "--force", "mine.zed", "mine.zzt")[:2], "0 ")
     good = bytes_of("mine.zzt")
-    held = bytes_of("mine.zed"), bytes_of("mine.zzt.base")
-
-    def refuses(what, wanted, *words, data=None):
-        if data is not None:
-            put("mine.zzt", data)
-        is_so(what, zztool(*words), f"1 zztool: {wanted}")
-        is_so(f"{what}: nothing changes", (bytes_of("mine.zed"), bytes_of("mine.zzt.base")), held)
-
     taken = ("take", "mine.zed", 1, "mine.zzt")
-    refuses("cut short", "Truncated", *taken, data=good[:600])
-    refuses("still being written", "Truncated", *taken, data=b"")
+    # still being written, or cut short: any front of a world file
+    for length in {*range(0, len(good), 41), 1, 2, 511, 512, 513, 514, len(good) - 1}:
+        refuses(f"the first {length} bytes", "Truncated", *taken, data=good[:length])
     refuses("of Super ZZT", "NotZzt", *taken, data=b"\xfe\xff" + good[2:])
     refuses("too many boards", "TooManyBoards", *taken, data=good[:2] + b"\x65\0" + good[4:])
+    refuses("boards below 0", "TooManyBoards", *taken, data=good[:2] + b"\xff\xff" + good[4:])
     refuses("a board too large", "BadBoardSize", *taken, data=good[:512] + b"\xff\xff" + good[514:])
+    refuses("too many stats", "TooManyStats", *taken, data=zzt.with_body(good, 0, lambda body: body[:-35] + b"\x97\0" + body[-33:]))
+    refuses("a program that is the player's", "BadShare", *taken, data=zzt.with_body(good, 0, lambda body: body[:-10] + b"\xff\xff" + body[-8:]))
     put("mine.zzt", good)
-    refuses("replica 0", "BadEdit Stamp", "take", "mine.zed", 0, "mine.zzt")
+    refuses("replica 0, before all else", "BadEdit Stamp", "take", "--base", "none.zed", "none.zed", 0, "none.zzt")
     refuses("no FILE", "File", "take", "none.zed", 1, "mine.zzt")
     refuses("no WORLD", "File", "take", "mine.zed", 1, "none.zzt")
     refuses("no base", "File", "take", "--base", "none.zed", "mine.zed", 1, "mine.zzt")
     refuses("no edit file", "Magic", "take", "mine.zzt", 1, "mine.zzt")
     zzted("new", "other.zed", 8)
     refuses("another world", "OtherWorld", "take", "--base", "other.zed", "mine.zed", 1, "mine.zzt")
+    put("cut.zed", bytes_of("start.zed")[:-1])
+    refuses("FILE before its base", "CutShort", "take", "--base", "other.zed", "cut.zed", 1, "none.zzt")
+    refuses("the base before WORLD", "CutShort", "take", "--base", "cut.zed", "mine.zed", 1, "none.zzt")
     shutil.copy(at("start.zed"), at("clash.zed"))
     zzted("edit", "clash.zed", 1, "cells", 1, 1, 1, 1, 1, 9, 9)
     zzted("edit", "mine.zed", 1, "cells", 1, 1, 1, 1, 1, 8, 8)
-    held = bytes_of("mine.zed"), bytes_of("mine.zzt.base")
     refuses("a clash of base and FILE", "Clash 4 1", "take", "--base", "clash.zed", "mine.zed", 1, "mine.zzt")
+    refuses("WORLD before a clash", "Truncated", "take", "--base", "clash.zed", "mine.zed", 1, "mine.zzt", data=good[:99])
     # a drawing isn't lost by opening again
     world = zzt.read(good)
     world.boards[1].put(1, 1, (21, 1))
-    put("mine.zzt", zzt.write(world))
-    refuses("drawn in", "NotTaken", "open", "mine.zed", "mine.zzt")
-    is_so("the drawing is there", bytes_of("mine.zzt"), zzt.write(world))
+    refuses("drawn in", "NotTaken", "open", "mine.zed", "mine.zzt", data=zzt.write(world))
+    refuses("drawn in, and an earlier time", "NotTaken", "open", "--until", 2, "mine.zed", "mine.zzt")
     is_so("opened all the same", zztool("open", "--force", "mine.zed", "mine.zzt")[:2], "0 ")
     is_so("opened again", zztool("open", "mine.zed", "mine.zzt")[:2], "0 ")
+    put("mine.zzt", zzt.write(zzt.read(bytes_of("mine.zzt")), 9, 1))
+    is_so("opened again, as another editor spelled it", zztool("open", "mine.zed", "mine.zzt")[:2], "0 ")
+
+
+LAST_TIME = 2**48 - 1
+
+
+def with_late_edit(name, time):
+    """Adds an edit of a time to an edit file: it makes a text that nothing names."""
+    body = time.to_bytes(6, "little") + (60000).to_bytes(2, "little") + bytes([10])
+    put(name, bytes_of(name) + len(body).to_bytes(4, "little") + body)
+
+
+def limits():
+    """Limits of times and of world files: each is told exactly where it is gone over, in their order, and nothing changes."""
+    for name in ("mine.zed", "spent.zed", "last.zed"):
+        shutil.copy(at("start.zed"), at(name))
+    is_so("open", zztool("open", "--force", "mine.zed", "mine.zzt")[:2], "0 ")
+    good = bytes_of("mine.zzt")
+    with_late_edit("spent.zed", LAST_TIME)
+    with_late_edit("last.zed", LAST_TIME - 1)
+    drawn = zzt.read(good)
+    drawn.boards[1].put(33, 3, (21, 14))
+    refuses("no time is left", "ClockSpent", "take", "spent.zed", 1, "mine.zzt", data=zzt.write(drawn))
+    refuses("no time is left, though nothing differs", "ClockSpent", "take", "spent.zed", 1, "mine.zzt", data=good)
+    refuses("no time is left behind the base", "ClockSpent", "take", "--base", "spent.zed", "mine.zed", 1, "mine.zzt")
+    drawn.boards[1].put(35, 3, (21, 15))
+    refuses("too few times are left", "ClockSpent", "take", "last.zed", 1, "mine.zzt", data=zzt.write(drawn))
+    drawn.boards[1].put(35, 3, (0, 0))
+    put("mine.zzt", zzt.write(drawn))
+    is_so("as many times as are needed", zztool("take", "last.zed", 1, "mine.zzt"), "0 1 taken, 5 edits")
+    # a world that is read, but is longer written again: a run of 256 is two
+    is_so("open", zztool("open", "--force", "mine.zed", "mine.zzt")[:2], "0 ")
+    over = zzt.read(good)
+    over.boards[1].tiles = [(n // 256 % 2, 7) for n in range(1500)]
+    over.boards[1].stats[1].program = b"x" * 31000
+    over.boards[1].stats[1].program += b"y" * (32767 - len(zzt.write_board(over.boards[1], 0, 256)))
+    long = zzt.write(over, longest=256)
+    refuses("a board that would be over the limit", "BoardOver 1 32782", "take", "mine.zed", 1, "mine.zzt", data=long)
+    refuses("times before that", "ClockSpent", "take", "spent.zed", 1, "mine.zzt")
+    # bases that are no world file; FILE is its own base
+    os.remove(at("mine.zzt.base"))
+    put("none.zed", b"ZED\x02" + (7).to_bytes(8, "little"))
+    refuses("WORLD before its base", "BoardOver 1 32782", "take", "none.zed", 1, "mine.zzt")
+    many, crowd, long = start(), start(), start()
+    hundred(many)
+    crowd.boards[1].stats += [Stat(1, 1)] * 144
+    long.boards[1].stats[1].program = b"x" * 30000
+    for name, world, *words in [
+        ("boards.zed", many, "board-add", "One"),
+        ("stats.zed", crowd, "stat-add", 1, 9, 9, 1),
+        ("long.zed", long, "insert", 1, 1, 0, "y" * 2700),
+    ]:
+        put("new.zzt", zzt.write(world))
+        is_so(name, (zzted("new", name, 7, "--from", "new.zzt"), zzted("edit", name, 5, *words)), ("0 1 edits", "0 2 edits"))
+    long.boards[1].stats[1].program += b"y" * 2700
+    bytes_over = len(zzt.write_board(long.boards[1], 0, 255))
+    for name, wanted in [
+        ("none.zed", "NoWorld"), ("boards.zed", "BoardsOver 101"), ("stats.zed", "StatsOver 1 151"), ("long.zed", f"BoardOver 1 {bytes_over}"),
+    ]:  # fmt: skip
+        refuses(f"take from {name}", wanted, "take", name, 1, "mine.zzt", data=good)
+        refuses(f"open {name}", wanted, "open", name, "new.zzt.none")
+        refuses(f"open {name} all the same", wanted, "open", "--force", name, "mine.zzt")
+    refuses("before there was a world", "NoWorld", "open", "--until", 0, "mine.zed", "mine.zzt")
 
 
 def at_once():
@@ -691,6 +767,7 @@ def main():
     many_boards()
     undoes()
     refused()
+    limits()
     at_once()
     broken_off()
     for seed in range(COUNT):
