@@ -108,7 +108,7 @@ def prepare():
     is_so("edit", zzted("edit", "start.zed", 5, "insert", 1, 1, 7, "#char 33|"), "0 3 edits")
     # what others did meanwhile, who know of nothing that is drawn
     shutil.copy(at("start.zed"), at("others.zed"))
-    is_so("others", zzted("edit", "others.zed", 9, "cells", 1, 59, 24, 60, 25, 19, 9), "0 4 edits")
+    is_so("others", zzted("edit", "others.zed", 9, "cells", 1, 34, 16, 35, 17, 19, 9), "0 4 edits")
     is_so("others", zzted("edit", "others.zed", 9, "insert", 1, 2, 0, "#lock|"), "0 5 edits")
 
 
@@ -345,14 +345,18 @@ MADE_ANEW = ("a stat in front", "stats that changed places")
 NOT_FOUND = ("boards that exchanged names",)
 
 
+# the cells of the hall that others drew in, with another tile than was there; a frame is drawn around them
+OTHERS = [(x, y) for x in (34, 35) for y in (16, 17)]
+
+
 def others_stay(what, world, hall, twin):
     """What others did meanwhile is there: their cells, unless they were drawn over, and the line in front of the twin's program."""
     for number, board in enumerate(world.boards):
         if board is not hall or what in NOT_FOUND:
             continue
         seen = world_of("mine.zed").boards[number]
-        wanted = [(19, 9) if hall.at(x, y) == (0, 0) else hall.at(x, y) for x in (59, 60) for y in (24, 25)]
-        is_so(f"{what}: the others' cells", [seen.at(x, y) for x in (59, 60) for y in (24, 25)], wanted)
+        wanted = [(19, 9) if hall.at(x, y) == (0, 0) else hall.at(x, y) for x, y in OTHERS]
+        is_so(f"{what}: the others' cells", [seen.at(x, y) for x, y in OTHERS], wanted)
         for stat, then in zip(hall.stats, seen.stats):
             if stat is twin and what not in MADE_ANEW:
                 is_so(f"{what}: the others' line", then.program, b"#lock\r" + twin.program)
@@ -604,7 +608,7 @@ def undoes():
     is_so("others merge meanwhile", zzted("edit", "mine.zed", 8, "cells", 1, 1, 25, 1, 25, 19, 9)[:2], "0 ")
     is_so("taken", isinstance(counts(zztool("take", "mine.zed", 1, "mine.zzt")), tuple), True)
     seen = world_of("mine.zed")
-    is_so("as it was, with what came meanwhile", (seen.boards[1].at(60, 25), seen.boards[1].at(1, 25)), ((0, 0), (19, 9)))
+    is_so("as it was, with what came meanwhile", (seen.boards[1].at(*OTHERS[0]), seen.boards[1].at(1, 25)), ((0, 0), (19, 9)))
     drawn.boards[1].put(1, 25, (19, 9))
     is_so("all of it", differences(seen, zzt.normal(drawn)), "nothing")
 
