@@ -4,4 +4,5 @@ mod Messages
 mod Queued
 mod ReadBack
 mod Supply
+mod Turned
 mod Turning
