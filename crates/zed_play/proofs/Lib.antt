@@ -6,3 +6,4 @@ pub mod Numbering
 pub mod Uniqueness
 pub mod StepThere
 pub mod Refusing
+mod Carrying
