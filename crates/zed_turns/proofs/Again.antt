@@ -46,7 +46,7 @@ Kept a b =
 
 -- what is answered in front of others
 kept_on : (input : Input) (a next b : Point) (chance chance_then : Option (List ℕ)) → Answers input a chance next chance_then → Kept next b → Kept a b
-kept_on (Pressed key) a next b chance chance_then (supplied, (kept, same)) (keys, (more, (put, (words, comes)))) =
+kept_on (Pressed key) a next b chance chance_then (supplied, kept, same) (keys, more, put, words, comes) =
     let came = supplied.0 in
     let makes = supplied.3 in
     let all_keys : b.keys ≡ a.keys ++ (key ∷ keys) = put ∙ ap (λ l. l ++ keys) kept ∙ append_assoc a.keys (key ∷ []) keys in

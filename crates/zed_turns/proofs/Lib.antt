@@ -4,5 +4,4 @@ mod Messages
 mod Queued
 mod ReadBack
 mod Supply
-mod Turned
 mod Turning

@@ -1,7 +1,8 @@
 -- Keys that come before what a source has.
-use Rattle.std.proofs.Common.{◌≡◌, ◌∙◌, ◌+◌, ◌++◌, ℕ, suc, List, [], ◌∷◌, Option, Some, None, ap, arith, drop, drop_of_length-le, inl, inr, map, refl, slice_get, subst, sym}
+use Rattle.std.proofs.Common.{◌≡◌, ◌∙◌, ◌+◌, ◌<◌, ◌++◌, ℕ, suc, false, get_or, length, ltb, List, [], ◌∷◌, Option, Some, None, ap, arith, drop, drop_of_length-le, inl, inr, map, refl, slice_get, subst, sym}
 use Rattle.std.proofs.Math.Seq.{drop-cons}
-use Rattle.std.proofs.lemmas.Option.{get_or_from_slice_get, slice_get_cases, slice_get_within}
+use Rattle.std.proofs.lemmas.Bool.{ltb-false}
+use Rattle.std.proofs.lemmas.Option.{get_or_from_slice_get, slice_get-get_or, slice_get_cases, slice_get_past, slice_get_within}
 use Rattle.zed_play.specs.declared.key.Key.{Key}
 use Rattle.zed_staging.specs.declared.input.Input.{Input}
 use Rattle.zed_staging.specs.declared.input.Input.TheVariants.{Pressed}
@@ -9,8 +10,15 @@ use Rattle.zed_staging.specs.Devices.{Takes, behind_first, first_of}
 use Rattle.zed_turns.specs.Stage.{behind_keys}
 
 -- these inputs, and others behind them
-before : List Key → List Input → List Input
+abbrev before : List Key → List Input → List Input
 before keys later = map (λ key. Pressed key) keys ++ later
+
+-- what a slice with the keys of a list has at a place
+pub got : (kept keys : List Key) (k : ℕ) (key : Key) → keys ≡ kept → k < length keys → key ≡ get_or keys k key → slice_get kept k ≡ Some key
+got kept keys k key e below is = subst (λ ks. slice_get ks k ≡ Some key) e (slice_get-get_or keys k key below ∙ ap (λ x. Some x) (sym is))
+
+pub missed : (kept keys : List Key) (k : ℕ) → keys ≡ kept → false ≡ ltb k (length keys) → slice_get kept k ≡ None
+missed kept keys k e past = subst (λ ks. slice_get ks k ≡ None) e (slice_get_past keys k (ltb-false k (length keys) (sym past)))
 
 -- the next of the keys that were kept is taken
 pub takes_kept : (kept : List Key) (taken : ℕ) (key : Key) (left : Option (List Input)) → slice_get kept taken ≡ Some key

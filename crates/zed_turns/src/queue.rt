@@ -55,7 +55,6 @@ impl<I> Queue<I> {
 
 impl<I: Inputs> Queue<I> {
     /// Takes the next key that was kept; or else asks the source.
-    #[tactic(auto, using(crate::proofs::Queued::takes_kept, crate::proofs::Queued::takes_typed))]
     fn take(&mut self) -> Result<Option<Input>, DeviceFailed>
         ensures ok { IfOk result (λ input. Takes input
             (behind_keys (drop self.old.taken self.old.kept.items) (I.left self.old.source))
