@@ -55,6 +55,11 @@ def put(name, data):
         it.write(data)
 
 
+def written(name):
+    """A file's bytes, and which file it is: one that is written anew is another one, though its bytes be the same."""
+    return os.stat(at(name)).st_ino, bytes_of(name)
+
+
 def world_of(name):
     """The world of an edit file, saved by zzted."""
     said = zzted("save", "--big", "seen.zzt", name)
@@ -103,7 +108,7 @@ def prepare():
     is_so("edit", zzted("edit", "start.zed", 5, "insert", 1, 1, 7, "#char 33|"), "0 3 edits")
     # what others did meanwhile, who know of nothing that is drawn
     shutil.copy(at("start.zed"), at("others.zed"))
-    is_so("others", zzted("edit", "others.zed", 9, "cells", 1, 59, 24, 60, 25, 19, 9), "0 4 edits")
+    is_so("others", zzted("edit", "others.zed", 9, "cells", 1, 34, 16, 35, 17, 19, 9), "0 4 edits")
     is_so("others", zzted("edit", "others.zed", 9, "insert", 1, 2, 0, "#lock|"), "0 5 edits")
 
 
@@ -146,17 +151,20 @@ def programs():
         ("a line in front", b"#cycle 1\r" + old, 1),
         ("a line in the middle", old.replace(b":touch", b"#lock\r:touch"), 1),
         ("a line at the end", old + b":shot\r", 1),
-        ("a line less", old.replace(b"#char 33\r", b""), None),
+        # the line stands between two that begin with the same byte, and was inserted by one edit
+        ("a line less", old.replace(b"#char 33\r", b""), 1),
         ("a byte in a line", old.replace(b"Halt", b"Hault"), 1),
-        ("a word for another", old.replace(b"Halt", b"Stop"), None),
-        ("two lines", old.replace(b"33", b"34").replace(b"Halt", b"Stop"), None),
-        ("lines changed places", b"@guard\r#end\r#char 33\r:touch\rHalt!\r#end\r", None),
-        ("emptied", b"", None),
-        ("quite another", b"hello\rworld", None),
-        ("every byte there is", bytes(range(1, 256)), None),
-        ("the same twice", old + old, None),
+        ("a byte less in a line", old.replace(b"Halt", b"Hat"), 1),
+        ("a word for another", old.replace(b"Halt", b"Stop"), 2),
+        ("two lines", old.replace(b"33", b"34").replace(b"Halt", b"Stop"), 4),
+        ("lines changed places", b"@guard\r#end\r#char 33\r:touch\rHalt!\r#end\r", 2),
+        # what stands there is a part of the first world, a line of another edit, and the rest of the first world
+        ("emptied", b"", 3),
+        ("quite another", b"hello\rworld", 4),
+        ("every byte there is", bytes(range(1, 256)), 4),
+        ("the same twice", old + old, 1),
         ("without its last end", old[:-1], 1),
-        ("of ends alone", b"\r" * 40, None),
+        ("of ends alone", b"\r" * 40, 4),
     ]
 
 
@@ -213,6 +221,12 @@ def move_boards(world, order):
     world.boards = new
 
 
+def hundred(world):
+    move_boards(world, [0, 1, 2, 3] + [-1] * 97)
+    for number, board in enumerate(world.boards[4:]):
+        board.name = b"Room %d" % number
+
+
 def shapes():
     """Larger changes: a name, what is done to a world, and how many edits lead there, where that is plain."""
     hall = 1
@@ -220,17 +234,21 @@ def shapes():
     def one(what):
         return lambda world: what(world.boards[hall])
 
-    def hundred(world):
-        move_boards(world, [0, 1, 2, 3] + [-1] * 97)
-        for number, board in enumerate(world.boards[4:]):
-            board.name = b"Room %d" % number
-
     def all_other(world):
         world.boards = start().boards[:1] + [Board(name=b"B%d" % n, stats=[Stat(3, 3, cycle=1), Stat(4, 4, program=b"x\r")]) for n in range(7)]
 
     def many_stats(board):
         for number in range(140):
             board.stats.append(Stat(number % 60 + 1, number // 60 + 15, cycle=number, program=b"@n%d\r" % number))
+
+    def move_guard(board):
+        board.put(20, 10, (0, 0))
+        board.put(21, 11, (36, 0x0F))
+        change_stat(board, 1, x=21, y=11)
+
+    def rename(world, *names):
+        for board, name in zip(world.boards[1:], names):
+            board.name = name
 
     def swap(board):
         board.stats[1], board.stats[2] = board.stats[2], board.stats[1]
@@ -241,43 +259,48 @@ def shapes():
         ("a cell", one(lambda b: b.put(33, 3, (21, 14))), 1),
         ("a colour", one(lambda b: b.put(20, 10, (36, 0x0A))), 1),
         ("a rectangle", one(lambda b: b.fill(30, 14, 45, 18, (22, 2))), 1),
-        ("a frame", one(lambda b: (b.fill(30, 14, 45, 18, (22, 2)), b.fill(31, 15, 44, 17, (0, 0)))), None),
-        ("every cell", one(lambda b: b.fill(1, 1, 60, 25, (27, 3))), None),
-        ("a pattern", one(lambda b: [b.put(x, y, (21, x * y % 256)) for x in range(1, 61) for y in range(13, 20)]), None),
-        ("a stat at the end", one(lambda b: add_stat(b, 7, 44, 4, (36, 9), cycle=3, program=b"@new\r")), None),
-        ("a stat without a program", one(lambda b: add_stat(b, 7, 44, 4, (13, 9), cycle=6, p1=9)), None),
-        ("a stat in the middle", one(lambda b: add_stat(b, 3, 44, 4, (36, 9), cycle=3, program=b"@mid\r")), None),
+        ("a frame", one(lambda b: (b.fill(30, 14, 45, 18, (22, 2)), b.fill(31, 15, 44, 17, (0, 0)))), 4),
+        ("every cell", one(lambda b: b.fill(1, 1, 60, 25, (27, 3))), 1),
+        ("a pattern", one(lambda b: [b.put(x, y, (21, x * y % 256)) for x in range(1, 61) for y in range(13, 20)]), 420),
+        ("a stat at the end", one(lambda b: add_stat(b, 7, 44, 4, (36, 9), cycle=3, program=b"@new\r")), 4),
+        ("a stat without a program", one(lambda b: add_stat(b, 7, 44, 4, (13, 9), cycle=6, p1=9)), 2),
+        ("a stat in the middle", one(lambda b: add_stat(b, 3, 44, 4, (36, 9), cycle=3, program=b"@mid\r")), 13),
         ("a stat in front", one(lambda b: add_stat(b, 1, 44, 4, (34, 9), cycle=3)), None),
-        ("a stat less", one(lambda b: remove_stat(b, 5)), None),
-        ("a stat less in the middle", one(lambda b: remove_stat(b, 2)), None),
-        ("the first stat less", one(lambda b: remove_stat(b, 1)), None),
-        ("no stats", one(lambda b: b.stats.__delitem__(slice(1, None))), None),
+        ("a stat less", one(lambda b: remove_stat(b, 5)), 2),
+        ("a stat less in the middle", one(lambda b: remove_stat(b, 2)), 2),
+        ("the first stat less", one(lambda b: remove_stat(b, 1)), 2),
+        ("no stats", one(lambda b: b.stats.__delitem__(slice(1, None))), 6),
         ("stats that changed places", one(swap), None),
-        ("a hundred and forty stats more", one(many_stats), None),
-        ("a share split", one(lambda b: change_stat(b, 3, program=b"@twin\r/e/w\r#restart\r")), None),
-        ("a share changed", one(lambda b: change_stat(b, 2, program=b"@twin\r/w/e\r#restart\r")), None),
-        ("a share more", one(lambda b: change_stat(b, 5, program=2)), None),
-        ("a share with another", one(lambda b: change_stat(b, 3, program=1)), None),
-        ("a player who moved", one(move_player), None),
-        ("a player with a program", one(lambda b: change_stat(b, 0, program=b"@me\r")), None),
-        ("a player outside", one(lambda b: change_stat(b, 0, x=0, y=0)), None),
-        ("a passage elsewhere", one(lambda b: change_stat(b, 4, p3=0)), None),
-        ("a passage more", one(lambda b: add_stat(b, 7, 3, 3, (11, 0x2F), p3=3)), None),
-        ("no passage any more", one(lambda b: b.put(40, 12, (22, 1))), None),
-        ("a tile that becomes a passage", one(lambda b: b.put(20, 10, (11, 1))), None),
+        ("a stat that moved", one(move_guard), 4),
+        ("a hundred and forty stats more", one(many_stats), 420),
+        ("a share split", one(lambda b: change_stat(b, 3, program=b"@twin\r/e/w\r#restart\r")), 3),
+        ("a share changed", one(lambda b: change_stat(b, 2, program=b"@twin\r/w/e\r#restart\r")), 2),
+        ("a share more", one(lambda b: change_stat(b, 5, program=2)), 1),
+        ("a share with another", one(lambda b: change_stat(b, 3, program=1)), 1),
+        ("a player who moved", one(move_player), 4),
+        ("a player with a program", one(lambda b: change_stat(b, 0, program=b"@me\r")), 3),
+        ("a player outside", one(lambda b: change_stat(b, 0, x=0, y=0)), 2),
+        ("a passage elsewhere", one(lambda b: change_stat(b, 4, p3=0)), 1),
+        ("a passage more", one(lambda b: add_stat(b, 7, 3, 3, (11, 0x2F), p3=3)), 2),
+        ("no passage any more", one(lambda b: b.put(40, 12, (22, 1))), 1),
+        ("a tile that becomes a passage", one(lambda b: b.put(20, 10, (11, 1))), 1),
         # a planner that drops the last board would have take answer NotTaken
-        ("a board at the end", lambda world: move_boards(world, [0, 1, 2, 3, -1]), None),
-        ("a board in the middle", lambda world: move_boards(world, [0, 1, -1, 2, 3]), None),
-        ("a board in front", lambda world: move_boards(world, [0, -1, 1, 2, 3]), None),
-        ("a board less", lambda world: move_boards(world, [0, 1, 3]), None),
-        ("the first board less", lambda world: move_boards(world, [0, 2, 3]), None),
-        ("boards that changed places", lambda world: move_boards(world, [0, 3, 1, 2]), None),
-        ("boards turned round", lambda world: move_boards(world, [0, 3, 2, 1]), None),
-        ("one board", lambda world: move_boards(world, [0]), None),
-        ("a board that moved and changed", lambda world: (move_boards(world, [0, 2, 3, 1]), world.boards[3].put(1, 1, (9, 9))), None),
-        ("a hundred boards beside the title", hundred, None),
+        ("a board at the end", lambda world: move_boards(world, [0, 1, 2, 3, -1]), 5),
+        ("a board in the middle", lambda world: move_boards(world, [0, 1, -1, 2, 3]), 7),
+        ("a board in front", lambda world: move_boards(world, [0, -1, 1, 2, 3]), 8),
+        ("a board less", lambda world: move_boards(world, [0, 1, 3]), 1),
+        ("the first board less", lambda world: move_boards(world, [0, 2, 3]), 1),
+        ("boards that changed places", lambda world: move_boards(world, [0, 3, 1, 2]), 2),
+        ("boards turned round", lambda world: move_boards(world, [0, 3, 2, 1]), 2),
+        ("one board", lambda world: move_boards(world, [0]), 3),
+        ("a board that moved and changed", lambda world: (move_boards(world, [0, 2, 3, 1]), world.boards[3].put(1, 1, (9, 9))), 2),
+        ("a hundred boards beside the title", hundred, 485),
         ("quite another world", all_other, None),
-        ("two boards of one name", lambda world: change(world, "board.2.name", b"Hall"), None),
+        ("two boards of one name", lambda world: change(world, "board.2.name", b"Hall"), 1),
+        ("boards renamed", lambda world: rename(world, b"Great hall", b"Cellar", b"Keep"), 3),
+        ("boards that exchanged names", lambda world: rename(world, b"Cave", b"Hall"), None),
+        ("a board renamed, and another less", lambda world: (rename(world, b"Great hall"), move_boards(world, [0, 1, 3])), 2),
+        ("a board less, and one at the end", lambda world: move_boards(world, [0, 1, 3, -1]), None),
     ]
 
 
@@ -317,8 +340,31 @@ def differences(one, other):
     return "nothing"
 
 
-def draws(what, change_it, wanted=None, rubbish=0, longest=255):
-    """Opens a world, changes it, has it taken beside what others did, and looks at all that comes of it."""
+# drawings that put a stat before the twin, which is made anew then and loses the line that others put into its program meanwhile
+MADE_ANEW = ("a stat in front", "stats that changed places")
+# boards are found by their names, so these are drawn anew
+NOT_FOUND = ("boards that exchanged names",)
+
+
+# the cells of the hall that others drew in, with another tile than was there; a frame is drawn around them
+OTHERS = [(x, y) for x in (34, 35) for y in (16, 17)]
+
+
+def others_stay(what, world, hall, twin):
+    """What others did meanwhile is there: their cells, unless they were drawn over, and the line in front of the twin's program."""
+    for number, board in enumerate(world.boards):
+        if board is not hall or what in NOT_FOUND:
+            continue
+        seen = world_of("mine.zed").boards[number]
+        wanted = [(19, 9) if hall.at(x, y) == (0, 0) else hall.at(x, y) for x, y in OTHERS]
+        is_so(f"{what}: the others' cells", [seen.at(x, y) for x, y in OTHERS], wanted)
+        for stat, then in zip(hall.stats, seen.stats):
+            if stat is twin and what not in MADE_ANEW:
+                is_so(f"{what}: the others' line", then.program, b"#lock\r" + twin.program)
+
+
+def draws(what, change_it, wanted=None, rubbish=0, longest=255, spell=lambda data: data, beside=others_stay):
+    """Opens a world, changes it, has it taken beside what others did, and looks at all that comes of it. `spell` spells the world otherwise."""
     for name in ("mine.zed", "mine.zzt", "mine.zzt.base", "mine.zzt.base~", "mine.zed~"):
         if os.path.exists(at(name)):
             os.remove(at(name))
@@ -327,9 +373,11 @@ def draws(what, change_it, wanted=None, rubbish=0, longest=255):
     is_so(f"{what}: open", told, f"0 {len(bytes_of('mine.zzt') or b'')} bytes")
     is_so(f"{what}: the base", bytes_of("mine.zzt.base"), bytes_of("start.zed"))
     world = zzt.read(bytes_of("mine.zzt"))
+    hall, twin = world.boards[1], world.boards[1].stats[2]
     change_it(world)
-    put("mine.zzt", zzt.write(world, rubbish, longest))
+    put("mine.zzt", spell(zzt.write(world, rubbish, longest)))
     shutil.copy(at("others.zed"), at("mine.zed"))
+    before = written("mine.zed"), written("mine.zzt.base")
     told = counts(zztool("take", "mine.zed", 1, "mine.zzt"))
     is_so(f"{what}: take", isinstance(told, tuple), True)
     if not isinstance(told, tuple):
@@ -341,16 +389,51 @@ def draws(what, change_it, wanted=None, rubbish=0, longest=255):
         is_so(f"{what}: edits made", made, wanted)
     is_so(f"{what}: the base's world", differences(world_of("mine.zzt.base"), zzt.normal(world)), "nothing")
     if made == 0:
-        is_so(f"{what}: nothing is written", bytes_of("mine.zed"), bytes_of("others.zed"))
-    before = bytes_of("mine.zed"), bytes_of("mine.zzt.base")
+        is_so(f"{what}: nothing is written", (written("mine.zed"), written("mine.zzt.base")), before)
+    before = written("mine.zed"), written("mine.zzt.base")
     is_so(f"{what}: taken again", zztool("take", "mine.zed", 1, "mine.zzt"), f"0 0 taken, {there} edits")
-    is_so(f"{what}: nothing is written again", (bytes_of("mine.zed"), bytes_of("mine.zzt.base")), before)
-    # what others did meanwhile is there, unless it was drawn over or its board is gone
-    seen = world_of("mine.zed")
-    if not isinstance(seen, str):
-        hall = next((b for b in seen.boards if b.name in (b"Hall", b"Great hall")), None)
-        if hall and what.startswith(("a cell", "a rectangle", "board.1", "a stat at", "a player")):
-            is_so(f"{what}: the others' cells", hall.at(60, 25), (19, 9))
+    is_so(f"{what}: nothing is written again", (written("mine.zed"), written("mine.zzt.base")), before)
+    if beside:
+        beside(what, world, hall, twin)
+
+
+# ---- worlds that are spelled as no writer of Wergozil spells them
+
+
+def filled(world):
+    """Each string is as long as it may be."""
+    world.name, world.boards[1].name, world.boards[1].message = b"n" * 20, b"b" * 50, b"m" * 58
+    world.flags = [b"F" * 20] * 10
+
+
+def long_strings(data):
+    """The lengths of the world's name, a flag, a board's name and its message are greater than their fields."""
+    data = zzt.poked(zzt.poked(data, 29, 21), 50, 255)
+    return zzt.with_body(data, 1, lambda body: zzt.poked(zzt.poked(body, 0, 255), body.index(b":" + b"m" * 58), 59))
+
+
+def lenient():
+    """What the reader reads leniently: the world counts, and not how it is spelled."""
+    plain = [
+        ("rubbish in what is unused", {"rubbish": 170}),
+        ("runs of one", {"longest": 1}),
+        ("runs of 256", {"longest": 256}),
+        ("bytes behind the last board", {"spell": lambda data: data + b"more"}),
+        ("bytes behind the last stat", {"spell": lambda data: zzt.with_body(data, 1, lambda body: body + bytes(40))}),
+        ("a run past the board", {"spell": lambda data: zzt.with_body(data, 0, zzt.long_last_run)}),
+    ]
+    for what, how in plain:
+        draws(f"a cell, with {what}", lambda world: world.boards[1].put(33, 3, (21, 14)), 1, **how)
+        draws(f"nothing but {what}", lambda world: None, 0, **how)
+    draws("lengths past their strings", filled, 13, spell=long_strings)
+    # what is read as another value makes an edit where that one is new
+    for path, value, wanted in [
+        ("keys.3", 200, 1), ("saved", 255, 1), ("board.1.dark", 2, 1), ("board.1.re_enter", 255, 1), ("board.2.dark", 9, 0),
+        ("current", 99, 1), ("current", -1, 1), ("board.1.exits.0", 4, 0), ("board.1.exits.1", 255, 1), ("board.1.stat.4.p3", 4, 1),
+        ("board.1.stat.1.follower", 7, 0), ("board.1.stat.1.leader", -7, 0), ("board.1.stat.6.follower", 7, 1),
+        ("board.1.stat.5.program", 3, 1), ("board.1.stat.6.program", 4, 0),
+    ]:  # fmt: skip
+        draws(f"{path} read leniently", lambda world, p=path, v=value: change(world, p, v), wanted)
 
 
 # ---- a world drawn at random
@@ -416,6 +499,59 @@ def at_random(seed):
 # ---- two authors, and what is refused
 
 
+def draws_on(name, replica, change_it, wanted):
+    """An author goes on in a world file, as it is, and takes it again."""
+    world = zzt.read(bytes_of(f"{name}.zzt"))
+    change_it(world)
+    put(f"{name}.zzt", zzt.write(world))
+    told = counts(zztool("take", f"{name}.zed", replica, f"{name}.zzt"))
+    is_so(f"{name} draws on", told[0] if isinstance(told, tuple) else told, wanted)
+
+
+def goes_on():
+    """An author draws in one world file and takes it again and again, while others' edits come into FILE."""
+    shutil.copy(at("start.zed"), at("mine.zed"))
+    is_so("open", zztool("open", "--force", "mine.zed", "mine.zzt")[:2], "0 ")
+    for turn in range(1, 4):
+        draws_on("mine", 1, lambda world: world.boards[1].put(30 + turn, 1, (21, turn)), 1)
+        is_so("others", zzted("edit", "mine.zed", 9, "cells", 1, 50, turn, 50, turn, 19, 9), f"0 {3 + 2 * turn} edits")
+    drawn = zzt.read(bytes_of("mine.zzt"))
+    is_so("the base's world", differences(world_of("mine.zzt.base"), zzt.normal(drawn)), "nothing")
+    drawn.boards[1].fill(50, 1, 50, 3, (19, 9))
+    is_so("all of it", differences(world_of("mine.zed"), zzt.normal(drawn)), "nothing")
+    # without a base FILE stands for it, so that what others did is undone; and none is made
+    os.remove(at("mine.zzt.base"))
+    draws_on("mine", 1, lambda world: world.boards[1].put(40, 1, (21, 9)), 2)
+    is_so("no base is made", bytes_of("mine.zzt.base"), None)
+    is_so("FILE shows what was drawn", differences(world_of("mine.zed"), zzt.normal(zzt.read(bytes_of("mine.zzt")))), "nothing")
+
+
+def over_dead_bytes():
+    """Bytes that are deleted already don't part what is deleted around them."""
+    shutil.copy(at("start.zed"), at("mine.zed"))
+    is_so("bytes of a line less", zzted("edit", "mine.zed", 5, "delete", 1, 1, 9, 12), "0 4 edits")
+    is_so("open", zztool("open", "--force", "mine.zed", "mine.zzt")[:2], "0 ")
+    draws_on("mine", 1, lambda world: change_stat(world.boards[1], 1, program=b""), 3)
+
+
+def many_boards():
+    """A world of as many boards as there may be."""
+    world = start()
+    hundred(world)
+    put("many.zzt", zzt.write(world))
+    is_so("new of many boards", zzted("new", "mine.zed", 7, "--from", "many.zzt"), "0 1 edits")
+    is_so("open", zztool("open", "--force", "mine.zed", "mine.zzt")[:2], "0 ")
+
+    def redraw(world):
+        move_boards(world, [*range(50), *range(51, 101)])
+        world.boards[70].name = b"Renamed"
+        world.boards[99].put(1, 1, (21, 9))
+
+    draws_on("mine", 1, redraw, 3)
+    draws_on("mine", 1, lambda world: move_boards(world, [*range(100), -1]), 5)
+    is_so("all of it", differences(world_of("mine.zed"), zzt.normal(zzt.read(bytes_of("mine.zzt")))), "nothing")
+
+
 def two_authors():
     def author(name, replica, change_it):
         shutil.copy(at("start.zed"), at(f"{name}.zed"))
@@ -438,14 +574,23 @@ def two_authors():
 
     seen = merged(hall(lambda b: b.fill(30, 1, 33, 4, (21, 1))), hall(lambda b: b.fill(40, 1, 43, 4, (20, 2))))
     is_so("two places", (seen.boards[1].at(31, 2), seen.boards[1].at(41, 2)), ((21, 1), (20, 2)))
-    # in one cell the later stamp: the second author made more edits, so the time of the last is later
     seen = merged(hall(lambda b: b.put(30, 1, (21, 1))), hall(lambda b: b.put(30, 1, (20, 2))))
     is_so("one cell, one time: the higher replica", seen.boards[1].at(30, 1), (20, 2))
+    # the first author draws on, so that the time of the last edit is the later one
+    draws_on("one", 1, hall(lambda b: b.put(30, 1, (21, 3))), 1)
+    is_so("merged", zzted("merge", "both.zed", 7, "one.zed", "two.zed")[:2], "0 ")
+    is_so("one cell: the later stamp", world_of("both.zed").boards[1].at(30, 1), (21, 3))
     seen = merged(
         hall(lambda b: change_stat(b, 1, program=b.stats[1].program.replace(b"@guard\r", b"@guard\r#lock\r"))),
         hall(lambda b: change_stat(b, 1, program=b.stats[1].program.replace(b"Halt!", b"Halt, you!"))),
     )
     is_so("two lines", seen.boards[1].stats[1].program, b"@guard\r#lock\r#char 33\r#end\r:touch\rHalt, you!\r#end\r")
+    # a line more, and the one behind it less: whole lines are inserted and deleted, though both begin with the same byte
+    seen = merged(
+        hall(lambda b: change_stat(b, 1, program=b.stats[1].program.replace(b"#end\r:touch", b"#lock\r#end\r:touch"))),
+        hall(lambda b: change_stat(b, 1, program=b.stats[1].program.replace(b"#end\r:touch", b":touch"))),
+    )
+    is_so("a line beside one that goes", seen.boards[1].stats[1].program, b"@guard\r#char 33\r#lock\r:touch\rHalt!\r#end\r")
     seen = merged(lambda world: move_boards(world, [0, 1, 2, 3, -1]), lambda world: move_boards(world, [0, 3, 1, 2]))
     is_so("a new board and another order", sorted(b.name for b in seen.boards), [b"Cave", b"Hall", b"New", b"Title", b"Tower"])
     # the number of the second author, who began from the first one's number: my world over theirs, with what both began with as base
@@ -470,51 +615,131 @@ def undoes():
     is_so("others merge meanwhile", zzted("edit", "mine.zed", 8, "cells", 1, 1, 25, 1, 25, 19, 9)[:2], "0 ")
     is_so("taken", isinstance(counts(zztool("take", "mine.zed", 1, "mine.zzt")), tuple), True)
     seen = world_of("mine.zed")
-    is_so("as it was, with what came meanwhile", (seen.boards[1].at(60, 25), seen.boards[1].at(1, 25)), ((0, 0), (19, 9)))
+    is_so("as it was, with what came meanwhile", (seen.boards[1].at(*OTHERS[0]), seen.boards[1].at(1, 25)), ((0, 0), (19, 9)))
     drawn.boards[1].put(1, 25, (19, 9))
     is_so("all of it", differences(seen, zzt.normal(drawn)), "nothing")
 
 
+def all_files():
+    """What the folder holds but for the world file that is drawn in."""
+    return {name: bytes_of(name) for name in os.listdir(ROOM) if name != "mine.zzt"}
+
+
+def refuses(what, wanted, *words, data=None):
+    """A command is refused, and nothing changes."""
+    if data is not None:
+        put("mine.zzt", data)
+    held = all_files(), bytes_of("mine.zzt")
+    is_so(what, zztool(*words), f"1 zztool: {wanted}")
+    is_so(f"{what}: nothing changes", (all_files(), bytes_of("mine.zzt")) == held, True)
+
+
 def refused():
-    """Worlds and files that are no good: nothing changes."""
+    """Worlds and files that are no good: nothing changes, and the first of them is told."""
     shutil.copy(at("start.zed"), at("mine.zed"))
     is_so("open", zztool("open", "--force", "mine.zed", "mine.zzt")[:2], "0 ")
     good = bytes_of("mine.zzt")
-    held = bytes_of("mine.zed"), bytes_of("mine.zzt.base")
-
-    def refuses(what, wanted, *words, data=None):
-        if data is not None:
-            put("mine.zzt", data)
-        is_so(what, zztool(*words), f"1 zztool: {wanted}")
-        is_so(f"{what}: nothing changes", (bytes_of("mine.zed"), bytes_of("mine.zzt.base")), held)
-
     taken = ("take", "mine.zed", 1, "mine.zzt")
-    refuses("cut short", "Truncated", *taken, data=good[:600])
-    refuses("still being written", "Truncated", *taken, data=b"")
+    # still being written, or cut short: any front of a world file
+    for length in {*range(0, len(good), 41), 1, 2, 511, 512, 513, 514, len(good) - 1}:
+        refuses(f"the first {length} bytes", "Truncated", *taken, data=good[:length])
     refuses("of Super ZZT", "NotZzt", *taken, data=b"\xfe\xff" + good[2:])
     refuses("too many boards", "TooManyBoards", *taken, data=good[:2] + b"\x65\0" + good[4:])
+    refuses("boards below 0", "TooManyBoards", *taken, data=good[:2] + b"\xff\xff" + good[4:])
     refuses("a board too large", "BadBoardSize", *taken, data=good[:512] + b"\xff\xff" + good[514:])
+    refuses("too many stats", "TooManyStats", *taken, data=zzt.with_body(good, 0, lambda body: body[:-35] + b"\x97\0" + body[-33:]))
+    refuses("a program that is the player's", "BadShare", *taken, data=zzt.with_body(good, 0, lambda body: body[:-10] + b"\xff\xff" + body[-8:]))
     put("mine.zzt", good)
-    refuses("replica 0", "BadEdit Stamp", "take", "mine.zed", 0, "mine.zzt")
+    refuses("replica 0, before all else", "BadEdit Stamp", "take", "--base", "none.zed", "none.zed", 0, "none.zzt")
     refuses("no FILE", "File", "take", "none.zed", 1, "mine.zzt")
     refuses("no WORLD", "File", "take", "mine.zed", 1, "none.zzt")
     refuses("no base", "File", "take", "--base", "none.zed", "mine.zed", 1, "mine.zzt")
     refuses("no edit file", "Magic", "take", "mine.zzt", 1, "mine.zzt")
     zzted("new", "other.zed", 8)
     refuses("another world", "OtherWorld", "take", "--base", "other.zed", "mine.zed", 1, "mine.zzt")
+    put("cut.zed", bytes_of("start.zed")[:-1])
+    refuses("FILE before its base", "CutShort", "take", "--base", "other.zed", "cut.zed", 1, "none.zzt")
+    refuses("the base before WORLD", "CutShort", "take", "--base", "cut.zed", "mine.zed", 1, "none.zzt")
     shutil.copy(at("start.zed"), at("clash.zed"))
     zzted("edit", "clash.zed", 1, "cells", 1, 1, 1, 1, 1, 9, 9)
     zzted("edit", "mine.zed", 1, "cells", 1, 1, 1, 1, 1, 8, 8)
-    held = bytes_of("mine.zed"), bytes_of("mine.zzt.base")
     refuses("a clash of base and FILE", "Clash 4 1", "take", "--base", "clash.zed", "mine.zed", 1, "mine.zzt")
+    refuses("WORLD before a clash", "Truncated", "take", "--base", "clash.zed", "mine.zed", 1, "mine.zzt", data=good[:99])
     # a drawing isn't lost by opening again
     world = zzt.read(good)
     world.boards[1].put(1, 1, (21, 1))
-    put("mine.zzt", zzt.write(world))
-    refuses("drawn in", "NotTaken", "open", "mine.zed", "mine.zzt")
-    is_so("the drawing is there", bytes_of("mine.zzt"), zzt.write(world))
+    refuses("drawn in", "NotTaken", "open", "mine.zed", "mine.zzt", data=zzt.write(world))
+    refuses("drawn in, and an earlier time", "NotTaken", "open", "--until", 2, "mine.zed", "mine.zzt")
+    shutil.copy(at("cut.zed"), at("mine.zzt.base"))
+    refuses("drawn in, with a damaged base", "CutShort", "open", "mine.zed", "mine.zzt")
+    os.remove(at("mine.zzt.base"))
+    refuses("drawn in, without a base", "NotTaken", "open", "mine.zed", "mine.zzt")
     is_so("opened all the same", zztool("open", "--force", "mine.zed", "mine.zzt")[:2], "0 ")
     is_so("opened again", zztool("open", "mine.zed", "mine.zzt")[:2], "0 ")
+    put("mine.zzt", zzt.write(zzt.read(bytes_of("mine.zzt")), 9, 1))
+    is_so("opened again, as another editor spelled it", zztool("open", "mine.zed", "mine.zzt")[:2], "0 ")
+
+
+LAST_TIME = 2**48 - 1
+
+
+def with_late_edit(name, time):
+    """Adds an edit of a time to an edit file: it makes a text that nothing names."""
+    body = time.to_bytes(6, "little") + (60000).to_bytes(2, "little") + bytes([10])
+    put(name, bytes_of(name) + len(body).to_bytes(4, "little") + body)
+
+
+def limits():
+    """Limits of times and of world files: each is told exactly where it is gone over, in their order, and nothing changes."""
+    for name in ("mine.zed", "spent.zed", "last.zed"):
+        shutil.copy(at("start.zed"), at(name))
+    is_so("open", zztool("open", "--force", "mine.zed", "mine.zzt")[:2], "0 ")
+    good = bytes_of("mine.zzt")
+    with_late_edit("spent.zed", LAST_TIME)
+    with_late_edit("last.zed", LAST_TIME - 1)
+    drawn = zzt.read(good)
+    drawn.boards[1].put(33, 3, (21, 14))
+    refuses("no time is left", "ClockSpent", "take", "spent.zed", 1, "mine.zzt", data=zzt.write(drawn))
+    refuses("no time is left, though nothing differs", "ClockSpent", "take", "spent.zed", 1, "mine.zzt", data=good)
+    refuses("no time is left behind the base", "ClockSpent", "take", "--base", "spent.zed", "mine.zed", 1, "mine.zzt")
+    drawn.boards[1].put(35, 3, (21, 15))
+    refuses("too few times are left", "ClockSpent", "take", "last.zed", 1, "mine.zzt", data=zzt.write(drawn))
+    drawn.boards[1].put(35, 3, (0, 0))
+    put("mine.zzt", zzt.write(drawn))
+    is_so("as many times as are needed", zztool("take", "last.zed", 1, "mine.zzt"), "0 1 taken, 5 edits")
+    # a world that is read, but is longer written again: a run of 256 is two
+    is_so("open", zztool("open", "--force", "mine.zed", "mine.zzt")[:2], "0 ")
+    over = zzt.read(good)
+    over.boards[1].tiles = [(n // 256 % 2, 7) for n in range(1500)]
+    over.boards[1].stats[1].program = b"x" * 31000
+    over.boards[1].stats[1].program += b"y" * (32767 - len(zzt.write_board(over.boards[1], 0, 256)))
+    long = zzt.write(over, longest=256)
+    refuses("a board that would be over the limit", "BoardOver 1 32782", "take", "mine.zed", 1, "mine.zzt", data=long)
+    refuses("times before that", "ClockSpent", "take", "spent.zed", 1, "mine.zzt")
+    # bases that are no world file; FILE is its own base
+    os.remove(at("mine.zzt.base"))
+    put("none.zed", b"ZED\x02" + (7).to_bytes(8, "little"))
+    refuses("WORLD before its base", "BoardOver 1 32782", "take", "none.zed", 1, "mine.zzt")
+    many, crowd, long = start(), start(), start()
+    hundred(many)
+    crowd.boards[1].stats += [Stat(1, 1)] * 144
+    long.boards[1].stats[1].program = b"x" * 30000
+    for name, world, *words in [
+        ("boards.zed", many, "board-add", "One"),
+        ("stats.zed", crowd, "stat-add", 1, 9, 9, 1),
+        ("long.zed", long, "insert", 1, 1, 0, "y" * 2700),
+    ]:
+        put("new.zzt", zzt.write(world))
+        is_so(name, (zzted("new", name, 7, "--from", "new.zzt"), zzted("edit", name, 5, *words)), ("0 1 edits", "0 2 edits"))
+    long.boards[1].stats[1].program += b"y" * 2700
+    bytes_over = len(zzt.write_board(long.boards[1], 0, 255))
+    for name, wanted in [
+        ("none.zed", "NoWorld"), ("boards.zed", "BoardsOver 101"), ("stats.zed", "StatsOver 1 151"), ("long.zed", f"BoardOver 1 {bytes_over}"),
+    ]:  # fmt: skip
+        refuses(f"take from {name}", wanted, "take", name, 1, "mine.zzt", data=good)
+        refuses(f"open {name}", wanted, "open", name, "new.zzt.none")
+        refuses(f"open {name} all the same", wanted, "open", "--force", name, "mine.zzt")
+    refuses("before there was a world", "NoWorld", "open", "--until", 0, "mine.zed", "mine.zzt")
 
 
 def at_once():
@@ -550,14 +775,20 @@ def main():
         draws(f"program: {what}", lambda world, p=program: change_stat(world.boards[1], 1, program=p), wanted)
     for what, change_it, wanted in shapes():
         draws(what, change_it, wanted, longest=256)
+    lenient()
     two_authors()
+    goes_on()
+    over_dead_bytes()
+    many_boards()
     undoes()
     refused()
+    limits()
     at_once()
     broken_off()
     for seed in range(COUNT):
         draw, dice = at_random(seed)
-        draws(f"at random {seed}", draw, rubbish=dice.randrange(256), longest=dice.choice([1, 60, 255, 256]))
+        # boards at random may be taken for one another
+        draws(f"at random {seed}", draw, rubbish=dice.randrange(256), longest=dice.choice([1, 60, 255, 256]), beside=None)
     print(f"drawing: {passed} passed, {failed} failed")
     return 1 if failed else 0
 

@@ -211,3 +211,33 @@ def normal(world):
                 else:
                     break
     return world
+
+
+# ---- worlds that are spelled as no editor spells them
+
+
+def body_of(data, number):
+    """Where the body of a board begins, and where it ends."""
+    at = 512
+    for _ in range(number):
+        at += 2 + int.from_bytes(data[at : at + 2], "little")
+    return at + 2, at + 2 + int.from_bytes(data[at : at + 2], "little")
+
+
+def with_body(data, number, change_it):
+    """The same bytes with another body of a board."""
+    begin, end = body_of(data, number)
+    body = change_it(data[begin:end])
+    return data[: begin - 2] + len(body).to_bytes(2, "little") + body + data[end:]
+
+
+def poked(data, at, byte):
+    return data[:at] + bytes([byte]) + data[at + 1 :]
+
+
+def long_last_run(body):
+    """Makes the last run of a board's tiles longer than the board."""
+    tiles, at = 0, 51
+    while tiles + (body[at] or 256) < 1500:
+        tiles, at = tiles + (body[at] or 256), at + 3
+    return poked(body, at, 0)

@@ -224,5 +224,3 @@ properties_pass_others b e low high p rises is apart was =
       texts = λ f. wrote (of_board b (board_text f)) e (register (board_text_index f) p.texts) (register (board_text_index f) p.texts) None (beside-writes (λ x. (board_text f).value x) (board_text_set f) b e is apart) refl;
     })
     was
-
-}
