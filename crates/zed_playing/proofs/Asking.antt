@@ -1,12 +1,12 @@
 -- What a playtest that is kept asked of its host.
 use Rattle.zed_files.specs.declared.refusal.Refusal.{Refusal}
 use Rattle.zed_files.specs.declared.refusal.Refusal.TheVariants.{File, Memory}
-use Rattle.std.proofs.Common.{◌≡◌, ◌≢◌, ◌∙◌, ℕ, true, false, List, [], ◌∷◌, ◌++◌, Option, Some, None, ap, append_assoc, append-nil, map, refl, subst, sym, inl, inr}
+use Rattle.std.proofs.Common.{◌≡◌, ◌≢◌, ◌∙◌, ℕ, true, false, List, [], ◌∷◌, ◌++◌, Option, Some, None, Result, Ok, Err, IfErr, ap, append_assoc, append-nil, map, refl, subst, sym, inl, inr}
 use Rattle.std.specs.Prelude.{◌⊎◌}
 use Rattle.std.proofs.lemmas.List.{map-append}
 use Rattle.zed_host.specs.Calls.{Ask, Call, Leads, Writing, call, failed_at, passed}
 use Rattle.zed_host.proofs.Calls.{leads_then, passed_then}
-use Rattle.zed_files.specs.Asked.{Asked, Asks, Begun, BrokenOff, FailedAtEnd, named, reading}
+use Rattle.zed_files.specs.Asked.{Asks, BrokenOff, named, reading, refusal_in}
 use Rattle.zed_files.proofs.Asked.{asks_nothing}
 use Rattle.zed_files.proofs.Failures.{memory_is_other}
 use Rattle.zed_playing.specs.Asking.{AsksBehind, AsksKept, AsksNoMore, AsksPlay, IsLost, Sought, keeping}
@@ -137,3 +137,50 @@ one_unwritten called name e old new file is =
 -- the names of two files, one behind the other
 pub keeping_both : (words keys : Option (List ℕ)) → map (λ name. Writing name) (named words) ++ map (λ name. Writing name) (named keys) ≡ keeping words keys
 keeping_both words keys = sym (map-append (λ name. Writing name) (named words) (named keys))
+
+-- ---- a playtest
+
+-- what comes behind what is kept
+pub play_on : {H : Type 0} (called : H → Call → H → Type 0) (words keys : Option (List ℕ)) (files : List (List ℕ)) (last : List Ask) (told : Option Refusal) (old mid new : H)
+    → AsksBehind called words keys AsksNoMore None old mid → Asks called (reading files) last told mid new → AsksPlay called words keys files last told old new
+play_on called words keys files last told old mid new first second =
+    behind_more called words keys AsksNoMore (Asks called (reading files) last) told old mid new first
+    (λ before rests. subst (λ h. Asks called (reading files) last told h new) rests.0 second)
+
+-- or what is kept can't be had
+pub play_lost : {H : Type 0} (called : H → Call → H → Type 0) (words keys : Option (List ℕ)) (files : List (List ℕ)) (last : List Ask) (e : Refusal) (old new : H)
+    → AsksBehind called words keys AsksNoMore (Some e) old new → AsksPlay called words keys files last (Some e) old new
+play_lost called words keys files last e old new asks =
+    behind_same called words keys AsksNoMore (Asks called (reading files) last) (Some e) old new asks (λ mid rests. no_more mid rests.0 rests.1)
+  where
+    no_more : (mid : _) → new ≡ mid → (Some e ≡ None) ⊎ (Some e ≡ Some Memory) → Asks called (reading files) last (Some e) mid new
+    no_more mid same why = elim why [
+      | inl none ↦ absurd (let no : Some e ≡ None = none in cc)
+      | inr memory ↦ (
+          let lacks : e ≡ Memory = cc in
+          subst (λ h. Asks called (reading files) last (Some e) mid h) (sym same) (asks_nothing called (reading files) last e mid (memory_is_other e lacks)))
+    ]
+
+-- what is told of it is printed, or not
+pub told_asks : {H : Type 0} (called : H → Call → H → Type 0) (words keys : Option (List ℕ)) (files : List (List ℕ)) (last more : List Ask) (told : Option Refusal) (old mid new : H)
+    → ((e : Refusal) → told ≡ Some e → e ≡ File) → AsksPlay called words keys files last None old mid → Asks called [] more told mid new
+    → AsksPlay called words keys files (last ++ more) told old new
+told_asks called words keys files last more told old mid new file first second =
+    behind_more called words keys (Asks called (reading files) last) (Asks called (reading files) (last ++ more)) told old mid new first
+    (λ before asks. last_then called (reading files) last more told before mid new file asks second)
+
+pub untold_asks : {H : Type 0} (called : H → Call → H → Type 0) (words keys : Option (List ℕ)) (files : List (List ℕ)) (last more : List Ask) (e : Refusal) (old new : H)
+    → AsksPlay called words keys files last (Some e) old new → AsksPlay called words keys files (last ++ more) (Some e) old new
+untold_asks called words keys files last more e old new asks =
+    behind_same called words keys (Asks called (reading files) last) (Asks called (reading files) (last ++ more)) (Some e) old new asks
+    (λ mid later. refused_on called (reading files) last more e mid new later)
+
+-- what a print refuses
+pub print_refuses : {X : Type 0} (answer : Result X Refusal) → IfErr answer (λ e. e ≡ File) → (e : Refusal) → refusal_in answer ≡ Some e → e ≡ File
+print_refuses (Ok x) file e is = absurd (let no : None ≡ Some e = is in cc)
+print_refuses (Err f) file e is = (let same : f ≡ e = cc in sym same ∙ file)
+
+-- what a write refuses, with more that is told of it
+pub write_refuses : {X : Type 0} (Q : Refusal → Type 0) (answer : Result X Refusal) → IfErr answer (λ e. (e ≡ File) × Q e) → (e : Refusal) → refusal_in answer ≡ Some e → e ≡ File
+write_refuses Q (Ok x) file e is = absurd (let no : None ≡ Some e = is in cc)
+write_refuses Q (Err f) file e is = (let same : f ≡ e = cc in sym same ∙ file.0)

@@ -7,7 +7,9 @@ use Rattle.zed_host.specs.Counting.{Counts, Rose}
 use Rattle.zed_host.specs.HostContents.{HalfPrinted, HalfWritten, HostContents, StillTells, with_printed}
 use Rattle.zed_host.proofs.Counts.{rose_before, rose_later}
 use Rattle.zed_files.specs.Refusals.{is_key_fault, is_of_keys, is_of_screen, is_screen_fault}
+use Rattle.zed_files.specs.Faults.{NoneForgotten, TellsFailures}
 use Rattle.zed_files.proofs.Endings.{collected_so}
+use Rattle.zed_files.proofs.Failures.{none_later}
 use Rattle.zed_turns.specs.Course.{Point}
 use Rattle.zed_turns.specs.Stage.{Stage, stage}
 use Rattle.zed_turns.specs.Report.{report_of}
@@ -105,3 +107,17 @@ counts_later failing old middle new same counts = subst (λ n. Counts failing n 
 -- or counts, and then stays
 pub counts_before : (failing : Bool) (old middle new : ℕ) → new ≡ middle → Counts failing old middle → Counts failing old new
 counts_before failing old middle new same counts = subst (λ n. Counts failing old n) (sym same) counts
+
+-- ---- the failures of the host
+
+-- what a later step tells
+pub tells_later : {H X : Type 0} (faults failed : H → ℕ) (answer : Result X Refusal) (old mid new : H) → NoneForgotten faults failed old mid → TellsFailures faults failed answer mid new
+    → TellsFailures faults failed answer old new
+tells_later faults failed (Ok x) old mid new before tells = (none_later faults failed old mid new before tells.0, tt)
+tells_later faults failed (Err e) old mid new before tells =
+    (none_later faults failed old mid new before tells.0, λ is. rose_later (failed old) (failed mid) (failed new) before.1 (tells.1 is))
+
+-- what it refuses
+pub refuses_later : {X : Type 0} (P : Refusal → Type 0) (answer : Result X Refusal) (old mid new : ℕ) → old ≤ mid → IfErr answer (λ e. P e × Rose mid new) → IfErr answer (λ e. P e × Rose old new)
+refuses_later P (Ok x) old mid new up err = tt
+refuses_later P (Err e) old mid new up err = (err.0, rose_later old mid new up err.1)

@@ -1,8 +1,8 @@
 //! Playtests kept in files, and read from them.
-ghost use Rattle.std.specs.Prelude.{[], ◌≡◌, ◌⊎◌, ◌++◌, ℕ, Err, IfErr, IfOk, List, MatchResult, OnErr, OnOk, Some, None, map, false};
+ghost use Rattle.std.specs.Prelude.{[], ◌∷◌, ◌≡◌, ◌⊎◌, ◌++◌, IfErr, IfOk, OnErr, OnOk, Some, map};
 ghost use Rattle.zed_host.specs.Calls.{Writing};
 ghost use Rattle.zed_host.specs.Counting.{Rose};
-ghost use Rattle.zed_host.specs.HostContents.{HostContents, StillTells, file_in};
+ghost use Rattle.zed_host.specs.HostContents.{HalfWritten, HostContents, StillTells, file_in, with_file};
 ghost use Rattle.zed_files.specs.Asked.{Asks, named, refusal_in};
 ghost use Rattle.zed_files.specs.Faults.{TellsFailures};
 ghost use Rattle.zed_files.specs.Texts.{text_in};
@@ -51,6 +51,23 @@ fn kept_in<H: Host>(alloc: Global, host: &mut H, name: Option<&str>) -> Result<V
     }
 }
 
+/// Keeps bytes in the file of a name.
+fn keep_in<H: Host>(host: &mut H, name: &str, bytes: &[u8]) -> Result<(), Refusal>
+    ensures ok { (t : HostContents) → H.contents host.old ≡ Some t
+        → OnOk result (H.contents host.new ≡ Some (with_file name.now bytes.now t)) }
+    ensures half { (t : HostContents) → H.contents host.old ≡ Some t
+        → OnErr result (StillTells (HalfWritten name.now bytes.now t) (H.contents host.new)) }
+    ensures err { IfErr result (λ e. (e ≡ Refusal.File)
+        × Rose (H.faults host.old) (H.faults host.new)) }
+    ensures asked { Asks H.called [] (Writing name.now ∷ []) (refusal_in result) host.old host.new }
+    ensures failures { TellsFailures H.faults H.failed result host.old host.new }
+{
+    match host.write(name, bytes) {
+        Ok(()) => Ok(()),
+        Err(_) => Err(Refusal::File),
+    }
+}
+
 /// Keeps bytes in the file of a name, if one is named.
 fn keep<H: Host>(host: &mut H, name: Option<&str>, bytes: &[u8]) -> Result<(), Refusal>
     ensures ok { (t : HostContents) → H.contents host.old ≡ Some t → OnOk result
@@ -63,10 +80,10 @@ fn keep<H: Host>(host: &mut H, name: Option<&str>, bytes: &[u8]) -> Result<(), R
         (refusal_in result) host.old host.new }
     ensures failures { TellsFailures H.faults H.failed result host.old host.new }
 {
-    if let Some(name) = name {
-        host.write(name, bytes)?;
+    match name {
+        Some(name) => keep_in(host, name, bytes),
+        None => Ok(()),
     }
-    Ok(())
 }
 
 /// The file of keys that were played, and of others behind them.

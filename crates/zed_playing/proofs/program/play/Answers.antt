@@ -1,22 +1,34 @@
-use Rattle.std.proofs.Common.{◌≡◌, ◌∙◌, None, MatchResult, ap, drop, subst, sym}
+use Rattle.std.proofs.Common.{◌≡◌, ◌∙◌, [], ◌∷◌, None, Ok, Err, Some, MatchResult, ap, refl, subst, sym}
+use Rattle.std.proofs.lemmas.Result.{err_from_is_err_and}
+use Rattle.zed_host.specs.Calls.{Printing}
+use Rattle.zed_host.proofs.Counts.{counted_up}
+use Rattle.zed_files.specs.Asked.{refusal_in}
 use Rattle.zed_files.specs.Texts.{text_in, texts_of}
+use Rattle.zed_files.proofs.Failures.{handed_on, write_tells}
+use Rattle.zed_files.proofs.OffStage.{keys_uncounted, screen_uncounted, written_off}
 use Rattle.zed_turns.specs.Stage.{Stage, stage}
-use Rattle.zed_playing.specs.Program.{IsRefused, PlaysToEnd}
+use Rattle.zed_playing.specs.Ending.{EndsKept, EndsPlay}
+use Rattle.zed_playing.specs.Led.{Led}
+use Rattle.zed_playing.proofs.Asking.{print_refuses, told_asks, untold_asks}
+use Rattle.zed_playing.proofs.Kept.{counts_before, keys_on, left_stage, refused_ends, screen_on, told_ends}
 use Rattle.zed_playing.proofs.program.play.Goals as goal
 
--- what was drawn stays as it is where the terminal is left
-pub returns-clause-plays : goal.returns-clause-plays
-returns-clause-plays g c = λ t at.
-    let left = g.I.Inputs.left c.play_and_keep.new.inputs.source in
-    let chance = g.C.Chance.to_come c.play_and_keep.new.chance in
-    let rest = drop c.play_and_keep.new.inputs.taken c.play_and_keep.new.inputs.kept.items in
-    let before = stage (g.T.Terminal.drawn c.args.console.now.terminal) (g.T.Terminal.draws_foretell c.args.console.now.terminal) (g.I.Inputs.left c.args.console.now.inputs.source) None
-    (g.C.Chance.to_come c.args.console.now.chance) in
-    let same : stage (g.T.Terminal.drawn c.leave.new.self) (g.T.Terminal.draws_foretell c.leave.new.self) left None chance
-    ≡ stage (g.T.Terminal.drawn c.play_and_keep.new.terminal) (g.T.Terminal.draws_foretell c.play_and_keep.new.terminal) left None chance =
-    ap (λ d. stage d (g.T.Terminal.draws_foretell c.leave.new.self) left None chance) c.leave.ensures.drawn
-    ∙ ap (λ f. stage (g.T.Terminal.drawn c.play_and_keep.new.terminal) f left None chance) c.leave.ensures.foretold in
-    subst (λ after. MatchResult c.play_and_keep.result
-    (λ text. PlaysToEnd _ t (text_in c.args.words) (text_in c.args.keys) c.args.rows c.args.board (texts_of c.args.files.now) before rest after text.items _)
-    (λ e. IsRefused _ t (text_in c.args.words) (text_in c.args.keys) c.args.rows c.args.board (texts_of c.args.files.now) before rest after e)) (sym same)
-    (c.play_and_keep.ensures.plays t at)
+pub returns-in_err-text-clause-asked : goal.returns-in_err-text-clause-asked
+returns-in_err-text-clause-asked g c =
+    let p = err_from_is_err_and c.from_residual.result c.from_residual.ensures.1 in
+    let same : p.0 ≡ c.in_err-text.field-0.0 = p.2 in
+    rw (p.1, same) (untold_asks g.H.Host.called (text_in c.args.words) (text_in c.args.keys) (texts_of c.args.files.now) _ (Printing ∷ []) c.in_err-text.field-0.0 _ _
+    c.in_err-text.ensures.asked)
+
+pub returns-clause-asked : goal.returns-clause-asked
+returns-clause-asked g c =
+    told_asks g.H.Host.called (text_in c.args.words) (text_in c.args.keys) (texts_of c.args.files.now) _ (Printing ∷ []) (refusal_in c.print_out.result) _ _ _
+    (print_refuses c.print_out.result c.print_out.ensures.err) c.in_ok-text.ensures.asked c.print_out.ensures.asked
+
+pub returns-in_err-text-clause-failures : goal.returns-in_err-text-clause-failures
+returns-in_err-text-clause-failures g c =
+    handed_on g.H.Host.faults g.H.Host.failed c.from_residual.result c.in_err-text.field-0.0 _ _ c.from_residual.ensures.1 c.in_err-text.ensures.failures
+
+pub returns-clause-failures : goal.returns-clause-failures
+returns-clause-failures g c =
+    write_tells g.H.Host.faults g.H.Host.failed c.print_out.result _ _ _ c.in_ok-text.ensures.failures.0 c.print_out.ensures.faults c.print_out.ensures.failures
