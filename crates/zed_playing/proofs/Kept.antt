@@ -10,11 +10,14 @@ use Rattle.zed_files.specs.Refusals.{is_key_fault, is_of_keys, is_of_screen, is_
 use Rattle.zed_files.specs.Faults.{NoneForgotten, TellsFailures}
 use Rattle.zed_files.proofs.Endings.{collected_so}
 use Rattle.zed_files.proofs.Failures.{none_later}
+use Rattle.zed_play.specs.declared.key.Key.{Key}
+use Rattle.zed_staging.specs.declared.input.Input.{Input}
 use Rattle.zed_turns.specs.Course.{Point}
+use Rattle.zed_turns.specs.Record.{spelled_all}
 use Rattle.zed_turns.specs.Stage.{Stage, stage}
 use Rattle.zed_turns.specs.Report.{report_of}
 use Rattle.zed_playing.specs.Ending.{EndsKept, EndsPlay, FailedToKeep, IsPlayed, RefusedBefore, Request, kept_after}
-use Rattle.zed_playing.specs.Kept.{HalfKept, HalfRecorded, with_kept}
+use Rattle.zed_playing.specs.Kept.{HalfKept, HalfRecorded, key_bytes, with_kept}
 use Rattle.zed_playing.specs.Led.{Led}
 
 -- ---- files that are written
@@ -31,6 +34,17 @@ half_first P Q new half = (half.0, inl half.1, half.2)
 pub half_second : (P Q : HostContents → Type 0) (result : Result ⊤ Refusal) (new : Option HostContents) → OnErr result (StillTells Q new) → OnErr result (StillTells (λ u. P u ⊎ Q u) new)
 half_second P Q (Ok u) new half = tt
 half_second P Q (Err e) new half = (half.0, inr half.1, half.2)
+
+-- what is kept of a playtest
+pub recorded_half : (words keys : Option (List ℕ)) (p : Point) (rest : List Key) (wb kb : List ℕ) (t : HostContents) (result : Result ⊤ Refusal) (new : Option HostContents)
+    → wb ≡ spelled_all p.words → kb ≡ key_bytes p rest
+    → OnErr result (StillTells (λ u. HalfKept words wb t u ⊎ HalfKept keys kb (with_kept words wb t) u) new)
+    → IfErr result (λ e. e ≡ File → StillTells (HalfRecorded words keys p rest t) new)
+recorded_half words keys p rest wb kb t (Ok u) new all_words all_keys half = tt
+recorded_half words keys p rest wb kb t (Err e) new all_words all_keys half = λ file.
+    let first = spelled_all p.words in
+    subst (λ k. StillTells (λ u. HalfKept words first t u ⊎ HalfKept keys k (with_kept words first t) u) new) all_keys
+    (subst (λ w. StillTells (λ u. HalfKept words w t u ⊎ HalfKept keys kb (with_kept words w t) u) new) all_words half)
 
 -- ---- what is so where nothing failed is so where something did
 
@@ -83,10 +97,17 @@ told_ends (Err e) old middle now t q l text mid new up more kept done half file 
     (h.0, inr (inr (rose_later old middle now up count, file, (p, played, subst (λ s. HalfPrinted s there h.0) kept.2 h.1))), h.2)
 
 -- what was drawn stays as it is where the terminal is left
-pub left_stage : (drawn drawn_then : Option (List (List ℕ))) (foretold foretold_then : Option (List Bool)) (left : _) (chance : _) → drawn_then ≡ drawn → foretold_then ≡ foretold
+pub left_stage : (drawn drawn_then : Option (List (List ℕ))) (foretold foretold_then : Option (List Bool)) (left : Option (List Input)) (chance : Option (List ℕ)) → drawn_then ≡ drawn → foretold_then ≡ foretold
     → stage drawn foretold left None chance ≡ stage drawn_then foretold_then left None chance
 left_stage drawn drawn_then foretold foretold_then left chance same still =
     ap (λ d. stage d foretold left None chance) (sym same) ∙ ap (λ f. stage drawn_then f left None chance) (sym still)
+
+-- so all that is said of where the devices were led
+pub left_led : (P : Led → Type 0) (before : Stage) (rest : List Key) (drawn drawn_then : Option (List (List ℕ))) (foretold foretold_then : Option (List Bool)) (left : Option (List Input)) (chance : Option (List ℕ))
+    → drawn_then ≡ drawn → foretold_then ≡ foretold → P (record { before = before; rest = rest; behind = stage drawn foretold left None chance })
+    → P (record { before = before; rest = rest; behind = stage drawn_then foretold_then left None chance })
+left_led P before rest drawn drawn_then foretold foretold_then left chance same still is =
+    subst (λ s. P (record { before = before; rest = rest; behind = s })) (left_stage drawn drawn_then foretold foretold_then left chance same still) is
 
 -- ---- the failures of devices
 

@@ -21,12 +21,12 @@ pub returns-in_err-keep-clause-asked : goal.returns-in_err-keep-clause-asked
 returns-in_err-keep-clause-asked g c =
     let p = err_from_is_err_and c.from_residual.result c.from_residual.ensures.1 in
     let same : p.0 ≡ c.in_err-keep.field-0.0 = p.2 in
-    rw (p.1, same) (subst (λ asks. Asks g.H.Host.called [] asks (Some c.in_err-keep.field-0.0) _ _) (keeping_both (text_in c.args.words) (text_in c.args.keys))
+    rw (p.1, same) (subst (λ asks. Asks g.H.Host.called [] asks (Some c.in_err-keep.field-0.0) c.args.host.now c.keep.new.host) (keeping_both (text_in c.args.words) (text_in c.args.keys))
     (refused_on g.H.Host.called [] _ _ c.in_err-keep.field-0.0 _ _ c.in_err-keep.ensures.asked))
 
 pub returns-clause-asked : goal.returns-clause-asked
 returns-clause-asked g c =
-    subst (λ asks. Asks g.H.Host.called [] asks (refusal_in c.keep-2.result) _ _) (keeping_both (text_in c.args.words) (text_in c.args.keys))
+    subst (λ asks. Asks g.H.Host.called [] asks (refusal_in c.keep-2.result) c.args.host.now c.keep-2.new.host) (keeping_both (text_in c.args.words) (text_in c.args.keys))
     (last_then g.H.Host.called [] _ _ (refusal_in c.keep-2.result) _ _ _ (write_refuses _ c.keep-2.result c.keep-2.ensures.err) c.in_ok-keep.ensures.asked c.keep-2.ensures.asked)
 
 pub returns-in_err-keep-clause-failures : goal.returns-in_err-keep-clause-failures

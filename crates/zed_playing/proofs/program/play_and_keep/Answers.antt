@@ -1,4 +1,4 @@
-use Rattle.std.proofs.Common.{◌≡◌, ◌∙◌, None, Ok, Err, Some, ap, inl, inr, refl, subst, tt}
+use Rattle.std.proofs.Common.{◌≡◌, ◌∙◌, None, Ok, Err, Some, ap, inl, inr, refl, subst}
 use Rattle.std.proofs.lemmas.Result.{err_from_is_err_and}
 use Rattle.zed_host.proofs.Counts.{rose_before, rose_later}
 use Rattle.zed_files.specs.declared.refusal.Refusal.TheVariants.{Memory}
