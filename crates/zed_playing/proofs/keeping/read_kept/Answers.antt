@@ -39,8 +39,11 @@ returns-in_err-key_bytes-clause-err g c =
     let same : p.0 ≡ c.in_err-key_bytes.field-0.0 = p.2 in
     rw (p.1, same) (elim c.in_err-key_bytes.ensures.err [
       | inl memory ↦ inl memory
-      | inr file ↦ inr (file.0, rose_later (g.H.Host.faults c.args.host.now) (g.H.Host.faults c.kept_in.new.host) (g.H.Host.faults c.kept_in-2.new.host)
-          c.in_ok-word_bytes.ensures.failures.0.0 file.1)
+      | inr file ↦ inr (
+        file.0,
+        rose_later (g.H.Host.faults c.args.host.now) (g.H.Host.faults c.kept_in.new.host) (g.H.Host.faults c.kept_in-2.new.host)
+            c.in_ok-word_bytes.ensures.failures.0.0 file.1,
+      )
     ])
 
 pub returns-in_err-word_bytes-clause-failures : goal.returns-in_err-word_bytes-clause-failures

@@ -8,6 +8,7 @@ use Rattle.zed_files.specs.Texts.{text_in, texts_of}
 use Rattle.zed_files.proofs.Failures.{handed_on, write_tells}
 use Rattle.zed_turns.specs.Stage.{stage}
 use Rattle.zed_playing.specs.Ending.{EndsKept, request}
+use Rattle.zed_playing.specs.Led.{Led}
 use Rattle.zed_playing.proofs.Asking.{print_refuses, told_asks, untold_asks}
 use Rattle.zed_playing.proofs.Kept.{left_led, refused_ends, told_ends}
 use Rattle.zed_playing.proofs.program.play.Goals as goal
@@ -34,12 +35,17 @@ returns-clause-ends g c = λ t at.
     let held = g.H.Host.contents c.play_and_keep-told.new.host in
     let before = stage (g.T.Terminal.drawn c.args.console.now.terminal) (g.T.Terminal.draws_foretell c.args.console.now.terminal) (g.I.Inputs.left c.args.console.now.inputs.source) None
     (g.C.Chance.to_come c.args.console.now.chance) in
+    let moved : Led = record {
+      before = before;
+      rest = drop now.inputs.taken now.inputs.kept.items;
+      behind = stage (g.T.Terminal.drawn now.terminal) (g.T.Terminal.draws_foretell now.terminal) (g.I.Inputs.left now.inputs.source) None (g.C.Chance.to_come now.chance);
+    } in
     told_ends c.print_out.result (g.H.Host.faults c.args.host.now) (g.H.Host.faults c.play_and_keep-told.new.host) (g.H.Host.faults c.print_out.new.host) t asked _ c.as_slice.result.now held _
     c.in_ok-text.ensures.failures.0.0 (counted_up _ _ _ c.print_out.ensures.faults)
     (left_led (λ l. EndsKept failed t asked l (Ok c.as_slice.result.now) held) before (drop now.inputs.taken now.inputs.kept.items)
     (g.T.Terminal.drawn now.terminal) (g.T.Terminal.drawn c.leave.new.self) (g.T.Terminal.draws_foretell now.terminal) (g.T.Terminal.draws_foretell c.leave.new.self)
     (g.I.Inputs.left now.inputs.source) (g.C.Chance.to_come now.chance) c.leave.ensures.drawn c.leave.ensures.foretold
-    (subst (λ text. EndsKept failed t asked _ (Ok text) held) (sym c.as_slice.ensures.value) (c.in_ok-text.ensures.ends t at)))
+    (subst (λ text. EndsKept failed t asked moved (Ok text) held) (sym c.as_slice.ensures.value) (c.in_ok-text.ensures.ends t at)))
     (λ u is. c.print_out.ensures.ok u is) (λ u is. c.print_out.ensures.half u is) c.print_out.ensures.err c.print_out.ensures.faults
 
 pub returns-in_err-text-clause-asked : goal.returns-in_err-text-clause-asked

@@ -64,8 +64,11 @@ returns-in_err-keep_all-clause-ends g c = λ t at.
     rw (p.1, same) (unkept_ends _ t _ _ (point c.in_ok-tape.tape) c.in_err-keep_all.field-0.0 _ _ there played
     (elim c.in_err-keep_all.ensures.err [
       | inl memory ↦ inl memory
-      | inr file ↦ inr (file.0, rose_later (g.H.Host.faults c.args.host.now) (g.H.Host.faults c.read_kept.new.host) (g.H.Host.faults c.keep_all.new.host) first
-          (rose_later (g.H.Host.faults c.read_kept.new.host) (g.H.Host.faults c.perform.new.host) (g.H.Host.faults c.keep_all.new.host) second file.1))
+      | inr file ↦ inr (
+        file.0,
+        rose_later (g.H.Host.faults c.args.host.now) (g.H.Host.faults c.read_kept.new.host) (g.H.Host.faults c.keep_all.new.host) first
+            (rose_later (g.H.Host.faults c.read_kept.new.host) (g.H.Host.faults c.perform.new.host) (g.H.Host.faults c.keep_all.new.host) second file.1),
+      )
     ])
     (λ file. subst (λ rest. StillTells (HalfRecorded (text_in c.args.words) (text_in c.args.keys) (point c.in_ok-tape.tape) rest t) (g.H.Host.contents c.keep_all.new.host)) c.rest.ensures
     (c.in_err-keep_all.ensures.half t there file)))
