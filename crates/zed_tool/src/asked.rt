@@ -1,6 +1,6 @@
 //! What words ask for, as the commands take it.
 ghost use Rattle.std.specs.Prelude.{◌≡◌};
-ghost use Rattle.zed_tool.specs.Commands.{forcing_of as forcing_for, form_of as form_for, length_of as length_for, listing_of as listing_for};
+ghost use Rattle.zed_tool.specs.Commands.{forcing_of as forcing_for, form_of as form_for, length_of as length_for, listing_of as listing_for, rows_of as rows_for};
 
 use zed_drawing::Forcing;
 use zed_look::Form;
@@ -34,6 +34,16 @@ pub(crate) fn length_of(length: zed_tool_words::Length) -> Length
     match length {
         zed_tool_words::Length::Short => Length::Short,
         zed_tool_words::Length::Full => Length::Full,
+    }
+}
+
+/// How many rows a terminal has.
+pub(crate) fn rows_of(rows: Option<u16>) -> usize
+    ensures { result ≡ rows_for rows }
+{
+    match rows {
+        Some(rows) => usize::from(rows),
+        None => 27,
     }
 }
 

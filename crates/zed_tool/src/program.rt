@@ -1,21 +1,22 @@
 //! The program, over any host.
-ghost use Rattle.std.specs.Prelude.{◌≡◌, ◌≤◌, ◌⊎◌, ℕ, IsSome, List, Some, map, string_bytes};
+ghost use Rattle.std.specs.Prelude.{◌≡◌, ◌≤◌, ◌⊎◌, ℕ, IsSome, List, Some, false, map, string_bytes};
 ghost use Rattle.zed_op.specs.declared.op.Edit.{Edit as TheEdit};
 ghost use Rattle.zed_op.specs.Set.{set_of};
 ghost use Rattle.zed_world.specs.Contents.{Contents};
 ghost use Rattle.zed_host.specs.Counting.{NothingFailed, Rose};
 ghost use Rattle.zed_host.specs.HostContents.{HostContents};
+ghost use Rattle.zed_playing.specs.Led.{devices, led};
 ghost use Rattle.zed_tool_words.specs.Commands.{AsksHelp, AsksVersion, Command as Asked, command_of, meaning_of};
 ghost use Rattle.zed_tool_words.specs.Version.{version_text};
 ghost use Rattle.zed_tool.specs.Answers.{answer_of, failure_of, memory};
 ghost use Rattle.zed_tool.specs.Calm.{EndsCalmly};
-ghost use Rattle.zed_tool.specs.Commands.{AsksCommand, EndsCommand};
+ghost use Rattle.zed_tool.specs.Commands.{AsksCommand, EndsCommand, is_playtest, plays};
 ghost use Rattle.zed_tool.specs.Lines.{line_of as line_for};
 ghost use Rattle.zed_tool.specs.Taking.{AsksToTake, TakesSet};
 ghost use Rattle.zed_tool.specs.Outcome.{Complained, Prints, Runs, TellsFailures, TellsOf, hosts};
 
 use crate::answers::{drawn, linted, set_told, told};
-use crate::asked::{forcing_of, form_of, length_of, listing_of};
+use crate::asked::{forcing_of, form_of, length_of, listing_of, rows_of};
 use crate::error::ToolError;
 use crate::lines::{line_of, plain_line};
 use std::alloc::Global;
@@ -23,11 +24,14 @@ use zed_drawing::{open, take};
 use zed_editfile::one_reading;
 use zed_files::Refusal;
 use zed_host::Host;
+use zed_playing::play;
 use zed_programs::set_program;
 use zed_set::set;
 use zed_showing::show;
+use zed_staging::Inputs;
 use zed_telling::{Filter, lint, list, log};
 use zed_tool_words::{Command, ParseError, parse, version};
+use zed_turns::{Chance, Console, Terminal};
 
 const MEMORY_LINE: &[u8] = b"zztool: Memory\n";
 
@@ -54,13 +58,22 @@ fn complain_of<H: Host>(alloc: Global, host: &mut H, error: ToolError<'_>)
 }
 
 // Carries a command out, and answers its status.
-fn act<'a, H: Host>(alloc: Global, host: &mut H, command: &Command<'a>) -> Result<u8, ToolError<'a>>
+fn act<'a, H: Host, T: Terminal, I: Inputs, C: Chance>(
+    alloc: Global,
+    host: &mut H,
+    console: &mut Console<T, I, C>,
+    command: &Command<'a>,
+) -> Result<u8, ToolError<'a>>
     ensures ends { (t : HostContents) → H.contents host.old ≡ Some t
         → EndsCommand H.called (Rose (H.faults host.old) (H.faults host.new))
+        (led (devices T.drawn T.draws_foretell I.left C.to_come) console.old console.new)
         (meaning_of command.now) host.old host.new t (answer_of result) (H.contents host.new) }
     ensures asked { AsksCommand H.called (meaning_of command.now) (answer_of result)
         host.old host.new }
     ensures failures { TellsFailures H.faults H.failed (answer_of result) host.old host.new }
+    ensures idle { is_playtest (meaning_of command.now) ≡ false → console.new ≡ console.old }
+    ensures left { T.is_entered console.old.terminal ≡ false
+        → T.is_entered console.new.terminal ≡ false }
 {
     match command {
         Command::Open {
@@ -108,6 +121,22 @@ fn act<'a, H: Host>(alloc: Global, host: &mut H, command: &Command<'a>) -> Resul
             *board,
             files.as_slice(),
         )),
+        Command::Play {
+            rows,
+            words,
+            keys,
+            board,
+            files,
+        } => told(play(
+            alloc,
+            host,
+            *words,
+            *keys,
+            rows_of(*rows),
+            *board,
+            files.as_slice(),
+            console,
+        )),
         Command::Lint { strictness, files } => {
             linted(*strictness, lint(alloc, host, files.as_slice()))
         }
@@ -150,12 +179,22 @@ fn print_text<H: Host>(alloc: Global, host: &mut H, text: &[u8]) -> u8
 }
 
 // What `run` does.
-fn run_words<H: Host>(alloc: Global, words: &[String], host: &mut H) -> u8
-    ensures { Runs (hosts H.contents H.called H.failed H.faults) (map string_bytes words.now)
-        result host.old host.new }
+fn run_words<H: Host, T: Terminal, I: Inputs, C: Chance>(
+    alloc: Global,
+    words: &[String],
+    host: &mut H,
+    console: &mut Console<T, I, C>,
+) -> u8
+    ensures runs { Runs (hosts H.contents H.called H.failed H.faults)
+        (led (devices T.drawn T.draws_foretell I.left C.to_come) console.old console.new)
+        (map string_bytes words.now) result host.old host.new }
+    ensures idle { plays (command_of (map string_bytes words.now)) ≡ false
+        → console.new ≡ console.old }
+    ensures left { T.is_entered console.old.terminal ≡ false
+        → T.is_entered console.new.terminal ≡ false }
 {
     match parse(alloc, words) {
-        Ok(command) => match act(alloc, host, &command) {
+        Ok(command) => match act(alloc, host, console, &command) {
             Ok(status) => status,
             Err(error) => {
                 complain_of(alloc, host, error);
@@ -181,10 +220,23 @@ fn run_words<H: Host>(alloc: Global, words: &[String], host: &mut H) -> u8
 ///
 /// Unless the host fails at a write or at printing (`File`), a refusal writes no file. If a write
 /// failed, the files before it are whole, and that file is as the failure left it.
-pub fn run<H: Host>(alloc: Global, words: &[String], host: &mut H) -> u8
-    // What is left in a host that tells what it holds, what was asked of it, call by call, and that no failure was forgotten.
-    ensures runs { Runs (hosts H.contents H.called H.failed H.faults) (map string_bytes words.now)
-        result host.old host.new }
+pub fn run<H: Host, T: Terminal, I: Inputs, C: Chance>(
+    alloc: Global,
+    words: &[String],
+    host: &mut H,
+    console: &mut Console<T, I, C>,
+) -> u8
+    // What is left in a host that tells what it holds, what was asked of it, call by call, and that no failure was forgotten; and where the
+    // devices of a playtest were led.
+    ensures runs { Runs (hosts H.contents H.called H.failed H.faults)
+        (led (devices T.drawn T.draws_foretell I.left C.to_come) console.old console.new)
+        (map string_bytes words.now) result host.old host.new }
+
+    // The devices are called only where words ask to play, and the terminal is left then.
+    ensures idle { plays (command_of (map string_bytes words.now)) ≡ false
+        → console.new ≡ console.old }
+    ensures left { T.is_entered console.old.terminal ≡ false
+        → T.is_entered console.new.terminal ≡ false }
 
     // Where its `failures()` stay as they were, nothing failed.
     ensures calm { H.faults host.old ≤ H.failed host.old
@@ -195,7 +247,8 @@ pub fn run<H: Host>(alloc: Global, words: &[String], host: &mut H) -> u8
     ensures ends_calmly { (t : HostContents) (command : Asked)
         → command_of (map string_bytes words.now) ≡ Some command
         → H.contents host.old ≡ Some t → NothingFailed (H.faults host.old) (H.faults host.new)
-        → EndsCalmly t command result (H.contents host.new) }
+        → EndsCalmly t (led (devices T.drawn T.draws_foretell I.left C.to_come) console.old console.new)
+        command result (H.contents host.new) }
 
     // However the words ask to take: where FILE and its base spell lists of edits of one world that agree, what counts is the set of the one
     // and of the other; edits are added to both that lead from what the base shows to WORLD.
@@ -218,5 +271,5 @@ pub fn run<H: Host>(alloc: Global, words: &[String], host: &mut H) -> u8
         ⊎ ((result ≡ 1) × Complained all (line_for memory) host.old host.new) }
 {
     one_reading();
-    run_words(alloc, words, host)
+    run_words(alloc, words, host, console)
 }

@@ -89,6 +89,17 @@ pub enum Command<'a> {
         board: u16,
         files: Vec<&'a str>,
     },
+    /// Play a board of the world of edit files at a terminal.
+    Play {
+        /// How many rows the terminal has.
+        rows: Option<u16>,
+        /// The file that keeps words of chance; its words are used first.
+        words: Option<&'a str>,
+        /// The file that keeps keys; its keys are played first.
+        keys: Option<&'a str>,
+        board: u16,
+        files: Vec<&'a str>,
+    },
     /// List what is wrong in the world of edit files.
     Lint {
         strictness: Strictness,

@@ -1,6 +1,6 @@
 //! What plain words ask for. A number is written in decimal digits, with or without a plus in
 //! front, so its word begins with no hyphen.
-ghost use Rattle.zed_tool_words.specs.Laws.{HelpAsksHelp, HelpOfCommands, ListsBoards, ListsProgram, ListsStats, LogInFull, LogOfBoard, LogOfCell, LogOfReplica, LogSince, PlainWordsLint, PlainWordsLog, PlainWordsOpen, PlainWordsProgram, PlainWordsSet, PlainWordsShow, PlainWordsTake, SetsProgram, VersionAsksVersion};
+ghost use Rattle.zed_tool_words.specs.Laws.{HelpAsksHelp, HelpOfCommands, ListsBoards, ListsProgram, ListsStats, LogInFull, LogOfBoard, LogOfCell, LogOfReplica, LogSince, PlainWordsLint, PlainWordsLog, PlainWordsOpen, PlainWordsPlay, PlainWordsProgram, PlainWordsSet, PlainWordsShow, PlainWordsTake, PlaysByKeys, PlaysByWords, PlaysInRows, PlaysKept, SetsProgram, VersionAsksVersion};
 
 /// `open FILE WORLD`, where no word begins with a hyphen, asks to open. `--until TIME`, where
 /// `TIME` is a number below 2^64, and then `--force`, may come first.
@@ -39,6 +39,17 @@ pub fn plain_words_list()
 /// `--plain` or `--svg` in front of them in another form.
 pub fn plain_words_show()
     ensures { PlainWordsShow }
+{}
+
+/// `play BOARD FILES...`, where `BOARD` is a number below 2^16 and no other word begins with a
+/// hyphen, asks to play a board. `--rows ROWS`, such a number, `--words WORDS` or `--keys KEYS`, or
+/// all three, may come first.
+pub fn plain_words_play()
+    ensures plays { PlainWordsPlay }
+    ensures rows { PlaysInRows }
+    ensures words { PlaysByWords }
+    ensures keys { PlaysByKeys }
+    ensures kept { PlaysKept }
 {}
 
 /// `lint FILES...`, where no word begins with a hyphen, asks what is wrong in the world of the
