@@ -1,0 +1,7 @@
+mod Again
+mod Coming
+mod Messages
+mod Queued
+mod ReadBack
+mod Supply
+mod Turning
