@@ -1,4 +1,4 @@
-/* Makes edit files, and runs a command by a clock. It stands on no header.
+/* Makes edit files, and runs a command by a clock. It uses no header.
    `make KIND EDITS FOLDER` writes 1.zed, 2.zed .. of world 7 into a folder, which have so many different edits together; each begins with the
    Genesis. KIND is one of `kinds`, below. The same words make the same files.
    `run SECONDS COMMAND...` ends a command that had a processor for so many seconds. It prints its status, or `over`, the microseconds that it had

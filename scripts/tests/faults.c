@@ -1,4 +1,4 @@
-/* For LD_PRELOAD: lets one call of a program fail, or ends the program there, and tells what it did. It stands on no header.
+/* For LD_PRELOAD: lets one call of a program fail, or ends the program there, and tells what it did. It uses no header.
    $FAULT is `KIND NTH HOW`: of the calls of this kind the one of this number fails (HOW is `fail`), the program is ended before it (`end`), or
    half of its bytes are written and then the program is ended (`half`). KIND is growth, open, list, read, write, sync, rename, link, unlink, lock, look,
    mode, or any for each of these. Once that has come, $FAULT_MET has a line with the call's kind and file. Each call that changes what a folder

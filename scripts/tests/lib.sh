@@ -1,7 +1,7 @@
 # shellcheck shell=bash
-# What the tests share; each takes it in at its head. It counts what passed and failed, compares, finds the programs under test and a
-# compiler, and says what can't be tried on this machine. `room` is a folder for the test alone, and `top` the repository. A test ends
-# by `tell_counts`; where one ends before that, it is told where.
+# What the tests share; each reads it at its head. It counts what passed and failed, compares, finds the programs under test and a
+# compiler, and says what can't be tried on this machine. `room` is a folder for this test only, and `top` the repository. A test ends
+# with `tell_counts`; if it ends before that, a line says where.
 set -Eeuo pipefail
 top=$(cd "$(dirname "${BASH_SOURCE[0]}")/../.." && pwd)
 suite=${0##*/}

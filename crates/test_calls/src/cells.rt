@@ -1,9 +1,9 @@
 //! Cells whose growths are refused.
 use crate::growths::{refuse_each, turn_of};
-use std::alloc::Global;
+use std::alloc::{AllocError, Global};
 use std::test::Fail;
 use test_rows::{Turn, refuse, was_refused};
-use zed_cells::{Cells, CellsError};
+use zed_cells::Cells;
 use zed_types::{Place, Rectangle, Stamp, TILES, Tile};
 
 fn at(time: u64, replica: u16) -> Stamp {
@@ -32,7 +32,7 @@ fn cells_once(alloc: Global, nth: usize) -> Turn {
     refuse(alloc, nth);
     match Cells::new(alloc, [LION; TILES], Stamp::GENESIS) {
         Ok(cells) => turn_of(alloc, cells.get(Place { x: 60, y: 25 }) == LION, false),
-        Err(error) => turn_of(alloc, false, error == CellsError::Memory),
+        Err(error) => turn_of(alloc, false, error == AllocError),
     }
 }
 

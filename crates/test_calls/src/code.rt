@@ -6,10 +6,10 @@ ghost use Rattle.zed_code.specs.Text.{elements};
 
 use crate::growths::{refuse_each, turn_of};
 use crate::stamps::{first_of, stamp};
-use std::alloc::Global;
+use std::alloc::{AllocError, Global};
 use std::test::Fail;
 use test_rows::{MOST, Turn, refuse, was_refused};
-use zed_code::{CodeError, Text};
+use zed_code::Text;
 use zed_types::{ElemId, Stamp};
 
 /// The stamps of edits that put bytes.
@@ -18,7 +18,7 @@ const X: Stamp = stamp!(2, 1);
 const Y: Stamp = stamp!(2, 2);
 
 /// The text `AB` of the edit that makes the world.
-fn letters(alloc: Global) -> Result<Text, CodeError>
+fn letters(alloc: Global) -> Result<Text, AllocError>
     ensures { IfOk result (λ t. elements t ≡ run_from genesis_stamp 0 (65 ∷ 66 ∷ [])) }
 {
     Text::genesis(alloc, b"AB")
@@ -28,7 +28,7 @@ fn genesis_once(alloc: Global, nth: usize) -> Turn {
     refuse(alloc, nth);
     match letters(alloc) {
         Ok(text) => turn_of(alloc, text.length() == 2, false),
-        Err(CodeError::Memory) => turn_of(alloc, false, true),
+        Err(AllocError) => turn_of(alloc, false, true),
     }
 }
 
@@ -41,7 +41,7 @@ fn text_once(alloc: Global, text: &Text, nth: usize) -> Turn {
     refuse(alloc, nth);
     match text.text() {
         Ok(bytes) => turn_of(alloc, bytes.as_slice() == b"AB".as_slice(), false),
-        Err(CodeError::Memory) => turn_of(alloc, false, true),
+        Err(AllocError) => turn_of(alloc, false, true),
     }
 }
 

@@ -1,8 +1,8 @@
 //! Edits that wait, what each thing releases, and growths refused.
-use std::alloc::Global;
+use std::alloc::{AllocError, Global};
 use std::test::Fail;
 use test_rows::{MOST, refuse, was_refused};
-use zed_inbox::{Inbox, InboxError};
+use zed_inbox::Inbox;
 use zed_op::{Edit, Op, Thing};
 use zed_types::{BoardId, ByteRange, ElemId, Stamp, TextId};
 
@@ -134,7 +134,7 @@ fn tells_without_memory(alloc: Global, inbox: &mut Inbox) -> bool {
         && inbox.same(inbox);
     let released = match inbox.release(byte_of(stamp(3, 1))) {
         Ok(released) => Some(released.len()),
-        Err(InboxError::Memory) => None,
+        Err(AllocError) => None,
     };
     !was_refused(alloc) && is_told && released == Some(0)
 }
@@ -156,7 +156,7 @@ fn sweep_hold(alloc: Global) -> Result<bool, Fail> {
         if !was_refused(alloc) {
             return Ok(answer.is_ok() && is_whole(&mut inbox, true)?);
         }
-        let is_told = answer == Err(InboxError::Memory) && !inbox.is_held(stamp(300, 1));
+        let is_told = answer == Err(AllocError) && !inbox.is_held(stamp(300, 1));
         if !is_told || !is_whole(&mut inbox, false)? {
             return Ok(false);
         }
@@ -171,7 +171,7 @@ fn sweep_release(alloc: Global) -> Result<bool, Fail> {
         refuse(alloc, nth);
         let released = match inbox.release(byte_of(stamp(2, 1))) {
             Ok(released) => Some(released.len()),
-            Err(InboxError::Memory) => None,
+            Err(AllocError) => None,
         };
         if !was_refused(alloc) {
             return Ok(released == Some(40) && inbox.held() == 0);

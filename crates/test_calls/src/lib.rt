@@ -1,5 +1,5 @@
-//! Public calls of the lower crates, by example and with each growth of memory refused in turn:
-//! tests alone, in a crate of their own since a crate with tests is proved twice.
+//! Tests of public calls of the lower crates, with each growth of memory refused in turn. A crate
+//! with tests is proved twice, so they are in a crate of their own.
 #![tactic(auto)]
 
 #[cfg(test)]

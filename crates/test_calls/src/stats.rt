@@ -1,8 +1,9 @@
 //! Stats by example, and growths refused.
 use crate::growths::{refuse_each, turn_of};
+use std::alloc::AllocError;
 use std::test::Fail;
 use test_rows::{Turn, refuse, was_refused};
-use zed_stats::{StatField, StatValues, Stats, StatsError};
+use zed_stats::{StatField, StatValues, Stats};
 use zed_types::{Stamp, StatByte, StatFields, StatId, StatSetting, ThirdParameter};
 
 fn at(time: u64) -> Stamp {
@@ -80,7 +81,7 @@ fn add_once(rt: HostRuntime, count: u64, nth: usize) -> Result<Turn, Fail> {
     let answer = stats.add(stat(50), false, values(1, 6));
     let is_added = answer.is_ok() && stats.number_of(stat(50)) == Some(0);
     let is_as_before = !stats.has(stat(50)) && stats.count() as u64 == count;
-    let is_memory = answer == Err(StatsError::Memory) && is_as_before;
+    let is_memory = answer == Err(AllocError) && is_as_before;
     let turn = turn_of(rt.alloc(), is_added, is_memory);
     stats.add(stat(50), false, values(1, 6))?;
     if stats.number_of(stat(50)) == Some(0) && stats.count() as u64 == count.saturating_add(1) {

@@ -1,6 +1,7 @@
-//! `test_commands FILE..` goes through books of commands over hosts in memory, of sessions and of links, and tells where what is seen
-//! isn't what they say. With `--refused` in front it goes through the sections of which a row says so, with each growth of memory of
-//! that row refused in turn. docs/COMMANDS-IN-ROWS.md has the layout of books.
+//! `test_commands FILE..` runs the cases of books on commands over hosts in memory, on sessions and
+//! on links, and prints what differs. With `--refused` in front it runs the sections that have such
+//! a row, with each growth of memory of that row refused in turn. docs/COMMANDS-IN-ROWS.md has the
+//! layout of books.
 #![tactic(auto)]
 
 mod acts;

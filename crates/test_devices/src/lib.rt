@@ -1,5 +1,5 @@
-//! Devices, links and files over memory, as rows of books describe them: they fail where a book
-//! wants it, and keep what came to them.
+//! Devices, links and files over memory, as rows of books describe them: they fail when a book asks
+//! for it, and keep what came to them.
 #![tactic(auto)]
 
 mod devices;

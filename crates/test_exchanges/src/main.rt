@@ -1,6 +1,7 @@
-//! `test_exchanges FILE..` goes through books of what authors do together: edits, which replica they are delivered to and in which order,
-//! and what is to be seen then. With `--refused` in front it makes the call of each case with each growth of memory refused in turn.
-//! docs/EXCHANGES.md has the layout of books.
+//! `test_exchanges FILE..` runs the cases of books on what authors do together, and prints what
+//! differs: edits, the replicas and the order of their deliveries, and what should be seen then.
+//! With `--refused` in front it makes the call of each case with each growth of memory refused in
+//! turn. docs/EXCHANGES.md has the layout of books.
 #![tactic(auto)]
 
 mod acts;

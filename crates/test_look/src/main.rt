@@ -1,6 +1,6 @@
-//! `test_look STEM BOARD PICTURE..` draws boards of world files: for each three words board BOARD of STEM.zzt, in each form, and tells
-//! where that isn't what PICTURE.txt, PICTURE.sgr and PICTURE.svg hold. These were never taken from this program: scripts/pictures drew
-//! them.
+//! `test_look STEM BOARD PICTURE..` draws boards of world files, and compares them with pictures
+//! that other code drew. For each three words it draws board BOARD of STEM.zzt in each form, for
+//! PICTURE.txt, PICTURE.sgr and PICTURE.svg, which scripts/tests/pictures drew.
 #![tactic(auto)]
 
 #[cfg(test)]

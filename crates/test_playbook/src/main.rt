@@ -1,6 +1,7 @@
-//! `test_playbook FILE..` goes through playbooks, tables of cases of turns and playtests, and tells where what is seen isn't what they
-//! say. With `--refused` in front it makes their first acts with each growth of memory refused in turn; `--speeds` tells how long turns
-//! and steps take. docs/PLAYBOOKS.md has the layout of playbooks.
+//! `test_playbook FILE..` runs the cases of playbooks, turns and playtests, and prints what
+//! differs. With `--refused` in front it makes their first acts with each growth of memory refused
+//! in turn; `--speeds` prints how long turns and steps take. docs/PLAYBOOKS.md has the layout of
+//! playbooks.
 #![tactic(auto)]
 
 mod act;

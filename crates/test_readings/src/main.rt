@@ -1,11 +1,14 @@
-//! `test_readings FILE..` goes through tables of world files, edit files and programs of objects, and tells where what is read of them
-//! isn't what the tables say: values that are worked out by hand, or by the layout in docs/FORMATS.md, never by this program.
+//! `test_readings FILE..` compares what is read of world files, edit files and programs with tables
+//! that were worked out by hand. Some are worked out by the layout in docs/FORMATS.md, none by this
+//! program.
 //!
-//! A table is a text file. Empty lines, and lines that begin with `#`, are skipped. `bytes NAME PIECE..` names bytes: a piece is pairs
-//! of hexadecimal digits, `'` and letters, `=` and a number of two bytes, or `@` and the name of other bytes, and is repeated where `*`
-//! and a number stand behind it. `change NAME FROM AT BYTE ..` names the same bytes but for these. Other lines are rows: `world`,
-//! `edits`, `record` or `program`, what is done, and with what. The lines behind a row that begin with `> ` are all that is to be seen of it.
-//! In a program `|` is the byte 13, and `\` with two digits any byte.
+//! A table is a text file. Empty lines, and lines that begin with `#`, are skipped. `bytes NAME
+//! PIECE..` names bytes: a piece is pairs of hexadecimal digits, `'` and letters, `=` and a number
+//! of two bytes, or `@` and the name of other bytes; `*` and a number after it repeat it. `change
+//! NAME FROM AT BYTE ..` names the same bytes, except these. Other lines are rows: `world`,
+//! `edits`, `record` or `program`, what is done, and with what. The lines after a row that begin
+//! with `> ` are all that it should print. In a program `|` is the byte 13, and `\` with two digits
+//! any byte.
 #![tactic(auto)]
 
 mod book;

@@ -1,5 +1,5 @@
-//! What the row programs share: lines and their words, bytes as rows spell them, growths that are
-//! refused, and results held against expectations.
+//! What the row programs share: lines and their words, bytes as rows spell them, refused growths,
+//! and comparing results with expectations.
 #![tactic(auto)]
 
 mod asked;

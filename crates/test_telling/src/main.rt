@@ -1,9 +1,9 @@
-//! `test_telling ROWS` goes through a file of rows, and prints what each of them makes of
-//! `zztool list`, `zztool log` and `zztool lint`. A row is `file NAME`, which has the file read into
-//! a host in memory, `cut NAME COUNT`, which leaves so many bytes of it there, or what is asked:
-//! `list [B [S]] : FILES..`, `log [board B] [cell B X Y] [replica R] [since TIME] : FILES..`, in
-//! full, `short : FILES..` or `lint : FILES..`. With `--refused` in front each command is made with
-//! each growth of memory refused in turn, and it is told how many were met.
+//! `test_telling ROWS` goes through a file of rows, and prints what `zztool list`, `zztool log` and
+//! `zztool lint` print for each. A row is `file NAME`, which reads the file into a host in memory,
+//! `cut NAME COUNT`, which leaves so many bytes of it there, or a command: `list [B [S]] :
+//! FILES..`, `log [board B] [cell B X Y] [replica R] [since TIME] : FILES..`, in full, `short :
+//! FILES..` or `lint : FILES..`. With `--refused` in front each command is run with each growth of
+//! memory refused in turn, and the number of growths is printed.
 #![tactic(auto)]
 
 mod command;

@@ -19,10 +19,10 @@ use Rattle.zed_action.specs.Deeds.{◌>>=◌, ActionMayTake, AnyMayTake, DeedMay
 use Rattle.zed_action.specs.Refusals.{memory}
 use Rattle.zed_action.specs.Words.{KeepsBytes, Word, action_of}
 
-abbrev Answer : Type 0 → Type 0
+abbrev pub Answer : Type 0 → Type 0
 Answer X = Result X DocumentError
 
-abbrev lacking : {X : Type 0} → Answer X
+abbrev pub lacking : {X : Type 0} → Answer X
 lacking = Err document.Memory
 
 abbrev refused : {X : Type 0} → DocumentError → Answer X
@@ -38,10 +38,10 @@ abbrev out_of_range : {X : Type 0} → Answer X
 out_of_range = Err document.OutOfRange
 
 -- a look-up that doesn't want memory
-abbrev IsCalm : {X : Type 0} → Answer X → Type 0
+abbrev pub IsCalm : {X : Type 0} → Answer X → Type 0
 IsCalm r = r ≡ lacking → ⊥
 
-done_calm : {X : Type 0} (x : X) → IsCalm (done x)
+pub done_calm : {X : Type 0} (x : X) → IsCalm (done x)
 done_calm x same = let bad : done x ≡ lacking = same in absurd cc
 
 not_there_calm : {X : Type 0} → IsCalm {X = X} not_there
@@ -50,21 +50,21 @@ not_there_calm {X = X} same = let bad : not_there {X = X} ≡ lacking = same in 
 out_calm : {X : Type 0} → IsCalm {X = X} out_of_range
 out_calm {X = X} same = let bad : out_of_range {X = X} ≡ lacking = same in absurd cc
 
-found_calm : {X : Type 0} (o : Option X) → IsCalm (found o)
+pub found_calm : {X : Type 0} (o : Option X) → IsCalm (found o)
 found_calm None = not_there_calm
 found_calm (Some x) = done_calm x
 
-then_calm : {X Y : Type 0} (r : Answer X) (f : X → Answer Y) → IsCalm r → ((x : X) → IsCalm (f x)) → IsCalm (r >>= f)
+pub then_calm : {X Y : Type 0} (r : Answer X) (f : X → Answer Y) → IsCalm r → ((x : X) → IsCalm (f x)) → IsCalm (r >>= f)
 then_calm {X = X} {Y = Y} (Ok x) f first next = next x
 then_calm {X = X} {Y = Y} (Err e) f first next = λ same.
     let bad : refused {X = Y} e ≡ lacking = same in
     let is : e ≡ document.Memory = cc in
     first (ap (λ (z : DocumentError). refused {X = X} z) is)
 
-board_calm : (p : Plain) (b : ℕ) → IsCalm (board_in p b)
+pub board_calm : (p : Plain) (b : ℕ) → IsCalm (board_in p b)
 board_calm p b = found_calm (board_numbered p b)
 
-stat_calm : (p : Plain) (b s : ℕ) → IsCalm (stat_in p b s)
+pub stat_calm : (p : Plain) (b s : ℕ) → IsCalm (stat_in p b s)
 stat_calm p b s = then_calm (board_in p b) _ (board_calm p b) (λ board. found_calm (stat_numbered p board s))
 
 target_calm : (p : Plain) (n : ℕ) → IsCalm (target_in p n)

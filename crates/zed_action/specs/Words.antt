@@ -1,10 +1,8 @@
 -- What the words of an action say.
-use Rattle.std.specs.Prelude.{◌≡◌, ◌⊎◌, ◌<◌, MatchResult, Result, ℕ, ℤ, pos, nat_le, Bool, ◌&&◌, ◌==◌, if◌then◌else◌, List, [], ◌∷◌, length, map, codes, Option, Some, None, option_and_then, option_map}
+use Rattle.std.specs.Prelude.{◌≡◌, ◌⊎◌, ◌<◌, MatchResult, Result, ℕ, ℤ, pos, ◌==◌, if◌then◌else◌, List, [], ◌∷◌, length, map, codes, Option, Some, None, option_and_then, option_map}
 use Rattle.std.specs.Borrow.{Bor}
-use Rattle.std.specs.List.{list_all}
 use Rattle.std.specs.Str.{bytes_eq}
-use Rattle.std.specs.Str.Parse.{digits_value}
-use Rattle.std.specs.Char.{is_ascii_digit}
+use Rattle.zed_digits.specs.Digits.{digits_of}
 use Rattle.zed_types.specs.declared.property.Side.{Side}
 use Rattle.zed_types.specs.declared.property.Side.TheVariants.{North, South, West, East}
 use Rattle.zed_types.specs.declared.tile.Rectangle.{Rectangle}
@@ -30,29 +28,21 @@ words_of = map (λ s. s.now)
 
 -- ---- fields
 
--- one digit or more, and nothing else
-abbrev pub is_number : Word → Bool
-is_number word = nat_le 1 (length word) && list_all is_ascii_digit word
-
--- the number that digits spell, if it is at most `most`
-abbrev pub number_of : ℕ → Word → Option ℕ
-number_of most word = if is_number word && nat_le (digits_value 10 word) most then Some (digits_value 10 word) else None
-
 -- a number of one byte
 abbrev pub byte_of : Word → Option ℕ
-byte_of word = number_of 255 word
+byte_of word = digits_of 255 word
 
 -- the number of a board or a stat, or a rank
 abbrev pub short_of : Word → Option ℕ
-short_of word = number_of 65535 word
+short_of word = digits_of 65535 word
 
 -- a position in a text
 abbrev pub long_of : Word → Option ℕ
-long_of word = number_of 4294967295 word
+long_of word = digits_of 4294967295 word
 
 -- a cycle: a number up to 32,767
 abbrev pub cycle_of : Word → Option ℤ
-cycle_of word = option_map pos (number_of 32767 word)
+cycle_of word = option_map pos (digits_of 32767 word)
 
 -- the side of a board that a word names
 abbrev pub side_of : Word → Option Side

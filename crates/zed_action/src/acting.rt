@@ -1,4 +1,4 @@
-//! Actions done on a document, by the edits that they come to.
+//! Actions done on a document, by edits.
 ghost use Rattle.std.specs.Prelude.{◌≡◌, ◌≢◌, ◌≤◌, Err, false, IfErr, IfOk, OnErr, OnOk};
 ghost use Rattle.zed_document.specs.Authoring.{MayTakeMemoryAt, MayTakeMemoryToDelete, authored, is_spent_for};
 ghost use Rattle.zed_action.specs.Deeds.{Acts, Authors, DeedMayTake, Deletes, Ends, Inserts, Leaves, LeavesDeletion, LeavesStart, LeavesWords, MayTakeToAuthor, Performs, Starts, WordsMayTake};
@@ -117,11 +117,13 @@ fn perform(document: &mut Document, replica: u16, deed: Deed) -> Result<(), Acti
     }
 }
 
-/// Does the action that the words say, as a replica of at least 1, to a document that isn't stale. In this order: BadAction for
-/// words that are no action; NoSuch for a number without a board, stat or text, and OutOfRange for a position over 0 in the program
-/// of a stat without a text; then what the document's own calls answer. A program that a stat doesn't have yet takes three edits: a
-/// text, its bytes, and the stat's register. A refusal leaves the document as it was, but for the first of these three, and for the
-/// first of several deletions where memory ran out. Words that keep no bytes and come to nothing take no memory.
+/// Does the action of these words as a replica of at least 1, on a document that isn't stale.
+/// Refusals, in order: BadAction if the words are no action; NoSuch if a number has no board, stat
+/// or text, and OutOfRange for a position over 0 in the program of a stat without a text; then
+/// those of the document's own calls. A new program takes three edits: a text, its bytes, and the
+/// stat's register. A refusal leaves the document as it was, except that the first of these three
+/// edits may be made, and the first of several deletions if memory ran out. Words that keep no
+/// bytes and make no edit take no memory.
 pub fn act(
     alloc: Global,
     document: &mut Document,

@@ -1,8 +1,9 @@
 //! The actions of an author.
 use zed_types::{Bytes, Rectangle, Side, Tile};
 
-/// An action of an author. Boards and stats go by the numbers that they have now: boards that aren't removed are numbered from 0 on,
-/// the title first, and so are the stats of a board, the player first.
+/// An action of an author. Boards and stats are given by the numbers that they have now. Boards
+/// that aren't removed are numbered from 0, the title first, and so are the stats of a board, the
+/// player first.
 #[derive(Debug, Drop)]
 pub enum Action {
     /// A new board with this name.
@@ -11,7 +12,7 @@ pub enum Action {
     BoardRemove(u16),
     /// The board gets this name.
     BoardName(u16, Bytes),
-    /// The board's exit on a side leads to another board, or nowhere where that is 0.
+    /// The board's exit on a side leads to another board, or nowhere if that is 0.
     Exit(u16, Side, u16),
     /// The board gets this rank.
     Rank(u16, u16),
@@ -36,7 +37,8 @@ pub enum Action {
         position: u32,
         bytes: Bytes,
     },
-    /// The bytes from one position to another, without the last, are taken out of the program of a stat.
+    /// The bytes from one position up to another, without the latter, are taken out of the program
+    /// of a stat.
     Delete {
         board: u16,
         stat: u16,

@@ -1,4 +1,4 @@
-//! What an action comes to, by the names of the things that it speaks of.
+//! What an action does, with the names of its things.
 ghost use Rattle.std.specs.Prelude.{◌≡◌, false};
 ghost use Rattle.zed_edit.specs.Replay.{replay};
 ghost use Rattle.zed_action.specs.Deeds.{board_in, deed_of, exit_in, fields_of, insertion_of, name_in, rank_in, stat_in, target_in};
@@ -10,7 +10,7 @@ use zed_types::{
     BoardId, BoardSetting, BoardText, Bytes, Side, StatFields, StatId, TextId, ThirdParameter,
 };
 
-/// What an action comes to.
+/// What an action does.
 #[derive(Drop)]
 pub(crate) enum Deed {
     /// An edit.

@@ -11,7 +11,7 @@ use zed_document::DocumentError;
 pub enum ActionError {
     #[error("these words are no action")]
     BadAction,
-    /// As the document's calls answer; NoSuch and OutOfRange are also told of the numbers that the words give.
+    /// A refusal of the document's calls. NoSuch and OutOfRange also come for numbers in the words.
     #[error("{0}")]
     Document(DocumentError),
 }

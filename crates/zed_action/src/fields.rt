@@ -55,14 +55,14 @@ pub(crate) fn plain(alloc: Global, word: &str) -> Result<Bytes, AllocError>
     Ok(Bytes::new(bytes))
 }
 
-/// A byte of a word, in which `|` stands for the end of a line.
+/// A byte of a word, in which `|` means the end of a line.
 fn with_end(byte: u8) -> u8
     ensures { result ≡ end_for byte }
 {
     if byte == b'|' { b'\r' } else { byte }
 }
 
-/// The bytes of a word, in which `|` stands for the end of a line. An empty one takes no memory.
+/// The bytes of a word, in which `|` means the end of a line. An empty one takes no memory.
 pub(crate) fn with_ends(alloc: Global, word: &str) -> Result<Bytes, AllocError>
     ensures ok { IfOk result (λ bytes. bytes ≡ with_line_ends word.now) }
     ensures memory_only_when { OnErr result (0 < length (with_line_ends word.now)) }

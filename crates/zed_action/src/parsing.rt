@@ -135,7 +135,7 @@ fn delete(rest: &[&str]) -> Option<Action>
     })
 }
 
-/// An action of numbers and sides alone, by its first word and those behind it.
+/// An action that has only numbers and sides, by its first word and those after it.
 fn numbered(verb: &str, rest: &[&str]) -> Option<Action>
     ensures { result ≡ numbered_of verb.now (words_of rest.now) }
 {
@@ -158,13 +158,14 @@ fn numbered(verb: &str, rest: &[&str]) -> Option<Action>
     }
 }
 
-/// Reads the words of an action: `board-add NAME`, `board-remove B`, `board-name B NAME`, `exit B north|south|west|east TO`,
-/// `rank B VALUE`, `cells B X0 Y0 X1 Y1 ELEMENT COLOUR`, `stat-add B X Y CYCLE`, `stat-remove B S`, `insert B S POS TEXT` where `|`
-/// stands for the end of a line, and `delete B S FROM TO`. Numbers are digits alone.
+/// Reads the words of an action: `board-add NAME`, `board-remove B`, `board-name B NAME`, `exit B
+/// north|south|west|east TO`, `rank B VALUE`, `cells B X0 Y0 X1 Y1 ELEMENT COLOUR`, `stat-add B X Y
+/// CYCLE`, `stat-remove B S`, `insert B S POS TEXT`, in which `|` means the end of a line, and
+/// `delete B S FROM TO`. Numbers have only digits.
 ///
 /// # Errors
-/// `BadAction` exactly where the words are none of these, or a number is unreadable or too large for its field; `Memory`, only where a
-/// name or a text has bytes, which the action keeps.
+/// `BadAction` exactly if the words are none of these, or a number is unreadable or too large for
+/// its field; `Memory` only if the action keeps bytes of a name or a text.
 #[tactic(auto, unfolding(crate::specs::Words::action_of))]
 pub fn parse(alloc: Global, words: &[&str]) -> Result<Action, ActionError>
     ensures { Says result (action_of (words_of words.now)) }

@@ -7,9 +7,8 @@ ghost use Rattle.zed_types.specs.Register.{written_at};
 ghost use Rattle.zed_types.specs.Table.{is_in_table};
 ghost use Rattle.zed_cells.specs.Cells.{with_stamps, tiles_of, keep_where, set_cells};
 
-use crate::error::CellsError;
 use crate::keep::keep_later;
-use std::alloc::Global;
+use std::alloc::{AllocError, Global};
 use std::marker::Model;
 use zed_types::{COLUMNS, Place, Rectangle, Stamp, TILES, Tile, Written};
 
@@ -34,7 +33,7 @@ impl Model for Cells {
     ghost invariant = { λ c. length c.stamps.items ≡ 1500 };
 }
 
-fn stamp_each(alloc: Global, stamp: Stamp) -> Result<Vec<Stamp>, CellsError>
+fn stamp_each(alloc: Global, stamp: Stamp) -> Result<Vec<Stamp>, AllocError>
     ensures { IfOk result (λ v. v.items ≡ replicate TILES stamp) }
 {
     let mut stamps = Vec::new(alloc);
@@ -118,7 +117,7 @@ fn whole(tiles: &[Tile; TILES]) -> &[Tile; TILES]
 
 impl Cells {
     /// The cells of a board that one edit made.
-    pub fn new(alloc: Global, tiles: [Tile; TILES], stamp: Stamp) -> Result<Cells, CellsError>
+    pub fn new(alloc: Global, tiles: [Tile; TILES], stamp: Stamp) -> Result<Cells, AllocError>
         ensures { IfOk result (λ c. c ≡ map (written_at stamp) tiles) }
     {
         let stamps = stamp_each(alloc, stamp)?;

@@ -1,4 +1,4 @@
-//! The rule of every register: the later write stays.
+//! The rule of every register: it keeps the later write.
 
 ghost use Rattle.std.specs.Prelude.{◌≡◌};
 ghost use Rattle.zed_types.specs.Register.{keep_later as kept_of};
@@ -6,7 +6,8 @@ ghost use Rattle.zed_cells.specs.Writes.{later};
 
 use zed_types::Written;
 
-/// Keeps the later of what a register has and a new write. Of two with one stamp the first stays.
+/// Keeps the later of a register's write and a new one. Of two with the same stamp it keeps the
+/// first.
 pub fn keep_later<V: Drop>(kept: &mut Written<V>, write: Written<V>)
     ensures { kept.new ≡ later kept.old write }
 {
@@ -15,7 +16,7 @@ pub fn keep_later<V: Drop>(kept: &mut Written<V>, write: Written<V>)
     }
 }
 
-/// The same of a register that may never have been written: it takes its first write.
+/// The same for a register that may never have been written: it takes its first write.
 pub fn keep_in<V: Drop>(slot: &mut Option<Written<V>>, write: Written<V>)
     ensures { slot.new ≡ kept_of slot.old write }
 {

@@ -1,9 +1,9 @@
-//! What registers hold once writes came, whatever their order.
+//! What registers hold after writes, in whatever order these came.
 
 ghost use Rattle.zed_cells.specs.Latest.{LatestIsHeld, OrderIsForgotten};
 ghost use Rattle.zed_cells.specs.Cells.{CellsHoldTheLatest};
 
-/// A register holds the latest of the writes that it took, and the same for every order and any repeats of them.
+/// A register holds the latest of the writes that it took. Neither their order nor repeats count.
 /// `V` is the type of its values.
 pub fn order_is_forgotten<V>()
     ensures latest { LatestIsHeld V }

@@ -1,12 +1,10 @@
-//! The rule of registers, that the latest write stays, and the cells of a board.
+//! Registers, which keep the latest write, and the cells of a board.
 #![tactic(auto)]
 
 mod cells;
-mod error;
 mod keep;
 mod laws;
 
 pub use cells::Cells;
-pub use error::CellsError;
 pub use keep::{keep_in, keep_later};
 pub use laws::{cells_hold_the_latest, order_is_forgotten};

@@ -8,8 +8,8 @@ ghost use Rattle.zed_code.specs.Kept.{IsSound};
 ghost use Rattle.zed_code.specs.Blocks.{lists, list_at, HasRoom};
 ghost use Rattle.zed_code.specs.Targets.{cut_bytes, fronts, IsCut};
 
-use crate::error::CodeError;
 use crate::run::Run;
+use std::alloc::AllocError;
 
 /// Neighbouring runs of a text, and the number under which the place of the block is kept.
 #[derive(Drop)]
@@ -41,7 +41,7 @@ pub(crate) fn runs_at(blocks: &[Block], block: usize) -> &[Run]
 }
 
 /// Makes room for two more runs.
-pub(crate) fn reserve(block: &mut Block) -> Result<(), CodeError>
+pub(crate) fn reserve(block: &mut Block) -> Result<(), AllocError>
     ensures kept { block.new.runs.items ≡ block.old.runs.items }
     ensures room { OnOk result (HasRoom block.new) }
 {

@@ -7,7 +7,7 @@ ghost use Rattle.zed_code.specs.Halving.{IsSameText, IsMoved, spot_behind};
 ghost use Rattle.zed_code.specs.Kept.{moved};
 
 use crate::block::{Block, Spot, reserve, runs_at};
-use crate::error::CodeError;
+use std::alloc::AllocError;
 
 /// How many runs a block has at most before it is halved.
 const MOST: usize = 64;
@@ -41,7 +41,7 @@ fn add_place(places: &mut Vec<usize>, block: usize)
 }
 
 /// Takes the second half of a block as a block of its own. Memory leaves it whole.
-fn halve(block: &mut Block, id: usize) -> Result<Block, CodeError>
+fn halve(block: &mut Block, id: usize) -> Result<Block, AllocError>
     requires { 2 ≤ length block.old.runs.items }
     ensures ok { IfOk result (λ b. block.old.runs.items ≡ block.new.runs.items ++ b.runs.items) }
     ensures front { OnOk result (0 < length block.new.runs.items) }
@@ -70,7 +70,7 @@ fn halved_spot(at: Spot, half: usize) -> Spot
 }
 
 /// Halves a block. Answers where a place of it is then. Memory leaves all as it was.
-fn split(blocks: &mut Vec<Block>, places: &mut Vec<usize>, at: Spot) -> Result<Spot, CodeError>
+fn split(blocks: &mut Vec<Block>, places: &mut Vec<usize>, at: Spot) -> Result<Spot, AllocError>
     requires within { IsIn at 0 (lists blocks.old.items) }
     requires long { 2 ≤ length (list_at at.block (lists blocks.old.items)) }
     ensures same { IsSameText (lists blocks.old.items) (lists blocks.new.items)
@@ -92,7 +92,7 @@ pub(crate) fn split_full(
     blocks: &mut Vec<Block>,
     places: &mut Vec<usize>,
     at: Spot,
-) -> Result<Spot, CodeError>
+) -> Result<Spot, AllocError>
     requires within { IsIn at 0 (lists blocks.old.items) }
     ensures same { IsSameText (lists blocks.old.items) (lists blocks.new.items)
         places.old.items places.new.items }
@@ -107,7 +107,7 @@ pub(crate) fn split_full(
 }
 
 /// Makes room for two more runs in a block.
-pub(crate) fn reserve_at(blocks: &mut Vec<Block>, block: usize) -> Result<(), CodeError>
+pub(crate) fn reserve_at(blocks: &mut Vec<Block>, block: usize) -> Result<(), AllocError>
     requires { block < length blocks.old.items }
     ensures kept { lists blocks.new.items ≡ lists blocks.old.items }
     ensures room { OnOk result (AllByRecursion HasRoom (take 1 (drop block blocks.new.items))) }
@@ -116,7 +116,7 @@ pub(crate) fn reserve_at(blocks: &mut Vec<Block>, block: usize) -> Result<(), Co
 }
 
 /// Makes room for two more runs in each block from one on.
-pub(crate) fn reserve_from(blocks: &mut Vec<Block>, first: usize) -> Result<(), CodeError>
+pub(crate) fn reserve_from(blocks: &mut Vec<Block>, first: usize) -> Result<(), AllocError>
     requires { first ≤ length blocks.old.items }
     ensures kept { lists blocks.new.items ≡ lists blocks.old.items }
     ensures room { OnOk result (AllByRecursion HasRoom (drop first blocks.new.items)) }

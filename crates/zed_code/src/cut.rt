@@ -10,10 +10,10 @@ ghost use Rattle.zed_code.specs.Visits.{raised, LooksAtSome, LooksAtLeast};
 
 use crate::block::{Block, Spot};
 use crate::blocks::{reserve_from, split_full};
-use crate::error::CodeError;
 use crate::place::{look, look_once};
 use crate::run::Run;
 use crate::search::{Found, seek};
+use std::alloc::AllocError;
 use std::collections::BTreeMap;
 use zed_types::{ByteRange, ElemId};
 
@@ -131,7 +131,7 @@ pub(crate) fn mark_dead(
     found: Option<Found>,
     range: ByteRange,
     visits: &mut u64,
-) -> Result<(), CodeError>
+) -> Result<(), AllocError>
     requires full { NoneEmpty (lists blocks.old.items) }
     requires each { AllByRecursion IsSound (runs_of blocks.old.items) }
     requires ordered { AllInOrder (runs_of blocks.old.items) }

@@ -6,11 +6,12 @@ ghost use Rattle.zed_code.specs.Halving.{AddsHint, SetsHint};
 ghost use Rattle.zed_code.specs.Kept.{NoneFrom, AreHints, IsOne};
 
 use crate::block::Block;
-use crate::error::CodeError;
+use std::alloc::AllocError;
 use std::collections::BTreeMap;
 use zed_types::ElemId;
 
-/// A block before which no run stands that has a byte or later ones of its insertion, as the hints tell, or the first.
+/// A block to search from, by the hints, or the first one. No run before it has the byte, or later
+/// bytes of its insertion.
 pub(crate) fn start_of(
     hints: &BTreeMap<ElemId, usize>,
     places: &[usize],
@@ -49,13 +50,17 @@ fn nearest(hints: &BTreeMap<ElemId, usize>, id: ElemId) -> Option<(ElemId, usize
 }
 
 /// Keeps a number under the name of a byte.
-fn set_hint(hints: &mut BTreeMap<ElemId, usize>, id: ElemId, number: usize) -> Result<(), CodeError>
+fn set_hint(
+    hints: &mut BTreeMap<ElemId, usize>,
+    id: ElemId,
+    number: usize,
+) -> Result<(), AllocError>
     ensures hints { SetsHint id number hints.old.entries hints.new.entries }
     ensures err { OnErr result (hints.new.entries ≡ hints.old.entries) }
 {
     match hints.insert(id, number) {
         Ok(_) => Ok(()),
-        Err(_) => Err(CodeError::Memory),
+        Err(_) => Err(AllocError),
     }
 }
 
@@ -66,7 +71,7 @@ pub(crate) fn keep_hint(
     blocks: &[Block],
     id: ElemId,
     block: usize,
-) -> Result<(), CodeError>
+) -> Result<(), AllocError>
     requires { block < length blocks.now }
     ensures hints { AddsHint places.now block id hints.old.entries hints.new.entries }
     ensures err { OnErr result (hints.new.entries ≡ hints.old.entries) }

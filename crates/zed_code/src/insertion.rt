@@ -13,11 +13,11 @@ ghost use Rattle.zed_code.specs.Visits.{raised, LooksAtSome, LooksAtLeast};
 
 use crate::block::{Block, Cut, Spot, put_in, runs_at};
 use crate::blocks::{reserve_at, split_full};
-use crate::error::CodeError;
 use crate::hints::keep_hint;
 use crate::place::{look, pass};
 use crate::run::Run;
 use crate::search::{Found, seek};
+use std::alloc::AllocError;
 use std::collections::BTreeMap;
 use zed_types::ElemId;
 
@@ -81,7 +81,7 @@ fn aim(
     after: Option<ElemId>,
     run: Run,
     visits: &mut u64,
-) -> Result<Target, CodeError>
+) -> Result<Target, AllocError>
     requires some { 0 < length blocks.now }
     requires full { NoneEmpty (lists blocks.now) }
     requires each { AllByRecursion IsSound (runs_of blocks.now) }
@@ -113,7 +113,7 @@ fn make_room(
     blocks: &mut Vec<Block>,
     places: &mut Vec<usize>,
     aim: Target,
-) -> Result<Target, CodeError>
+) -> Result<Target, AllocError>
     requires { IsTarget aim (lists blocks.old.items) }
     ensures same { IsSameText (lists blocks.old.items) (lists blocks.new.items)
         places.old.items places.new.items }
@@ -129,7 +129,7 @@ fn make_room(
     Ok(Target { at, cut: aim.cut })
 }
 
-/// Puts a run where it goes. Answers where it stands then.
+/// Puts a run into its place, and answers that place.
 fn put_at_aim(blocks: &mut Vec<Block>, aim: Target, run: Run) -> Spot
     requires aim { IsTarget aim (lists blocks.old.items) }
     requires each { AllByRecursion IsSound (runs_of blocks.old.items) }
@@ -145,8 +145,8 @@ fn put_at_aim(blocks: &mut Vec<Block>, aim: Target, run: Run) -> Spot
     }
 }
 
-/// The first run of a text. Answers where it stands.
-fn put_alone(blocks: &mut Vec<Block>, places: &mut Vec<usize>, run: Run) -> Result<Spot, CodeError>
+/// Puts the first run into a text, and answers its place.
+fn put_alone(blocks: &mut Vec<Block>, places: &mut Vec<usize>, run: Run) -> Result<Spot, AllocError>
     requires { blocks.old.items ≡ [] }
     ensures ok { OnOk result (lists blocks.new.items ≡ (run ∷ []) ∷ []) }
     ensures spot { IfOk result (λ at. at ≡ record { block = 0; place = 0 }) }
@@ -161,8 +161,8 @@ fn put_alone(blocks: &mut Vec<Block>, places: &mut Vec<usize>, run: Run) -> Resu
     Ok(Spot { block: 0, place: 0 })
 }
 
-/// Puts a run behind the byte named, or at the head, past the runs of later edits. Answers where it stands. Memory leaves
-/// all runs as they were.
+/// Puts a run after the byte named, or at the head, past the runs of later edits. Answers its
+/// place. Memory leaves all runs as they were.
 pub(crate) fn put(
     blocks: &mut Vec<Block>,
     places: &mut Vec<usize>,
@@ -171,7 +171,7 @@ pub(crate) fn put(
     after: Option<ElemId>,
     run: Run,
     visits: &mut u64,
-) -> Result<Spot, CodeError>
+) -> Result<Spot, AllocError>
     requires full { NoneEmpty (lists blocks.old.items) }
     requires each { AllByRecursion IsSound (runs_of blocks.old.items) }
     requires ordered { AllInOrder (runs_of blocks.old.items) }

@@ -1,10 +1,9 @@
-//! One text as runs of bytes, deleted ones too, for edits in any order.
+//! A text as runs of bytes, deleted ones too, for edits in any order.
 #![tactic(auto)]
 
 mod block;
 mod blocks;
 mod cut;
-mod error;
 mod hints;
 mod insertion;
 mod laws;
@@ -15,6 +14,5 @@ mod same;
 mod search;
 mod text;
 
-pub use error::CodeError;
 pub use laws::rising_insertions_go_directly;
 pub use text::Text;

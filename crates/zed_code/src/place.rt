@@ -10,8 +10,8 @@ use crate::block::{Block, Spot, runs_at};
 use crate::run::Run;
 use zed_types::Stamp;
 
-/// Looks at a run: the one way in which insertions and deletions read what it holds. Runs that are only moved, as where
-/// a block is halved, aren't looked at.
+/// Looks at a run. Insertions and deletions read runs only by this. Runs that are only moved, as
+/// when a block is halved, aren't looked at.
 pub(crate) fn look(runs: &[Run], i: usize, visits: &mut u64) -> Run
     requires { i < length runs.now }
     ensures run { drop i runs.now ≡ result ∷ drop (i + 1) runs.now }
@@ -49,8 +49,8 @@ fn find_in(runs: &[Run], stamp: Stamp, index: u32, visits: &mut u64) -> usize
     runs.len()
 }
 
-/// The first run that has bytes of an insertion from a number on, or the end of all blocks. It is sought from a block
-/// on before which none stands.
+/// The first run that has bytes of an insertion from a number on, or the end of all blocks. The
+/// search begins at a block that has no such run before it.
 pub(crate) fn find(
     blocks: &[Block],
     start: usize,

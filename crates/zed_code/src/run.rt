@@ -78,7 +78,7 @@ impl Run {
         }
     }
 
-    /// How many bytes of the run stand before a range.
+    /// How many bytes of the run are before a range.
     pub(crate) fn low(self, range: ByteRange) -> u32
         ensures { result ≡ low_of range self }
     {
@@ -106,7 +106,8 @@ impl Run {
         self.alive && self.stamp == range.stamp && self.low(range) < self.high(range)
     }
 
-    /// Whether the run has the end of a range, or stands behind it, so that no later run has bytes of it.
+    /// Whether the run has the end of a range, or is after it, so that no later run has bytes of
+    /// it.
     pub(crate) fn reaches(self, range: ByteRange) -> bool
         ensures { result ≡ is_reached range self }
     {

@@ -9,18 +9,19 @@ ghost use Rattle.zed_code.specs.Runs.{sought, has as is_in};
 ghost use Rattle.zed_code.specs.Visits.{raised};
 
 use crate::block::{Block, Spot, runs_at};
-use crate::error::CodeError;
 use crate::hints::{keep_hint, start_of};
 use crate::place::{find, look};
+use std::alloc::AllocError;
 use std::collections::BTreeMap;
 use zed_types::ElemId;
 
-/// A byte of a text that was found, and where the run stands that has it or, first, later ones of its insertion.
+/// A byte of a text that was looked for, and the place of the first run that has it or later bytes
+/// of its insertion.
 #[derive(Clone, Copy, Debug)]
 pub struct Found {
     pub id: ElemId,
     pub at: Spot,
-    /// Whether the hints told an earlier block, so that its own is still to be kept.
+    /// Whether the hints gave an earlier block, so that its own is still to be kept.
     pub is_far: bool,
 }
 
@@ -35,13 +36,13 @@ pub(crate) fn found_of(found: Option<Found>, id: ElemId) -> Option<Found>
     }
 }
 
-/// Keeps the block of a byte that was found, where the hints told an earlier one.
+/// Keeps the block of a byte that was found, if the hints gave an earlier one.
 fn keep_far(
     blocks: &[Block],
     places: &[usize],
     hints: &mut BTreeMap<ElemId, usize>,
     last: Found,
-) -> Result<(), CodeError>
+) -> Result<(), AllocError>
     requires hints { AreHints hints.old.entries places.now (lists blocks.now) }
     requires found { IsFound (Some last) (lists blocks.now) }
     ensures { AreHints hints.new.entries places.now (lists blocks.now) }
@@ -53,8 +54,8 @@ fn keep_far(
     }
 }
 
-/// The first run that has a byte of an insertion or later ones, or the end of all blocks. It stands where it was found,
-/// or it is sought by the hints.
+/// The first run that has a byte of an insertion or later ones, or the end of all blocks. It is
+/// where it was found before, or the search is by the hints.
 pub(crate) fn seek(
     blocks: &[Block],
     places: &[usize],
@@ -62,7 +63,7 @@ pub(crate) fn seek(
     found: Option<Found>,
     id: ElemId,
     visits: &mut u64,
-) -> Result<Spot, CodeError>
+) -> Result<Spot, AllocError>
     requires full { NoneEmpty (lists blocks.now) }
     requires hints { AreHints hints.old.entries places.now (lists blocks.now) }
     requires found { IsFound found (lists blocks.now) }
@@ -88,14 +89,14 @@ pub(crate) fn seek(
     }
 }
 
-/// The same by the hints. Where the run stands behind the block that they told, its own block is kept.
+/// The same by the hints. If the run is after the block that they gave, its own block is kept.
 fn seek_by_hints(
     blocks: &[Block],
     places: &[usize],
     hints: &mut BTreeMap<ElemId, usize>,
     id: ElemId,
     visits: &mut u64,
-) -> Result<Spot, CodeError>
+) -> Result<Spot, AllocError>
     requires full { NoneEmpty (lists blocks.now) }
     requires hints { AreHints hints.old.entries places.now (lists blocks.now) }
     ensures place { IfOk result (λ at. before_spot at (lists blocks.now)
@@ -154,7 +155,7 @@ fn found_has(blocks: &[Block], found: Option<Found>, id: ElemId) -> bool
     }
 }
 
-/// Whether some run has a byte: the one that was found, or that which the hints tell.
+/// Whether some run has a byte: the one that was found, or the one that the hints give.
 pub(crate) fn any_has(
     blocks: &[Block],
     places: &[usize],

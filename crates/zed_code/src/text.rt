@@ -14,14 +14,13 @@ ghost use Rattle.zed_code.specs.Visits.{raised, LooksAtSome, LooksAtLeast};
 
 use crate::block::Block;
 use crate::cut::mark_dead;
-use crate::error::CodeError;
 use crate::insertion::put;
 use crate::place::look_once;
 use crate::readers::{Positions, count_live, live_at, push_live, push_names};
 use crate::run::Run;
 use crate::same::spell_same;
 use crate::search::{Found, any_has, find_asked, found_of};
-use std::alloc::Global;
+use std::alloc::{AllocError, Global};
 use std::collections::BTreeMap;
 use std::marker::Model;
 use zed_types::{ByteRange, ElemId, Stamp};
@@ -58,7 +57,7 @@ impl Model for Text {
 }
 
 /// The blocks of a text that is made with so many bytes.
-fn first_blocks(alloc: Global, len: u32) -> Result<Vec<Block>, CodeError>
+fn first_blocks(alloc: Global, len: u32) -> Result<Vec<Block>, AllocError>
     ensures runs { IfOk result (λ blocks. runs_of blocks.items ≡ if_any (whole genesis_stamp 0 len)) }
     ensures full { IfOk result (λ blocks. NoneEmpty (lists blocks.items)) }
 {
@@ -88,7 +87,7 @@ impl Text {
     }
 
     /// A text of the edit that makes the world: its bytes, numbered from 0. One without bytes takes no memory.
-    pub fn genesis(alloc: Global, bytes: &[u8]) -> Result<Text, CodeError>
+    pub fn genesis(alloc: Global, bytes: &[u8]) -> Result<Text, AllocError>
         requires { length bytes.now ≤ READ_BODY_LIMIT }
         ensures ok { IfOk result (λ t. elements t ≡ run_from genesis_stamp 0 bytes.now) }
         ensures runs { IfOk result (λ t. length t.cutting ≤ 1) }
@@ -112,15 +111,14 @@ impl Text {
         })
     }
 
-    /// Puts bytes behind the byte named, or at the head, past the bytes of later edits.
-    /// The edit that puts them has this stamp, and its bytes are numbered from 0.
-    /// Memory leaves the text as it was.
+    /// Puts bytes after the byte named, or at the head, past the bytes of later edits. The edit has
+    /// this stamp, and its bytes are numbered from 0. Memory leaves the text as it was.
     pub fn insert(
         &mut self,
         after: Option<ElemId>,
         stamp: Stamp,
         bytes: &[u8],
-    ) -> Result<(), CodeError>
+    ) -> Result<(), AllocError>
         requires there { StandsAfter after stamp (elements self.old) }
         requires new { IsNewStamp stamp (elements self.old) }
         requires most { length bytes.now ≤ READ_BODY_LIMIT }
@@ -146,7 +144,7 @@ impl Text {
         after: Option<ElemId>,
         stamp: Stamp,
         bytes: &[u8],
-    ) -> Result<(), CodeError>
+    ) -> Result<(), AllocError>
         requires there { StandsAfter after stamp (elements self.old) }
         requires new { IsNewStamp stamp (elements self.old) }
         requires some { 0 < length bytes.now }
@@ -185,9 +183,10 @@ impl Text {
         Ok(())
     }
 
-    /// Marks bytes from..to, both included, of the insertion with a stamp dead. Memory leaves the text as it was. None is
-    /// taken where the range is empty, or the text has no byte of the insertion from its start on.
-    pub fn delete(&mut self, stamp: Stamp, from: u32, to: u32) -> Result<(), CodeError>
+    /// Marks the bytes `from` to `to`, both included, of the insertion with this stamp dead. Memory
+    /// leaves the text as it was. No memory is taken if the range is empty, or if the text has no
+    /// byte of the insertion from `from` on.
+    pub fn delete(&mut self, stamp: Stamp, from: u32, to: u32) -> Result<(), AllocError>
         ensures ok { OnOk result (elements self.new
             ≡ kill (bytes_from stamp from to) (elements self.old)) }
         ensures kept { OnErr result (self.new ≡ self.old) }
@@ -220,7 +219,7 @@ impl Text {
     }
 
     /// The live bytes, in order. A text without one takes no memory.
-    pub fn text(&self) -> Result<Vec<u8>, CodeError>
+    pub fn text(&self) -> Result<Vec<u8>, AllocError>
         ensures ok { IfOk result (λ bytes. bytes.items ≡ alive_bytes (elements self.now)) }
         ensures memory_only_when { OnErr result (0 < length (alive_bytes (elements self.now))) }
     {
@@ -229,8 +228,9 @@ impl Text {
         Ok(out)
     }
 
-    /// Appends the live bytes, in order. Refused with Memory, only where the vector has no room for them; nothing is appended then.
-    pub fn append_to(&self, out: &mut Vec<u8>) -> Result<(), CodeError>
+    /// Appends the live bytes, in order. Memory comes only if the vector has no room for them; then
+    /// nothing is appended.
+    pub fn append_to(&self, out: &mut Vec<u8>) -> Result<(), AllocError>
         ensures ok { OnOk result
             (out.new.items ≡ out.old.items ++ alive_bytes (elements self.now)) }
         ensures kept { OnErr result (out.new.items ≡ out.old.items) }
@@ -259,7 +259,8 @@ impl Text {
         any_has(&self.blocks, &self.places, &self.hints, self.found, id)
     }
 
-    /// Seeks a byte that the next edit names, so that it is found at once then. Nothing of the text changes.
+    /// Looks for a byte that the next edit names, so that it is found at once then. The text
+    /// doesn't change.
     pub fn hint(&mut self, id: ElemId)
         ensures { self.new ≡ self.old }
     {
@@ -296,14 +297,15 @@ impl Text {
         }
     }
 
-    /// Appends the names of the live bytes from a position to another, without that, in order; of those that there are. It walks
-    /// through the runs once. Refused with Memory, only where the vector has no room for so many names; nothing is appended then.
+    /// Appends the names of the live bytes from one position up to another, without the latter, as
+    /// far as there are any. It walks through the runs once. Memory comes only if the vector has no
+    /// room for so many names; then nothing is appended.
     pub fn append_names(
         &self,
         from: usize,
         to: usize,
         out: &mut Vec<ElemId>,
-    ) -> Result<(), CodeError>
+    ) -> Result<(), AllocError>
         ensures ok { OnOk result
             (out.new.items ≡ out.old.items ++ names_between from to (elements self.now)) }
         ensures kept { OnErr result (out.new.items ≡ out.old.items) }

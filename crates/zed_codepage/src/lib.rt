@@ -29,9 +29,8 @@ fn glyph_in(table: &[char; 256], byte: u8) -> char
     table[usize::from(byte)]
 }
 
-/// The character of a byte in code page 437, as a screen shows it: those of the bytes below 32 and
-/// of 127 are pictures and no control characters. 0 is blank as 32 is, and 255 is a blank of its
-/// own, U+00A0.
+/// The character of a byte in code page 437, as a screen shows it. Bytes below 32 and byte 127 are
+/// pictures, not control characters. 0 is blank like 32, and 255 is a blank of its own, U+00A0.
 #[tactic(auto, unfolding(crate::specs::CodePage::code_point))]
 pub fn glyph(byte: u8) -> char
     ensures { result ≡ code_point byte }

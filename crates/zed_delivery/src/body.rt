@@ -18,7 +18,8 @@ use zed_live::{LiveDocument, document_shows_its_edits};
 use zed_op::{Edit, Op, Thing, all_named, edit_has_sizes};
 use zed_texts::{LiveTexts, texts_show_their_edits};
 
-/// A header, boards and texts, each with what the edits done make of them, and the edits that wait for what isn't made yet.
+/// A header, boards and texts, as the edits done make them, and the edits that wait for what isn't
+/// made yet.
 #[derive(Drop)]
 pub struct Body {
     pub live: LiveDocument,

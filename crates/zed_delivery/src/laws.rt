@@ -1,4 +1,4 @@
-//! What holds of a cascade, in whatever order its edits are tried.
+//! Laws of a cascade, in whatever order its edits are tried.
 ghost use Rattle.zed_delivery.specs.Shows.{ContentHasAll, ContentTellsCan, BodyHasAll, BodyTellsCan};
 ghost use Rattle.zed_delivery.specs.Steps.{HandIsReady, BodyBegins, BodyEnds};
 ghost use Rattle.zed_delivery.specs.Taking.{CalmEditsHoldTheSame};
@@ -8,8 +8,8 @@ ghost use Rattle.zed_delivery.specs.Cascade.{CascadesBegin, EditsArrive, EditsAr
 use zed_live::document_shows_its_edits;
 use zed_texts::{texts_are_ready, texts_show_their_edits};
 
-/// Which edits are done and which wait, from before an edit comes to when no release is to come: then they are those
-/// that the replay takes and those that it holds.
+/// Which edits are done and which wait, during a cascade. At its end they are those that the replay
+/// takes and those that it holds.
 pub fn cascades_settle()
     ensures begin { CascadesBegin }
     ensures arrive { EditsArrive }
@@ -28,7 +28,8 @@ pub fn bodies_begin_and_end()
     texts_are_ready();
 }
 
-/// Live parts and bodies have what the replay of the edits that they show has, and tell what can be done after them.
+/// Live parts and bodies have what the replay of their edits has, and decide what can be done after
+/// them.
 pub fn bodies_have_what_is_made()
     ensures parts { ContentHasAll }
     ensures parts_can { ContentTellsCan }
@@ -49,7 +50,7 @@ pub fn rising_edits_are_apart()
     ensures { RisingAreApart }
 {}
 
-/// Where a new edit isn't held itself and wakes no other, the same edits are held as before.
+/// If a new edit isn't held itself and wakes no other, the same edits are held as before.
 pub fn calm_edits_hold_the_same()
     ensures { CalmEditsHoldTheSame }
 {}

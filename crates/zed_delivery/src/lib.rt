@@ -1,4 +1,4 @@
-//! The body of a document: its live parts, the edits that wait, and what follows when one comes.
+//! The body of a document: its live parts and the edits that wait.
 #![tactic(auto)]
 
 mod body;

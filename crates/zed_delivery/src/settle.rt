@@ -36,8 +36,9 @@ impl Body {
         self.wake(alloc, rest, &edit)
     }
 
-    /// Tries what waits for the things of edits done, and what waits for the things of those, until no edit is left
-    /// whose things are to come. Their stamps are told. Memory may leave a part of it done.
+    /// Tries what waits for the things of edits done, and what waits for the things of those, until
+    /// nothing is left to wake. Answers the stamps of the edits woken. Memory may leave a part of
+    /// it done.
     pub(crate) fn settle(
         &mut self,
         alloc: Global,

@@ -92,9 +92,9 @@ impl Body {
         })
     }
 
-    /// Takes an edit whose stamp is new, whenever it comes: does it, and all that waits for it, or holds it where a
-    /// thing that it names isn't made. The stamps of those that waited and are done are put behind others. Memory leaves the body
-    /// empty.
+    /// Takes an edit with a new stamp, whenever it comes: does it, and all that waits for it, or
+    /// holds it if a thing that it names isn't made. The stamps of edits that waited and are now
+    /// done are appended to `woken`. Memory leaves the body empty.
     pub fn take(
         &mut self,
         alloc: Global,

@@ -29,7 +29,7 @@ impl Body {
         Ok(())
     }
 
-    /// A body of edits with different stamps, in whatever order they stand.
+    /// A body of edits with different stamps, in any order.
     pub fn of(alloc: Global, edits: &[Edit]) -> Result<Body, AllocError>
         requires fit { AllFit edits.now }
         requires apart { AreApart edits.now }

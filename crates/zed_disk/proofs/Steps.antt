@@ -1,6 +1,6 @@
 -- Steps of a folder, one after the other.
 use Rattle.std.proofs.Common.{ap, ◌∙◌, [], ◌++◌, List, None, Option, Some, option_map}
-use Rattle.std.proofs.lemmas.List.{append_assoc, append-nil}
+use Rattle.std.proofs.lemmas.List.{append_assoc}
 use Rattle.zed_disk.specs.Steps.{Step, Went, WentInto}
 
 -- steps, and then others, are all of them
@@ -11,8 +11,3 @@ went_on a b (Some t) y z h k = k ∙ ap (option_map (λ taken. taken ++ b)) h �
 -- a front of steps is one of more steps, and others may follow those that were all taken
 pub stopped_before : (a b : List Step) (x y : Option (List Step)) → WentInto a [] x y → WentInto (a ++ b) [] x y
 stopped_before a b x y (front, rest, is, went) = (front, rest ++ b, ap (λ steps. steps ++ b) is ∙ append_assoc front rest b, went)
-
--- after a front of steps others were taken
-pub then_went : (a b : List Step) (x y z : Option (List Step)) → WentInto a [] x y → Went b y z → WentInto a b x z
-then_went a b x y z (front, rest, is, went) k =
-    (front, rest, is, went_on front b x y z (went ∙ ap (λ steps. option_map (λ taken. taken ++ steps) x) (append-nil front)) k)

@@ -14,16 +14,16 @@ pub enum Old {
     Kept,
 }
 
-/// The folder of one file that is to be written: what stands in the file's place, the new file beside it, and the old file that is kept
-/// beside it.
+/// The folder of one file that is to be written: what is in the file's place, the new file beside
+/// it, and the old file that is kept beside it.
 pub trait Folder {
-    /// What it holds, or that this isn't told.
+    /// What it holds, or none if it doesn't say.
     ghost told: { Self → Option Held };
 
     /// Whether a step of it failed.
     ghost has_failed: { Self → Bool };
 
-    /// The steps that were asked of it, in their order, or that this isn't told.
+    /// The steps that were asked of it, in order, or none if it doesn't say.
     ghost steps: { Self → Option (List Step) };
 
     /// Makes the new file, empty, under a name that no other file has.
@@ -55,7 +55,8 @@ pub trait Folder {
         ensures asked { Went (Keep ∷ []) (steps self.old) (steps self.new) }
         ensures faults { has_failed self.new ≡ (is_err result || has_failed self.old) };
 
-    /// Puts the new file into the place. Whoever looks finds the old file before it, and the new one after it.
+    /// Puts the new file into the place. Before this everyone finds the old file there, and after
+    /// it the new one.
     fn rename(&mut self) -> io::Result<()>
         requires { IfSome (told self.old) IsWhole }
         ensures result { OnOk result (told self.new ≡ option_map with_place (told self.old)) }
@@ -69,7 +70,7 @@ pub trait Folder {
         ensures asked { Went (Remove ∷ []) (steps self.old) (steps self.new) }
         ensures faults { has_failed self.new ≡ has_failed self.old };
 
-    /// Brings onto the disk what stands in the place.
+    /// Brings what is in the place onto the disk.
     fn sync_place(&mut self) -> io::Result<()>
         ensures result { OnOk result (told self.new ≡ option_map with_settled (told self.old)) }
         ensures kept { OnErr result (told self.new ≡ told self.old) }
@@ -113,12 +114,13 @@ fn take_place<F: Folder>(folder: &mut F, old: Old, bytes: &[u8]) -> io::Result<(
     folder.rename()
 }
 
-/// Writes a file: afterwards it has these bytes, or is as it was. The old one is dropped or kept beside it; what was kept before stays where
-/// nothing else is asked for. It is refused where a step fails, and for nothing else. Then the new file is removed, and the file is as it
-/// was, but where only the last step failed, by which the place comes onto the disk; and where the old one was to be kept, what is kept
-/// is that, what was kept before, or nothing. Each step is asked for once, in this order: the new file is made, filled and brought onto the
-/// disk; the old one is kept, where that is asked for; the new one is renamed, and the place is brought onto the disk. After the first
-/// that fails the new file is removed, and nothing else is done.
+/// Writes a file: afterwards it has these bytes, or is as it was. The old file is dropped or kept
+/// beside it; if it is dropped, what was kept before stays. The only refusal is that a step failed.
+/// Then the new file is removed, and the file is as it was, unless only the last step failed. If
+/// the old file was to be kept, then the kept file is the old one, the one kept before, or none.
+/// The steps, each asked for once, in order: the new file is made, filled and brought onto the
+/// disk; the old one is kept, if asked for; the new one is renamed, and the place is brought onto
+/// the disk. After the first step that fails, the new file is removed, and nothing else is done.
 pub fn replace<F: Folder>(folder: &mut F, old: Old, bytes: &[u8]) -> io::Result<()>
     ensures result { OnOk result (F.told folder.new
         ≡ option_map (λ h. replaced_by bytes.now (kept_by old h)) (F.told folder.old)) }

@@ -8,7 +8,8 @@ use std::fs::{self, File, Metadata, OpenOptions, Permissions};
 use std::io::{self, ErrorKind, Write};
 use std::os::unix::fs::{MetadataExt, OpenOptionsExt, PermissionsExt, fchown};
 
-/// A new file that others take for a left one, between its making and its lock, is made anew. So many times are a failure.
+/// Between its making and its lock, others may take a new file for a leftover. Then it is made
+/// anew, at most so many times.
 const TRIES: u32 = 1024;
 
 /// The bits of a mode that are permissions.
@@ -20,10 +21,10 @@ const GROUP: u32 = 0o070;
 /// The permissions of a new file before it has those of the old one: nobody else reads it.
 pub(crate) const OWN: u32 = 0o600;
 
-/// The permissions that are asked for where there is no old file.
+/// The permissions of a new file if there is no old one.
 const COMMON: u32 = 0o666;
 
-/// A real folder. It doesn't tell what it holds, but whether a step of it failed.
+/// A real folder. It doesn't say what it holds, only whether a step of it failed.
 #[derive(Drop)]
 struct RealFolder<'a> {
     rt: &'a HostRuntime,
@@ -71,7 +72,8 @@ fn takes_group(file: &File, old: &Metadata) -> bool {
         || fchown(file, None, Some(old.gid())).is_ok()
 }
 
-/// Gives a new file the owner and the permissions of the old one. What its group might do is not for the author's own group.
+/// Gives a new file the owner and the permissions of the old one. If the group can't be kept, the
+/// author's own group doesn't get its permissions.
 pub(crate) fn liken(file: &File, old: &Metadata) -> io::Result<()> {
     let made = file.metadata()?;
     let is_owned = made.uid() == old.uid() && made.gid() == old.gid();
@@ -215,11 +217,11 @@ fn folder_at<'a>(
     })
 }
 
-/// Writes the file of a name that leads to a place. A file is replaced whole or stays as it was; what is no file, as a pipe or a
-/// terminal, is written as it stands.
+/// Writes the file of a name that leads to a place. A file is replaced whole or stays as it was. A
+/// pipe or a terminal is written in place.
 ///
 /// # Errors
-/// A device failed, or what stands there can't be written.
+/// A device failed, or the place can't be written.
 pub fn write(
     rt: &HostRuntime,
     name: &str,
@@ -239,11 +241,12 @@ pub fn write(
     replace(&mut folder_at(rt, found, Some(old))?, Old::Dropped, bytes)
 }
 
-/// Writes the file of a name as `write` does, and keeps the file that stood there, if it begins so, beside the new one. Both have the same
-/// owner and permissions, and nobody else writes there in between.
+/// Writes the file of a name as `write` does, and keeps the old file beside the new one if it
+/// begins with these bytes. Both have the same owner and permissions, and nobody else writes there
+/// in between.
 ///
 /// # Errors
-/// Those of `write`, or the old file can't be kept. Then it stands in its place as it was.
+/// Those of `write`, or the old file can't be kept. Then the old file stays in its place.
 pub fn write_keeping(
     rt: &HostRuntime,
     name: &str,

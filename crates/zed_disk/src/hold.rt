@@ -1,11 +1,11 @@
-//! Reading a file that is to be replaced, so that no other command replaces it in between.
+//! Reading a file that will be replaced, so that no other command replaces it in between.
 
 use crate::named::{FoundFile, is_at};
 use std::fs::{self, File, OpenOptions};
 use std::io::{self, ErrorKind};
 use std::os::fd::AsRawFd;
 
-/// A file that was replaced so many times while its lock was waited for is a failure.
+/// If a file is replaced so many times while this waits for its lock, that is a failure.
 const LOOKS: u32 = 1_048_576;
 
 /// The greatest number of a standard stream.
@@ -37,7 +37,8 @@ fn open_held(rt: &HostRuntime, name: &str, found: &FoundFile) -> io::Result<Opti
     }
 }
 
-/// Opens the file of a name that leads to a place, and holds its lock as long as it is open. What is no file, as a pipe, has no lock.
+/// Opens the file of a name that leads to a place, and holds its lock as long as it is open. A pipe
+/// or a terminal has no lock.
 ///
 /// # Errors
 /// A device failed, there is no such file, or it can't be read or locked.
@@ -50,10 +51,10 @@ pub fn held(rt: &HostRuntime, name: &str, found: &FoundFile) -> io::Result<File>
     Err(io::Error::from(ErrorKind::ResourceBusy))
 }
 
-/// Sees that a file that is held still stands in its place.
+/// Checks that a held file still has its name.
 ///
 /// # Errors
-/// Another file stands there, or a device failed.
+/// Another file has that name, or a device failed.
 pub fn stands(rt: &HostRuntime, file: &File, found: &FoundFile) -> io::Result<()> {
     if !file.metadata()?.is_file() || is_at(rt, file, found.path())? {
         return Ok(());

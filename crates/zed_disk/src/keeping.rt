@@ -1,4 +1,4 @@
-//! Keeping the file that is replaced.
+//! Keeping the old file when it is replaced.
 
 use crate::fresh::{OWN, liken, make_fresh};
 use crate::hold::held;
@@ -6,7 +6,7 @@ use crate::named::{FoundFile, unless_missing};
 use std::fs::{self, File};
 use std::io::{self, ErrorKind, Read};
 
-/// How the files begin that are kept.
+/// The first bytes of files that are kept.
 pub type Beginning = [u8; 3];
 
 // Whether a file that was just opened begins so.
@@ -20,10 +20,11 @@ fn begins_with(file: &mut File, beginning: &Beginning) -> io::Result<bool> {
     }
 }
 
-/// Whether the file of a name is kept where it is replaced: it is a file, and begins so.
+/// Whether the file of a name is kept when it is replaced: whether it is a file, and begins with
+/// these bytes.
 ///
 /// # Errors
-/// A device failed, or the file may not be read, so that nobody sees what it is.
+/// A device failed, or the file may not be read, so it is unknown what it is.
 pub fn is_kept(rt: &HostRuntime, name: &str, beginning: &Beginning) -> io::Result<bool> {
     match unless_missing(fs::metadata(rt, name))? {
         Some(there) if there.is_file() => begins_with(&mut fs::open(rt, name)?, beginning),
@@ -31,7 +32,8 @@ pub fn is_kept(rt: &HostRuntime, name: &str, beginning: &Beginning) -> io::Resul
     }
 }
 
-/// The file that is to be kept where its place is written, held, so that nobody else replaces it before. What isn't kept is not held.
+/// The file that will be kept when its place is written, held, so that nobody else replaces it
+/// before. A file that won't be kept isn't held.
 ///
 /// # Errors
 /// A device failed, or the file can't be read or locked.
@@ -89,11 +91,11 @@ fn keep_copy(rt: &HostRuntime, found: &FoundFile) -> io::Result<()> {
     kept
 }
 
-/// Gives the file in a place its second name, in place of what was kept before. That takes no memory, and the file is never copied but
-/// where a file has one name alone.
+/// Gives the file in a place its second name, in place of what was kept before. This takes no
+/// memory. The file is copied only if files can have only one name there.
 ///
 /// # Errors
-/// A device failed, or what stands under that name can't be removed, as a folder.
+/// A device failed, or what has that name can't be removed, such as a folder.
 pub(crate) fn keep(rt: &HostRuntime, found: &FoundFile) -> io::Result<()> {
     forget(rt, found)?;
     match fs::hard_link(rt, found.path(), found.kept()) {

@@ -1,4 +1,4 @@
-//! What a process left that ended while it wrote.
+//! What is left of a process that ended while it wrote.
 ghost use Rattle.std.specs.Prelude.{◌≡◌};
 ghost use Rattle.std.specs.List.{list_all};
 ghost use Rattle.zed_disk.specs.Names.{is_new_name, is_numeral};
@@ -7,7 +7,7 @@ use crate::named::is_at;
 use std::fs::{self, OpenOptions};
 use std::io::{self, ErrorKind};
 
-/// How the name of a new file begins.
+/// The beginning of the name of a new file.
 pub(crate) const BEGINNING: &str = ".zzted-new-";
 
 fn is_numeral(byte: u8) -> bool

@@ -1,4 +1,4 @@
-//! Files on a disk: found behind links, locked, and replaced as a whole.
+//! Files on a disk: following links, locking, replacing a whole file.
 #![tactic(auto)]
 
 mod folder;

@@ -1,5 +1,5 @@
-//! Where a file stands that a command writes: its path behind symbolic links, its folder, the name of the new file that is to take
-//! its place, and the name under which the old one is kept.
+//! The place of a file that a command writes: its path after symbolic links, its folder, the name
+//! of the new file that takes its place, and the name under which the old one is kept.
 ghost use Rattle.std.specs.Io.{StartsWith};
 
 use crate::leftover::{BEGINNING, clear, is_new_name};
@@ -19,7 +19,7 @@ pub struct NamedFile {
     found: Option<FoundFile>,
 }
 
-/// Where the file of a name stands, which is no symbolic link.
+/// The place of the file of a name, which is no symbolic link.
 #[derive(Drop)]
 pub struct FoundFile {
     path: String,
@@ -35,12 +35,12 @@ impl FoundFile {
         self.path.as_str()
     }
 
-    /// The folder that it stands in.
+    /// Its folder.
     pub fn folder(&self) -> &str {
         self.folder.as_str()
     }
 
-    /// The new file beside it: its name tells the program, the process and the time.
+    /// The new file beside it: its name has the program, the process and the time.
     pub fn fresh(&self) -> &str {
         self.fresh.as_str()
     }
@@ -50,7 +50,7 @@ impl FoundFile {
         self.spare.as_str()
     }
 
-    /// The old file that is kept beside it: its path with a tilde behind it.
+    /// The old file that is kept beside it: its path and a tilde.
     pub fn kept(&self) -> &str {
         self.kept.as_str()
     }
@@ -137,10 +137,11 @@ fn find(rt: &HostRuntime, name: &str) -> io::Result<FoundFile> {
 }
 
 impl NamedFile {
-    /// Finds the place of a name, with all memory that writing there takes.
+    /// Finds the place of a name, and takes all memory that writing there needs.
     ///
     /// # Errors
-    /// `OutOfMemory` alone. Where a device fails the place is unknown, and nothing but a device can be written there.
+    /// Only `OutOfMemory`. If a device fails, the place is unknown, and only a device can be
+    /// written there.
     pub fn of(rt: &HostRuntime, name: &str) -> io::Result<NamedFile> {
         let found = match find(rt, name) {
             Ok(found) => Some(found),
@@ -156,10 +157,10 @@ impl NamedFile {
         self.name.as_str() == name
     }
 
-    /// Whether one of these names leads to the file that stands here.
+    /// Whether one of these names leads to the file here.
     ///
     /// # Errors
-    /// A device failed, or memory is lacking.
+    /// A device failed, or memory ran out.
     pub fn is_led_to(&self, rt: &HostRuntime, names: &[&str]) -> io::Result<bool> {
         let Some(found) = &self.found else {
             return Ok(false);
@@ -178,10 +179,10 @@ impl NamedFile {
         NamedFile { name, found: None }
     }
 
-    /// Where the file stands.
+    /// The place of the file.
     ///
     /// # Errors
-    /// That this is unknown, which isn't told as a file that isn't there.
+    /// The place is unknown. This isn't the error of a file that isn't there.
     pub fn found(&self) -> io::Result<&FoundFile> {
         match &self.found {
             Some(found) => Ok(found),
@@ -190,7 +191,7 @@ impl NamedFile {
     }
 }
 
-/// Whether a name leads to the file that stands at a path. What isn't there is led to by no name.
+/// Whether a name leads to the file at a path. No name leads to what isn't there.
 ///
 /// # Errors
 /// A device failed.
@@ -217,7 +218,7 @@ fn is_same(one: &Metadata, other: &Metadata) -> bool {
     one.dev() == other.dev() && one.ino() == other.ino()
 }
 
-/// Whether an open file is what stands at a path. The file may be gone, or another in its place.
+/// Whether an open file is the one at a path. That may be gone, or be another file.
 ///
 /// # Errors
 /// A device failed.

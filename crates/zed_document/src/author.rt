@@ -1,4 +1,4 @@
-//! Edits that an author makes at a replica, each later than all that it has.
+//! Edits that an author makes at a replica, each later than all that the replica has.
 ghost use Rattle.std.specs.Prelude.{◌≡◌, ◌≢◌, ◌≤◌, ◌⊎◌, if◌then◌else◌, false, true, insert, is_ok, length, take, None, Err, Ok, OnErr, OnOk, MatchBool, IfSome, IfNone, OnSome};
 ghost use Rattle.zed_op.specs.Fit.{Fits, fault};
 ghost use Rattle.zed_edit.specs.Replay.{replay, can};
@@ -53,10 +53,12 @@ fn are_late_edits_taken(edits: &[Edit], edit: &Edit)
 }
 
 impl Document {
-    /// Makes an edit at a replica, later than all that the document has, held ones too, and takes it. In this order: Stale; ClockSpent
-    /// where no later time is left; BadEdit where the edit doesn't fit; NoSuch where a thing that it names isn't made; Clash where
-    /// another world was made; Memory. The world is made by replica 0 at time 1; the one that is there already is answered again. The
-    /// set of edits is as before on each refusal. After Memory the document may be stale.
+    /// Makes an edit at a replica, later than all that the document has, held ones too, and takes
+    /// it. Refusals, in order: Stale; ClockSpent if no later time is left; BadEdit if the edit
+    /// doesn't fit; NoSuch if a thing that it names isn't made; Clash if another world was made;
+    /// Memory. A refusal leaves the set of edits as it was; after Memory the document may be stale.
+    /// Replica 0 makes the world at time 1. If the same world is there already, that edit is
+    /// answered again.
     pub fn author(&mut self, replica: u16, op: Op) -> Result<Edit, DocumentError>
         ensures result { (result ≡ Err DocumentError.Memory)
             ⊎ AnswersAuthor self.old replica op result }

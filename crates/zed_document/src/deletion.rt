@@ -24,7 +24,7 @@ use zed_op::fit_is_of_parts;
 use zed_types::{ByteRange, ElemId, Stamp, TextId};
 use zed_view::View;
 
-/// Whether a byte stands directly behind a stretch, in the same insertion.
+/// Whether a byte comes directly after a stretch, in the same insertion.
 fn ends_before(range: ByteRange, byte: ElemId) -> bool
     ensures { result ≡ goes_behind range byte }
 {
@@ -88,8 +88,8 @@ fn name_of(view: &View, text: TextId, k: usize) -> ElemId
     view.name_at(text, k).unwrap()
 }
 
-/// How many stretches there are of the alive bytes of a text from one position to another. It takes no memory, so that a spent clock
-/// can be told before any is taken.
+/// How many stretches there are of the alive bytes of a text from one position to another. It takes
+/// no memory, so ClockSpent can come before Memory.
 fn count_stretches(view: &View, text: TextId, from: usize, to: usize) -> usize
     requires { is_part from to (length (text_shown view.now text)) ≡ true }
     ensures { result ≡ length (stretches (part from to (alive (elements_of view.now text)))) }
@@ -240,10 +240,11 @@ impl Document {
         self.take_in(edits)
     }
 
-    /// Deletes the alive bytes of a text from one position to another, without the last: one edit for each longest stretch of one
-    /// insertion with indices that rise by one. In this order: Stale; NoSuch where the text wasn't made; OutOfRange where the range is
-    /// empty or ends over the length; ClockSpent where fewer times are left than edits are needed; Memory. The set of edits is as
-    /// before on each of them. After Memory the document may be stale; else it is as before.
+    /// Deletes the alive bytes of a text from one position up to another, without the latter: one
+    /// edit for each longest stretch of one insertion with indices that rise by one. Refusals, in
+    /// order: Stale; NoSuch if the text wasn't made; OutOfRange if the range is empty or ends
+    /// beyond the length; ClockSpent if fewer times are left than edits are needed; Memory. A
+    /// refusal leaves the document as it was, except that after Memory it may be stale.
     ///
     /// The caller gives a replica of at least 1.
     pub fn delete_text(

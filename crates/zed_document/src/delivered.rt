@@ -1,4 +1,4 @@
-//! What a delivery tells.
+//! What a delivery answers.
 ghost use Rattle.std.specs.Prelude.{◌≡◌};
 ghost use Rattle.zed_document.specs.Delivery.{state_of};
 
@@ -7,7 +7,7 @@ ghost use Rattle.zed_document.specs.Delivery.{state_of};
 pub enum State {
     /// All that it names was made, and it is done.
     Taken,
-    /// A thing that it names isn't made yet; it waits for it.
+    /// It waits for a thing that it names, which isn't made yet.
     Held,
     /// It was there already.
     Known,
@@ -33,7 +33,7 @@ pub struct Delivered {
 }
 
 impl Delivered {
-    /// What is told of an edit that is there.
+    /// The answer for an edit that is there already.
     pub(crate) const KNOWN: Delivered = Delivered {
         state: State::Known,
         woken: 0,

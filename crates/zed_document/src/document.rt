@@ -27,11 +27,11 @@ use zed_view::{View, parts_show_the_replay};
 pub struct Document {
     pub(crate) world: u64,
     pub(crate) edits: Vec<Edit>,
-    /// The stamps of the edits that are held. It changes at the end of a call alone, so that it is right in a stale
-    /// document too.
+    /// The stamps of the edits that are held. They change only at the end of a call, so they are
+    /// right in a stale document too.
     pub(crate) held: HeldStamps,
-    /// What the edits make, and those that wait. Where want of memory leaves the document stale, it is given up, so that a repair
-    /// has its room.
+    /// What the edits make, and those that wait. If want of memory leaves the document stale, this
+    /// is given up, so that a repair has its room.
     pub(crate) body: Body,
     pub(crate) is_stale: bool,
 }
@@ -53,7 +53,8 @@ impl Model for Document {
     ghost invariant = { λ d. IsKept d.edits.items d.held d.is_stale d.body };
 }
 
-/// Joins edits of new stamps to a log, and tells the stamps of those that wait. Memory leaves the log as it was.
+/// Joins edits with new stamps to a log, and answers the stamps of those that wait. Memory leaves
+/// the log as it was.
 fn enter(
     alloc: Global,
     inbox: &Inbox,
@@ -119,7 +120,8 @@ impl Document {
         self.edits.as_slice()
     }
 
-    /// What the document shows. Stale where it is stale: such a document keeps its edits, and nothing of what they make.
+    /// What the document shows. A stale document answers Stale: it keeps its edits, and nothing of
+    /// what they make.
     pub fn view(&self) -> Result<View<'_>, DocumentError>
         ensures stale { (result ≡ Err DocumentError.Stale) ↔ (self.now.is_stale ≡ true) }
         ensures err { IfErr result (λ e. e ≡ DocumentError.Stale) }
@@ -154,7 +156,7 @@ impl Document {
         &self.body
     }
 
-    /// How many runs of a text were looked at, 0 where it isn't there.
+    /// How many runs of a text were looked at, 0 if it isn't there.
     pub(crate) fn visits_at(&self, text: TextId) -> u64
         ensures { result ≡ count_of text self.now.counts }
     {
@@ -175,9 +177,10 @@ impl Document {
         self.held.has(stamp)
     }
 
-    /// Accepts an edit, in whatever order edits come. In this order: Stale; BadEdit where the edit doesn't fit; Clash where another
-    /// edit has its stamp, held or taken; Memory. The set of edits is as before on each of them. After Memory the document may be
-    /// stale. An edit that is there already takes no memory, but for a Genesis, which is checked anew.
+    /// Accepts an edit; edits may come in any order. Refusals, in order: Stale; BadEdit if the edit
+    /// doesn't fit; Clash if another edit, held or taken, has its stamp; Memory. A refusal leaves
+    /// the set of edits as it was; after Memory the document may be stale. A known edit takes no
+    /// memory, except a Genesis, which is checked again.
     pub fn deliver(&mut self, edit: Edit) -> Result<Delivered, DocumentError>
         ensures result { (result ≡ Err DocumentError.Memory) ⊎ Answers self.old edit result }
         ensures edits { self.new.edits
@@ -276,8 +279,9 @@ impl Document {
         })
     }
 
-    /// Makes what the edits make anew where the document is stale. On one that isn't it changes nothing and takes no
-    /// memory, nor does one without edits. Memory leaves it as it was.
+    /// Makes the body of a stale document anew. If the document isn't stale, nothing changes and no
+    /// memory is taken. A document without edits takes no memory either. Memory leaves the document
+    /// as it was.
     pub fn repair(&mut self) -> Result<(), DocumentError>
         ensures edits { self.new.edits ≡ self.old.edits }
         ensures world { self.new.world ≡ self.old.world }
@@ -297,10 +301,12 @@ impl Document {
         Ok(())
     }
 
-    /// Takes in all edits of another document, held ones too. In this order: Stale of this document; OtherWorld where their worlds have
-    /// different numbers; Clash of the least stamp with which they have different edits; nothing changes on these. On Memory the
-    /// document has its own edits and those of the other below some stamp, and may be stale; one that isn't stale is as before. It
-    /// takes no memory where it has all edits of the other.
+    /// Takes in all edits of another document, held ones too. Refusals, in order: Stale if this
+    /// document is; OtherWorld if their worlds have different numbers; Clash with the least stamp
+    /// for which they have different edits; Memory. Nothing changes on the first three. After
+    /// Memory the document has its own edits and those of the other below some stamp, and may be
+    /// stale; if it isn't stale, it is as before. It takes no memory if it has all edits of the
+    /// other.
     pub fn merge(&mut self, other: &Document) -> Result<(), DocumentError>
         ensures result { AnswersMerge self.old other.now result }
         ensures edits { OnOk result (self.new.edits ≡ union self.old.edits other.now.edits) }
@@ -345,7 +351,7 @@ impl Document {
         self.take_all(edits)
     }
 
-    /// Takes those of many edits that are new, up to the first that clashes, and tells its stamp.
+    /// Takes those of many edits that are new, up to the first clash, and answers its stamp.
     fn take_batch(&mut self, edits: Vec<Edit>) -> Result<Option<Stamp>, DocumentError>
         requires sound { self.old.is_stale ≡ false }
         requires fit { AllFit edits.items }
@@ -401,9 +407,9 @@ impl Document {
         Ok(())
     }
 
-    /// Delivers edits that fit, one after the other in the order in which they come, up to the first that is refused: Stale, even
-    /// where there is none, or Clash. Those before it stay. After Memory the edits are as before, and the document may be stale.
-    /// Whatever their order, the work is as for edits that come in order.
+    /// Delivers edits that fit, one after the other as they come, up to the first refusal: Stale,
+    /// even for no edits, or Clash. Edits before it stay. After Memory the edits are as before, and
+    /// the document may be stale. Edits in any order take the work of edits in stamp order.
     pub fn deliver_all(&mut self, edits: Vec<Edit>) -> Result<(), DocumentError>
         requires { AllFit edits.items }
         ensures result { (result ≡ Err DocumentError.Memory)

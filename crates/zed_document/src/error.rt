@@ -16,7 +16,7 @@ pub enum DocumentError {
     Memory,
     #[error("the edits belong to another world")]
     OtherWorld,
-    #[error("the edit is no good: {0:?}")]
+    #[error("the edit breaks a rule: {0:?}")]
     BadEdit(Cause),
     #[error("another edit was made at time {} by replica {}", .0.time, .0.replica)]
     Clash(Stamp),
@@ -24,9 +24,9 @@ pub enum DocumentError {
     Stale,
     #[error("there is no such thing")]
     NoSuch,
-    #[error("the text has no such place")]
+    #[error("the position is outside the text")]
     OutOfRange,
-    #[error("no later time is left")]
+    #[error("the clock is spent")]
     ClockSpent,
 }
 

@@ -44,9 +44,10 @@ impl Document {
         name_before(&view, text, position)
     }
 
-    /// Puts bytes into a text at a position among its alive bytes: after the one before it, or at the head. In this order: Stale;
-    /// NoSuch where the text wasn't made; OutOfRange for a position over its length; ClockSpent; BadEdit where the edit doesn't fit;
-    /// Memory. The set of edits is as before on each refusal. After Memory the document may be stale.
+    /// Puts bytes into a text at a position among its alive bytes: after the one before it, or at
+    /// the head. Refusals, in order: Stale; NoSuch if the text wasn't made; OutOfRange if the
+    /// position is beyond its length; ClockSpent; BadEdit if the edit doesn't fit; Memory. A
+    /// refusal leaves the set of edits as it was; after Memory the document may be stale.
     pub fn insert_text(
         &mut self,
         replica: u16,

@@ -19,8 +19,8 @@ use zed_laws::held_edits_are_remembered;
 use zed_op::{edit_has_sizes, edit_joins_a_set, sets_rise, sets_stay_fit};
 use zed_types::Stamp;
 
-/// A document that takes many edits, one after the other in whatever order, with the work of edits that come in stamp order. Contracts
-/// see it as the document that it is when it is closed.
+/// A document that takes many edits, one after the other in any order, with the work of edits that
+/// come in stamp order. Contracts see the document that `close` answers.
 #[derive(Drop)]
 pub struct Intake {
     world: u64,
@@ -76,7 +76,7 @@ impl Intake {
         self.world
     }
 
-    /// Looks for the place of a stamp, where the next call seeks it first.
+    /// Looks for the place of a stamp. The next search begins there.
     pub fn seek(&mut self, stamp: Stamp)
         ensures { self.new ≡ self.old }
     {
@@ -94,9 +94,9 @@ impl Intake {
         self.log.find(stamp)
     }
 
-    /// Accepts an edit that fits, in whatever order edits come. In this order: Stale; Clash where another edit has its stamp, held or
-    /// taken; Memory. The set of edits is as before on each of them. After Memory the document may be stale; else it is as before. An
-    /// edit that is there already takes no memory.
+    /// Accepts an edit that fits; edits may come in any order. Refusals, in order: Stale; Clash if
+    /// another edit, held or taken, has its stamp; Memory. A refusal leaves the document as it was,
+    /// except that after Memory it may be stale. A known edit takes no memory.
     pub fn deliver(&mut self, edit: Edit) -> Result<Delivered, DocumentError>
         requires { Fits edit }
         ensures result { (result ≡ Err DocumentError.Memory) ⊎ Answers self.old edit result }

@@ -1,4 +1,4 @@
-//! What holds of documents, however they came by their edits.
+//! Laws of documents, however they got their edits.
 ghost use Rattle.zed_document.specs.Delivery.{DeliveriesComeToSets};
 ghost use Rattle.zed_document.specs.Laws.{MergeCommutes, MergeAssociates, MergeRepeats, MergeOfItself, EditsDecide, DeliveriesMakeIt, MergeIsDeliveries, OrderNeverCounts};
 
@@ -16,8 +16,8 @@ pub fn merging_is_of_sets()
     union_is_of_sets();
 }
 
-/// Documents that accepted the same edits are the same, in whatever order and with whatever repeats these came, by deliveries or by
-/// merges.
+/// Documents that accepted the same edits are the same. Neither order nor repeats count, nor
+/// whether the edits came by deliveries or by merges.
 pub fn edits_decide()
     ensures same { EditsDecide }
     ensures deliveries { DeliveriesMakeIt }
@@ -28,7 +28,8 @@ pub fn edits_decide()
     union_is_of_sets();
 }
 
-/// Deliveries to a document without edits come to the set of all, unless two edits clash: neither their order nor repeats count.
+/// Deliveries to a document without edits make the set of all of them, unless two edits clash.
+/// Neither their order nor repeats count.
 pub fn deliveries_come_to_sets()
     ensures { DeliveriesComeToSets }
 {

@@ -1,5 +1,5 @@
-//! The document: a replica of a world. It accepts edits in any order and with any repeats, and
-//! shows what one author would have who made them in stamp order.
+//! The document: a replica of a world. It accepts edits in any order and with any repeats. It shows
+//! what one author would have who made them in stamp order.
 #![tactic(auto)]
 
 mod author;

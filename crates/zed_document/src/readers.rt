@@ -1,4 +1,4 @@
-//! What is told of a document by the numbers of boards and stats.
+//! What a document has under the numbers of boards and stats.
 ghost use Rattle.std.specs.Prelude.{◌≡◌, ◌⊎◌, ◌<◌, length, Err, IsOkAnd};
 ghost use Rattle.zed_edit.specs.Numbers.{board_numbered as board_of_number, stat_numbered};
 ghost use Rattle.zed_laws.specs.NameOrder.{IsOrdered};
@@ -14,7 +14,8 @@ use zed_laws::replay_is_ordered;
 use zed_types::{BoardId, StatId, TextId};
 use zed_view::{View, append_text};
 
-/// The name of the board with this number. Each walk through the boards tells of 101 more, and none takes memory.
+/// The name of the board with this number. Each walk through the boards finds 101 more. No walk
+/// takes memory.
 fn board_numbered(alloc: Global, view: &View, n: usize) -> Option<BoardId>
     requires { IsOrdered view.now }
     ensures { result ≡ board_of_number view.now n }
@@ -36,8 +37,8 @@ fn board_numbered(alloc: Global, view: &View, n: usize) -> Option<BoardId>
 }
 
 impl Document {
-    /// The board with this number, if there is one: boards that aren't removed are numbered from 0 on, the title first. Stale where
-    /// the document is.
+    /// The board with this number, if there is one: boards that aren't removed are numbered from 0,
+    /// the title first. Stale if the document is.
     pub fn board(&self, n: usize) -> Result<Option<BoardId>, DocumentError>
         ensures { result ≡ unless_stale self.now (board_of_number (replay self.now.edits) n) }
     {
@@ -50,8 +51,8 @@ impl Document {
         }
     }
 
-    /// The stat with this number on a board, if there is one: the stats of a board that aren't removed are numbered from 0 on, the
-    /// player first. Stale where the document is.
+    /// The stat with this number on a board, if there is one: the stats of a board that aren't
+    /// removed are numbered from 0, the player first. Stale if the document is.
     pub fn stat(&self, board: BoardId, n: usize) -> Result<Option<StatId>, DocumentError>
         ensures { result ≡ unless_stale self.now (stat_numbered (replay self.now.edits) board n) }
     {
@@ -61,7 +62,7 @@ impl Document {
         }
     }
 
-    /// The text of a stat, removed or not, if it has one. Stale where the document is.
+    /// The text of a stat, removed or not, if it has one. Stale if the document is.
     pub fn text_of(&self, stat: StatId) -> Result<Option<TextId>, DocumentError>
         ensures { result ≡ unless_stale self.now (text_of_stat (replay self.now.edits) stat) }
     {
@@ -91,7 +92,7 @@ impl Document {
         }
     }
 
-    /// How many alive bytes a text has. In this order: Stale; NoSuch where the text wasn't made.
+    /// How many alive bytes a text has. Refusals, in order: Stale; NoSuch if the text wasn't made.
     pub fn length(&self, text: TextId) -> Result<usize, DocumentError>
         ensures { result
             ≡ unless_no_text self.now text (length (text_shown (replay self.now.edits) text)) }
@@ -102,7 +103,8 @@ impl Document {
         }
     }
 
-    /// How many runs of a text were looked at. In this order: Stale; NoSuch where the text wasn't made.
+    /// How many runs of a text were looked at. Refusals, in order: Stale; NoSuch if the text wasn't
+    /// made.
     pub fn visits(&self, text: TextId) -> Result<u64, DocumentError>
         ensures { result ≡ unless_no_text self.now text (count_of text self.now.counts) }
     {
@@ -112,7 +114,8 @@ impl Document {
         }
     }
 
-    /// The alive bytes of a text. In this order: Stale; NoSuch where the text wasn't made; Memory.
+    /// The alive bytes of a text. Refusals, in order: Stale; NoSuch if the text wasn't made;
+    /// Memory.
     pub fn text(&self, text: TextId) -> Result<Vec<u8>, DocumentError>
         ensures result { TellsOfText self.now text (λ r. (r ≡ Err DocumentError.Memory)
             ⊎ IsOkAnd r (λ bytes. bytes.items ≡ text_shown (replay self.now.edits) text)) result }

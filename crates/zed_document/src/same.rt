@@ -5,8 +5,8 @@ use crate::document::Document;
 use crate::error::DocumentError;
 
 impl Document {
-    /// Whether two documents have equal world numbers, equal contents, removed and dead things included, and equal held edits. Stale
-    /// where either is.
+    /// Whether two documents have equal world numbers, equal contents, removed and dead things
+    /// included, and equal held edits. Stale if either is.
     pub fn same(&self, other: &Document) -> Result<bool, DocumentError>
         ensures { AnswersSame self.now other.now result }
     {

@@ -5,7 +5,7 @@ use Rattle.zed_files.specs.declared.refusal.Refusal.{Refusal}
 use Rattle.zed_files.specs.declared.refusal.Refusal.TheVariants as refusal
 use Rattle.std.specs.Global.{Vec}
 use Rattle.std.proofs.Common.{◌≡◌, ◌∙◌, ◌≤◌, ℕ, arith, Bool, true, false, List, [], ◌∷◌, ◌++◌, Option, Some, None, Result, Ok, Err, MatchResult, ap, append_assoc, append-nil, refl, subst, sym, inl, inr}
-use Rattle.std.specs.Prelude.{◌⊎◌, ◌≢◌, ⊤, IfErr, OnOk, is_err}
+use Rattle.std.specs.Prelude.{◌⊎◌, ◌≢◌, ⊤, OnOk, is_err}
 use Rattle.zed_host.specs.Calls.{Ask, Call, Reading, Leads, call, passed}
 use Rattle.zed_host.specs.Counting.{Counts, Rose}
 use Rattle.zed_host.proofs.Calls.{leads_one, leads_then, passed_then}
@@ -184,14 +184,6 @@ tells_then faults failed e old mid new (f, n) (g, m, t) =
 -- a refusal that is no fault of the host
 pub tells_other : {H : Type 0} (faults failed : H → ℕ) (e : DrawingError) (old new : H) → (e ≢ file) → NoneLost faults failed old new → Tells faults failed e old new
 tells_other faults failed e old new other (f, n) = (f, n, λ is. absurd (other is))
-
--- the answer of one call
-pub tells_one : {H X : Type 0} (faults failed : H → ℕ) (fault miss : Bool) (answer : Result X DrawingError) (old new : H)
-    → Counts fault (faults old) (faults new) → Counts miss (failed old) (failed new) → IfErr answer (λ e. e ≡ file → miss ≡ true)
-    → TellsFailures faults failed answer old new
-tells_one faults failed fault miss (Ok x) old new f n told = (counted_up fault (faults old) (faults new) f, counted_up miss (failed old) (failed new) n, tt)
-tells_one faults failed fault miss (Err e) old new f n told =
-    (counted_up fault (faults old) (faults new) f, counted_up miss (failed old) (failed new) n, λ is. subst (λ b. Counts b (failed old) (failed new)) (told is) n)
 
 -- refused before anything was read
 pub halted_at_once : {H : Type 0} (called : H → Call → H → Type 0) (C : List Call → Type 0) (e : DrawingError) (host : H) → (e ≢ file) → (reads : List Call) × C reads → Halted called C e host host

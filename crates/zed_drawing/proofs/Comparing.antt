@@ -5,10 +5,9 @@ use Rattle.zed_export.specs.declared.error.ExportError.{ExportError}
 use Rattle.zed_world.specs.declared.error.WorldError.{WorldError}
 use Rattle.zed_drawing.specs.declared.error.DrawingError.{DrawingError}
 use Rattle.zed_drawing.specs.declared.error.DrawingError.TheVariants.{Refused, NotTaken}
-use Rattle.std.proofs.Common.{◌≡◌, ◌∙◌, ℕ, Bool, true, false, List, Option, Some, None, Result, Ok, Err, ap, refl, subst, sym, inl, inr}
-use Rattle.std.specs.Prelude.{◌⊎◌, MatchBool}
+use Rattle.std.proofs.Common.{◌≡◌, ◌∙◌, ℕ, List, Option, Some, None, Result, Ok, Err, ap, refl, subst, sym, inl, inr}
+use Rattle.std.specs.Prelude.{◌⊎◌}
 use Rattle.zed_world.specs.Contents.{Contents}
-use Rattle.zed_world.specs.Reading.{world_at}
 use Rattle.zed_world.specs.declared.error.WorldError.TheVariants as worlds
 use Rattle.zed_world.specs.Writing.{HasText, unless_refused, world_text, written}
 use Rattle.zed_edit.specs.Replay.{replay}
@@ -20,14 +19,8 @@ use Rattle.zed_take.specs.Taken.{Shows}
 use Rattle.zed_drawing.specs.Opening.{IsExported, IsSame, IsSaved, export_told}
 use Rattle.zed_drawing.specs.Refusals.{memory}
 
-abbrev read : Contents → Result Contents WorldError
-read w = Ok w
-
 abbrev shown_as : Contents → Result Contents ExportError
 shown_as w = Ok w
-
-one_world : (v w : Contents) → read v ≡ read w → v ≡ w
-one_world v w is = cc
 
 -- what was saved is within the limit, and is the text of its world
 pub record Stands (p : Plain) (bytes : List ℕ) : Type 0 where
@@ -50,17 +43,6 @@ stands p bytes is = go (refusal_of 32767 p) refl is
 shows_one : (es : List Edit) (bytes : List ℕ) (w : Contents) → IsSaved es bytes → Shows es w → world_of (replay es) ≡ w
 shows_one es bytes w is shows =
     let both : shown_as (world_of (replay es)) ≡ shown_as w = sym (stands (replay es) bytes is.0).shown ∙ shows in cc
-
--- a world of the same text is what the edits show, and one of another text isn't
-pub text_tells : (es : List Edit) (bytes text : List ℕ) (w : Contents) (same : Bool) → IsSaved es bytes → text ≡ world_text w → world_at text ≡ Ok w
-    → (same ≡ true → text ≡ bytes) → (same ≡ false → text ≡ bytes → ⊥) → MatchBool same (Shows es w) (Shows es w → ⊥)
-text_tells es bytes text w true is spelled back alike apart =
-    let here : read w ≡ read (world_of (replay es)) = sym back ∙ ap world_at (alike refl) ∙ is.1 in
-    let one : world_of (replay es) ≡ w = sym (one_world w (world_of (replay es)) here) in
-    (stands (replay es) bytes is.0).shown ∙ ap (λ v. Ok v) one
-text_tells es bytes text w false is spelled back alike apart = λ shows.
-    let one = shows_one es bytes w is shows in
-    apart refl (spelled ∙ ap world_text (sym one) ∙ sym (stands (replay es) bytes is.0).text)
 
 -- a world that has no text isn't what edits show that can be saved
 pub no_text_tells : (es : List Edit) (bytes : List ℕ) (w : Contents) → IsSaved es bytes → (HasText 32767 w → ⊥) → Shows es w → ⊥

@@ -1,5 +1,4 @@
 -- What is done with what was read.
-use Rattle.zed_types.specs.declared.stamp.Stamp.{Stamp}
 use Rattle.zed_op.specs.declared.op.Edit.{Edit}
 use Rattle.zed_document.specs.declared.error.DocumentError.{DocumentError}
 use Rattle.zed_document.specs.declared.error.DocumentError.TheVariants as document
@@ -10,10 +9,10 @@ use Rattle.zed_drawing.specs.declared.error.DrawingError.TheVariants.{Refused}
 use Rattle.std.proofs.Common.{◌≡◌, ◌∙◌, ℕ, Bool, true, false, cond, eqb, List, [], ◌∷◌, ◌++◌, Option, Some, None, Result, Ok, Err, ap, length, refl, subst, sym, inl, inr}
 use Rattle.std.specs.Prelude.{◌⊎◌, IfErr, IfOk, IfSome, MatchBool, ⊤}
 use Rattle.std.specs.Str.{bytes_eq}
-use Rattle.std.proofs.lemmas.Bool.{eq-eqb, eqb-true}
+use Rattle.std.proofs.lemmas.Bool.{eq-eqb}
 use Rattle.zed_world.specs.Contents.{Contents}
 use Rattle.zed_op.specs.Set.{union}
-use Rattle.zed_history.specs.Clash.{Agree, IsLeastClash}
+use Rattle.zed_history.specs.Clash.{Agree}
 use Rattle.zed_document.specs.Merge.{AnswersJoin, AnswersMerge, Merged}
 use Rattle.zed_document.specs.Replica.{Replica}
 use Rattle.zed_editfile.specs.Spelling.{file_text}
@@ -22,7 +21,7 @@ use Rattle.zed_take.specs.Refusals.{CanBegin, IsLate, IsRefused}
 use Rattle.zed_take.specs.Taken.{AreTaken, next_stamp}
 use Rattle.zed_drawing.specs.Effects.{Effect, Output, names_of, output}
 use Rattle.zed_drawing.specs.Refusals.{memory, take_refusal}
-use Rattle.zed_drawing.specs.Taking.{Draws, Given, HasJust, IsJoined, IsNotTaken, IsTaken, TakeWrites, base_grown, drawn, given, grown, taken_line}
+use Rattle.zed_drawing.specs.Taking.{Draws, Given, IsJoined, IsTaken, TakeWrites, base_grown, drawn, given, grown, taken_line}
 use Rattle.zed_drawing.specs.Base.{edits_of_base}
 use Rattle.zed_drawing.specs.Steps.{Gives, Steps}
 use Rattle.zed_drawing.proofs.Ending.{names_then}
@@ -157,18 +156,6 @@ pub both_told : (all now : Replica) (new : List Edit) (taken : ℕ) (result : Re
     → IfOk result (λ x. x.text ≡ taken_line taken (length now.edits)) → IfOk result (λ x. x.text ≡ taken_line (length new) (length (union all.edits new)))
 both_told all now new taken (Err e) now_is taken_is text = tt
 both_told all now new taken (Ok x) now_is taken_is text = text ∙ ap (λ n. taken_line n (length now.edits)) taken_is ∙ ap (λ es. taken_line (length new) (length es)) now_is
-
--- ---- files of sets that grew
-
-pub grown_none : (name : List ℕ) (number had : ℕ) (es : List Edit) → length es ≡ had → grown name number had es ≡ []
-grown_none name number had es same = ap (λ b. cond b [] (output name (file_text number es) ∷ [])) (eq-eqb (length es) had same)
-
-pub grown_some : (name : List ℕ) (number had : ℕ) (es : List Edit) → (length es ≡ had → ⊥) → grown name number had es ≡ output name (file_text number es) ∷ []
-grown_some name number had es other = go (eqb (length es) had) refl
-  where
-    go : (b : Bool) → eqb (length es) had ≡ b → cond b [] (output name (file_text number es) ∷ []) ≡ output name (file_text number es) ∷ []
-    go true is = absurd (other (eqb-true (length es) had is))
-    go false is = refl
 
 -- ---- the names of what is written
 

@@ -8,19 +8,17 @@ use Rattle.zed_drawing.specs.declared.error.DrawingError.{DrawingError}
 use Rattle.zed_drawing.specs.declared.error.DrawingError.TheVariants.{Refused}
 use Rattle.zed_files.specs.declared.refusal.Refusal.{Refusal}
 use Rattle.zed_files.specs.declared.refusal.Refusal.TheVariants as refusal
-use Rattle.std.proofs.Common.{◌≡◌, ◌∙◌, ℕ, Bool, true, false, not, eqb, List, Option, Some, None, Result, Ok, Err, MatchResult, IfOk, ap, refl, subst, sym, inl, inr}
+use Rattle.std.proofs.Common.{◌≡◌, ◌∙◌, ℕ, List, Option, Some, None, Result, Ok, Err, MatchResult, IfOk, ap, sym, inl, inr}
 use Rattle.std.specs.Prelude.{◌⊎◌}
-use Rattle.std.proofs.lemmas.Bool.{eqb-true}
 use Rattle.zed_op.specs.Set.{Agrees, set_of}
 use Rattle.zed_document.specs.Replica.{Replica}
 use Rattle.zed_document.specs.Delivery.{IsFirstClash}
-use Rattle.zed_editfile.specs.Stream.{ending, is_other}
 use Rattle.zed_host.specs.HostContents.{HostContents, IsRead, file_in}
 use Rattle.zed_world.specs.Contents.{Contents}
 use Rattle.zed_world.specs.Reading.{world_at}
-use Rattle.zed_files.specs.Files.{IsFile, end_by}
+use Rattle.zed_files.specs.Files.{IsFile}
 use Rattle.zed_files.specs.Refusals.{file_refusal, world_refusal}
-use Rattle.zed_drawing.specs.Files.{FileEdits, IsOpened, IsTried, IsWorld, OfName, world_told}
+use Rattle.zed_drawing.specs.Files.{FileEdits, IsOpened, IsWorld, OfName, world_told}
 use Rattle.zed_drawing.specs.Refusals.{memory}
 use Rattle.zed_drawing.specs.Steps.{Gives}
 
@@ -61,31 +59,6 @@ opened_fault asked bytes es error e part agrees is = (es, Err error, part, inr (
 abbrev told : ℕ → Result ℕ EditFileError
 told n = Ok n
 
-ends_with : (o : Option EditFileError) (w : Option ℕ) (world : ℕ) → Ok world ≡ end_by o w → w ≡ Some world
-ends_with (Some e) w world is = absurd (let no : Ok world ≡ Err e = is in cc)
-ends_with None (Some v) world is = let same : told world ≡ told v = is in let one : world ≡ v = cc in ap (λ x. Some x) (sym one)
-ends_with None None world is = absurd (cc)
-
-is_the_one : (n m : ℕ) → is_other (Some n) m ≡ false → n ≡ m
-is_the_one n m is = go (eqb n m) refl is
-  where
-    go : (b : Bool) → eqb n m ≡ b → not b ≡ false → n ≡ m
-    go true same is = eqb-true n m same
-    go false same is = absurd (cc)
-
--- a file has the world that was asked for
-pub has_world : (asked : Option ℕ) (n : ℕ) (bytes : List ℕ) (es : List Edit) (world : ℕ) → asked ≡ Some n → IsFile asked bytes es (Ok world) → world ≡ n
-has_world asked n bytes es world asks whole =
-    let got = ends_with (ending whole.progress) whole.progress.world world whole.ends in
-    elim whole.reads [
-      | inl head ↦ absurd (let no = head.world in let none : None ≡ Some world = sym no ∙ got in cc)
-      | inr records ↦ (
-          let told : Some records.number ≡ Some world = sym records.world ∙ got in
-          let same : records.number ≡ world = cc in
-          let one = is_the_one n records.number (subst (λ o. is_other o records.number ≡ false) (whole.asks ∙ asks) records.asked) in
-          sym (one ∙ same))
-    ]
-
 -- ---- files by name
 
 -- a file that was read
@@ -112,9 +85,3 @@ told_refusal bytes e why = elim why [
 ]
 
 -- ---- files that may be missing
-
-pub tried_there : (failed : Type 0) (t : HostContents) (name bytes : List ℕ) → file_in t name ≡ Some bytes → IsTried failed t name (Ok (Some bytes))
-tried_there failed t name bytes held = inl (ap (λ o. Ok o) (sym held))
-
-pub tried_missing : (failed : Type 0) (t : HostContents) (name : List ℕ) → file_in t name ≡ None → IsTried failed t name (Ok None)
-tried_missing failed t name held = inl (ap (λ o. Ok o) (sym held))

@@ -1,7 +1,7 @@
 -- Steps, one after the other.
 use Rattle.zed_drawing.specs.declared.error.DrawingError.{DrawingError}
-use Rattle.std.proofs.Common.{◌≡◌, Result, Ok, Err, refl, subst, sym, inl, inr}
-use Rattle.std.specs.Prelude.{◌⊎◌, IsErrAnd}
+use Rattle.std.proofs.Common.{◌≡◌, Result, Ok, Err, refl, inl, inr}
+use Rattle.std.specs.Prelude.{◌⊎◌}
 use Rattle.zed_drawing.specs.Refusals.{memory}
 use Rattle.zed_drawing.specs.Steps.{Gives, Steps, Then}
 
@@ -19,11 +19,6 @@ pub step_then : {X Y Z : Type 0} (First : Result X DrawingError → Type 0) (Nex
     → First (Ok x) → Gives view (Next x) answer → Gives view (Steps First Next) answer
 step_then First Next view x (Ok z) first next = (Ok x, first, next)
 step_then First Next view x (Err e) first next = elim next [ inl lack ↦ inl lack | inr is ↦ inr (Ok x, first, is) ]
-
--- what is refused next
-pub step_next : {X Y : Type 0} (First : Result X DrawingError → Type 0) (Next : X → Result Y DrawingError → Type 0) (x : X) (e : DrawingError)
-    → First (Ok x) → (e ≡ memory) ⊎ Next x (Err e) → (e ≡ memory) ⊎ Steps First Next (Err e)
-step_next First Next x e first why = elim why [ inl lack ↦ inl lack | inr is ↦ inr (Ok x, first, is) ]
 
 -- a step before an answer was done
 pub step_was : {X Y : Type 0} (First : Result X DrawingError → Type 0) (Next : X → Result Y DrawingError → Type 0) (y : Y) → Steps First Next (Ok y) → (x : X) × First (Ok x) × Next x (Ok y)
@@ -47,8 +42,3 @@ pub gives_so : {X Y : Type 0} (view : X → Y) (A B : Result Y DrawingError → 
     → ((r : Result Y DrawingError) → A r → B r) → Gives view A answer → Gives view B answer
 gives_so view A B (Ok x) so is = so (Ok (view x)) is
 gives_so view A B (Err e) so is = elim is [ inl lack ↦ inl lack | inr why ↦ inr (so (Err e) why) ]
-
--- what `?` hands on
-pub on_refusal : {X E : Type 0} (P : Result X E → Type 0) (answer : Result X E) (e : E) → IsErrAnd answer (λ told. told ≡ e) → P (Err e) → P answer
-on_refusal P (Ok x) e told is = absurd told
-on_refusal P (Err x) e told is = subst (λ y. P (Err y)) (sym told) is

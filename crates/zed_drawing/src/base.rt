@@ -1,4 +1,4 @@
-//! The base of a world file: the edits that it was exported of.
+//! The base of a world file: the edits that it was exported from.
 ghost use Rattle.std.specs.Prelude.{◌≡◌, IfOk, IfSome, MatchBool, Some, false, option_map};
 ghost use Rattle.std.specs.Str.{bytes_eq};
 ghost use Rattle.zed_drawing.specs.Asked.{Reads, TellsFailures};
@@ -17,7 +17,7 @@ use zed_host::Host;
 #[derive(Clone, Copy)]
 pub(crate) enum Presence {
     Needed,
-    /// Where it is missing FILE is its own base.
+    /// If it is missing, FILE is its own base.
     Optional,
 }
 
@@ -100,8 +100,9 @@ fn read_base<H: Host>(
     }
 }
 
-/// The document of the base of a file of this world. None where the file is its own base: where it has the name of the base, which isn't
-/// read then, or where the base may be missing and is. File where it can't be had; what is wrong with it, OtherWorld too; Memory.
+/// The document of the base of a file of this world. None if the file is its own base: if it has
+/// the name of the base, which isn't read then, or if the base may be missing and is. Refusals:
+/// File if it can't be read; those of reading it, including OtherWorld; Memory.
 pub(crate) fn find_base<H: Host>(
     alloc: Global,
     host: &mut H,

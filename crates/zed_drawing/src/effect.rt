@@ -49,7 +49,8 @@ impl Output {
     }
 }
 
-/// What a command does at its end: it writes these files, one after the other, and prints a text behind them.
+/// What a command does at its end: it writes these files, one after the other, and then prints a
+/// text.
 #[derive(Drop)]
 pub struct Effect {
     files: Vec<Output>,
@@ -103,7 +104,7 @@ fn write_files<H: Host>(host: &mut H, files: &[Output]) -> Result<(), DrawingErr
     Ok(())
 }
 
-/// Writes the files of an effect, and prints its text behind them. File where the host fails.
+/// Writes the files of an effect, and then prints its text. File if the host fails.
 pub fn carry_out<H: Host>(host: &mut H, effect: &Effect) -> Result<(), DrawingError>
     ensures ok { (t : HostContents) → H.contents host.old ≡ Some t
         → OnOk result (H.contents host.new ≡ Some (after effect.now t)) }

@@ -16,18 +16,19 @@ use zed_program_text::{BadText, TextError};
 use zed_take::TakeError;
 use zed_world::WorldError;
 
-/// Why `open`, `take` or the setting of a program was not carried out. The texts are for a reader of
-/// an error value; the program prints none of them.
+/// Why `open`, `take` or the setting of a program was not carried out. The texts are for whoever
+/// debugs; the program prints none of them.
 #[derive(Clone, Copy, Debug, PartialEq, Eq, Error)]
 pub enum DrawingError {
-    /// What other commands are refused for too.
+    /// A refusal of other commands too.
     #[error("{0}")]
     Refused(Refusal),
-    /// To `open`: the world file was drawn in since it was written. To `take`: no edits were found that lead to it.
+    /// From `open`: the world file was drawn in since it was written. From `take`: no edits were
+    /// found that lead to it.
     #[error("what was drawn was not taken")]
     NotTaken,
-    /// To the setting of a program: its text has here what no program has.
-    #[error("no program has what stands in the text at {0:?}")]
+    /// From the setting of a program: here its text has something that no program has.
+    #[error("the text has something that no program has, at {0:?}")]
     BadText(BadText),
 }
 

@@ -1,6 +1,6 @@
-//! The commands for authors who draw with another editor: `open` writes the world of an edit file
-//! for it, and `take` takes what was drawn back as edits. The parts of `take` serve other commands
-//! that change an edit file by taking a world.
+//! The commands for authors who draw in another editor: `open` writes a world file, and `take`
+//! turns what was drawn into edits. The parts of `take` also serve other commands that change an
+//! edit file by taking a world.
 #![tactic(auto)]
 
 mod base;

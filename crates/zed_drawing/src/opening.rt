@@ -29,12 +29,12 @@ use zed_op::rising_lists_are_sets;
 use zed_types::READ_BODY_LIMIT;
 use zed_world::{World, WorldError, read_world, write_world};
 
-/// Whether a world file that was drawn in may be written over.
+/// Whether a world file that was drawn in may be replaced.
 #[derive(Clone, Copy)]
 pub enum Forcing {
-    /// It is refused.
+    /// That is refused.
     Careful,
-    /// It isn't looked at.
+    /// It is replaced without a look.
     Forced,
 }
 

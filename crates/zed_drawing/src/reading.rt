@@ -20,7 +20,7 @@ use zed_files::{Refusal, append_edits, bytes_of_file, deliver_all};
 use zed_host::{Host, ReadError};
 use zed_world::{World, read_world};
 
-/// The bytes of the file of a name, if there is one. File where the host fails; Memory.
+/// The bytes of the file of a name, if there is one. File if the host fails; Memory.
 pub(crate) fn try_file<H: Host>(host: &mut H, name: &str) -> Result<Option<Vec<u8>>, DrawingError>
     ensures tried { (t : HostContents) → H.contents host.old ≡ Some t
         → let failed = Rose (H.faults host.old) (H.faults host.new) in
@@ -75,8 +75,8 @@ pub(crate) fn opened(
     }
 }
 
-/// The document of the edit file of a name, of the world asked for or of any. Refused is what the
-/// file is refused for, and File where it can't be read.
+/// The document of the edit file of a name, of the world asked for or of any. Its refusals are
+/// those of the file, and File if it can't be read.
 pub fn open_file<H: Host>(
     alloc: Global,
     host: &mut H,

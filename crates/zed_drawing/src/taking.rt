@@ -115,9 +115,8 @@ fn alone_effect(
     Ok(Effect::new(files, text))
 }
 
-/// What is done with a file that is its own base: edits of a replica are added to its document that
-/// lead to a world, and what is to be written and told is told. Refused or NotTaken where no edits
-/// are taken; Memory.
+/// The effect for a file that is its own base: its document gets edits of a replica that lead to a
+/// world, and the effect writes and prints that. Refused or NotTaken if no edits are taken; Memory.
 #[tactic(none)]
 pub fn draw_alone(
     alloc: Global,

@@ -104,10 +104,12 @@ fn hold(plain: &mut Plain, edit: &Edit) -> Result<(), EditError>
     Ok(())
 }
 
-/// Replays one edit more, which comes after those that the document has: does it where all that it names was made, and else keeps its stamp as that of a held edit.
+/// Replays one more edit, which comes after those that the document has. If all that it names was
+/// made, the edit is done; otherwise its stamp is kept as that of a held edit.
 ///
-/// The caller gives an edit that fits. After `Memory` the document may be changed in part, so it is to be made again; only the
-/// stamps of the edits held are as before. It comes only from an edit that may let the document grow, or that is held.
+/// The caller gives an edit that fits. After `Memory` the document may be changed in part, so it
+/// has to be made again; only the stamps of the edits held are as before. `Memory` comes only from
+/// an edit that may let the document grow, or that is held.
 pub fn step(alloc: Global, plain: &mut Plain, edit: &Edit) -> Result<(), EditError>
     requires { Fits edit.now }
     ensures result { IfOk result (λ _. plain.new ≡ stepped plain.old edit.now) }
@@ -122,7 +124,7 @@ pub fn step(alloc: Global, plain: &mut Plain, edit: &Edit) -> Result<(), EditErr
     }
 }
 
-/// What one author makes by an edit who made none before. The caller gives an edit that fits.
+/// What an author's first edit makes. The caller gives an edit that fits.
 pub fn made_by(alloc: Global, edit: &Edit) -> Result<Plain, AllocError>
     requires { Fits edit.now }
     ensures ok { IfOk result (λ made. made ≡ made_alone edit.now) }
@@ -149,9 +151,10 @@ fn replay_on(alloc: Global, plain: &mut Plain, edits: &[Edit]) -> Result<(), Edi
 
 /// The document of one author who made these edits, one after the other.
 ///
-/// The caller gives edits that fit. In rising stamp order they are what the union of all authors' edits means. An edit that names a
-/// thing which isn't made yet is held, and told by `held`. `Memory` is the one refusal, and none where no edit is held and none
-/// adds a thing, sets a string or puts bytes into a text.
+/// The caller gives edits that fit. In rising stamp order, their replay is what the union of all
+/// authors' edits means. An edit that names a thing that isn't made yet is held, and `held` lists
+/// it. `Memory` is the only refusal. It can come only if an edit is held, adds a thing, sets a
+/// string or puts bytes into a text.
 pub fn replay(alloc: Global, edits: &[Edit]) -> Result<Plain, EditError>
     requires { AllFit edits.now }
     ensures result { IfOk result (λ p. p ≡ replayed edits.now) }

@@ -158,7 +158,7 @@ fn remove_stats_of(board: &mut Board, s: StatId)
     remove_stats(board.stats.as_mut_slice(), s);
 }
 
-/// Marks the stat of a name removed, whichever board it is on, but for a player.
+/// Marks the stat of a name removed, whichever board it is on, except a player.
 pub(crate) fn remove_stats_on(boards: &mut [Board], s: StatId)
     ensures { boards.new ≡ map (change_stats_of s remove_stat) boards.old }
 {

@@ -7,7 +7,7 @@ ghost use Rattle.zed_edit.specs.Board.{set_cells as cells_with, new_table as tab
 
 use zed_types::{COLUMNS, Rectangle, TILES, Tile};
 
-/// A normal wall in yellow, as it stands round a new board.
+/// A normal wall in yellow, as round a new board.
 const WALL: Tile = Tile {
     element: 22,
     colour: 0x0e,
@@ -27,7 +27,7 @@ const INSIDE: Rectangle = Rectangle {
     bottom: 24,
 };
 
-/// Where the player of a new board stands.
+/// The place of the player of a new board.
 const MIDDLE: Rectangle = Rectangle {
     left: 30,
     top: 12,

@@ -125,7 +125,7 @@ fn open_contents(
     open_texts(alloc, &mut plain.texts, stamp, boards)
 }
 
-/// Puts the world that a file spells behind what is there; its header stands in place of the one before.
+/// Adds the world that a file spells to what is there; its header replaces the one before.
 pub(crate) fn open_world(
     alloc: Global,
     plain: &mut Plain,

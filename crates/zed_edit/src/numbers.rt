@@ -9,7 +9,7 @@ ghost use Rattle.zed_edit.specs.NumberLaws.{EachHasItsNumber, NumberedStandAtThe
 use crate::plain::{Board, Plain, Stat};
 use zed_types::{BoardId, StatId};
 
-/// Where a board stands among others. The lower one comes first.
+/// A board's place among others: the lower one comes first.
 #[derive(Clone, Copy, Debug, PartialEq, Eq, PartialOrd, Ord)]
 pub struct Standing {
     /// 0 for the title, and for any other board one more than its rank.
@@ -18,7 +18,7 @@ pub struct Standing {
 }
 
 impl Standing {
-    /// Where the board of a name stands that has this rank.
+    /// The place of the board with this name and this rank.
     pub fn new(board: BoardId, rank: u16) -> Standing
         ensures { result ≡ standing_of board rank }
     {
@@ -38,7 +38,7 @@ impl Standing {
     }
 }
 
-/// The numbers of boards of different names are their places where the boards stand sorted.
+/// Boards with different names have as numbers their places when sorted.
 pub fn numbers_are_places()
     ensures sorted { StandingsSortByNumber }
     ensures places { NumbersArePlaces }
@@ -107,7 +107,8 @@ fn alive_stat(stats: &[Stat], n: usize) -> Option<&Stat>
 }
 
 impl Plain {
-    /// The name of the board with this number: so many of the boards that are not removed come before it.
+    /// The name of the board with this number. The number says how many of the boards that are not
+    /// removed come before it.
     pub fn board_numbered(&self, n: usize) -> Option<BoardId>
         ensures { result ≡ board_of_number self.now n }
     {
@@ -117,8 +118,8 @@ impl Plain {
         }
     }
 
-    /// The name of the stat with this number on a board: its place among the stats of the board that are not removed, from 0 on.
-    /// None where the board was not made.
+    /// The name of the stat with this number on a board: its place, counted from 0, among the stats
+    /// of the board that are not removed. None if the board was not made.
     pub fn stat_numbered(&self, board: BoardId, n: usize) -> Option<StatId>
         ensures { result ≡ stat_of_number self.now board n }
     {

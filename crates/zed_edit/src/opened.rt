@@ -1,4 +1,4 @@
-//! What stands in a world file, as it is in a document.
+//! What a world file has, as it is in a document.
 
 ghost use Rattle.std.specs.Prelude.{◌≡◌, ◌+◌, ◌<◌, ◌≤◌, ◌^◌, length, is_some, option_map, IfOk, IfErr};
 ghost use Rattle.zed_types.specs.Names.{stat_of, text_of as name_of_text};

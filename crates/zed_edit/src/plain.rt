@@ -29,7 +29,8 @@ pub struct Properties {
     /// By `BoardFlag::index`.
     pub flags: [bool; 2],
     pub time_limit: i16,
-    /// Where the board stands among the others; the title is first whatever its own is.
+    /// The board's place among the others: lower ranks come first. The title is first, whatever its
+    /// rank.
     pub rank: u16,
     /// By `Side::index`.
     pub exits: [Option<BoardId>; 4],
@@ -67,8 +68,9 @@ pub struct Text {
     pub elements: Seq<TextByte>,
 }
 
-/// The document of one author. Boards, the stats of each, and texts stand in the order in which they were made, removed ones too,
-/// which is the order of their names. The edits that are held are told by their stamps.
+/// The document of one author. Boards, the stats of each board, and texts are in the order in which
+/// they were made, removed ones too: that is the order of their names. Held edits are listed by
+/// their stamps.
 #[derive(Drop)]
 pub struct Plain {
     pub header: Header,

@@ -31,7 +31,8 @@ fn alive_count(elements: &[TextByte]) -> usize
 }
 
 impl Plain {
-    /// The alive bytes of a text. A text that was not made has none. `Memory` is the one refusal, and none where there is no alive byte.
+    /// The alive bytes of a text. A text that was not made has none. `Memory` is the only refusal,
+    /// and only if there is an alive byte.
     pub fn text(&self, alloc: Global, t: TextId) -> Result<Vec<u8>, EditError>
         ensures result { IfOk result (λ v. v.items ≡ text_shown self.now t) }
         ensures err { IfErr result (λ e. e ≡ EditError.Memory) }

@@ -69,7 +69,7 @@ fn remove_if(stat: &mut Stat, s: StatId)
     }
 }
 
-/// Marks the stat of a name removed, but for a player.
+/// Marks the stat of a name removed, except a player.
 pub(crate) fn remove_stats(stats: &mut [Stat], s: StatId)
     ensures { stats.new ≡ change_such (λ x. same_stat x.id s) remove_stat stats.old }
 {

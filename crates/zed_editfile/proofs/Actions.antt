@@ -88,9 +88,6 @@ text_insert_completes v =
           subst P (ok_is (TextInsert b a bytes, []) x e) (same, none, ((gb, ga), tt));
     }))
 
-abbrev heading : {A : Type 0} (n f : ℕ) (spell : A → List ℕ) (a : A) (t : List ℕ) → f ≡ n → front f (spell a ++ t) ≡ front n (spell a ++ t)
-heading n f spell a t e = ap (λ (k : ℕ). k ∷ (spell a ++ t)) e
-
 -- at a number that a test found
 takes_at : (v : ℕ) (n f : ℕ) (read : List ℕ → Field Op) → f ≡ n → Completes (IsOpIn v) op_text (front n) read → Completes (IsOpIn v) op_text (front f) read
 takes_at v n f read e c = subst (λ (k : ℕ). Completes (IsOpIn v) op_text (front k) read) (sym e) c

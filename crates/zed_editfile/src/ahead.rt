@@ -1,5 +1,5 @@
-//! What stands at the front of bytes, told before they are read.
-ghost use Rattle.std.specs.Prelude.{◌≡◌, ◌<◌, length, IfSome, IfNone, drop};
+//! What is at the front of bytes, found before they are read.
+ghost use Rattle.std.specs.Prelude.{◌≡◌, ◌<◌, ◌≤◌, length, IfSome, IfNone, drop};
 ghost use Rattle.byteorder.specs.Endian.{little_number};
 
 use byteorder::{ByteOrder, LittleEndian};
@@ -22,7 +22,20 @@ pub fn stamp_ahead(piece: &[u8]) -> Option<Stamp>
     })
 }
 
-/// How many bytes the record at the front takes, by its length; all of them where the length isn't whole.
+/// The number of the world in the head at the front, if the head is there.
+pub fn world_ahead(bytes: &[u8]) -> Option<u64>
+    ensures some { IfSome result (λ w. (12 ≤ length bytes.now)
+        × (w ≡ little_number 8 (drop 4 bytes.now))) }
+    ensures none { IfNone result (length bytes.now < 12) }
+{
+    if bytes.len() < 12 {
+        return None;
+    }
+    let (_, number) = bytes.split_at(4);
+    Some(LittleEndian::read_u64(number))
+}
+
+/// How many bytes the record at the front takes, by its length; all of them if the length isn't whole.
 pub(crate) fn record_len(piece: &[u8]) -> usize {
     if piece.len() < 4 {
         return piece.len();

@@ -24,10 +24,10 @@ pub enum EditFileError {
     #[error("edits of another world")]
     OtherWorld,
     /// A record has fewer than 9 bytes or more than 4,194,304.
-    #[error("a record of no possible length")]
+    #[error("a record has an impossible length")]
     RecordLength,
     /// A record spells no edit that fits.
-    #[error("the edit is no good: {0:?}")]
+    #[error("the edit breaks a rule: {0:?}")]
     BadEdit(Cause),
     /// The file ends inside its head or inside a record.
     #[error("the file is cut short")]

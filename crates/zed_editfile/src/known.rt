@@ -1,4 +1,4 @@
-//! The record of an edit that is at hand, passed over where it stands at the front of bytes: no edit is made of it.
+//! The record of an edit that is at hand, skipped at the front of bytes: no edit is made of it.
 ghost use Rattle.std.specs.Prelude.{◌≡◌, ◌↔◌, [], ◌∷◌, ◌++◌, ◌<◌, ◌^◌, length, IsTrue, IfSome};
 ghost use Rattle.std.specs.List.{flat_map};
 ghost use Rattle.zed_op.specs.Fit.{Fits};
@@ -15,7 +15,7 @@ use zed_types::{
     StatFields, StatId, StatSetting, TextId, ThirdParameter, Tile,
 };
 
-/// What stands behind these bytes, if they stand at the front.
+/// What follows these bytes, if they are at the front.
 fn past_bytes<'a>(bytes: &'a [u8], text: &[u8]) -> Option<&'a [u8]>
     ensures { Past text.now bytes.now result }
 {
@@ -384,7 +384,7 @@ fn past_cells<'a>(bytes: &'a [u8], board: BoardId, cells: Rectangle, t: Tile) ->
     past_bytes(rest, &[t.element, t.colour])
 }
 
-/// What stands behind the number of an op and its fields.
+/// What follows the number of an op and its fields.
 #[tactic(auto, using(crate::proofs::Passing::past_both, crate::proofs::Passing::lacks_more))]
 fn past_op<'a>(bytes: &'a [u8], op: &Op) -> Option<&'a [u8]>
     requires { IsOp op.now }
@@ -411,7 +411,7 @@ fn past_op<'a>(bytes: &'a [u8], op: &Op) -> Option<&'a [u8]>
     }
 }
 
-/// What stands behind the body of a record.
+/// What follows the body of a record.
 #[tactic(auto, unfolding(crate::specs::Spelling::spelling), using(crate::proofs::Passing::past_both, crate::proofs::Passing::lacks_more))]
 fn past_edit<'a>(bytes: &'a [u8], edit: &Edit) -> Option<&'a [u8]>
     requires { HasSizes edit.now }
@@ -420,7 +420,7 @@ fn past_edit<'a>(bytes: &'a [u8], edit: &Edit) -> Option<&'a [u8]>
     past_op(past_stamp(bytes, edit.stamp)?, &edit.op)
 }
 
-/// What stands behind the record of an edit.
+/// What follows the record of an edit.
 #[tactic(auto, unfolding(crate::specs::Spelling::record_text), using(crate::proofs::Passing::past_both, crate::proofs::Passing::lacks_more))]
 pub(crate) fn past_record<'a>(bytes: &'a [u8], edit: &Edit) -> Option<&'a [u8]>
     requires { Fits edit.now }

@@ -1,4 +1,5 @@
-//! Laws on edit files: each edit that fits has one spelling, each list of such edits one text, and each text one reading.
+//! Laws of edit files: each edit that fits has one spelling, each list of such edits one text, and
+//! each text one reading.
 ghost use Rattle.zed_op.specs.declared.op.Edit.{Edit};
 ghost use Rattle.zed_op.specs.Fit.{Fits};
 ghost use Rattle.zed_op.specs.Set.{AllFit};
@@ -8,7 +9,7 @@ ghost use Rattle.zed_editfile.specs.Stream.{AreRecords, IsRecord};
 use zed_op::{Edit, edit_has_sizes};
 use zed_world::canonical_files_are_short;
 
-/// An edit that fits is read from its spelling, and bytes that spell an edit are the one spelling of it.
+/// An edit that fits is read from its spelling. Bytes that spell an edit are its only spelling.
 pub fn one_spelling(edit: &Edit, body: &[u8])
     ensures back { Fits edit.now → IsReadBack edit.now }
     ensures found { IsSpelledOnce body.now }
@@ -16,7 +17,7 @@ pub fn one_spelling(edit: &Edit, body: &[u8])
     fitting_edits_are_records(edit);
 }
 
-/// Of two edits that fit, the record of the one doesn't begin that of the other.
+/// Of two different edits that fit, neither's record begins the other's.
 pub fn no_record_begins_another(edit: &Edit, other: &Edit)
     ensures { Fits edit.now → Fits other.now → DiffersFrom edit.now other.now }
 {
@@ -24,8 +25,8 @@ pub fn no_record_begins_another(edit: &Edit, other: &Edit)
     fitting_edits_are_records(other);
 }
 
-/// Two files of edits that fit, in whatever versions, have one text only where they are of one version and one world and have
-/// the same edits.
+/// Two files of edits that fit have the same text only if they have the same version, the same
+/// world and the same edits.
 pub fn one_file_text(world: u64, edits: &[Edit], other: u64, others: &[Edit])
     ensures { AllFit edits.now → AllFit others.now → HasOneText world edits.now other others.now }
 {
@@ -33,23 +34,25 @@ pub fn one_file_text(world: u64, edits: &[Edit], other: u64, others: &[Edit])
     fitting_edits_make_a_file(other, others);
 }
 
-/// Bytes are read in one way, however they are cut, unless memory ran out; and the text of edits, in either version, is read as
-/// those edits. What is written is such a text.
+/// Bytes are read in one way, however they are cut, unless memory runs out. The text of edits, in
+/// either version, is read as those edits. What is written is such a text.
 pub fn one_reading()
     ensures one { ReadsOneWay }
     ensures file { TextsAreRead }
     ensures written { WrittenIsText }
 {}
 
-/// Of a file that is no wrong one a reader never shows a fault before the end: whoever has read a front of the text of edits has the
-/// first of these edits, and no fault unless memory ran out. And that bytes are cut short is told at the end alone.
+/// A reader of a good file never gives a fault before its end: after any front of the text of edits
+/// it has the first of these edits, and no fault unless memory ran out. Only the end shows that
+/// bytes are missing.
 pub fn fronts_are_read()
     ensures front { FrontsAreRead }
     ensures cut { CutIsToldAtTheEnd }
 {}
 
-/// Every edit that fits has a record, since each number fits its field by its type and the body has one of the lengths: the
-/// body is read as the edit, and no record of another edit begins with its record or stands at the front of it.
+/// Every edit that fits has a record: each number fits its field by its type, and the body has a
+/// possible length. The body is read as the edit. Of the records of different edits, neither begins
+/// the other.
 pub fn fitting_edits_are_records(edit: &Edit)
     ensures record { Fits edit.now → IsRecord edit.now }
     ensures back { Fits edit.now → IsReadBack edit.now }
@@ -59,8 +62,8 @@ pub fn fitting_edits_are_records(edit: &Edit)
     edit_has_sizes(edit);
 }
 
-/// Edits that fit make a file: no other edits have its text, and whoever reads the whole of it, in any pieces and with no want
-/// of memory, has these edits, the world, and nothing left.
+/// Edits that fit make a file: no other edits have its text. A reader that gets all of it, in any
+/// pieces, and has enough memory, has these edits, the world, and nothing left.
 pub fn fitting_edits_make_a_file(world: u64, edits: &[Edit])
     ensures records { AllFit edits.now → AreRecords edits.now }
     ensures one { AllFit edits.now → HasNoOtherText world edits.now }

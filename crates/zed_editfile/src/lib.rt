@@ -16,7 +16,7 @@ mod sizes;
 mod stream;
 mod writing;
 
-pub use ahead::stamp_ahead;
+pub use ahead::{stamp_ahead, world_ahead};
 pub use error::EditFileError;
 pub use laws::{
     fitting_edits_are_records, fitting_edits_make_a_file, fronts_are_read,

@@ -58,14 +58,16 @@ impl EditReader {
 
     /// Takes the next piece of the file, and appends the edits of the records that it completes.
     ///
-    /// A fault comes with the byte that shows it, after the edits before it: `Magic` at the first of three letters that
-    /// differs, `NewVersion` at a version byte other than 1 and 2, `OtherWorld` at the last byte of a head with another number
-    /// than the one asked for, `RecordLength` at the fourth byte of a length below 9 or above 4,194,304, `BadEdit` at the
-    /// end of a record that spells no edit that fits. `Memory` comes where a growth was refused, and only behind the good
-    /// length of a record of which no edit was read: so it never comes in the head, nor in place of `RecordLength`. Where
-    /// the record began in this piece it comes in place of `BadEdit` only where that is seen behind a string, so never with
-    /// `Cause::Short`, `Cause::Op` or `Cause::Tag`. After a fault, `Memory` too, each later call answers it again, and
-    /// nothing changes. An empty piece changes nothing, and takes no memory.
+    /// A fault comes with the byte that shows it, after the edits before it: `Magic` at the first
+    /// of three letters that differs, `NewVersion` at a version byte other than 1 and 2,
+    /// `OtherWorld` at the last byte of a head with another number than the one asked for,
+    /// `RecordLength` at the fourth byte of a length below 9 or above 4,194,304, `BadEdit` at the
+    /// end of a record that spells no edit that fits. `Memory` comes if a growth was refused, and
+    /// only after the good length of a record of which no edit was read: so it never comes in the
+    /// head, nor in place of `RecordLength`. If the record began in this piece, `Memory` comes in
+    /// place of `BadEdit` only if a string comes before the fault, so never in place of
+    /// `Cause::Short`, `Cause::Op` or `Cause::Tag`. After a fault, also `Memory`, each later call
+    /// answers it again, and nothing changes. An empty piece changes nothing, and takes no memory.
     pub fn feed(&mut self, piece: &[u8], out: &mut Vec<Edit>) -> Result<(), EditFileError>
         // What was read of any bytes before, with the edits appended, is what is read of those bytes and the piece.
         ensures feeds { Feeds piece.now out.old.items out.new.items self.old self.new }
@@ -104,8 +106,9 @@ impl EditReader {
         }
     }
 
-    /// What follows the record of an edit that is at hand, where the reader stands between records and the piece begins with that record:
-    /// the reader is where it was then, with one edit more. Takes no memory.
+    /// What follows the record of an edit that is at hand, if the reader is between records and the
+    /// piece begins with that record. The reader is then where it was, with one more edit. Takes no
+    /// memory.
     pub fn pass<'a>(&self, edit: &Edit, piece: &'a [u8]) -> Option<&'a [u8]>
         requires { Fits edit.now }
         ensures some { IfSome result (λ rest. (piece.now ≡ record_text edit.now ++ rest.now)
@@ -139,18 +142,25 @@ impl EditReader {
         record_len(self.kept.as_slice()).saturating_sub(kept)
     }
 
-    /// The front of a piece that is best read at once, so that the reader stands between records behind it, where that can be; and what
-    /// follows it. Takes no memory.
-    pub fn first<'a>(&self, piece: &'a [u8]) -> (&'a [u8], &'a [u8])
+    /// The front of a piece that is best read at once, and what follows it. The front has so many
+    /// records, the first of which may be cut. If it can be, the reader is between records after it.
+    /// Takes no memory.
+    pub fn first<'a>(&self, piece: &'a [u8], records: usize) -> (&'a [u8], &'a [u8])
         ensures whole { piece.now ≡ result.0.now ++ result.1.now }
         ensures some { 0 < length piece.now → 0 < length result.0.now }
     {
-        piece.split_at(self.missing(piece).max(1).min(piece.len()))
+        let mut len = self.missing(piece);
+        for _ in 1..records {
+            let (_, rest) = piece.split_at(len.min(piece.len()));
+            len = len.saturating_add(record_len(rest));
+        }
+        piece.split_at(len.max(1).min(piece.len()))
     }
 
     /// Whether the file may end here. Takes no memory.
     ///
-    /// Answers the fault of an earlier `feed` again; without one `CutShort` where the head or a record is cut.
+    /// Answers the fault of an earlier `feed` again. Without one it answers `CutShort` if the head
+    /// or a record is cut.
     pub fn finish(&self) -> Result<(), EditFileError>
         ensures result { result ≡ verdict_of (ending self.now) }
         // What ends well is the whole text, in one of the versions, of the edits that were read.

@@ -30,7 +30,8 @@ fn head_of(world: u64) -> [u8; 12]
 /// Appends the head of an edit file of the world with this number: the letters `ZED`, the version 2, and the number in
 /// eight bytes, the lowest first.
 ///
-/// Refused with `Memory` alone, only where the vector has no room for the 12 bytes; nothing is appended then.
+/// The only refusal is `Memory`, and only if the vector has no room for the 12 bytes; then nothing
+/// is appended.
 pub fn write_head(world: u64, out: &mut Vec<u8>) -> Result<(), EditFileError>
     ensures ok { OnOk result (out.new.items ≡ out.old.items ++ head_text 2 world) }
     ensures err { IfErr result (λ e. e ≡ EditFileError.Memory) }
@@ -56,7 +57,8 @@ fn put_record(out: &mut Vec<u8>, len: u32, edit: &Edit)
 
 /// Appends the record of an edit: the length of its body in four bytes, the lowest first, and the body.
 ///
-/// Refused with `Memory` alone, only where the vector has no room for the record; nothing is appended then.
+/// The only refusal is `Memory`, and only if the vector has no room for the record; then nothing is
+/// appended.
 #[tactic(auto, using(crate::proofs::Lengths::length_record))]
 pub fn write_edit(edit: &Edit, out: &mut Vec<u8>) -> Result<(), EditFileError>
     requires { Fits edit.now }
@@ -90,7 +92,7 @@ fn put_all(edits: &[Edit], out: &mut Vec<u8>) -> Result<(), EditFileError>
 
 /// The edit file of a world, of version 2: its head, and a record for each of these edits, in their order.
 ///
-/// Refused with `Memory` alone.
+/// The only refusal is `Memory`.
 pub fn write_file(alloc: Global, world: u64, edits: &[Edit]) -> Result<Vec<u8>, EditFileError>
     requires { AllFit edits.now }
     ensures ok { IfOk result (λ file. file.items ≡ file_text world edits.now) }

@@ -1,5 +1,5 @@
 -- How many bytes the parts of a body take.
-use Rattle.std.proofs.Common.{◌≡◌, ℕ, ◌+◌, List, [], ◌∷◌, ◌++◌, length, refl, length-append, arith, Option, Some, None}
+use Rattle.std.proofs.Common.{◌≡◌, ℕ, ◌+◌, List, [], ◌∷◌, ◌++◌, length, length-append, arith, Option}
 use Rattle.std.specs.List.{flat_map}
 use Rattle.zed_types.specs.declared.names.TextId.{TextId}
 use Rattle.zed_world.specs.Writing.{code_text, stat_text}
@@ -7,16 +7,8 @@ use Rattle.zed_world.proofs.Sizes.{length_stat}
 use Rattle.zed_edit.specs.declared.plain.Board.{Board}
 use Rattle.zed_edit.specs.declared.plain.Stat.{Stat}
 use Rattle.zed_edit.specs.declared.plain.Plain.{Plain}
-use Rattle.zed_export.specs.World.{code_with, exported_code, exported_stat, exported_above}
+use Rattle.zed_export.specs.World.{exported_code, exported_stat, exported_above}
 use Rattle.zed_export.specs.Limits.{told}
-
-pub own_bytes : (bytes : List ℕ) → length (code_text (code_with None bytes)) ≡ length bytes
-own_bytes [] = refl
-own_bytes (b ∷ bs) = refl
-
-pub shared_bytes : (n : ℕ) (bytes : List ℕ) → length (code_text (code_with (Some n) bytes)) ≡ 0
-shared_bytes n [] = refl
-shared_bytes n (b ∷ bs) = refl
 
 -- one more stat in a count
 pub one_more_stat : (p : Plain) (b : Board) (lower : List (Option TextId)) (s : Stat) (ss : List Stat) (bytes program : ℕ) → program ≡ length (code_text (exported_code p lower s.fields.text))

@@ -18,7 +18,7 @@ use zed_types::{
 };
 use zed_world::{BoardData, Code, Properties, StatData, is_passage};
 
-/// The third parameter of a stat that stands on a passage or not, in a world whose boards have these names.
+/// The third parameter of a stat, on a passage or not, in a world whose boards have these names.
 fn parameter_of(boards: &BoardNames, on_passage: bool, parameter: ThirdParameter) -> u8
     requires { length boards.now ≤ 101 }
     ensures { result ≡ place_parameter boards.now on_passage parameter }

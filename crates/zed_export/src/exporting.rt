@@ -1,4 +1,4 @@
-//! The world that a document shows, and its file, which is read as that world.
+//! The world that a document shows, and its file, which reads back as that world.
 ghost use Rattle.std.specs.Prelude.{◌≡◌, ◌<◌, ◌≤◌, None, Ok, IfErr, IfOk, MatchResult, length, map};
 ghost use Rattle.std.specs.List.{All, AllByRecursion};
 ghost use Rattle.zed_types.specs.declared.limits.TheConstants.{READ_BODY_LIMIT};
@@ -27,7 +27,7 @@ use zed_op::{sets_rise, sets_stay_fit};
 use zed_types::Seq;
 use zed_world::{BoardData, World, write_world, written_is_read};
 
-/// The boards of the world that stand at these places, by number; these are the names of all.
+/// The boards of the world at these places, by number; these are the names of all.
 fn boards_of(
     alloc: Global,
     view: &View,
@@ -109,9 +109,10 @@ fn shown_within<'d>(
     }
 }
 
-/// The world that a document shows. In this order: Stale; NoWorld where no title was made; BoardsOver where more than 100 boards stand
-/// beside the title; then board by board StatsOver where more than 150 stats stand beside the player, and BoardOver where the body is
-/// over the limit, in bytes; Memory. None but Memory takes memory. The limit is at most 32,767.
+/// The world that a document shows. Refusals, in order: Stale; NoWorld if no title was made;
+/// BoardsOver for more than 100 boards beside the title; then, board by board, StatsOver for more
+/// than 150 stats beside the player, and BoardOver for a body of more bytes than the limit; Memory.
+/// Finding the others takes no memory. The limit is at most 32,767.
 pub fn export(alloc: Global, document: &Document, limit: usize) -> Result<World, ExportError>
     requires { limit ≤ READ_BODY_LIMIT }
     ensures result { Answers (λ world. world) (unless_stale document.now (exported limit)) result }
@@ -121,7 +122,8 @@ pub fn export(alloc: Global, document: &Document, limit: usize) -> Result<World,
     Ok(world_within(alloc, &view, limit)?)
 }
 
-/// The file of the world that a document shows, with the refusals of `export` in their order.
+/// The file of the world that a document shows. Its refusals are those of `export`, in the same
+/// order.
 pub fn save(alloc: Global, document: &Document, limit: usize) -> Result<Vec<u8>, ExportError>
     requires { limit ≤ READ_BODY_LIMIT }
     ensures result { Answers (λ file. file.items) (unless_stale document.now (saved limit)) result }
@@ -134,7 +136,8 @@ pub fn save(alloc: Global, document: &Document, limit: usize) -> Result<Vec<u8>,
     file_within(alloc, &view, limit)
 }
 
-/// What is saved is read as the exported world: where that world can stand in a file, as that of edits that authors made can.
+/// What is saved reads back as the exported world, if that world fits a file. Worlds of edits that
+/// authors made do.
 pub fn saved_is_read()
     ensures normal { SavedIsRead }
     ensures authored { AuthoredIsRead }

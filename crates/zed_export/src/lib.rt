@@ -1,4 +1,4 @@
-//! The export of a document: its world, the file of it, or the first limit that it exceeds.
+//! The world that a document shows, as a value or a file, or the first limit that it exceeds.
 #![tactic(auto)]
 
 mod board;

@@ -23,7 +23,8 @@ pub(crate) fn boards_by_number(alloc: Global, view: &View) -> SmallVec<usize, 10
     view.first_boards(alloc, None)
 }
 
-/// The names of things that aren't removed, in their order. Contracts see the list. A name is sought by halves.
+/// The names of things that aren't removed, in their order. Contracts see the list. A name is found
+/// by binary search.
 #[derive(Drop)]
 pub(crate) struct Names {
     names: Vec<Name>,
@@ -50,8 +51,9 @@ impl Names {
     }
 }
 
-/// The names of the boards that aren't removed, by number. Contracts see the list. Beside it the names stand in their own order, each
-/// with its number, so that a name is sought by halves.
+/// The names of the boards that aren't removed, by number. Contracts see the list. A second list
+/// has the names in their own order, each with its number, so that a name is found by binary
+/// search.
 #[derive(Drop)]
 pub(crate) struct BoardNames {
     by_number: Vec<Name>,
@@ -117,14 +119,14 @@ fn names_at(alloc: Global, view: &View, places: &[usize]) -> Result<Vec<Name>, A
     Ok(names)
 }
 
-/// Where a name stands among others.
+/// The place of a name among others.
 fn place_in(names: &[Name], name: Name) -> Option<usize>
     ensures { result ≡ place_among names.now name }
 {
     names.iter().position(|other| *other == name)
 }
 
-/// Where each of these names stands among others.
+/// The place of each of these names among others.
 fn places_of(
     alloc: Global,
     names: &[Name],
@@ -175,7 +177,7 @@ pub(crate) fn stat_names(alloc: Global, view: &View, i: usize) -> Result<Names, 
     Ok(Names { names })
 }
 
-/// The number of a board, or 0 where it is removed.
+/// The number of a board, or 0 if it is removed.
 pub(crate) fn board_number(names: &BoardNames, board: BoardId) -> u8
     requires { length names.now ≤ 101 }
     ensures { result ≡ place_or_0 names.now board }
@@ -186,7 +188,7 @@ pub(crate) fn board_number(names: &BoardNames, board: BoardId) -> u8
     }
 }
 
-/// The number of the board behind an exit, or 0 where there is none.
+/// The number of the board behind an exit, or 0 if there is none.
 pub(crate) fn exit_number(names: &BoardNames, exit: Option<BoardId>) -> u8
     requires { length names.now ≤ 101 }
     ensures { result ≡ exit_place names.now exit }

@@ -26,8 +26,8 @@ fn place_of(texts: &[Option<TextId>], text: TextId) -> Option<usize>
     texts.iter().position(|other| is_of(text, other))
 }
 
-/// The lowest stat past the player that uses a text, of stats with these texts. They are looked at one by one, which takes no memory:
-/// at most 150 stats of a board are exported.
+/// The lowest stat past the player that uses a text, of stats with these texts. It looks at them
+/// one by one, which takes no memory: at most 150 stats of a board are exported.
 pub(crate) fn user_of(texts: &[Option<TextId>], text: TextId) -> Option<usize>
     ensures result { result ≡ lowest_user text texts.now }
     ensures within { IfSome result (λ n. n < length texts.now) }
@@ -61,7 +61,7 @@ fn own_code(bytes: Vec<u8>) -> Code
     }
 }
 
-/// The program of a stat that has the bytes of stat `user`, whose program is told.
+/// The program of a stat that has the bytes of stat `user`, whose program is given.
 fn shared_code(user: usize, own: &Code) -> Code
     requires { user ≤ 151 }
     ensures { (bytes : List ℕ) → own.now ≡ code_with None bytes

@@ -1,4 +1,4 @@
-//! What replicas that accepted the same edits have in common, by what the calls on them answer.
+//! What replicas that accepted the same edits have in common: the answers of their calls.
 ghost use Rattle.std.specs.Prelude.{◌≡◌, ◌≤◌, IfOk, IsOkAnd, Ok, true};
 ghost use Rattle.zed_types.specs.declared.limits.TheConstants.{READ_BODY_LIMIT};
 ghost use Rattle.zed_edit.specs.Replay.{held, replay};
@@ -26,9 +26,10 @@ pub struct SideBySide<'a> {
     pub other_file: Result<Vec<u8>, ExportError>,
 }
 
-/// Replicas that accepted the same edits, in any order and with any repeats, hold the document that one author would have who made
-/// those edits in stamp order; each exports and saves what this document comes to at the limit asked for: the same world file, byte for
-/// byte, or the same named refusal; and the saved file reads back as the exported world. Want of memory is set aside.
+/// Replicas that accepted the same edits, in any order and with any repeats, hold the document that
+/// one author would have who made those edits in stamp order. At the limit asked for, each exports
+/// and saves what this document gives: the same world file, byte for byte, or the same named
+/// refusal. The saved file reads back as the exported world. This is so unless memory runs out.
 pub fn headline<'a>(
     alloc: Global,
     one: &'a Document,
@@ -67,7 +68,8 @@ pub fn headline<'a>(
     }
 }
 
-/// Merging is commutative, associative and idempotent: whichever way replicas are merged, they accepted the same edits.
+/// Merging is commutative, associative and idempotent: in whichever way replicas are merged, they
+/// accepted the same edits.
 pub fn merging_brings_the_same()
     ensures commutative { MergingCommutes }
     ensures associative { MergingAssociates }

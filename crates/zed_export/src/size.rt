@@ -1,7 +1,6 @@
 //! How many bytes a board takes in a world file.
 ghost use Rattle.std.specs.Prelude.{◌≡◌, ◌+◌, ◌<◌, ◌≤◌, [], length};
 ghost use Rattle.std.specs.List.{flat_map};
-ghost use Rattle.zed_runs.specs.Runs.{greedy};
 ghost use Rattle.zed_world.specs.Writing.{code_text, stat_text, body_text};
 ghost use Rattle.zed_edit.specs.Numbers.{alive_stats};
 ghost use Rattle.zed_types.specs.declared.property.BoardText.TheVariants.{Name, Message};
@@ -13,23 +12,14 @@ use crate::program::user_of;
 use smallvec::SmallVec;
 use std::alloc::Global;
 use zed_document::View;
-use zed_runs::{greedy_is_the_one, runs_len};
-use zed_types::{TILES, TextId, Tile};
+use zed_runs::runs_len;
+use zed_types::TextId;
 
 /// The bytes of a body beside its runs and its stats: the name, the properties, the number of stats.
 const FRAME: usize = 51 + 86 + 2;
 
 /// The bytes of a stat beside its program.
 const STAT: usize = 33;
-
-/// How many bytes the runs of a board take.
-fn runs_bytes(tiles: &[Tile; TILES]) -> usize
-    ensures result { result ≡ length (greedy tiles.now) }
-    ensures within { result ≤ 4500 }
-{
-    greedy_is_the_one();
-    runs_len(tiles)
-}
 
 /// How many bytes the program of a stat takes above stats with these texts.
 fn program_bytes(view: &View, lower: &[Option<TextId>], text: Option<TextId>) -> usize
@@ -70,6 +60,6 @@ pub(crate) fn body_bytes(alloc: Global, view: &View, i: usize) -> usize
     requires message { length (board_text Message (board_at view.now i).properties) ≤ 58 }
     ensures { result ≡ told (length (body_text (exported_board view.now (board_at view.now i)))) }
 {
-    let frame = FRAME + runs_bytes(view.table(i));
+    let frame = FRAME + runs_len(view.table(i));
     frame.saturating_add(stats_bytes(alloc, view, i))
 }

@@ -11,9 +11,9 @@ use zed_world::{BoardData, StatData, World};
 /// What is odd about a world, though it can be saved.
 #[derive(Clone, Copy, Debug, PartialEq, Eq)]
 pub enum Warning {
-    /// No player tile stands at the place of this board's player.
+    /// There is no player tile at the place of this board's player.
     PlayerTile(usize),
-    /// On this board this stat stands outside the table.
+    /// On this board this stat is outside the table.
     OffBoard(usize, usize),
     /// On this board this stat has the place of a lower one.
     SamePlace(usize, usize),
@@ -26,7 +26,7 @@ fn is_inside(x: u8, y: u8) -> bool
     1 <= x && x <= 60 && 1 <= y && y <= 25
 }
 
-/// Whether a player tile stands at a place. Outside the table nothing does.
+/// Whether there is a player tile at a place. Outside the table there is none.
 fn has_player(tiles: &[Tile; TILES], x: u8, y: u8) -> bool
     ensures { result ≡ is_player_at tiles.now x y }
 {
@@ -88,9 +88,9 @@ fn add_boards(out: &mut Vec<Warning>, boards: &[BoardData]) -> Result<(), AllocE
     Ok(())
 }
 
-/// What is odd about a world: board by board PlayerTile where its player stands on no player tile, and then stat by stat OffBoard where
-/// it is outside the table, else SamePlace where a lower stat has its place. Nothing but Memory is refused, and no memory is taken where
-/// nothing is odd.
+/// What is odd about a world. Board by board: PlayerTile if there is no player tile at its player's
+/// place; then, stat by stat, OffBoard if the stat is outside the table, or else SamePlace if a
+/// lower stat has its place. The only refusal is Memory. If nothing is odd, this takes no memory.
 pub fn warnings(alloc: Global, world: &World) -> Result<Vec<Warning>, ExportError>
     ensures result { MatchResult result
         (λ warnings. warnings.items ≡ warnings_of world.now)

@@ -1,7 +1,7 @@
 -- What a command asked of its host.
 use Rattle.zed_files.specs.declared.refusal.Refusal.{Refusal}
 use Rattle.zed_files.specs.declared.refusal.Refusal.TheVariants.{File, Memory}
-use Rattle.std.proofs.Common.{◌≡◌, ◌∙◌, ◌+◌, ◌<◌, ◌≤◌, ℕ, true, false, List, [], ◌∷◌, ◌++◌, Option, Some, None, Result, Ok, Err, MatchResult, ap, append_assoc, append-nil, add-one, codes, cond, drop, drop-cons, drop_of_length-le, get_or, length, refl, subst, sym, inl, inr}
+use Rattle.std.proofs.Common.{◌≡◌, ◌∙◌, ◌+◌, ◌<◌, ℕ, true, false, List, [], ◌∷◌, ◌++◌, Option, Some, None, Result, Ok, Err, MatchResult, ap, append_assoc, append-nil, add-one, codes, cond, drop, drop-cons, get_or, length, refl, subst, sym, inl, inr}
 use Rattle.std.specs.Borrow.{Bor}
 use Rattle.std.specs.Global.{Vec}
 use Rattle.std.specs.Prelude.{◌⊎◌}
@@ -184,15 +184,6 @@ next_refused called names i d old mid new e told lt other so is why =
       | inr file ↦ next_lost called names i d old mid new e told lt so is file
     ]
 
--- all were read
-pub read_whole : {H : Type 0} (called : H → Call → H → Type 0) (names : List (Bor (List ℕ))) (i : ℕ) (old new : H) (told : Option Refusal) → length names ≤ i → (told ≡ Some File → ⊥)
-    → ReadSoFar called names i old new → Asks called (reading (texts_of names)) [] told old new
-read_whole called names i old new (Some e) le other so = read_enough called names i old new e (λ is. other (ap (λ e. Some e) is)) so
-read_whole called names i old new None le other so =
-    let none : drop i names ≡ [] = drop_of_length-le names le in
-    let all : reading (texts_of names) ≡ so.0 = so.1 ∙ ap (λ ns. so.0 ++ reading (texts_of ns)) none ∙ append-nil so.0 in
-    (passed so.0, so.2, ap passed (sym (append-nil (reading (texts_of names)) ∙ all)))
-
 -- the file wasn't written
 pub write_failed : {H : Type 0} (called : H → Call → H → Type 0) (out : List ℕ) (e : Refusal) (old new : H) → e ≡ File → called old (call (Writing out) true) new → Asks called [] (writing out) (Some e) old new
 write_failed called out e old new file is =
@@ -209,17 +200,6 @@ line_failed called out e old mid new other file first is = (
   (mid, first, (new, is, refl)),
   inr (inr (file, (call (Writing out) false ∷ call Printing true ∷ [], (Writing out ∷ [], Printing, [], with_line out other, refl), refl))),
 )
-
--- both were
-pub line_printed : {H : Type 0} (called : H → Call → H → Type 0) (out : List ℕ) (old mid new : H) → bytes_eq out (codes "stdout") ≡ false
-    → called old (call (Writing out) false) mid → called mid (call Printing false) new → Asks called [] (writing out) None old new
-line_printed called out old mid new other first is =
-    (call (Writing out) false ∷ call Printing false ∷ [], (mid, first, (new, is, refl)), sym (ap passed (with_line out other)))
-
--- the file went to the standard output
-pub no_line : {H : Type 0} (called : H → Call → H → Type 0) (out : List ℕ) (old new : H) → bytes_eq out (codes "stdout") ≡ true
-    → called old (call (Writing out) false) new → Asks called [] (writing out) None old new
-no_line called out old new is first = (call (Writing out) false ∷ [], (new, first, refl), sym (ap (λ b. passed (Writing out ∷ cond b [] (Printing ∷ []))) is))
 
 -- a text was printed, or not
 pub print_failed : {H : Type 0} (called : H → Call → H → Type 0) (e : Refusal) (old new : H) → e ≡ File → called old (call Printing true) new → Asks called [] (Printing ∷ []) (Some e) old new

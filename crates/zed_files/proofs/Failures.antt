@@ -11,21 +11,16 @@ use Rattle.zed_session.specs.declared.error.SessionError.{SessionError}
 use Rattle.zed_world.specs.declared.error.WorldError.{WorldError}
 use Rattle.zed_files.specs.declared.refusal.Refusal.{Refusal}
 use Rattle.zed_files.specs.declared.refusal.Refusal.TheVariants.{File, Memory}
-use Rattle.std.proofs.Common.{◌≡◌, ◌∙◌, ℕ, arith, Option, Some, None, Result, Ok, Err, MatchResult, is_err, refl, sym, inl, inr}
+use Rattle.std.proofs.Common.{◌≡◌, ◌∙◌, ℕ, arith, Result, Ok, Err, MatchResult, is_err, refl, sym, inl, inr}
 use Rattle.std.specs.Prelude.{IsErrAnd}
 use mathlib.Core.Logic.{◌⊎◌}
 use Rattle.zed_host.specs.Counting.{Counts, Rose}
 use Rattle.zed_host.proofs.Counts.{rose_later}
 use Rattle.zed_files.specs.Faults.{NoneForgotten, TellsFailures}
-use Rattle.zed_files.specs.Files.{end_of}
 use Rattle.zed_files.specs.Refusals.{action_refusal, document_refusal, file_refusal, session_refusal, world_refusal}
 
 pub memory_is_other : (e : Refusal) → e ≡ Memory → e ≡ File → ⊥
 memory_is_other e memory is = cc
-
-pub no_world_is_other : (asked : Option ℕ) → end_of asked ≡ Some File → ⊥
-no_world_is_other None is = cc
-no_world_is_other (Some world) is = cc
 
 pub file_is_other : (e : EditFileError) → file_refusal e ≡ File → ⊥
 file_is_other file.Memory is = cc

@@ -13,12 +13,9 @@ use Rattle.zed_link.specs.declared.error.LinkError.{LinkError}
 use Rattle.zed_world.specs.declared.error.WorldError.{WorldError}
 use Rattle.zed_files.specs.declared.refusal.Refusal.{Refusal}
 use Rattle.zed_files.specs.declared.refusal.Refusal.TheVariants.{Clash, File, Memory}
-use Rattle.zed_op.specs.declared.op.Edit.{Edit}
-use Rattle.zed_types.specs.declared.stamp.Stamp.{Stamp}
-use Rattle.std.proofs.Common.{◌≡◌, ℕ, List, Bool, false, Option, Some, None, Result, Ok, Err, MatchResult, refl, subst, sym, inl, inr}
+use Rattle.std.proofs.Common.{◌≡◌, ℕ, Bool, false, Option, Some, None, Result, Ok, Err, MatchResult, refl, subst, sym, inl, inr}
 use Rattle.std.specs.Prelude.{IfErr, IfSome, IsErrAnd}
 use mathlib.Core.Logic.{◌⊎◌}
-use Rattle.zed_document.specs.Delivery.{IsFirstClash}
 use Rattle.zed_host.specs.Counting.{Counts}
 use Rattle.zed_files.specs.Files.{end_of}
 use Rattle.zed_files.specs.Refusals.{IsOffStage, action_refusal, document_refusal, export_refusal, file_refusal, is_key_fault, is_screen_fault, link_refusal, world_refusal}
@@ -91,10 +88,6 @@ link_off link.TooManyTurns = (refl, refl)
 -- a file that was not read
 pub unread_off : (e : Refusal) → (e ≡ Memory) ⊎ (e ≡ File) → IsOffStage e
 unread_off e why = elim why [ inl memory ↦ memory_off e memory | inr lost ↦ is_off e File lost (refl, refl) ]
-
--- edits that were not delivered
-pub undelivered_off : (es : List Edit) (e : Refusal) → (e ≡ Memory) ⊎ ((s : Stamp) × IsFirstClash es s × (e ≡ Clash s)) → IsOffStage e
-undelivered_off es e why = elim why [ inl memory ↦ memory_off e memory | inr clash ↦ is_off e (Clash clash.0) clash.2 (refl, refl) ]
 
 -- what `?` hands on
 pub off_on : {X : Type 0} (answer : Result X Refusal) (e : Refusal) → IsErrAnd answer (λ told. told ≡ e) → IsOffStage e → IfErr answer IsOffStage

@@ -1,4 +1,4 @@
-//! What a command leaves with the host.
+//! What a command writes and prints.
 ghost use Rattle.std.specs.Prelude.{[], ◌∷◌, ◌≡◌, IfErr, OnErr, OnOk, Some, is_err};
 ghost use Rattle.zed_files.specs.Asked.{Asks, refusal_in, writing};
 ghost use Rattle.zed_files.specs.Effects.{HalfDone, Prints, Writes, after};

@@ -18,8 +18,8 @@ use zed_session::SessionError;
 use zed_types::Stamp;
 use zed_world::WorldError;
 
-/// Why a command was not carried out. The texts are for a reader of an error value; the program prints the
-/// lines of `plain_line` and `line_of` and none of them.
+/// Why a command was not carried out. The texts are for whoever debugs; the program prints the
+/// lines of `plain_line` and `line_of` instead.
 #[derive(Clone, Copy, Debug, PartialEq, Eq, Error)]
 pub enum Refusal {
     #[error("out of memory")]
@@ -38,25 +38,25 @@ pub enum Refusal {
     BadShare,
     #[error("not an edit file")]
     Magic,
-    #[error("an edit file of a later version")]
+    #[error("an edit file of another version")]
     NewVersion,
     #[error("an edit file of another world")]
     OtherWorld,
-    #[error("a record of an edit file has no length that records have")]
+    #[error("a record of an edit file has an impossible length")]
     RecordLength,
-    #[error("an edit is no good: {0:?}")]
+    #[error("an edit breaks a rule: {0:?}")]
     BadEdit(Cause),
     #[error("an edit file ends inside its head or a record")]
     CutShort,
     #[error("two edits have one stamp, {0:?}")]
     Clash(Stamp),
-    #[error("the document is stale")]
+    #[error("memory ran out before: repair the document first")]
     Stale,
-    #[error("no later time is left")]
+    #[error("the clock is spent")]
     ClockSpent,
     #[error("there is no such thing")]
     NoSuch,
-    #[error("a text has no such place")]
+    #[error("the position is outside the text")]
     OutOfRange,
     #[error("no edit makes the world")]
     NoWorld,
@@ -72,9 +72,9 @@ pub enum Refusal {
     File,
     #[error("there is no such board")]
     NoBoard,
-    #[error("the playtest has no words left")]
+    #[error("the playtest needs more words of chance")]
     NoWords,
-    #[error("no playtest goes on")]
+    #[error("no playtest is running")]
     Over,
     #[error("a link failed")]
     LinkFault,
@@ -82,7 +82,7 @@ pub enum Refusal {
     ScreenFault,
     #[error("the source of keys failed")]
     KeyFault,
-    #[error("a link or the keys come to no end")]
+    #[error("too many reads of a link, or too many keys")]
     TooManyTurns,
     #[error("there are fewer links than files")]
     NoLink,
@@ -278,8 +278,8 @@ fn widened(number: u16) -> u64
     u64::from(number)
 }
 
-/// The line for the standard error: `zzted: `, the name of the refusal, and its numbers or cause, each after a space. It takes
-/// no memory, so that it can always be told.
+/// The line for standard error: `zzted: `, the name of the refusal, and its numbers or cause, each
+/// after a space. It takes no memory, so it can always be printed.
 pub fn line_of(alloc: Global, refusal: &Refusal) -> Line
     ensures { result ≡ line_for refusal.now }
 {
@@ -299,7 +299,7 @@ pub fn line_of(alloc: Global, refusal: &Refusal) -> Line
     }
 }
 
-/// The line that tells how long a world file is.
+/// The line with the length of a world file.
 pub fn bytes_told(alloc: Global, count: usize) -> Result<String, AllocError>
     ensures { IfOk result (λ text. string_bytes text ≡ bytes_line count) }
 {

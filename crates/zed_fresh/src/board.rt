@@ -1,4 +1,4 @@
-//! A board that is added, as a world file has it.
+//! A new board, as a world file has it.
 ghost use Rattle.std.specs.Prelude.{◌≡◌, IfOk};
 ghost use Rattle.zed_edit.specs.Board.{new_table as table};
 ghost use Rattle.zed_fresh.specs.Fresh.{board_of, fresh_properties};
@@ -26,7 +26,7 @@ fn properties(alloc: Global) -> Properties
     }
 }
 
-/// The board of this name, as it is when it is added: a border of normal walls round the player.
+/// A new board with this name: a border of normal walls round the player.
 pub fn new_board(alloc: Global, name: Bytes) -> Result<BoardData, AllocError>
     ensures ok { IfOk result (λ board. board ≡ board_of name table) }
 {

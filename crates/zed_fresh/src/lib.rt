@@ -1,4 +1,4 @@
-//! A board as it is when an author adds it, and the world of a new edit file.
+//! A new board as an author adds it, and the world of a new edit file.
 #![tactic(auto)]
 
 mod board;

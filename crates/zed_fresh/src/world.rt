@@ -1,4 +1,4 @@
-//! The world that a new edit file makes where it is given no world file.
+//! The world of a new edit file that isn't made from a world file.
 ghost use Rattle.std.specs.Prelude.{◌≡◌, [], IfOk, replicate, take};
 ghost use Rattle.zed_edit.specs.Board.{new_table};
 ghost use Rattle.zed_fresh.specs.Fresh.{fresh_header, fresh_world, title_of};
@@ -70,7 +70,8 @@ fn title(alloc: Global) -> Result<BoardData, AllocError>
     new_board(alloc, Bytes::new(name))
 }
 
-/// A world of one board, `Title`, whose player has 100 health. Of its name the first 20 bytes are taken.
+/// A world of one board, `Title`, whose player has 100 health. Its name has the first 20 bytes of
+/// `name`.
 pub fn new_world(alloc: Global, name: &str) -> Result<World, AllocError>
     ensures ok { IfOk result (λ world. world ≡ fresh_world name.now) }
 {

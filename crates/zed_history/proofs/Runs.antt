@@ -101,6 +101,31 @@ found-merge laws s front a b r = found-append s front (union a b ∷ []) ∙ ap 
     step : found_in s (union a b ∷ []) ≡ found_in s (a ∷ b ∷ [])
     step = first-none (edit_with s (union a b)) ∙ found-union laws.rises s a b r ∙ ap (first_of (edit_with s a)) (sym (first-none (edit_with s b)))
 
+-- ---- an edit in the last run
+
+all-more : (r run : List Edit) (e : Edit) (front : Runs) → AllByRecursion (AreNew r) (front ++ run ∷ []) → edit_with e.stamp r ≡ None → AllByRecursion (AreNew r) (front ++ with_edit e run ∷ [])
+all-more r run e [] n m = (each-with_edit (λ (g : Edit). edit_with g.stamp r ≡ None) e run m n.0, tt)
+all-more r run e (f ∷ front) n m = (n.0, all-more r run e front n.1 m)
+
+pub runs-more : SetsHold → (e : Edit) (front : Runs) (run : List Edit) → AreRuns (front ++ run ∷ []) → found_in e.stamp (front ++ run ∷ []) ≡ None → AreRuns (front ++ with_edit e run ∷ [])
+runs-more laws e [] run h none = (laws.rises e run h.0, tt, tt)
+runs-more laws e (f ∷ front) run h none =
+    let both = first-both (edit_with e.stamp f) (found_in e.stamp (front ++ run ∷ [])) none in
+    (h.0, all-more f run e front h.1 both.0, runs-more laws e front run h.2 both.1)
+
+pub last-rises : (front : Runs) (run : List Edit) → AreRuns (front ++ run ∷ []) → IsRising run
+last-rises [] run h = h.0
+last-rises (f ∷ front) run h = last-rises front run h.2
+
+pub found-in-last : SetsHold → (s : Stamp) (e : Edit) (front : Runs) (run : List Edit) → AreRuns (front ++ run ∷ [])
+    → found_in s (front ++ with_edit e run ∷ []) ≡ first_of (found_in s (front ++ run ∷ [])) (edit_with s (e ∷ []))
+found-in-last laws s e front run h =
+    found-append s front (with_edit e run ∷ [])
+    ∙ ap (first_of (found_in s front)) (first-none (edit_with s (with_edit e run)) ∙ found-with_edit s e run (last-rises front run h))
+    ∙ sym (first-assoc (found_in s front) (edit_with s run) (edit_with s (e ∷ [])))
+    ∙ ap (λ o. first_of (first_of (found_in s front) o) (edit_with s (e ∷ []))) (sym (first-none (edit_with s run)))
+    ∙ ap (λ o. first_of o (edit_with s (e ∷ []))) (sym (found-append s front (run ∷ [])))
+
 -- ---- an edit behind the last run
 
 run-rises : SetsHold → (e : Edit) (run : List Edit) → IsRising run → AllBelow e.stamp run → with_edit e run ≡ run ++ e ∷ []
@@ -109,32 +134,14 @@ run-rises laws e run r below = ap (with_edit e) (sym (append-nil run)) ∙ with_
 found-more : SetsHold → (s : Stamp) (e : Edit) (run : List Edit) → IsRising run → AllBelow e.stamp run → edit_with s (run ++ e ∷ []) ≡ first_of (edit_with s run) (edit_with s (e ∷ []))
 found-more laws s e run r below = sym (ap (edit_with s) (run-rises laws e run r below)) ∙ found-with_edit s e run r
 
-new-more : (r es : List Edit) (e : Edit) → AreNew r es → edit_with e.stamp r ≡ None → AreNew r (es ++ e ∷ [])
-new-more r [] e n m = (m, tt)
-new-more r (f ∷ es) e n m = (n.0, new-more r es e n.1 m)
-
-all-more : (r run : List Edit) (e : Edit) (front : Runs) → AllByRecursion (AreNew r) (front ++ run ∷ []) → edit_with e.stamp r ≡ None → AllByRecursion (AreNew r) (front ++ (run ++ e ∷ []) ∷ [])
-all-more r run e [] n m = (new-more r run e n.0 m, tt)
-all-more r run e (f ∷ front) n m = (n.0, all-more r run e front n.1 m)
-
 pub runs-push : SetsHold → (e : Edit) (front : Runs) (run : List Edit) → AreRuns (front ++ run ∷ []) → found_in e.stamp (front ++ run ∷ []) ≡ None → AllBelow e.stamp run → AreRuns (front ++ (run ++ e ∷ []) ∷ [])
-runs-push laws e [] run h none below = (subst IsRising (run-rises laws e run h.0 below) (laws.rises e run h.0), tt, tt)
-runs-push laws e (f ∷ front) run h none below =
-    let both = first-both (edit_with e.stamp f) (found_in e.stamp (front ++ run ∷ [])) none in
-    (h.0, all-more f run e front h.1 both.0, runs-push laws e front run h.2 both.1 below)
-
-pub last-rises : (front : Runs) (run : List Edit) → AreRuns (front ++ run ∷ []) → IsRising run
-last-rises [] run h = h.0
-last-rises (f ∷ front) run h = last-rises front run h.2
+runs-push laws e front run h none below =
+    subst (λ (es : List Edit). AreRuns (front ++ es ∷ [])) (run-rises laws e run (last-rises front run h) below) (runs-more laws e front run h none)
 
 pub found-push : SetsHold → (s : Stamp) (e : Edit) (front : Runs) (run : List Edit) → AreRuns (front ++ run ∷ []) → AllBelow e.stamp run
     → found_in s (front ++ (run ++ e ∷ []) ∷ []) ≡ first_of (found_in s (front ++ run ∷ [])) (edit_with s (e ∷ []))
 found-push laws s e front run h below =
-    found-append s front ((run ++ e ∷ []) ∷ [])
-    ∙ ap (first_of (found_in s front)) (first-none (edit_with s (run ++ e ∷ [])) ∙ found-more laws s e run (last-rises front run h) below)
-    ∙ sym (first-assoc (found_in s front) (edit_with s run) (edit_with s (e ∷ [])))
-    ∙ ap (λ o. first_of (first_of (found_in s front) o) (edit_with s (e ∷ []))) (sym (first-none (edit_with s run)))
-    ∙ ap (λ o. first_of o (edit_with s (e ∷ []))) (sym (found-append s front (run ∷ [])))
+    sym (ap (λ (es : List Edit). found_in s (front ++ es ∷ [])) (run-rises laws e run (last-rises front run h) below)) ∙ found-in-last laws s e front run h
 
 -- ---- an edit behind the first run
 
@@ -305,6 +312,10 @@ count-two (f ∷ front) a b = let most = count-two front a b in omega arith
 pub count-last : (front : Runs) (a : List Edit) → count_in (front ++ a ∷ []) ≡ count_in front + length a
 count-last [] a = omega arith
 count-last (f ∷ front) a = let most = count-last front a in omega arith
+
+pub count-in-last : (front : Runs) (a : List Edit) (e : Edit) → count_in (front ++ with_edit e a ∷ []) ≤ count_in (front ++ a ∷ []) + 1
+count-in-last [] a e = let more = length-with e a in omega arith
+count-in-last (f ∷ front) a e = let most = count-in-last front a e in omega arith
 
 pub count-push : (front : Runs) (a : List Edit) (e : Edit) → count_in (front ++ (a ++ e ∷ []) ∷ []) ≡ count_in (front ++ a ∷ []) + 1
 count-push [] a e = let more = length-append a (e ∷ []) in omega arith

@@ -18,8 +18,9 @@ pub struct Batch {
     pub clash: Option<Stamp>,
 }
 
-/// Puts an edit among those gathered, unless the log or they have it. Where they have another one of its stamp it tells that, and nothing
-/// changes. In the log it is sought where the last one was.
+/// Puts an edit among those gathered, unless the log or they have it. If they have another edit
+/// with its stamp, it answers that stamp, and nothing changes. The search in the log begins where
+/// the last one ended.
 fn put(
     log: &[Edit],
     at: &mut usize,
@@ -54,7 +55,7 @@ fn put(
     }
 }
 
-/// Gathers edits in a log that has none, up to the first that clashes, whose stamp is told.
+/// Gathers edits in an empty log, up to the first clash, and answers its stamp.
 fn put_all(
     log: &[Edit],
     gathered: &mut History,
@@ -80,7 +81,8 @@ fn put_all(
     Ok(None)
 }
 
-/// The edits that join a log, one after the other, up to the first that clashes. Memory only where one is new.
+/// The edits that join a log, one after the other, up to the first that clashes. Memory comes only
+/// if an edit is new.
 pub fn gather(alloc: Global, log: &[Edit], edits: Vec<Edit>) -> Result<Batch, AllocError>
     requires rising { IsRising log.now }
     requires fit { AllFit edits.items }

@@ -1,4 +1,4 @@
-//! The times that are left for edits that are still to be made.
+//! The times left for new edits.
 ghost use Rattle.std.specs.Prelude.{◌≡◌, ◌<◌, ◌+◌, max, nat_lt, false, true, IfSome, IfNone, OnSome};
 ghost use Rattle.zed_types.specs.declared.stamp.TheConstants.Stamp.{LAST_TIME};
 ghost use Rattle.zed_op.specs.Set.{IsRising};

@@ -1,5 +1,5 @@
 //! The edits of a replica, to which others come in any order.
-ghost use Rattle.std.specs.Prelude.{◌≡◌, ◌≢◌, ◌≤◌, ◌<◌, ◌+◌, ◌++◌, ◌∷◌, [], true, false, None, Some, List, length, vec_len, vec_capacity, IfSome, IfNone, OnOk, OnErr};
+ghost use Rattle.std.specs.Prelude.{◌≡◌, ◌≢◌, ◌≤◌, ◌<◌, ◌+◌, ◌++◌, ◌∷◌, [], true, false, None, Some, List, length, vec_len, vec_capacity, IfSome, IfNone, OnOk, OnErr, insert};
 ghost use Rattle.zed_types.specs.declared.stamp.Stamp.{Stamp as TheStamp};
 ghost use Rattle.zed_op.specs.declared.op.Edit.{Edit as TheEdit};
 ghost use Rattle.zed_op.specs.Set.{IsRising, with_edit};
@@ -16,8 +16,12 @@ use std::mem::replace;
 use zed_op::{Edit, rising_lists_are_sets, sets_rise};
 use zed_types::Stamp;
 
-/// The edits of a replica in stamp order, to which others come in any order: one that comes late moves none of those that are there,
-/// until the history is closed. Contracts see the edits.
+/// A run of at most so many edits is short: a late edit is put into the last run while it is short,
+/// and begins no run of its own.
+const SHORT: usize = 32;
+
+/// The edits of a replica in stamp order, to which others come in any order. Until the history is
+/// closed, a late edit moves few of the others. Contracts see the edits.
 #[derive(Drop)]
 pub struct History {
     /// Those that the log began with, and those that came as the latest.
@@ -49,7 +53,8 @@ impl Model for History {
         × (count_in (l.settled.items ++ l.run.items ∷ []) ≤ l.late) };
 }
 
-/// Makes room behind a log for so many late edits and one more, and elsewhere for all of them, unless none is late.
+/// Makes room at the end of a log for so many late edits and one more, and elsewhere for all of
+/// them, unless none is late.
 fn make_room(
     log: &mut Vec<Edit>,
     late: usize,
@@ -100,7 +105,33 @@ fn start_run(
     Ok(())
 }
 
-/// Puts a new edit behind the last run, or begins one. Memory leaves all as it was.
+/// Where an edit belongs in a run that doesn't have its stamp, if that is short.
+fn place_in(run: &[Edit], edit: &Edit) -> Option<usize>
+    requires { IsRising run.now }
+    ensures within { IfSome result (λ i. i ≤ length run.now) }
+    ensures belongs { IfSome result (λ i. with_edit edit.now run.now ≡ insert run.now i edit.now) }
+{
+    if run.len() >= SHORT {
+        return None;
+    }
+    match spot_of(run, run.len(), edit.stamp) {
+        Ok(_) => None,
+        Err(place) => Some(place),
+    }
+}
+
+/// Puts an edit at its place in a run. Memory leaves the run as it was.
+fn put_at(run: &mut Vec<Edit>, place: usize, edit: Edit) -> Result<(), AllocError>
+    requires { place ≤ length run.old.items }
+    ensures ok { OnOk result (run.new.items ≡ insert run.old.items place edit) }
+    ensures kept { OnErr result (run.new.items ≡ run.old.items) }
+{
+    run.reserve(1)?;
+    run.insert(place, edit).unwrap();
+    Ok(())
+}
+
+/// Puts a new edit behind the last run, into it where it is short, or begins one. Memory leaves all as it was.
 fn put_late(
     alloc: Global,
     settled: &mut Vec<Run>,
@@ -131,6 +162,10 @@ fn put_late(
     if is_latest(run, edit.stamp) {
         run.reserve(1)?;
         run.push_reserved(edit);
+        return Ok(());
+    }
+    if let Some(place) = place_in(run, &edit) {
+        put_at(run, place, edit)?;
         return Ok(());
     }
     start_run(alloc, settled, run, spare)?;
@@ -172,7 +207,7 @@ impl History {
         *self.log.allocator()
     }
 
-    /// Looks for the place of a stamp, where the next call seeks it first.
+    /// Looks for the place of a stamp. The next search begins there.
     pub fn seek(&mut self, stamp: Stamp)
         ensures { self.new ≡ self.old }
     {
@@ -189,7 +224,7 @@ impl History {
     {
         sets_rise();
         rising_lists_are_sets();
-        if let Ok(there) = spot_of(&self.log, self.at.saturating_sub(1), stamp) {
+        if let Ok(there) = spot_of(&self.log, self.at, stamp) {
             return Some(there);
         }
         if let Some(there) = find_in(&self.settled, stamp) {
@@ -198,7 +233,7 @@ impl History {
         find_last(&self.run, stamp)
     }
 
-    /// Adds an edit of a new stamp. Memory leaves the edits as they were.
+    /// Adds an edit with a new stamp. Memory leaves the edits as they were.
     pub fn add(&mut self, edit: Edit) -> Result<(), AllocError>
         requires new { edit_with edit.stamp self.old ≡ None }
         ensures ok { OnOk result (self.new ≡ with_edit edit self.old) }

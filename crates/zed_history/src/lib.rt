@@ -1,5 +1,5 @@
 //! A replica's edits in stamp order, though they come in any order. Late ones are kept in runs
-//! until the history is closed, and a place is found from where the last one was.
+//! until the history is closed. The search for a place begins where the last one was found.
 #![tactic(auto)]
 
 mod batch;

@@ -1,4 +1,4 @@
-//! Edits moved between lists, which takes no memory where there is room for them.
+//! Edits moved between lists. This takes no memory if there is room for them.
 ghost use Rattle.std.specs.Prelude.{◌≡◌, ◌≢◌, ◌≤◌, ◌+◌, ◌++◌, ◌∷◌, [], true, None, length, reverse, vec_capacity, IfSome, IfNone, OnOk, OnErr};
 ghost use Rattle.zed_types.specs.Stamp.{before};
 ghost use Rattle.zed_op.specs.Set.{IsRising, union};
@@ -73,7 +73,8 @@ pub(crate) fn move_in(log: &mut Vec<Edit>, mut edits: Vec<Edit>, by: &mut Vec<Ed
     move_back(log, by);
 }
 
-/// Joins edits of new stamps to a log. None is copied. Memory leaves the log as it was, and comes only where both have edits.
+/// Joins edits with new stamps to a log. None is copied. Memory leaves the log as it was, and comes
+/// only if both have edits.
 pub fn join(log: &mut Vec<Edit>, edits: Vec<Edit>) -> Result<(), AllocError>
     requires log_rising { IsRising log.old.items }
     requires rising { IsRising edits.items }

@@ -1,4 +1,4 @@
-//! Where an edit stands or belongs in a log.
+//! The place of an edit in a log, or the place where it belongs.
 ghost use Rattle.std.specs.Prelude.{◌≡◌, ◌≤◌, ◌<◌, ◌+◌, ◌-◌, true, false, not, None, Some, length, take, drop, insert, slice_get, IfSome, IfOk, IfErr, OnOk, OnErr};
 ghost use Rattle.std.specs.Bool.{OnTrue, OnFalse};
 ghost use Rattle.std.specs.List.{AllByRecursion};
@@ -56,7 +56,7 @@ fn is_above(edits: &[Edit], place: usize, stamp: Stamp) -> bool
     place < edits.len() && stamp.is_before(edits[place].stamp)
 }
 
-/// Whether the edit before a place of a log doesn't come after a stamp, if one stands there.
+/// Whether the edit before a place of a log, if there is one, doesn't come after a stamp.
 fn is_below(edits: &[Edit], place: usize, stamp: Stamp) -> bool
     requires { place ≤ length edits.now }
     ensures { OnTrue result (0 < place
@@ -73,8 +73,8 @@ fn stands_at(edits: &[Edit], place: usize, stamp: Stamp) -> bool
     place < edits.len() && edits[place].stamp == stamp
 }
 
-/// How many edits of a log do not come after a stamp. The stamps of a log rise, so this is sought by halves, unless all come
-/// before it, or it stands near a place where one may look for it first.
+/// How many edits of a log do not come after a stamp. The stamps of a log rise, so this is a binary
+/// search, unless all come before it, or it is near the place that is tried first.
 pub(crate) fn place_of(edits: &[Edit], hint: usize, stamp: Stamp) -> usize
     requires { IsRising edits.now }
     ensures within { result ≤ length edits.now }
@@ -82,10 +82,13 @@ pub(crate) fn place_of(edits: &[Edit], hint: usize, stamp: Stamp) -> usize
     ensures below { 0 < result
         → IfSome (slice_get edits.now (result - 1)) (λ e. before stamp e.stamp ≡ false) }
 {
+    if is_above(edits, hint, stamp) && is_below(edits, hint, stamp) {
+        return hint;
+    }
     if stands_at(edits, hint, stamp) {
         return hint + 1;
     }
-    if is_latest(edits, stamp) {
+    if is_below(edits, edits.len(), stamp) {
         return edits.len();
     }
     let near = place_on(edits, hint, stamp);
@@ -106,7 +109,8 @@ pub(crate) fn ends_with(edits: &[Edit], place: usize, stamp: Stamp) -> bool
     place > 0 && edits[place - 1].stamp == stamp
 }
 
-/// The edit with a stamp in a log, or else where one belongs, sought where the last one was, which changes to this place.
+/// The edit with a stamp in a log, or else the place where it belongs. The search begins where the
+/// last one ended, and this place is kept for the next.
 pub(crate) fn spot_from<'a>(
     edits: &'a [Edit],
     at: &mut usize,
@@ -131,7 +135,7 @@ pub(crate) fn spot_from<'a>(
     }
 }
 
-/// The edit with a stamp in a log, or else where one belongs, sought at a place first.
+/// The edit with a stamp in a log, or else the place where it belongs. The search begins at `hint`.
 pub fn spot_of(edits: &[Edit], hint: usize, stamp: Stamp) -> Result<&Edit, usize>
     requires { IsRising edits.now }
     ensures there { IfOk result (λ f. edit_with stamp edits.now ≡ Some f.now) }

@@ -45,7 +45,7 @@ impl Run {
         edits
     }
 
-    /// Looks for the place of a stamp, where the next call seeks it first.
+    /// Looks for the place of a stamp. The next search begins there.
     fn seek(&mut self, stamp: Stamp)
         ensures { self.new ≡ self.old }
     {
@@ -57,7 +57,7 @@ impl Run {
         ensures some { IfSome result (λ f. edit_with stamp self.now ≡ Some f.now) }
         ensures none { IfNone result (edit_with stamp self.now ≡ None) }
     {
-        match spot_of(&self.edits, self.at.saturating_sub(1), stamp) {
+        match spot_of(&self.edits, self.at, stamp) {
             Ok(there) => Some(there),
             Err(_) => None,
         }

@@ -1,4 +1,4 @@
-//! Two logs, each walked once: whether they clash, and what the one has that the other hasn't.
+//! Two logs, each walked once: whether they clash, and what one has that the other doesn't.
 
 ghost use Rattle.std.specs.Prelude.{◌≡◌, ◌≢◌, ◌<◌, ◌≤◌, ◌-◌, ◌++◌, ◌∷◌, [], if◌then◌else◌, true, false, None, length, take, drop, slice_get, IfSome, IfNone, IfOk, IfErr, IsSomeAnd, OnErr, OnOk};
 ghost use Rattle.std.specs.Bool.{OnTrue, OnFalse};
@@ -119,7 +119,8 @@ fn copy_new(own: &[Edit], alloc: Global, other: &[Edit]) -> Result<Vec<Edit>, Al
     Ok(edits)
 }
 
-/// Copies of the edits of another log that have stamps of their own, in stamp order. Memory only where there is one.
+/// Copies of the edits of another log whose stamps this log doesn't have, in stamp order. Memory
+/// comes only if there is one.
 pub fn copies_new_to(own: &[Edit], alloc: Global, other: &[Edit]) -> Result<Vec<Edit>, AllocError>
     requires own { IsRising own.now }
     requires other { IsRising other.now }

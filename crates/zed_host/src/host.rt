@@ -25,14 +25,15 @@ pub trait Host {
     /// What it holds, or that this isn't known.
     ghost contents: { Self → Option HostContents };
 
-    /// How many calls failed, reads of files that aren't there among them.
+    /// How many calls failed, including reads of files that aren't there.
     ghost failed: { Self → ℕ };
 
     /// How many calls failed by a fault of the device.
     ghost faults: { Self → ℕ };
 
-    /// Whether a call leads from the one state to the other. Nothing but the calls below tells that it does: so who states which calls
-    /// lead from a host to what it becomes tells all that was asked of it.
+    /// Whether a call leads from one state to the other. Only the calls below say so. So a
+    /// statement of the calls that lead from a host to what it becomes says all that was asked of
+    /// it.
     ghost called: { Self → Call → Self → Type 0 };
 
     /// The bytes of a file.
@@ -48,7 +49,8 @@ pub trait Host {
         ensures failures { Counts (is_failure result) (failed self.old) (failed self.new) }
         ensures faults { Counts (is_fault result) (faults self.old) (faults self.new) };
 
-    /// Puts a file in place of an earlier one of its name. Where that fails, a front of it may be there.
+    /// Puts a file in place of an earlier one of its name. If that fails, a front of it may be
+    /// there.
     fn write(&mut self, name: &str, bytes: &[u8]) -> Result<(), WriteError>
         ensures written { OnOk result
             (contents self.new ≡ option_map (with_file name.now bytes.now) (contents self.old)) }
@@ -83,7 +85,7 @@ pub trait Host {
         ensures result { result ≡ failed self.now }
         ensures within { faults self.now ≤ failed self.now };
 
-    /// A call that failed is counted, and no other.
+    /// Only calls that failed are counted.
     ghost counts_failures: { (old : Self) (call : Call) (new : Self)
         → called old call new → Counts call.failed (failed old) (failed new) };
 

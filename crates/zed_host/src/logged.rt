@@ -49,7 +49,7 @@ pub struct Made {
     pub failed: bool,
 }
 
-/// The calls that were made of a host, in order; or nothing, from the first on for which memory was lacking.
+/// The calls that were made of a host, in order; or nothing, once memory ran out for one.
 #[derive(Drop)]
 pub struct CallLog {
     made: Option<Vec<Made>>,
@@ -75,7 +75,7 @@ impl CallLog {
         }
     }
 
-    /// The calls, unless memory was lacking for one.
+    /// The calls, unless memory ran out for one.
     pub fn calls(&self) -> Option<&[Made]>
         ensures { option_map (λ made. calls_in made.now) result ≡ self.now }
     {
@@ -204,8 +204,9 @@ impl<H: Host> Host for Logged<H> {
     ghost counts_no_fault = { λ old call new is. H.counts_no_fault old.host call new.host is.0 };
 }
 
-/// Whatever calls are made of a host that keeps their list, one after the other: the list has grown by just these, in this order, or it was
-/// lost for want of memory. So who says which calls lead from such a host to what it becomes says what its list shows.
+/// After any calls of a host that keeps their list, the list has grown by exactly these, in this
+/// order, or it was lost for want of memory. So a statement of the calls that lead from such a host
+/// to what it becomes says what its list shows.
 pub fn calls_are_logged<H: Host>()
     ensures { CallsAreLogged ⟦<Logged<H> as Host>⟧.called (λ host. host.log) }
 {}

@@ -14,7 +14,7 @@ struct Entry {
     bytes: Vec<u8>,
 }
 
-/// Files and streams in memory. The device may be told to fail at one of its calls.
+/// Files and streams in memory. The device can be made to fail at one of its calls.
 #[derive(Drop)]
 pub struct MemoryHost {
     alloc: Global,

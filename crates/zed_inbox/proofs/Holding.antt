@@ -29,10 +29,6 @@ pub and_all : (a : Bool) → (a && true) ≡ a
 and_all true = refl
 and_all false = refl
 
-and_none : (a : Bool) → (a && false) ≡ false
-and_none true = refl
-and_none false = refl
-
 -- ---- with an edit
 
 any_with : (test : Edit → Bool) (e : Edit) (es : List Edit) → list_any (has_stamp e.stamp) es ≡ false → list_any test (with_edit e es) ≡ (list_any test es || test e)

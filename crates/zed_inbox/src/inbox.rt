@@ -5,10 +5,9 @@ ghost use Rattle.zed_types.specs.Stamp.{same_stamp};
 ghost use Rattle.zed_op.specs.Set.{IsRising, with_edit, stamps_of};
 ghost use Rattle.zed_inbox.specs.Waiting.{naming, not_naming, without};
 
-use crate::error::InboxError;
 use crate::index::{is_one, unlist};
 use crate::keeping::{has, keep_the_same, put, repeats};
-use std::alloc::Global;
+use std::alloc::{AllocError, Global};
 use std::collections::{BTreeMap, BTreeSet};
 use std::marker::Model;
 use zed_op::{Edit, Thing};
@@ -49,10 +48,9 @@ impl Inbox {
         }
     }
 
-    /// An edit waits from now on, unless one of its stamp does. Memory leaves the inbox as it was.
-    pub fn hold(&mut self, edit: Edit) -> Result<(), InboxError>
+    /// Holds an edit, unless one with its stamp waits already. Memory leaves the inbox as it was.
+    pub fn hold(&mut self, edit: Edit) -> Result<(), AllocError>
         ensures ok { OnOk result (self.new ≡ with_edit edit self.old) }
-        ensures err { IfErr result (λ e. e ≡ InboxError.Memory) }
         ensures kept { OnErr result (self.new ≡ self.old) }
         ensures memory_only_when { OnErr result
             (list_any (λ e. same_stamp e.stamp edit.stamp) self.old ≡ false) }
@@ -63,12 +61,11 @@ impl Inbox {
         put(self.alloc, &mut self.edits, &mut self.waits, edit)
     }
 
-    /// The edits that wait for a thing, in stamp order. They no longer wait, and the others do. It takes no memory where none does.
-    /// Memory leaves the inbox as it was.
-    pub fn release(&mut self, thing: Thing) -> Result<Vec<Edit>, InboxError>
+    /// Takes out the edits that wait for a thing, in stamp order. The others still wait. If none
+    /// waits for it, this takes no memory. Memory leaves the inbox as it was.
+    pub fn release(&mut self, thing: Thing) -> Result<Vec<Edit>, AllocError>
         ensures ok { IfOk result (λ edits. edits.items ≡ naming thing self.old) }
         ensures others { OnOk result (self.new ≡ not_naming thing self.old) }
-        ensures err { IfErr result (λ e. e ≡ InboxError.Memory) }
         ensures kept { OnErr result (self.new ≡ self.old) }
         ensures memory_only_when { OnErr result (naming thing self.old ≢ []) }
     {
@@ -91,10 +88,9 @@ impl Inbox {
         has(&self.edits, stamp)
     }
 
-    /// The stamps of the edits that wait, in order. It takes no memory where nothing waits.
-    pub fn stamps(&self) -> Result<Vec<Stamp>, InboxError>
+    /// The stamps of the edits that wait, in order. If nothing waits, this takes no memory.
+    pub fn stamps(&self) -> Result<Vec<Stamp>, AllocError>
         ensures ok { IfOk result (λ stamps. stamps.items ≡ stamps_of self.now) }
-        ensures err { IfErr result (λ e. e ≡ InboxError.Memory) }
         ensures memory_only_when { OnErr result (self.now ≢ []) }
     {
         let mut stamps = Vec::with_capacity(self.alloc, self.held())?;
@@ -112,9 +108,8 @@ impl Inbox {
     }
 
     /// The stamps of the edits that wait for a thing, in order.
-    fn stamps_for(&self, thing: Thing) -> Result<Vec<Stamp>, InboxError>
+    fn stamps_for(&self, thing: Thing) -> Result<Vec<Stamp>, AllocError>
         ensures ok { IfOk result (λ stamps. stamps.items ≡ stamps_of (naming thing self.now)) }
-        ensures err { IfErr result (λ e. e ≡ InboxError.Memory) }
         ensures memory_only_when { OnErr result (naming thing self.now ≢ []) }
     {
         let mut stamps = Vec::new(self.alloc);
@@ -127,18 +122,18 @@ impl Inbox {
                 return Ok(stamps);
             }
             if stamps.push(wait.1).is_err() {
-                return Err(InboxError::Memory);
+                return Err(AllocError);
             }
         }
         Ok(stamps)
     }
 
-    /// The edits that wait for a thing, by their stamps. They no longer wait, and the others do. Memory leaves the inbox as it was.
-    fn take_all(&mut self, _thing: Thing, stamps: &[Stamp]) -> Result<Vec<Edit>, InboxError>
+    /// Takes out the edits that wait for a thing, by their stamps. The others still wait. Memory
+    /// leaves the inbox as it was.
+    fn take_all(&mut self, _thing: Thing, stamps: &[Stamp]) -> Result<Vec<Edit>, AllocError>
         requires { stamps.now ≡ stamps_of (naming _thing self.old) }
         ensures ok { IfOk result (λ edits. edits.items ≡ naming _thing self.old) }
         ensures others { OnOk result (self.new ≡ not_naming _thing self.old) }
-        ensures err { IfErr result (λ e. e ≡ InboxError.Memory) }
         ensures kept { OnErr result (self.new ≡ self.old) }
         ensures memory_only_when { OnErr result (naming _thing self.old ≢ []) }
     {

@@ -3,8 +3,7 @@ ghost use Rattle.std.specs.Prelude.{◌≡◌, IfErr, OnOk, OnErr};
 ghost use Rattle.zed_inbox.specs.Waiting.{same_thing};
 ghost use Rattle.zed_inbox.specs.Kept.{IsUnlisted, ListsOne, ListsOneLess, ListsAlso, ListsNoMore, ListsTheSame};
 
-use crate::error::InboxError;
-use std::alloc::Global;
+use std::alloc::{AllocError, Global};
 use std::collections::BTreeSet;
 use zed_op::{Edit, Thing, names};
 use zed_types::Stamp;
@@ -23,14 +22,13 @@ pub(crate) fn is_one(a: Thing, b: Thing) -> bool
 }
 
 /// Lists a stamp under a thing.
-fn add(waits: &mut BTreeSet<(Thing, Stamp)>, thing: Thing, stamp: Stamp) -> Result<(), InboxError>
+fn add(waits: &mut BTreeSet<(Thing, Stamp)>, thing: Thing, stamp: Stamp) -> Result<(), AllocError>
     ensures ok { OnOk result (ListsOne thing stamp waits.old.keys waits.new.keys) }
-    ensures err { IfErr result (λ e. e ≡ InboxError.Memory) }
     ensures kept { OnErr result (waits.new.keys ≡ waits.old.keys) }
 {
     match waits.insert((thing, stamp)) {
         Ok(_) => Ok(()),
-        Err(_) => Err(InboxError::Memory),
+        Err(_) => Err(AllocError),
     }
 }
 
@@ -47,10 +45,9 @@ pub(crate) fn list(
     alloc: Global,
     waits: &mut BTreeSet<(Thing, Stamp)>,
     edit: &Edit,
-) -> Result<(), InboxError>
+) -> Result<(), AllocError>
     requires { IsUnlisted edit.now.stamp waits.old.keys }
     ensures ok { OnOk result (ListsAlso edit.now waits.old.keys waits.new.keys) }
-    ensures err { IfErr result (λ e. e ≡ InboxError.Memory) }
     ensures kept { OnErr result (ListsTheSame waits.old.keys waits.new.keys) }
 {
     for thing in names(alloc, edit) {

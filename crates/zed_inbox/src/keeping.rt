@@ -6,9 +6,8 @@ ghost use Rattle.zed_types.specs.Stamp.{same_stamp};
 ghost use Rattle.zed_op.specs.Set.{IsRising, with_edit};
 ghost use Rattle.zed_inbox.specs.Kept.{stamped, AreKept};
 
-use crate::error::InboxError;
 use crate::index::{list, unlist};
-use std::alloc::Global;
+use std::alloc::{AllocError, Global};
 use std::collections::{BTreeMap, BTreeSet};
 use zed_op::{Edit, Thing, sets_rise};
 use zed_types::Stamp;
@@ -46,13 +45,12 @@ pub(crate) fn put(
     edits: &mut BTreeMap<Stamp, Edit>,
     waits: &mut BTreeSet<(Thing, Stamp)>,
     edit: Edit,
-) -> Result<(), InboxError>
+) -> Result<(), AllocError>
     requires whole { AreKept edits.old.entries waits.old.keys }
     requires new { list_any (λ e. same_stamp e.stamp edit.stamp) (values_of edits.old.entries)
         ≡ false }
     ensures ok { OnOk result
         (values_of edits.new.entries ≡ with_edit edit (values_of edits.old.entries)) }
-    ensures err { IfErr result (λ e. e ≡ InboxError.Memory) }
     ensures kept { OnErr result (edits.new.entries ≡ edits.old.entries) }
     ensures whole { AreKept edits.new.entries waits.new.keys }
 {
@@ -63,7 +61,7 @@ pub(crate) fn put(
         Ok(_) => Ok(()),
         Err(refused) => {
             unlist(alloc, waits, &refused.value.1);
-            Err(InboxError::Memory)
+            Err(AllocError)
         }
     }
 }

@@ -23,7 +23,6 @@ pub mod NamesInOrder
 pub mod OrderedLists
 pub mod OwnNames
 pub mod RegularSteps
-pub mod Removed
 pub mod ReplaySteps
 pub mod SameThings
 pub mod Settling

@@ -109,9 +109,6 @@ elements_are_of_edits test es t h =
     let p : Plain = replay_on empty_document es in
     found-all (Pass test) t p.texts tt (All-weaken (IsGood test) (λ x. Pass test x.elements) p.texts (λ x g. g.1) (good-on test empty_document es h tt))
 
-abbrev stamp_at : ℕ → ℕ → Stamp
-stamp_at t r = record { time = t; replica = r }
-
 text-passes : (test : Stamp → Bool) (t : TextId) (xs : List Text) → AllByRecursion (IsGood test) xs → list_any (λ x. same_text x.id t) xs ≡ true → test t.name.stamp ≡ true
 text-passes test t [] a h = absurd (cc)
 text-passes test t (x ∷ xs) a h = go (same_text x.id t) refl (λ k. text-passes test t xs a.1 k)

@@ -1,23 +1,17 @@
 -- What holds of the replay, whatever the edits.
 use Rattle.std.specs.Prelude.{◌≡◌, ℕ, true, if◌then◌else◌, List, [], ◌∷◌, ◌++◌, map, Option, ◌⊎◌, Contains}
 use Rattle.zed_types.specs.declared.stamp.Stamp.{Stamp}
-use Rattle.zed_types.specs.declared.names.BoardId.{BoardId}
-use Rattle.zed_types.specs.declared.names.StatId.{StatId}
 use Rattle.zed_types.specs.declared.names.TextId.{TextId}
 use Rattle.zed_types.specs.declared.names.ElemId.{ElemId}
 use Rattle.zed_types.specs.declared.text.ByteRange.{ByteRange}
-use Rattle.zed_types.specs.declared.tile.Tile.{Tile}
-use Rattle.zed_types.specs.declared.tile.Rectangle.{Rectangle}
-use Rattle.zed_types.specs.declared.property.BoardSetting.{BoardSetting}
-use Rattle.zed_types.specs.declared.stat_field.StatSetting.{StatSetting}
 use Rattle.zed_types.specs.Text.{run_from, put_late, kill}
-use Rattle.zed_op.specs.declared.op.Op.TheVariants.{BoardRemove, SetBoard, SetCells, StatRemove, SetStat, TextInsert, TextDelete}
+use Rattle.zed_op.specs.declared.op.Op.TheVariants.{TextInsert, TextDelete}
 use Rattle.zed_op.specs.declared.op.Edit.{Edit}
 use Rattle.zed_op.specs.declared.thing.Thing.{Thing}
 use Rattle.zed_edit.specs.declared.plain.Plain.{Plain}
 use Rattle.zed_edit.specs.Document.{has, elements}
 use Rattle.zed_op.specs.Set.{IsRising, AllFit}
-use Rattle.zed_edit.specs.Replay.{can, do_op, step, replay_on, replay, taken_on, taken, held_on, held}
+use Rattle.zed_edit.specs.Replay.{can, step, replay_on, replay, taken_on, taken, held_on, held}
 
 -- one more edit at the end is one step more
 abbrev pub OneMoreIsOneStep : Type 0
@@ -62,24 +56,6 @@ HeldByWhatIsMade = (p q : Plain) (es : List Edit) → MadeTheSame p q → held_o
 -- and what is made after them
 abbrev pub MadeByWhatIsMade : Type 0
 MadeByWhatIsMade = (p q : Plain) (es : List Edit) → MadeTheSame p q → MadeTheSame (replay_on p es) (replay_on q es)
-
--- the registers of a removed board are set like those of any other: before or after makes no difference
-abbrev pub RemovedBoardIsSet : Type 0
-RemovedBoardIsSet =
-    (p : Plain) (r s : Stamp) (b c : BoardId) (setting : BoardSetting)
-    → do_op s (SetBoard c setting) (do_op r (BoardRemove b) p) ≡ do_op r (BoardRemove b) (do_op s (SetBoard c setting) p)
-
--- and so are its cells
-abbrev pub RemovedBoardIsDrawn : Type 0
-RemovedBoardIsDrawn =
-    (p : Plain) (r s : Stamp) (b c : BoardId) (cells : Rectangle) (tile : Tile)
-    → do_op s (SetCells c cells tile) (do_op r (BoardRemove b) p) ≡ do_op r (BoardRemove b) (do_op s (SetCells c cells tile) p)
-
--- and the registers of a removed stat
-abbrev pub RemovedStatIsSet : Type 0
-RemovedStatIsSet =
-    (p : Plain) (r s : Stamp) (x y : StatId) (setting : StatSetting)
-    → do_op s (SetStat y setting) (do_op r (StatRemove x) p) ≡ do_op r (StatRemove x) (do_op s (SetStat y setting) p)
 
 -- an edit that puts bytes into a text
 abbrev pub insertion : Stamp → TextId → Option ElemId → List ℕ → Edit

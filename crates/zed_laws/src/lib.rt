@@ -1,5 +1,5 @@
-//! Laws on the replay: what holds of it, whatever the edits and however they came. Each is the
-//! contract of a function with an empty body.
+//! Laws of the replay, for any edits in any order. Each law is the contract of a function with an
+//! empty body.
 #![tactic(auto)]
 
 mod laws;
@@ -9,19 +9,14 @@ mod regular;
 mod settled;
 mod texts;
 
-pub use laws::{
-    held_edits_are_remembered, late_edits_find_their_place, late_writes_are_compared,
-    made_things_decide, made_things_stay, removed_things_are_changed, replay_goes_edit_by_edit,
-    taken_edits_make_all,
-};
-pub use order::{ordered_boards_are_apart, replay_is_ordered};
+pub use laws::{held_edits_are_remembered, made_things_stay, replay_goes_edit_by_edit};
+pub use order::replay_is_ordered;
 pub use registers::{
     greatest_stamp_wins_boards, greatest_stamp_wins_stats, greatest_stamp_wins_the_header,
     replay_is_whole,
 };
 pub use regular::replay_is_regular;
 pub use settled::{
-    earlier_edits_decide, edits_make_all_things, held_edits_stand_alone,
-    ordered_lists_are_their_members, settled_edits_are_taken, things_have_own_names,
+    earlier_edits_decide, edits_make_all_things, held_edits_stand_alone, things_have_own_names,
 };
 pub use texts::texts_keep_names;

@@ -1,4 +1,4 @@
-//! What stands in a register, whatever the order in which its writes came.
+//! The value of a register, in whatever order its writes came.
 ghost use Rattle.std.specs.Prelude.{ℕ, ◌<◌};
 ghost use Rattle.zed_types.specs.declared.tile.TheConstants.{TILES};
 ghost use Rattle.zed_types.specs.declared.names.BoardId.{BoardId};
@@ -40,7 +40,7 @@ pub fn greatest_stamp_wins_the_header()
     read_is_normal();
 }
 
-/// The greatest stamp wins each register of a board, its making counted as a write of all.
+/// The greatest stamp wins each register of a board. Its making counts as a write of all of them.
 pub fn greatest_stamp_wins_boards()
     ensures bytes { (b : BoardId) (f : BoardByte) → GreatestStampWins (of_board b (board_byte f)) }
     ensures flags { (b : BoardId) (f : BoardFlag) → GreatestStampWins (of_board b (board_flag f)) }
@@ -54,7 +54,7 @@ pub fn greatest_stamp_wins_boards()
     read_is_normal();
 }
 
-/// The greatest stamp wins each register of a stat, its making counted as a write of all.
+/// The greatest stamp wins each register of a stat. Its making counts as a write of all of them.
 pub fn greatest_stamp_wins_stats()
     ensures board { (x : StatId) → GreatestStampWins (home x) }
     ensures bytes { (x : StatId) (f : StatByte) → GreatestStampWins (of_stat x (stat_byte f)) }

@@ -1,24 +1,14 @@
-//! What holds of edits, however they came.
+//! What holds of edits, in whatever order they came.
 ghost use Rattle.zed_laws.specs.HeldAlone.{HeldChangesNothing, HeldTakesNothing, HeldIsOneMore};
 ghost use Rattle.zed_laws.specs.Making.{LateEditMakes, TakenMake, ThingsAreOfEdits};
-ghost use Rattle.zed_laws.specs.Ordered.{OrderedAreTheirMembers};
 ghost use Rattle.zed_laws.specs.OwnNames.{BoardsHaveOwnNames, StatsHaveOwnNames, TextsHaveOwnNames};
-ghost use Rattle.zed_laws.specs.Settled.{SettledAreTaken, EarlierIsMadeBefore, EarlierDecide};
+ghost use Rattle.zed_laws.specs.Settled.{EarlierIsMadeBefore, EarlierDecide};
 
-/// Edits of which some are done by themselves and the others can't be done after them are those taken and those held.
-pub fn settled_edits_are_taken()
-    ensures { SettledAreTaken }
-{}
-
-/// What isn't made yet at the place of an edit isn't made behind it either, if it names only what came before it.
+/// If an edit names only what came before it, then what isn't made at its place isn't made after it
+/// either.
 pub fn earlier_edits_decide()
     ensures made { EarlierIsMadeBefore }
     ensures can { EarlierDecide }
-{}
-
-/// A list in the order of names is told by what each name finds in it. `X` is the type of its members.
-pub fn ordered_lists_are_their_members<X>()
-    ensures { OrderedAreTheirMembers X }
 {}
 
 /// An edit that can't be done at its place is held there, and changes nothing else.
@@ -28,14 +18,15 @@ pub fn held_edits_stand_alone()
     ensures held { HeldIsOneMore }
 {}
 
-/// What a replay has is what the edits taken made, however they came, and each thing has the stamp of an edit.
+/// A replay has what the edits taken made, in whatever order they came. Each thing has the stamp of
+/// an edit.
 pub fn edits_make_all_things()
     ensures made { TakenMake }
     ensures late { LateEditMakes }
     ensures stamps { ThingsAreOfEdits }
 {}
 
-/// No two boards have one name, nor two stats, on whichever boards, nor two texts.
+/// No two boards have the same name, nor do two stats of any boards, nor two texts.
 pub fn things_have_own_names()
     ensures boards { BoardsHaveOwnNames }
     ensures stats { StatsHaveOwnNames }

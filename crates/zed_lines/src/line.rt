@@ -7,7 +7,7 @@ use smallvec::SmallVec;
 use std::alloc::Global;
 use std::marker::Model;
 
-/// A line that is made from left to right, of at most 64 bytes, which stand in the value itself.
+/// A line that is made from left to right, of at most 64 bytes, which are kept in the value itself.
 /// Contracts see its bytes.
 #[derive(Drop)]
 pub struct Line {
@@ -68,7 +68,7 @@ impl Line {
         self.bytes.extend_from_slice(text.as_bytes()).unwrap();
     }
 
-    /// Appends a number in decimal digits, of which there are at most 20.
+    /// Appends a number in decimal digits, at most 20.
     pub fn put_number(&mut self, number: u64)
         requires { length self.old + 20 ≤ 64 }
         ensures items { self.new ≡ self.old ++ decimal number }

@@ -6,3 +6,4 @@ pub mod Tally
 pub mod Pull
 pub mod Pieces
 pub mod Laws
+pub mod Feed

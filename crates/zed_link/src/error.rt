@@ -1,4 +1,4 @@
-//! Why bytes or edits don't go over a link.
+//! Why a link doesn't carry bytes or edits.
 ghost use Rattle.std.specs.Prelude.{◌≡◌};
 ghost use Rattle.zed_link.specs.Refusals.{file_refusal};
 
@@ -7,7 +7,8 @@ use zed_editfile::EditFileError;
 use zed_op::Cause;
 use zed_types::Stamp;
 
-/// Why bytes or edits don't go over a link. Its texts are for whoever debugs; the program prints none of them.
+/// Why a link doesn't carry bytes or edits. Its texts are for whoever debugs; the program prints
+/// none of them.
 #[derive(Clone, Copy, Debug, PartialEq, Eq, Error)]
 pub enum LinkError {
     #[error("out of memory")]
@@ -18,9 +19,9 @@ pub enum LinkError {
     NewVersion,
     #[error("edits of another world")]
     OtherWorld,
-    #[error("a record of no possible length")]
+    #[error("a record has an impossible length")]
     RecordLength,
-    #[error("the edit is no good: {0:?}")]
+    #[error("the edit breaks a rule: {0:?}")]
     BadEdit(Cause),
     #[error("the edit file ends inside its head or a record")]
     CutShort,
@@ -30,7 +31,7 @@ pub enum LinkError {
     Stale,
     #[error("the link failed")]
     LinkFault,
-    #[error("the link comes to no end")]
+    #[error("too many reads of a link")]
     TooManyTurns,
 }
 

@@ -2,6 +2,7 @@
 #![tactic(auto)]
 
 mod error;
+mod feed;
 mod laws;
 mod link;
 mod memory;
@@ -11,10 +12,11 @@ mod sending;
 mod writes;
 
 pub use error::LinkError;
+pub use feed::Feed;
 pub use laws::{deliveries_go_on, files_are_pulled};
 pub use link::{Link, LinkFailed};
 pub use memory::MemoryLink;
 pub use pulled::Pulled;
-pub use receiving::receive;
+pub use receiving::{receive, receive_into};
 pub use sending::send;
 pub use writes::Writes;

@@ -1,4 +1,4 @@
-//! A link, as whoever hands one in has to make it.
+//! A link: a trait for whoever hands one in.
 ghost use Rattle.std.specs.Prelude.{◌≡◌, ◌≢◌, ◌≤◌, ◌||◌, ℕ, Bool, true, false, [], length, take, Option, Ok, IfOk, OnErr, is_err};
 ghost use Rattle.zed_host.specs.Counting.{Counts};
 ghost use Rattle.zed_link.specs.Counting.{Counted, takes_none};
@@ -12,7 +12,8 @@ pub struct LinkFailed;
 
 /// A two-way stream of bytes.
 pub trait Link: Drop {
-    /// The bytes that are left to read, those that it took, and what it promises of its reads; or that this isn't told.
+    /// The bytes that are left to read, those that it took, and what it promises of its reads; or
+    /// none, if it promises nothing of these.
     ghost ends: { Self → Option LinkEnds };
 
     /// How many reads were made.
@@ -27,11 +28,13 @@ pub trait Link: Drop {
     /// How many writes of some bytes took none of them.
     ghost stalls: { Self → ℕ };
 
-    /// Whether it never refuses bytes: no write fails, nor takes none of some.
+    /// Whether it never refuses bytes: no write fails, and each takes some of its bytes, if it has
+    /// any.
     ghost accepts: { Self → Bool };
 
-    /// Puts the next bytes at the front of `into`, and answers how many, at the pace that it promises, if it does. Where there is room,
-    /// none is the end. A read that fails hands over nothing and loses nothing: a link that can't promise that doesn't tell its ends.
+    /// Puts the next bytes at the front of `into`, and answers how many, at the pace that it
+    /// promises, if it does. If `into` has room, 0 is the end of input. A read that fails hands
+    /// over nothing and loses nothing. A link that can't promise that has no `ends`.
     fn read(&mut self, into: &mut [u8]) -> Result<usize, LinkFailed>
         ensures within { IfOk result (λ n. n ≤ length into.old) }
         ensures ok { IfOk result (λ n.

@@ -7,7 +7,8 @@ use crate::link::{Link, LinkFailed};
 use crate::writes::Writes;
 use std::alloc::Global;
 
-/// A link over memory. It hands over and takes at most so many bytes by a call, and the device may be told to fail at one of its calls.
+/// A link over memory. A call hands over or takes at most so many bytes, and the device can be made
+/// to fail at one of its calls.
 #[derive(Drop)]
 pub struct MemoryLink {
     handed: Vec<u8>,
@@ -25,8 +26,9 @@ pub struct MemoryLink {
 }
 
 impl MemoryLink {
-    /// A link that hands over these bytes, `piece` of them by a read and at least one, and takes at most `piece` by a write. It fails at
-    /// the one call after `passing` of them, and again after 2^64 - 1 calls more, and so on; or none of its reads ever fails.
+    /// A link that hands over these bytes. A read hands over `piece` of them, or one if that is 0,
+    /// and a write takes at most as many. It fails at the one call after `passing` of them, and
+    /// again after 2^64 - 1 more calls, and so on; or none of its reads ever fails.
     pub fn new(alloc: Global, handed: Vec<u8>, piece: usize, passing: Option<u64>) -> MemoryLink
         ensures ends { ⟦<MemoryLink as Link>⟧.ends result
             ≡ Some (record {

@@ -9,8 +9,8 @@ use zed_document::State;
 pub struct Pulled {
     /// All that they name was made at their turn, and they are done.
     pub taken: usize,
-    /// A thing that they name wasn't made yet at their turn, so they wait for it. A later edit of the same pull may wake them, which
-    /// isn't counted.
+    /// A thing that they name wasn't made yet at their turn, so they wait. A later edit of the same
+    /// pull may wake them; that isn't counted.
     pub held: usize,
     /// They were there already.
     pub known: usize,

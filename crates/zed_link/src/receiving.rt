@@ -26,6 +26,9 @@ use zed_editfile::{EditReader, fronts_are_read, stamp_ahead};
 /// The most bytes that one read asks for.
 const PIECE: usize = 4096;
 
+/// The most records that are read at once.
+const MOST_AT_ONCE: usize = 64;
+
 /// The most reads of one pull.
 const MOST_READS: u32 = 1_048_576;
 
@@ -56,7 +59,7 @@ fn deliver_one(intake: &mut Intake, edit: Edit) -> Result<State, LinkError>
     }
 }
 
-/// Delivers edits one after the other, up to the first that is refused, and counts them.
+/// Delivers edits one after the other, up to the first refusal, and counts them.
 fn deliver_each(intake: &mut Intake, edits: Vec<Edit>) -> Result<Pulled, LinkError>
     requires sound { intake.old.is_stale ≡ false }
     requires fit { AllFit edits.items }
@@ -75,9 +78,10 @@ fn deliver_each(intake: &mut Intake, edits: Vec<Edit>) -> Result<Pulled, LinkErr
     Ok(pulled)
 }
 
-/// Reads a record, or what is there of one, and delivers the edits that it completes, before any fault that it shows.
+/// Reads records, or what is there of them, and delivers the edits that they complete, before any
+/// fault that they show.
 #[tactic(auto, using(crate::proofs::Readings::fed_edits_fit))]
-fn take_record(
+fn take_records(
     alloc: Global,
     reader: &mut EditReader,
     piece: &[u8],
@@ -100,7 +104,7 @@ fn take_record(
     Ok(pulled)
 }
 
-/// Passes over the record at the front of a piece, where the document has its edit.
+/// Skips the record at the front of a piece, if the document has its edit.
 fn pass_known<'a>(reader: &EditReader, piece: &'a [u8], intake: &mut Intake) -> Option<&'a [u8]>
     requires sound { intake.old.is_stale ≡ false }
     ensures some { IfSome result (λ rest. (front : List ℕ) × (e : TheEdit)
@@ -123,8 +127,9 @@ fn drain(alloc: Global, reader: &mut EditReader, left: &[u8])
 }
 
 /// Reads a piece of an edit file, and delivers the edits that it completes, before any fault that it shows. A record whose edit is there
-/// already is not read into an edit.
-fn take_piece(
+/// already is not read into an edit, unless it comes soon behind one that is new: of records that follow on a new one ever more are
+/// read at once.
+pub(crate) fn take_piece(
     alloc: Global,
     reader: &mut EditReader,
     piece: &[u8],
@@ -144,14 +149,17 @@ fn take_piece(
 {
     let mut pulled = Pulled::NONE;
     let mut rest = piece;
+    let mut at_once = 1usize;
     while !rest.is_empty() {
         if let Some(after) = pass_known(reader, rest, intake) {
             pulled.count(State::Known);
             rest = after;
+            at_once = 1;
             continue;
         }
-        let (record, after) = reader.first(rest);
-        match take_record(alloc, reader, record, intake) {
+        let (front, after) = reader.first(rest, at_once);
+        at_once = at_once.saturating_mul(2).min(MOST_AT_ONCE);
+        match take_records(alloc, reader, front, intake) {
             Ok(more) => pulled = pulled.plus(more),
             Err(error) => {
                 drain(alloc, reader, after);
@@ -187,8 +195,8 @@ fn read_some(link: &mut dyn Link, into: &mut [u8]) -> Result<usize, LinkError>
     }
 }
 
-/// Reads an edit file of the world of an intake from a link, to the end of input, and delivers each of its edits as soon as it is whole.
-fn receive_into(
+/// The same into an intake whose document isn't stale, which takes the edits of many files with the work of one.
+pub fn receive_into(
     alloc: Global,
     link: &mut dyn Link,
     intake: &mut Intake,
@@ -227,9 +235,10 @@ fn receive_into(
 /// Reads an edit file of the document's world from a link, to the end of input, and delivers each of its edits as soon as it is whole.
 ///
 /// # Errors
-/// Stale first, and then nothing is read. Else what comes first: LinkFault where a read fails; the refusals of an edit file; Clash; Memory,
-/// after which the document may be stale; TooManyTurns after 1,048,576 reads that weren't the end. What was delivered before stays,
-/// and after what comes first nothing more is read. But for Memory no count of looks is lower than before.
+/// Stale comes first, before any read. After that the first refusal ends it, and nothing more is
+/// read: LinkFault if a read fails; the refusals of an edit file; Clash; Memory, after which the
+/// document may be stale; TooManyTurns after 1,048,576 reads that weren't the end. What was
+/// delivered before stays. Except after Memory, no count of looks is lower than before.
 pub fn receive(
     alloc: Global,
     link: &mut dyn Link,

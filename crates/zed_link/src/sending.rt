@@ -30,8 +30,9 @@ fn write_some(link: &mut dyn Link, bytes: &[u8]) -> Result<usize, LinkError>
     }
 }
 
-/// Writes all of the bytes, piece by piece as the link takes them. LinkFault where a write fails, or takes none of what it is given:
-/// then the link took a front of the bytes. No write is of no bytes, nor made after one that failed, so there are no more of them than bytes.
+/// Writes all of the bytes, piece by piece as the link takes them. LinkFault if a write fails, or
+/// takes no byte: then the link took a front of the bytes. No write is empty, and none follows one
+/// that failed, so there are no more writes than bytes.
 pub fn send(link: &mut dyn Link, bytes: &[u8]) -> Result<(), LinkError>
     ensures ok { OnOk result (Changed (Took bytes.now) (ends link.old) (ends link.new)) }
     ensures half { OnErr result (Changed (TookFront bytes.now) (ends link.old) (ends link.new)) }

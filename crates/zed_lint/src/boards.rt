@@ -1,14 +1,13 @@
-//! What is found of a board as a whole.
+//! Findings about a board as a whole.
 ghost use Rattle.std.specs.Prelude.{◌≡◌, ◌<◌, ◌++◌, OnErr, OnOk, length};
 ghost use Rattle.zed_lint.specs.Boards.{count_of, exit_findings, long_board_name, long_body, long_file, long_world_name, other_players, self_exit, whole_findings};
 ghost use Rattle.zed_world.specs.Normal.{IsWritable};
 
 use crate::finding::{Finding, Spot, What};
 use crate::noting::note;
-use crate::size::body_len;
 use std::alloc::AllocError;
 use zed_types::{BODY_LIMIT, PLAYER, Side, Tile};
-use zed_world::{BoardData, Properties};
+use zed_world::{BoardData, Properties, body_len};
 
 /// Most bytes of a world file that ZZT loads with room to play.
 const FILE_LIMIT: usize = 350_000;
@@ -19,7 +18,7 @@ const WORLD_NAME_LIMIT: usize = 8;
 /// Most bytes of a board's name that ZZT's editor shows, and takes.
 const BOARD_NAME_LIMIT: usize = 34;
 
-/// A file of so many bytes, if that are too many.
+/// A file of so many bytes, if these are too many.
 pub(crate) fn long_file(bytes: usize) -> Option<What>
     ensures { result ≡ long_file bytes }
 {
@@ -30,7 +29,7 @@ pub(crate) fn long_file(bytes: usize) -> Option<What>
     }
 }
 
-/// A world's name of so many bytes, if that are too many.
+/// A world's name of so many bytes, if these are too many.
 pub(crate) fn long_world_name(bytes: usize) -> Option<What>
     ensures { result ≡ long_world_name bytes }
 {
@@ -117,7 +116,7 @@ fn note_exits(
     note(found, spot, self_exit(number, Side::East, properties.east))
 }
 
-/// Notes what is found of a board as a whole.
+/// Notes the findings about a board as a whole.
 #[tactic(auto, using(crate::proofs::Some::front, crate::proofs::Some::back), unfolding(crate::specs::Boards::whole_findings))]
 pub(crate) fn note_whole(
     found: &mut Vec<Finding>,

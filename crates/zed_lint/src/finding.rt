@@ -34,7 +34,7 @@ pub enum What {
     ExitToItself(Side),
     /// The element is over 53. So many tiles of the board have it, and this is the first.
     UnknownElement(usize),
-    /// The element wants a stat, and there is none.
+    /// The element needs a stat, and there is none.
     NoStat,
     /// The stat is outside the table.
     OutsideTable,

@@ -1,5 +1,5 @@
-//! What ZZT 3.2, or who plays, would stumble over in a world, and a line for each of it.
-//! docs/LINT.md tells what is found, and the forms of the lines.
+//! What would trip up ZZT 3.2 or a player in a world, with a line for each finding. docs/LINT.md
+//! says what is found, and has the forms of the lines.
 #![tactic(auto)]
 
 mod boards;

@@ -39,8 +39,9 @@ fn note_boards(found: &mut Vec<Finding>, boards: &[BoardData]) -> Result<(), All
     Ok(())
 }
 
-/// What is found in a world: board by board of the board as a whole, of its tiles and of its stats,
-/// and then of the file and its name. Only want of memory refuses it, and only where something is found.
+/// The findings in a world: board by board those about the board, its tiles and its stats, and then
+/// those about the file and its name. The only refusal is want of memory, and only if something is
+/// found.
 #[tactic(auto, using(crate::proofs::Fits::writable, crate::proofs::Some::front, crate::proofs::Some::back), unfolding(crate::specs::World::findings))]
 pub fn findings(alloc: Global, world: &World) -> Result<Vec<Finding>, AllocError>
     ensures result { IfOk result (λ found. found.items ≡ found_in world.now) }
@@ -54,9 +55,9 @@ pub fn findings(alloc: Global, world: &World) -> Result<Vec<Finding>, AllocError
     Ok(found)
 }
 
-/// Appends a line for each thing that is found in a world, as docs/LINT.md tells them, and answers
-/// how many there are. Only want of memory refuses it, and only where something is found; nothing
-/// is appended then.
+/// Appends a line for each finding in a world, in the forms of docs/LINT.md, and answers how many
+/// there are. The only refusal is want of memory, and only if something is found; then nothing is
+/// appended.
 pub fn lint(world: &World, out: &mut Vec<u8>) -> Result<usize, AllocError>
     ensures ok { OnOk result (out.new.items ≡ out.old.items ++ lines_of world.now) }
     ensures count { IfOk result (λ n. n ≡ length (found_in world.now)) }

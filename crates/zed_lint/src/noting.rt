@@ -1,11 +1,11 @@
-//! Keeping what is found.
+//! Keeping findings.
 ghost use Rattle.std.specs.Prelude.{◌≡◌, ◌<◌, ◌++◌, OnErr, OnOk, length};
 ghost use Rattle.zed_lint.specs.Found.{noted};
 
 use crate::finding::{Finding, Spot, What};
 use std::alloc::AllocError;
 
-/// Puts what was found at a spot behind all that was found before.
+/// Appends a finding at a spot to those before it.
 pub(crate) fn note(
     found: &mut Vec<Finding>,
     spot: Spot,

@@ -1,4 +1,4 @@
-//! What is found of stats and their programs.
+//! Findings about stats and their programs.
 ghost use Rattle.std.specs.Prelude.{◌≡◌, ◌<◌, ◌++◌, OnErr, OnOk, length, position};
 ghost use Rattle.zed_lint.specs.Stats.{is_line_feed, line_feed, may_have_stat, misplaced, program_findings, self_passage, stat_findings, stat_spot, stats_findings, unended};
 ghost use Rattle.zed_list.specs.Program.{own_bytes as bytes_had};
@@ -13,7 +13,7 @@ use zed_list::tile_at;
 use zed_types::{Place, Tile};
 use zed_world::{BoardData, Code, StatData};
 
-/// The monitor, which ZZT has in place of the player where no game is played.
+/// The monitor, which ZZT has in place of the player while no game is played.
 const MONITOR: u8 = 3;
 
 const PASSAGE: u8 = 11;
@@ -149,7 +149,7 @@ fn note_stat(
     note_program(found, spot, board.stats.as_slice(), own_bytes(&stat.code))
 }
 
-/// Notes what is found of the stats of a board.
+/// Notes the findings about the stats of a board.
 #[tactic(auto, using(crate::proofs::Some::member))]
 pub(crate) fn note_stats(
     found: &mut Vec<Finding>,

@@ -1,4 +1,4 @@
-//! What is found of tiles.
+//! Findings about tiles.
 ghost use Rattle.std.specs.Prelude.{◌≡◌, ◌<◌, ◌≤◌, ◌++◌, OnErr, OnOk, length, take};
 ghost use Rattle.zed_lint.specs.Found.{each_from};
 ghost use Rattle.zed_lint.specs.Tiles.{bare, has_element, has_stat, tile_findings, tiles_findings, unknown, wants_stat};
@@ -108,7 +108,7 @@ fn note_each(
     Ok(())
 }
 
-/// Notes what is found of the tiles of a board, row after row.
+/// Notes the findings about the tiles of a board, row after row.
 pub(crate) fn note_tiles(
     found: &mut Vec<Finding>,
     number: usize,

@@ -2,8 +2,8 @@
 ghost use Rattle.std.specs.Prelude.{◌≡◌, ◌-◌, ◌++◌, IfOk, OnErr, OnOk, length, slice_index_or};
 ghost use Rattle.zed_list.specs.Boards.{board_line, board_lines, boards_text, exit, exits};
 
-use crate::put::{put_number, put_quoted, put_text};
 use std::alloc::{AllocError, Global};
+use zed_log::{put_number, put_quoted, put_text};
 use zed_world::{BoardData, Properties, World};
 
 fn put_exit(out: &mut Vec<u8>, board: u8) -> Result<(), AllocError>
@@ -78,9 +78,10 @@ fn lines_of(alloc: Global, ranks: &[u16], boards: &[BoardData]) -> Result<Vec<u8
     Ok(text)
 }
 
-/// Appends a line for each board of a world: its number, its rank, how many stats stand beside its player, the numbers of the boards that its exits
-/// lead to, and its name. The ranks are those of the boards in the order of their numbers; a board without one has rank 0.
-/// Only want of memory refuses it; nothing is appended then.
+/// Appends a line for each board of a world: its number, its rank, how many stats it has beside its
+/// player, the numbers of the boards that its exits lead to, and its name. The ranks are those of
+/// the boards in the order of their numbers; a board without one has rank 0. The only refusal is
+/// want of memory; then nothing is appended.
 pub fn boards(ranks: &[u16], world: &World, out: &mut Vec<u8>) -> Result<(), AllocError>
     ensures ok { OnOk result (out.new.items ≡ out.old.items ++ boards_text ranks.now world.now) }
     ensures kept { OnErr result (out.new.items ≡ out.old.items) }

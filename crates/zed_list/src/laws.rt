@@ -1,4 +1,4 @@
-//! Laws on lines.
+//! Laws of lines.
 ghost use Rattle.std.specs.Prelude.{ℕ};
 ghost use Rattle.zed_log.specs.Laws.{HasNoControl};
 ghost use Rattle.zed_list.specs.Boards.{board_words};
@@ -8,7 +8,8 @@ ghost use Rattle.zed_list.specs.Stats.{stat_words};
 ghost use Rattle.zed_world.specs.declared.board.BoardData.{BoardData as TheBoard};
 ghost use Rattle.zed_world.specs.declared.stat.StatData.{StatData as TheStat};
 
-/// Each board, each stat and each line of a program has one line: no control byte stands in it, but for the line feed at its end.
+/// Each board, each stat and each line of a program has one line. Its only control byte is the line
+/// feed at its end.
 #[tactic(auto, using(crate::proofs::Printed::board_is, crate::proofs::Printed::stat_is, crate::proofs::Printed::line_is, crate::proofs::Counted::boards_counted, crate::proofs::Counted::stats_counted, crate::proofs::Counted::lines_counted))]
 pub fn each_is_on_its_line()
     ensures board { (n rank : ℕ) (b : TheBoard) → HasNoControl (board_words n rank b) }

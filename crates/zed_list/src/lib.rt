@@ -1,16 +1,13 @@
-//! Lines that tell the numbers of a world: its boards, the stats of a board, the lines of a
-//! program. docs/LIST.md has their forms. What these lines are made of is there for other lines on
-//! worlds too.
+//! Lines with the numbers of boards, of stats and of lines of programs. docs/LIST.md has their
+//! forms. The parts of these lines also serve other lines about worlds.
 #![tactic(auto)]
 
 mod board_lines;
 mod laws;
 mod program_lines;
-mod put;
 mod stat_lines;
 
 pub use board_lines::boards;
 pub use laws::{each_is_on_its_line, lines_are_the_program};
 pub use program_lines::program;
-pub use put::{put_number, put_place, put_quoted, put_text};
 pub use stat_lines::{put_element_of, stats, tile_at};

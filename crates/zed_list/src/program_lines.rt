@@ -2,8 +2,8 @@
 ghost use Rattle.std.specs.Prelude.{◌≡◌, [], ◌∷◌, ◌++◌, IfOk, OnErr, OnOk};
 ghost use Rattle.zed_list.specs.Program.{first_line as line_first, line_words, lines_of as lines_in, numbered, own_bytes as bytes_had, program_bytes as bytes_of, program_text};
 
-use crate::put::{put_number, put_quoted, put_text};
 use std::alloc::{AllocError, Global};
+use zed_log::{put_number, put_quoted, put_text};
 use zed_world::{BoardData, Code, StatData};
 
 // The end of a line of a program.
@@ -76,9 +76,10 @@ fn lines_of(alloc: Global, bytes: &[u8]) -> Result<Vec<u8>, AllocError>
     Ok(text)
 }
 
-/// Appends a line for each line of the program of a stat: the position of its first byte, from 0 on, and its bytes with the end of the line. A stat of
-/// the board that shares a program shows that one, and a stat without a program no line.
-/// Only want of memory refuses it; nothing is appended then.
+/// Appends a line for each line of the program of a stat: the position of its first byte, counted
+/// from 0, and its bytes with the end of the line. A stat that shares a program shows that one, and
+/// a stat without a program shows no line. The only refusal is want of memory; then nothing is
+/// appended.
 pub fn program(board: &BoardData, stat: &StatData, out: &mut Vec<u8>) -> Result<(), AllocError>
     ensures ok { OnOk result
         (out.new.items ≡ out.old.items ++ program_text board.now.stats stat.now) }

@@ -3,8 +3,8 @@ ghost use Rattle.std.specs.Prelude.{◌≡◌, ◌++◌, IfOk, OnErr, OnOk, opti
 ghost use Rattle.zed_list.specs.Stats.{element_of, fields, program_words, stat_line, stat_lines, stats_text, tile_at};
 
 use crate::program_lines::{first_line, program_bytes};
-use crate::put::{put_element, put_integer, put_number, put_place, put_quoted, put_text};
 use std::alloc::{AllocError, Global};
+use zed_log::{put_element, put_integer, put_number, put_place, put_quoted, put_text};
 use zed_types::{TILES, Tile};
 use zed_world::{BoardData, Code, StatData};
 
@@ -19,7 +19,7 @@ pub fn tile_at(tiles: &[Tile; TILES], x: u8, y: u8) -> Option<Tile>
     }
 }
 
-/// Appends the element of a tile by its word and number, or `-` where there is no tile.
+/// Appends the element of a tile by its word and number, or `-` if there is no tile.
 pub fn put_element_of(out: &mut Vec<u8>, tile: Option<Tile>) -> Result<(), AllocError>
     ensures { OnOk result (out.new.items ≡ out.old.items ++ element_of tile) }
 {
@@ -93,9 +93,9 @@ fn lines_of(alloc: Global, board: &BoardData, stats: &[StatData]) -> Result<Vec<
     Ok(text)
 }
 
-/// Appends a line for each stat of a board: its number, its place, the element there, its cycle, its three parameters, and its program by its length, or
-/// by the stat that it shares it with, and its first line.
-/// Only want of memory refuses it; nothing is appended then.
+/// Appends a line for each stat of a board: its number, its place, the element there, its cycle,
+/// its three parameters, and its program: the length, or the stat that it shares with, and the
+/// first line. The only refusal is want of memory; then nothing is appended.
 pub fn stats(board: &BoardData, out: &mut Vec<u8>) -> Result<(), AllocError>
     ensures ok { OnOk result (out.new.items ≡ out.old.items ++ stats_text board.now) }
     ensures kept { OnErr result (out.new.items ≡ out.old.items) }

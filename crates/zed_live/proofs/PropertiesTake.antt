@@ -29,8 +29,8 @@ use Rattle.zed_laws.proofs.BoardFields.{byte-within, flag-within, side-within, t
 use Rattle.zed_cells.specs.Writes.{register}
 use Rattle.zed_live.specs.declared.properties.LiveProperties.{LiveProperties}
 use Rattle.zed_live.specs.Header.{write_each}
-use Rattle.zed_live.specs.Properties.{write_property, write_properties, PropertiesShow, NoneAreUnwritten, PropertiesTakeSettings, PropertiesTakeMaking, sets_property, PropertiesPassOthers}
-use Rattle.zed_live.proofs.HeaderTakes.{Puts, put-late, unset}
+use Rattle.zed_live.specs.Properties.{write_property, write_properties, PropertiesShow, PropertiesTakeSettings, PropertiesTakeMaking, sets_property, PropertiesPassOthers}
+use Rattle.zed_live.proofs.HeaderTakes.{Puts, put-late}
 use Rattle.zed_live.proofs.Tables.{write_each-at, write_each-length, set_register-at}
 
 -- properties with all their places
@@ -224,17 +224,3 @@ properties_pass_others b e low high p rises is apart was =
       texts = λ f. wrote (of_board b (board_text f)) e (register (board_text_index f) p.texts) (register (board_text_index f) p.texts) None (beside-writes (λ x. (board_text f).value x) (board_text_set f) b e is apart) refl;
     })
     was
-
-pub none_are_unwritten : NoneAreUnwritten
-none_are_unwritten b = record {
-  three = refl;
-  two_flags = refl;
-  four = refl;
-  two_texts = refl;
-  bytes = λ f. unset 3 (board_byte_index f);
-  flags = λ f. unset 2 (board_flag_index f);
-  time_limit = refl;
-  rank = refl;
-  exits = λ f. unset 4 (side_index f);
-  texts = λ f. unset 2 (board_text_index f);
-}

@@ -69,10 +69,6 @@ pub record PropertiesShow (b : BoardId) (es : List Edit) (p : LiveProperties) : 
   pub exits : (f : Side) → register (side_index f) p.exits ≡ latest_in (of_board b (exit f)) es
   pub texts : (f : BoardText) → register (board_text_index f) p.texts ≡ latest_in (of_board b (board_text f)) es
 
--- properties of no edit were never written
-abbrev pub NoneAreUnwritten : Type 0
-NoneAreUnwritten = (b : BoardId) → PropertiesShow b [] unwritten
-
 -- a setting that comes late is put in as if it had come at its place
 abbrev pub PropertiesTakeSettings : Type 0
 PropertiesTakeSettings =

@@ -6,7 +6,6 @@ ghost use Rattle.zed_op.specs.Fit.{Fits};
 ghost use Rattle.zed_op.specs.Growth.{may_grow};
 ghost use Rattle.zed_live.specs.Board.{as_made, board_after, stat_changed};
 
-use crate::header::copy_bytes;
 use crate::properties::LiveProperties;
 use crate::stats::{add_new, stats_made};
 use std::alloc::{AllocError, Global};
@@ -27,8 +26,8 @@ pub struct LiveBoard {
 fn copy_properties(properties: &Properties) -> Result<Properties, AllocError>
     ensures ok { IfOk result (λ p. p ≡ properties.now) }
 {
-    let name = copy_bytes(&properties.texts[0])?;
-    let message = copy_bytes(&properties.texts[1])?;
+    let name = properties.texts[0].copy()?;
+    let message = properties.texts[1].copy()?;
     Ok(Properties {
         bytes: properties.bytes,
         flags: properties.flags,

@@ -39,8 +39,8 @@ impl Model for LiveBoards {
     ghost invariant = { λ b. AreKept b.entries.entries b.homes };
 }
 
-/// Puts an edit of one board in, if that is there. It is looked for first where the last one stood. Memory leaves the boards as they
-/// were.
+/// Puts an edit of one board in, if that is there. The search begins at the place of the last one.
+/// Memory leaves the boards as they were.
 fn change_board(
     entries: &mut IndexMap<BoardId, LiveBoard>,
     last: &mut usize,
@@ -105,7 +105,7 @@ impl LiveBoards {
         home_of(&self.homes, &self.entries, self.last, stat)
     }
 
-    /// Seeks what an edit names, so that it is found at once where it is asked for and where the edit is put in. Nothing changes.
+    /// Looks for what an edit names, so that later calls find it at once. Nothing changes.
     pub fn hint(&mut self, edit: &Edit)
         ensures { self.new ≡ self.old }
     {
@@ -152,8 +152,8 @@ impl LiveBoards {
         (*id, board)
     }
 
-    /// Puts an edit in, whenever it comes: changes the board that it is of, if that is there, or adds the boards that it makes.
-    /// Memory leaves the boards as they were.
+    /// Puts an edit in, whenever it comes: changes its board, if that is there, or adds the boards
+    /// that it makes. Memory leaves the boards as they were.
     pub fn take(&mut self, alloc: Global, edit: &Edit) -> Result<(), AllocError>
         requires { Fits edit.now }
         ensures ok { OnOk result (self.new ≡ boards_after edit.now.stamp edit.now.op self.old) }

@@ -12,7 +12,7 @@ use crate::header::LiveHeader;
 use std::alloc::{AllocError, Global};
 use zed_edit::{Edit, Op, Plain, made_by};
 
-/// A header and boards, each register with its latest write. The texts are in a crate of their own.
+/// A header and boards, each register with its latest write. `zed_texts` has the texts.
 #[derive(Drop)]
 pub struct LiveDocument {
     pub header: LiveHeader,
@@ -47,8 +47,9 @@ impl LiveDocument {
         }
     }
 
-    /// Opens the world that an edit makes, as `take` does, for a caller who made it: gives the header its values, and adds its boards. Memory leaves the
-    /// document as it was.
+    /// Puts in the world that an edit makes, as `take` does, for a caller who has made that world
+    /// already: gives the header its values, and adds its boards. Memory leaves the document as it
+    /// was.
     pub fn open(&mut self, alloc: Global, edit: &Edit, mut world: Plain) -> Result<(), AllocError>
         requires fits { Fits edit.now }
         requires genesis { is_genesis edit.now.op ≡ true }

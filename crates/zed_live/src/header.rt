@@ -1,6 +1,6 @@
 //! The header, each of whose registers keeps its latest write.
 
-ghost use Rattle.std.specs.Prelude.{◌≡◌, length, true, IfOk, OnOk, OnErr};
+ghost use Rattle.std.specs.Prelude.{◌≡◌, length, true, OnOk, OnErr};
 ghost use Rattle.zed_types.specs.Strings.{header_has_string};
 ghost use Rattle.zed_live.specs.Header.{unwritten, write_header, write_each as each_written, write_all as all_written};
 
@@ -72,12 +72,6 @@ fn write_flags(
         let value = taken_out(alloc, &mut values[i]);
         keep_in(&mut slots[i], Written { stamp, value });
     }
-}
-
-pub(crate) fn copy_bytes(bytes: &Bytes) -> Result<Bytes, AllocError>
-    ensures ok { IfOk result (λ b. b ≡ bytes.now) }
-{
-    Ok(bytes.copy()?)
 }
 
 impl LiveHeader {

@@ -1,6 +1,7 @@
-//! With which boards each stat is listed, so that a stat is found and changed without a look at all boards. A stat is normally on
-//! one board. Each stat of a board is listed with it; a stat may also stand with a board that hasn't got it, where a growth was
-//! refused after it was listed, so nothing is taken back. The board of the stat that was sought last is known.
+//! The boards on which each stat may be, so that a stat is found without looking at all boards.
+//! Each stat is listed with its board, normally one. After a refused growth a stat may also be
+//! listed with a board that doesn't have it; that changes nothing. The board of the stat that was
+//! looked for last is known.
 
 ghost use Rattle.std.specs.Prelude.{◌≡◌, ◌∷◌, [], true, false, IfSome, OnOk, OnErr, IsSorted};
 ghost use Rattle.std.specs.Option.{option_map_or};
@@ -159,7 +160,7 @@ pub(crate) fn list_added(homes: &mut Homes, board: BoardId, edit: &Edit) -> Resu
     }
 }
 
-/// Whether a stat is on the board of a name, which is looked for first at a place where it may stand.
+/// Whether a stat is on the board of a name. A likely place is looked at first.
 fn is_on(
     entries: &IndexMap<BoardId, LiveBoard>,
     likely: usize,

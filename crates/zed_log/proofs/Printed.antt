@@ -53,11 +53,11 @@ use Rattle.zed_log.proofs.Numerals.{Each, number_digits}
 use Rattle.zed_log.proofs.Elements.{at_row}
 use Rattle.zed_log.proofs.Strings.{escape_with}
 
-abbrev plain : List ℕ → Bool
+abbrev pub plain : List ℕ → Bool
 plain text = list_all (λ c. nat_le 32 c) text
 
 -- two texts one after the other
-both : (a b : List ℕ) → plain a ≡ true → plain b ≡ true → plain (a ++ b) ≡ true
+pub both : (a b : List ℕ) → plain a ≡ true → plain b ≡ true → plain (a ++ b) ≡ true
 both [] b p q = q
 both (c ∷ a) b p q = begun (nat_le 32 c) (plain a) (plain (a ++ b)) p (λ k. both a b k q)
   where
@@ -77,10 +77,10 @@ digits_are : (ds : List ℕ) → Each is_digit ds → plain ds ≡ true
 digits_are [] h = refl
 digits_are (d ∷ ds) h = then d ds (digit_is d h.0) (digits_are ds h.1)
 
-number_is : (n : ℕ) → plain (number n) ≡ true
+pub number_is : (n : ℕ) → plain (number n) ≡ true
 number_is n = digits_are (number n) (number_digits n)
 
-integer_is : (z : ℤ) → plain (integer z) ≡ true
+pub integer_is : (z : ℤ) → plain (integer z) ≡ true
 unfolding integer
 integer_is (pos n) = number_is n
 integer_is (negsuc n) = number_is (suc n)
@@ -119,7 +119,7 @@ escapes_are : (s : List ℕ) → plain (flat_map escape s) ≡ true
 escapes_are [] = refl
 escapes_are (b ∷ s) = both (escape b) (flat_map escape s) (escape_is b) (escapes_are s)
 
-quoted_is : (s : List ℕ) → plain (quoted s) ≡ true
+pub quoted_is : (s : List ℕ) → plain (quoted s) ≡ true
 unfolding quoted
 quoted_is s = both (flat_map escape s) (34 ∷ []) (escapes_are s) refl
 
@@ -145,7 +145,7 @@ word_is : (n : ℕ) → plain (element_word n) ≡ true
 word_is n =
     at_row (λ (r : Row). plain (map to_ascii_lowercase r.word)) rows n (row [] (Character 63) false Not false) refl refl
 
-element_is : (n : ℕ) → plain (element n) ≡ true
+pub element_is : (n : ℕ) → plain (element n) ≡ true
 unfolding element
 element_is n =
     both (element_word n ++ 40 ∷ number n) (41 ∷ []) (both (element_word n) (40 ∷ number n) (word_is n) (number_is n)) refl
@@ -154,7 +154,7 @@ tile_is : (t : Tile) → plain (tile t) ≡ true
 unfolding tile
 tile_is t = both (element t.element) (32 ∷ colour t.colour) (element_is t.element) (hex_is t.colour)
 
-place_is : (x y : ℕ) → plain (place x y) ≡ true
+pub place_is : (x y : ℕ) → plain (place x y) ≡ true
 unfolding place
 place_is x y =
     both (number x ++ 44 ∷ number y) (41 ∷ []) (both (number x) (44 ∷ number y) (number_is x) (number_is y)) refl

@@ -1,4 +1,4 @@
-//! Laws on lines: an edit is known by its line, and edits by their lines.
+//! Laws of lines: different edits have different lines, and so do different lists of edits.
 ghost use Rattle.std.specs.Prelude.{◌≡◌, length};
 ghost use Rattle.zed_op.specs.declared.op.Edit.{Edit as TheEdit};
 ghost use Rattle.zed_log.specs.Laws.{AreWhole, DiffersFrom, IsKnownByLines, IsNoLineInFull, IsOneLine, IsShortAsItIs, IsWhole, log_text};
@@ -41,7 +41,7 @@ pub fn each_line_is_one()
     ensures { (l : TheLength) (e : TheEdit) → IsOneLine (text_at l e) }
 {}
 
-/// A short line is the line in full, but for that of a Genesis, which is no edit's line in full.
+/// A short line is the full line, except for a Genesis, whose short line is no edit's full line.
 #[tactic(auto, using(crate::proofs::Short::as_it_is, crate::proofs::Short::no_line_in_full))]
 pub fn short_line_is_no_other()
     ensures same { (e : TheEdit) → IsShortAsItIs e }
@@ -57,7 +57,8 @@ pub fn edit_is_known_by_its_line(edit: &Edit, other: &Edit)
     op_is_whole(&other.op);
 }
 
-/// Different lists of edits have different lines, also where held ones are marked, in whatever way each list is.
+/// Different lists of edits have different lines, also if held edits are marked, in whichever way
+/// each list is.
 pub fn edits_are_known_by_their_lines(edits: &[Edit], others: &[Edit])
     ensures plain { log_text edits.now ≡ log_text others.now → edits.now ≡ others.now }
     ensures marked { IsKnownByLines edits.now others.now }

@@ -3,7 +3,7 @@
 /// How much of the line of a Genesis is written. Other edits have the same line either way.
 #[derive(Clone, Copy, Debug, PartialEq, Eq)]
 pub enum Length {
-    /// Two dots stand for the bytes of its world.
+    /// Two dots replace the bytes of its world.
     Short,
     /// All of it, so that different edits have different lines.
     Full,

@@ -1,4 +1,4 @@
-//! A line for each edit, in words: time, replica, what it does, what it names and sets. Different
+//! A line of text for each edit: time, replica, what it does, what it names and sets. Different
 //! edits have different lines.
 #![tactic(auto)]
 
@@ -16,4 +16,6 @@ pub use laws::{
     short_line_is_no_other,
 };
 pub use length::Length;
+pub use put::{put_element, put_integer, put_number, put_quoted, put_text};
+pub use put_fields::put_place;
 pub use writing::{line, marked_line, marked_line_at};

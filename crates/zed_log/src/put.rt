@@ -1,28 +1,31 @@
-//! Writing the kinds of fields.
+//! Writing the kinds of fields. Where memory is refused, a front of one may have been written.
 ghost use Rattle.std.specs.Prelude.{◌≡◌, ◌<◌, ◌++◌, false, map, OnOk};
 ghost use Rattle.std.specs.Fmt.{digit_glyph};
 ghost use Rattle.std.specs.List.{flat_map};
 ghost use Rattle.zed_log.specs.Fields.{boolean, colour, element, element_word, escape, hex, integer, number, quoted};
 
 use std::alloc::AllocError;
-use zed_types::{Bytes, element};
+use zed_types::element;
 
-pub(crate) fn put_text(out: &mut Vec<u8>, text: &str) -> Result<(), AllocError>
+/// Appends a text as it is.
+pub fn put_text(out: &mut Vec<u8>, text: &str) -> Result<(), AllocError>
     ensures { OnOk result (out.new.items ≡ out.old.items ++ text.now) }
 {
     out.extend_from_slice(text.as_bytes())
 }
 
+/// Appends a number in decimal digits.
 #[tactic(auto, using(crate::proofs::Digits::number_is_decimal))]
-pub(crate) fn put_number(out: &mut Vec<u8>, n: u64) -> Result<(), AllocError>
+pub fn put_number(out: &mut Vec<u8>, n: u64) -> Result<(), AllocError>
     ensures { OnOk result (out.new.items ≡ out.old.items ++ number n) }
 {
     let digits = format!(in *out.allocator(); "{n}")?;
     put_text(out, digits.as_str())
 }
 
+/// Appends a number in decimal digits, behind its sign if it is below 0.
 #[tactic(auto, using(crate::proofs::Digits::integer_is_decimal))]
-pub(crate) fn put_integer(out: &mut Vec<u8>, n: i16) -> Result<(), AllocError>
+pub fn put_integer(out: &mut Vec<u8>, n: i16) -> Result<(), AllocError>
     ensures { OnOk result (out.new.items ≡ out.old.items ++ integer n) }
 {
     let digits = format!(in *out.allocator(); "{n}")?;
@@ -78,12 +81,13 @@ fn put_escapes(out: &mut Vec<u8>, bytes: &[u8]) -> Result<(), AllocError>
     Ok(())
 }
 
+/// Appends a string between quotes; what doesn't print in it is escaped.
 #[tactic(auto, unfolding(crate::specs::Fields::quoted))]
-pub(crate) fn put_quoted(out: &mut Vec<u8>, text: &Bytes) -> Result<(), AllocError>
-    ensures { OnOk result (out.new.items ≡ out.old.items ++ quoted text.now) }
+pub fn put_quoted(out: &mut Vec<u8>, bytes: &[u8]) -> Result<(), AllocError>
+    ensures { OnOk result (out.new.items ≡ out.old.items ++ quoted bytes.now) }
 {
     put_text(out, "\"")?;
-    put_escapes(out, text.as_slice())?;
+    put_escapes(out, bytes)?;
     put_text(out, "\"")
 }
 
@@ -107,8 +111,9 @@ fn put_element_word(out: &mut Vec<u8>, n: u8) -> Result<(), AllocError>
     Ok(())
 }
 
+/// Appends an element: its word, and its number in brackets.
 #[tactic(auto, unfolding(crate::specs::Fields::element))]
-pub(crate) fn put_element(out: &mut Vec<u8>, n: u8) -> Result<(), AllocError>
+pub fn put_element(out: &mut Vec<u8>, n: u8) -> Result<(), AllocError>
     ensures { OnOk result (out.new.items ≡ out.old.items ++ element n) }
 {
     put_element_word(out, n)?;

@@ -43,8 +43,9 @@ pub(crate) fn put_tile(out: &mut Vec<u8>, t: Tile) -> Result<(), AllocError>
     put_colour(out, t.colour)
 }
 
+/// Appends a place: its column and its row.
 #[tactic(auto, unfolding(crate::specs::Fields::place))]
-pub(crate) fn put_place(out: &mut Vec<u8>, x: u8, y: u8) -> Result<(), AllocError>
+pub fn put_place(out: &mut Vec<u8>, x: u8, y: u8) -> Result<(), AllocError>
     ensures { OnOk result (out.new.items ≡ out.old.items ++ place x y) }
 {
     put_text(out, "(")?;

@@ -31,7 +31,7 @@ fn put_world(out: &mut Vec<u8>, bytes: &Bytes) -> Result<(), AllocError>
     put_text(out, "genesis ")?;
     put_number(out, bytes.as_slice().len() as u64)?;
     put_text(out, " bytes ")?;
-    put_quoted(out, bytes)
+    put_quoted(out, bytes.as_slice())
 }
 
 /// Appends how many bytes there are.
@@ -43,7 +43,7 @@ fn put_short_world(out: &mut Vec<u8>, bytes: &Bytes) -> Result<(), AllocError>
     put_text(out, " bytes ..")
 }
 
-/// Appends a rectangle of a board, and what stands there.
+/// Appends a rectangle of a board, and the tile there.
 fn put_cells(
     out: &mut Vec<u8>,
     board: BoardId,
@@ -95,7 +95,7 @@ fn put_insertion(
     put_text(out, " ")?;
     put_after(out, after)?;
     put_text(out, " ")?;
-    put_quoted(out, bytes)
+    put_quoted(out, bytes.as_slice())
 }
 
 fn put_op(out: &mut Vec<u8>, op: &Op) -> Result<(), AllocError>
@@ -109,7 +109,7 @@ fn put_op(out: &mut Vec<u8>, op: &Op) -> Result<(), AllocError>
         }
         Op::BoardAdd(name) => {
             put_text(out, "add board ")?;
-            put_quoted(out, name)
+            put_quoted(out, name.as_slice())
         }
         Op::BoardRemove(board) => {
             put_text(out, "remove board ")?;

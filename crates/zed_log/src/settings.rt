@@ -44,13 +44,13 @@ pub(crate) fn put_header_setting(
         HeaderSetting::CurrentBoard(board) => put_current_board(out, *board),
         HeaderSetting::WorldName(name) => {
             put_text(out, "world name ")?;
-            put_quoted(out, name)
+            put_quoted(out, name.as_slice())
         }
         HeaderSetting::Flag(slot, flag) => {
             put_text(out, "flag ")?;
             put_number(out, 1 + u64::from(slot.index()))?;
             put_text(out, " ")?;
-            put_quoted(out, flag)
+            put_quoted(out, flag.as_slice())
         }
     }
 }
@@ -78,7 +78,7 @@ pub(crate) fn put_board_setting(out: &mut Vec<u8>, setting: &BoardSetting) -> Re
         }
         BoardSetting::Text(property, text) => {
             put_text(out, board_text_word(*property))?;
-            put_quoted(out, text)
+            put_quoted(out, text.as_slice())
         }
         BoardSetting::Rank(rank) => {
             put_text(out, "rank ")?;

@@ -22,8 +22,8 @@ fn line_of(alloc: Global, edit: &Edit, length: Length) -> Result<Vec<u8>, AllocE
     Ok(line)
 }
 
-/// Appends the line of an edit in full, with a line feed at its end: time, replica, what it does, what it names and what it sets.
-/// Only want of memory refuses it; nothing is appended then.
+/// Appends the full line of an edit, with a line feed at its end: time, replica, what it does, what
+/// it names and what it sets. The only refusal is want of memory; then nothing is appended.
 pub fn line(edit: &Edit, out: &mut Vec<u8>) -> Result<(), AllocError>
     ensures ok { OnOk result (out.new.items ≡ out.old.items ++ line_text edit.now) }
     ensures kept { OnErr result (out.new.items ≡ out.old.items) }
@@ -49,8 +49,8 @@ fn marked_line_of(
     Ok(marked)
 }
 
-/// Appends the line of an edit, short or in full, with the mark `held ` in front where it is held.
-/// Only want of memory refuses it; nothing is appended then.
+/// Appends the line of an edit, short or in full, with the mark `held ` in front if it is held. The
+/// only refusal is want of memory; then nothing is appended.
 pub fn marked_line_at(
     edit: &Edit,
     is_held: bool,

@@ -7,7 +7,8 @@ use Rattle.std.specs.Int.Digits.{digits_of, AllBelowBase}
 use Rattle.std.proofs.lemmas.Int.Digits.{all_below_base_digits_of}
 use Rattle.std.proofs.lemmas.Bool.Decides.{nat_tests}
 use Rattle.zed_look.specs.declared.look.Spot.{Spot}
-use Rattle.zed_look.specs.Glyphs.{code_points, glyph}
+use Rattle.zed_codepage.specs.CodePage.{code_points, code_point}
+use Rattle.zed_look.specs.Glyphs.{glyph}
 use Rattle.zed_look.specs.Parts.{number}
 use Rattle.zed_look.specs.Plain.{characters_of}
 
@@ -79,11 +80,11 @@ unfolding encode_utf8
 blank_lacks_feed = refl
 
 pub glyph_lacks_escape : (c : ℕ) → Lacks 27 (glyph c)
-unfolding glyph
+unfolding glyph code_point
 glyph_lacks_escape c = lacks_of 27 (glyph c) (each_of (λ x. lacks 27 (encode_utf8 x)) code_points c 32 all_lack_escape blank_lacks_escape)
 
 pub glyph_lacks_feed : (c : ℕ) → Lacks 10 (glyph c)
-unfolding glyph
+unfolding glyph code_point
 glyph_lacks_feed c = lacks_of 10 (glyph c) (each_of (λ x. lacks 10 (encode_utf8 x)) code_points c 32 all_lack_feed blank_lacks_feed)
 
 pub row_lacks_feed : (row : List Spot) → Lacks 10 (characters_of row)

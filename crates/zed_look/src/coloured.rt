@@ -34,7 +34,7 @@ fn put_sgr(out: &mut Vec<u8>, attribute: u8) -> Result<(), AllocError>
     put_text(out, "m")
 }
 
-/// Appends what changes the colours, where they are others than before.
+/// Appends what changes the colours, if they change.
 fn put_change(out: &mut Vec<u8>, before: Option<u8>, attribute: u8) -> Result<(), AllocError>
     ensures { OnOk result (out.new.items ≡ out.old.items ++ change before attribute) }
 {
@@ -65,15 +65,16 @@ fn put_rows(out: &mut Vec<u8>, rows: &[[Spot; 60]]) -> Result<(), AllocError>
     Ok(())
 }
 
-/// Appends a row of places of any number as a line. Where memory is wanting part of it may have been appended.
+/// Appends a row of any number of places as a line. If memory runs out, a part of it may be
+/// appended.
 pub fn put_coloured_row(row: &[Spot], out: &mut Vec<u8>) -> Result<(), AllocError>
     ensures { OnOk result (out.new.items ≡ out.old.items ++ coloured_row None row.now) }
 {
     put_row(out, row)
 }
 
-/// Appends a picture as 25 lines of 60 characters in UTF-8, with the codes by which a terminal shows the colours.
-/// Only want of memory refuses it; nothing is appended then.
+/// Appends a picture as 25 lines of 60 characters in UTF-8, with the codes by which a terminal
+/// shows the colours. The only refusal is want of memory; then nothing is appended.
 pub fn put_coloured(picture: &Picture, out: &mut Vec<u8>) -> Result<(), AllocError>
     ensures ok { OnOk result (out.new.items ≡ out.old.items ++ coloured_text picture.now) }
     ensures kept { OnErr result (out.new.items ≡ out.old.items) }

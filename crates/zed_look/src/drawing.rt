@@ -47,7 +47,7 @@ fn played_pose(stat: &Stat) -> Pose
     }
 }
 
-/// What ZZT takes for a stat where none stands.
+/// What ZZT reads as the stat where there is none.
 fn no_pose() -> Pose
     ensures { result ≡ no_pose }
 {
@@ -76,7 +76,7 @@ fn pose_at(stats: &[StatData], place: Place) -> Pose
     }
 }
 
-/// Whether a line wall joins what stands at a place.
+/// Whether a line wall joins what is at a place.
 fn joins(tiles: &[Tile; 1500], x: u8, y: u8) -> bool
     ensures { result ≡ joins tiles.now x y }
 {
@@ -228,7 +228,8 @@ fn row_of(board: &BoardData, tick: u16, row: usize) -> [Spot; 60]
     spots
 }
 
-/// The picture of a board in a tick, by which some elements turn; 0 serves for one that isn't played. It takes no memory.
+/// The picture of a board in a tick, by which some elements turn; 0 will do for a board that isn't
+/// played. It takes no memory.
 pub fn draw(board: &BoardData, tick: u16) -> Picture
     ensures { result ≡ board_picture tick board.now }
 {
@@ -263,8 +264,8 @@ pub fn draw_play(play: &Play) -> Picture
     Picture { rows }
 }
 
-/// The picture of the board of this number, 0 for the title, as it is before it is played; or None where the world has no such board.
-/// It takes no memory.
+/// The picture of the board of this number, 0 for the title, as it is before it is played; or None
+/// if the world has no such board. It takes no memory.
 pub fn draw_board(world: &World, board: usize) -> Option<Picture>
     ensures { result ≡ option_map (board_picture 0) (slice_get world.now.boards board) }
 {

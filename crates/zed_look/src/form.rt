@@ -1,4 +1,4 @@
-//! The forms in which a picture is handed out.
+//! The forms of a picture.
 ghost use Rattle.std.specs.Prelude.{◌≡◌, IfOk};
 ghost use Rattle.zed_look.specs.Form.{text_in};
 
@@ -8,7 +8,7 @@ use crate::plain::put_plain;
 use crate::svg::put_svg;
 use std::alloc::{AllocError, Global};
 
-/// The form in which a picture is handed out.
+/// The form of a picture.
 #[derive(Clone, Copy, Debug, PartialEq, Eq)]
 pub enum Form {
     /// 25 lines in UTF-8, with the codes by which a terminal shows the colours.
@@ -19,7 +19,7 @@ pub enum Form {
     Svg,
 }
 
-/// A picture as text in a form. Only want of memory refuses it.
+/// A picture as text in a form. The only refusal is want of memory.
 pub fn text_in(alloc: Global, form: Form, picture: &Picture) -> Result<Vec<u8>, AllocError>
     ensures { IfOk result (λ text. text.items ≡ text_in form picture.now) }
 {

@@ -1,7 +1,7 @@
 //! Laws of pictures as text.
 ghost use Rattle.zed_look.specs.Laws.{CodesOnlyColour, LinesAreRows, PlaytestLooksLikeItsBoard};
 
-/// What is written for a terminal is the text without colour, with codes between its characters.
+/// The text for a terminal is the text without colour, with codes between its characters.
 pub fn codes_only_colour()
     ensures result { CodesOnlyColour }
 {}
@@ -11,7 +11,7 @@ pub fn lines_are_rows()
     ensures result { LinesAreRows }
 {}
 
-/// Before its first step a playtest looks like its board, but for what is blank in play.
+/// Before its first step, a playtest looks like its board, except for what is blank in play.
 pub fn playtest_looks_like_its_board()
     ensures result { PlaytestLooksLikeItsBoard }
 {}

@@ -1,5 +1,4 @@
-//! Boards as ZZT 3.2 shows them: the character and the colours of each tile, and such a picture as text for a terminal, in colour or
-//! plain, and as SVG.
+//! Pictures of boards as ZZT 3.2 draws them, as text in colour or plain, and as SVG.
 #![tactic(auto)]
 
 mod coloured;

@@ -15,7 +15,7 @@ pub struct Picture {
     pub rows: [[Spot; 60]; 25],
 }
 
-/// What of a stat is to be seen.
+/// What a picture shows of a stat.
 #[derive(Clone, Copy, Debug)]
 pub struct Pose {
     pub p1: u8,

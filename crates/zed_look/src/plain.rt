@@ -33,7 +33,8 @@ fn put_rows(out: &mut Vec<u8>, rows: &[[Spot; 60]]) -> Result<(), AllocError>
     Ok(())
 }
 
-/// Appends a picture as 25 lines of 60 characters in UTF-8. Only want of memory refuses it; nothing is appended then.
+/// Appends a picture as 25 lines of 60 characters in UTF-8. The only refusal is want of memory;
+/// then nothing is appended.
 pub fn put_plain(picture: &Picture, out: &mut Vec<u8>) -> Result<(), AllocError>
     ensures ok { OnOk result (out.new.items ≡ out.old.items ++ plain_text picture.now) }
     ensures kept { OnErr result (out.new.items ≡ out.old.items) }

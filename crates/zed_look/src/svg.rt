@@ -19,7 +19,7 @@ fn back(spot: Spot) -> u8
     }
 }
 
-/// Whether a character has nothing to be seen beside what is behind it.
+/// Whether a character shows only what is behind it.
 fn is_blank(character: u8) -> bool
     ensures { result ≡ is_blank character }
 {
@@ -217,7 +217,8 @@ fn put_all(out: &mut Vec<u8>, rows: &[[Spot; 60]; 25]) -> Result<(), AllocError>
     put_ended(out, "</svg>")
 }
 
-/// Appends a picture as an SVG file of 480 by 350 units, 8 by 14 for each place. Only want of memory refuses it; nothing is appended then.
+/// Appends a picture as an SVG file of 480 by 350 units, 8 by 14 for each place. The only refusal
+/// is want of memory; then nothing is appended.
 pub fn put_svg(picture: &Picture, out: &mut Vec<u8>) -> Result<(), AllocError>
     ensures ok { OnOk result (out.new.items ≡ out.old.items ++ svg_text picture.now.rows) }
     ensures kept { OnErr result (out.new.items ≡ out.old.items) }

@@ -4,4 +4,3 @@ pub mod OffStage
 pub mod Opened
 pub mod Others
 pub mod Pulls
-pub mod Worlds

@@ -53,8 +53,12 @@ fn opened(alloc: Global, bytes: &[u8]) -> Result<Document, Refusal>
     }
 }
 
-// The document of the file of a name.
-fn open<H: Host>(alloc: Global, host: &mut H, file: &str) -> Result<Document, Refusal>
+/// The document of the edits of a file.
+///
+/// # Errors
+/// `Memory` or `File` where it isn't read; `Clash` for two edits of one stamp; else what an edit
+/// file is refused for.
+pub fn open<H: Host>(alloc: Global, host: &mut H, file: &str) -> Result<Document, Refusal>
     ensures opened { (t : HostContents) → H.contents host.old ≡ Some t
         → let failed = Rose (H.faults host.old) (H.faults host.new) in MatchResult result
         (λ d. OpensAs failed t file.now (Ok (d.world, d.edits)))

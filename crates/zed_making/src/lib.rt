@@ -1,10 +1,10 @@
-//! The commands that make edit files: `new`, `edit`, and what `merge` comes to.
+//! The commands `new` and `edit`, and what `merge` makes.
 #![tactic(auto)]
 
 mod editing;
 mod new;
 mod writing;
 
-pub use editing::edit;
+pub use editing::{edit, open};
 pub use new::make_new;
 pub use writing::write_document;

@@ -101,7 +101,7 @@ fn file_of(alloc: Global, world: u64, bytes: Vec<u8>) -> Result<Vec<u8>, Refusal
     Ok(file)
 }
 
-/// Writes an edit file that makes a world: that of a world file, or of a title board.
+/// Writes the edit file of a new world: that of a world file, or one with a title board.
 pub fn make_new<H: Host>(
     alloc: Global,
     host: &mut H,

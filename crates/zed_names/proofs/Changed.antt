@@ -51,8 +51,5 @@ module _ {K X : Type 0} (name : K → Name) where
       ap (λ u. (e.0, u) ∷ es) (sym same)
   unchanged (e ∷ es) (suc i) v q = ap (λ xs. e ∷ xs) (unchanged es i v q)
 
-  pub add-there : (id : K) (x : X) (es : Under K X) → is_some (lookup (same name id) es) ≡ true → es ≡ add name id x es
-  add-there id x es h = rw h refl
-
   pub add-new : (id : K) (x : X) (es : Under K X) → is_some (lookup (same name id) es) ≡ false → put name id x es ≡ add name id x es
   add-new id x es h = rw h refl

@@ -1,4 +1,4 @@
-//! Values under names in a map that stands in the order of the names: where one stands, and how values are added.
+//! A map in the order of names: finding and adding values.
 ghost use Rattle.std.specs.Prelude.{◌≡◌, ◌<◌, ◌≤◌, ◌+◌, false, length, is_some, position, slice_get, IfSome, IsOk, OnOk, OnErr, IsSorted, option_copied};
 ghost use Rattle.indexmap.specs.IndexMap.{keys, values, spare};
 ghost use Rattle.zed_names.specs.ByName.{key_cmp, same, under, add as added, add_all as all_added};
@@ -7,7 +7,7 @@ use crate::named::Named;
 use indexmap::IndexMap;
 use std::alloc::AllocError;
 
-/// Where the value of a name stands, if one does. It is looked for first at a place where it may stand.
+/// The position of a name's value, if there is one. `likely` is looked at first.
 pub fn seek<K: Named, V>(entries: &IndexMap<K, V>, likely: usize, id: K) -> Option<usize>
     ensures index { result ≡ position (same K.name id) (keys entries.now) }
     ensures found { is_some result ≡ is_some (under K.name id entries.now.entries) }
@@ -24,7 +24,7 @@ pub fn seek<K: Named, V>(entries: &IndexMap<K, V>, likely: usize, id: K) -> Opti
     entries.get_index_of(&id)
 }
 
-/// The value of a name, if one stands there. It is looked for first at a place where it may stand.
+/// The value of a name, if there is one. `likely` is looked at first.
 pub fn find<K: Named, V>(entries: &IndexMap<K, V>, likely: usize, id: K) -> Option<&V>
     ensures { option_copied result ≡ under K.name id entries.now.entries }
 {
@@ -37,7 +37,8 @@ pub fn find<K: Named, V>(entries: &IndexMap<K, V>, likely: usize, id: K) -> Opti
     }
 }
 
-/// Adds a value at its place. One of its name that is there stays as it is. On Err nothing changes.
+/// Adds a value at its place. If its name already has a value, that one stays. On Err nothing
+/// changes.
 pub fn add<K: Named, V: Drop>(
     entries: &mut IndexMap<K, V>,
     id: K,
@@ -60,7 +61,7 @@ pub fn add<K: Named, V: Drop>(
     }
 }
 
-/// Adds values, each at its place, all of which have room.
+/// Adds values, each at its place. There is room for all of them.
 pub fn add_each<K: Named, V: Drop>(entries: &mut IndexMap<K, V>, more: Vec<(K, V)>)
     requires room { length more.items ≤ spare entries.old }
     requires sorted { IsSorted (key_cmp K.name) (keys entries.old) }

@@ -8,7 +8,8 @@ ghost use Rattle.zed_names.specs.ByName.{key_cmp, same};
 use std::hash::Hash;
 use zed_types::{BoardId, StatId, TextId};
 
-/// A key that is told by its name: equal keys have one name, and keys stand in the order of their names.
+/// A key that is known by its name: equal keys have the same name, and keys have the order of their
+/// names.
 pub trait Named: Copy + Drop + Hash + Ord {
     // The name.
     ghost name: { Self → Name };

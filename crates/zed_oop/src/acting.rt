@@ -70,7 +70,7 @@ pub(crate) fn set_step(scene: &mut Scene, step: Step)
 }
 
 #[tactic(auto, unfolding(crate::specs::Acting::skip_line))]
-/// Skips the rest of the line that the stat whose turn it is stands in.
+/// Skips the rest of the line in which the program of the stat with the turn is.
 pub(crate) fn skip_line(scene: &mut Scene)
     ensures { scene.new ≡ skip_line scene.old }
 {

@@ -41,7 +41,7 @@ fn added(n: i16, value: u16) -> i16
     if sum > 32767 { 32767 } else { sum as i16 }
 }
 
-/// A counter with a value less, or None where there isn't so much.
+/// A counter with a value less, or None if there isn't so much.
 fn taken(n: i16, value: u16) -> Option<i16>
     ensures { result ≡ taken n value }
 {
@@ -58,7 +58,7 @@ pub fn give(scene: &mut Scene, counter: Counter, value: u16)
     scene.set_counters(with_counter(counters, counter, added(n, value)));
 }
 
-/// Takes a value from a counter, and tells whether there was so much; where there wasn't, nothing is taken.
+/// Takes a value from a counter, and answers whether there was so much. If not, nothing is taken.
 pub fn take(scene: &mut Scene, counter: Counter, value: u16) -> bool
     ensures result { taken_from counter value scene.old ≡ (result, scene.new) }
 {

@@ -37,7 +37,7 @@ fn north_or_east(words: &mut Words) -> Result<Step, SceneError>
     }
 }
 
-/// Where a direction leads that isn't turned.
+/// Where a direction without turns leads.
 fn course_led(
     scene: &Scene,
     course: Course,
@@ -61,8 +61,8 @@ fn course_led(
 }
 
 #[tactic(auto, unfolding(crate::specs::Leading::led))]
-/// Where a direction of the program of a stat leads: the last turn is made first. None, without a word drawn, where it is no
-/// direction; NoWords where a number is asked for and no word is left.
+/// Where a direction of the program of a stat leads: the last turn is made first. None, and no word
+/// is used, if it is no direction; NoWords if it needs a number and no word is left.
 pub fn led(
     scene: &Scene,
     heading: &Heading,

@@ -1,4 +1,4 @@
-//! Programs of objects as they run: what each command does, and what a turn comes to.
+//! Programs of objects, running: what each command does, and a turn.
 #![tactic(auto)]
 
 mod acting;

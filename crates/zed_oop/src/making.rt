@@ -9,7 +9,7 @@ use zed_scene::{Scene, Stat, Step, ahead, is_walkable};
 use zed_script::TileKind;
 use zed_types::Place;
 
-/// The colour of what programs make where they name none.
+/// The colour of what programs make without naming one.
 const COLOUR: u8 = 0x0F;
 
 /// Place k of the table, row after row.
@@ -40,7 +40,7 @@ fn remove_own(scene: &mut Scene)
     }
 }
 
-/// The stat whose turn it is goes, and a kind stands at its place.
+/// The stat whose turn it is goes, and a kind takes its place.
 pub(crate) fn become_kind(scene: &mut Scene, kind: TileKind, place: Place)
     ensures { scene.new ≡ became kind place scene.old }
 {
@@ -57,7 +57,7 @@ fn stand(scene: &mut Scene, kind: TileKind, place: Place)
     }
 }
 
-/// Puts a kind ahead, where that is on the board.
+/// Puts a kind ahead, if that is on the board.
 #[tactic(auto, unfolding(crate::specs::Making::put_ahead))]
 pub(crate) fn put_ahead(scene: &mut Scene, from: Place, step: Step, kind: TileKind)
     ensures { scene.new ≡ put_ahead from step kind scene.old }
@@ -109,7 +109,7 @@ fn change_tile(scene: &mut Scene, first: TileKind, second: TileKind, k: u16)
     change_place(scene, first, second, place_at(k));
 }
 
-/// Makes each tile of the one kind one of the other, row by row.
+/// Makes each tile of one kind a tile of the other, row by row.
 #[tactic(auto, unfolding(crate::specs::Making::converted_to))]
 fn convert_to(scene: &mut Scene, n: u16, first: TileKind, second: TileKind)
     requires { n ≤ 1500 }
@@ -120,7 +120,7 @@ fn convert_to(scene: &mut Scene, n: u16, first: TileKind, second: TileKind)
     }
 }
 
-/// Makes each tile of the one kind one of the other, row by row.
+/// Makes each tile of one kind a tile of the other, row by row.
 #[tactic(auto, unfolding(crate::specs::Making::converted))]
 pub(crate) fn convert(scene: &mut Scene, first: TileKind, second: TileKind)
     ensures { scene.new ≡ converted first second scene.old }

@@ -122,7 +122,7 @@ fn is_reached(program: &[u8], word: &[u8], i: usize, own: bool, stat: &Stat) -> 
     is_target(program, word, i, own) && (stat.p2 == 0 || own)
 }
 
-/// Lets stat i go on at a place, and tells whether the own position was set by now.
+/// Lets stat i go on at a place, and answers whether the own position was set by now.
 fn arrive(scene: &mut Scene, i: usize, place: Option<usize>, before: bool) -> bool
     ensures { IfSome (slice_get scene.old.stats i)
         (λ a. so_far scene.new result ≡ arrived i a place (so_far scene.old before)) }

@@ -37,7 +37,7 @@ fn is_way_blocked(scene: &Scene, stat: Stat, step: Option<Step>) -> Option<bool>
 }
 
 #[tactic(auto, unfolding(crate::specs::Testing::blocked))]
-/// Whether a test holds, any NOT aside; None where it has a direction or a kind that there isn't.
+/// Whether a test holds, any NOT aside; None if it has a direction or a kind that doesn't exist.
 fn tested(
     scene: &Scene,
     test: &Test,
@@ -63,7 +63,7 @@ fn tested(
 }
 
 #[tactic(auto, unfolding(crate::specs::Testing::holds))]
-/// Whether a condition holds for a stat; None where it has a direction or a kind that there isn't.
+/// Whether a condition holds for a stat; None if it has a direction or a kind that doesn't exist.
 pub fn holds(
     scene: &Scene,
     query: &Query,

@@ -29,14 +29,14 @@ pub enum After {
     Counts(Reading),
 }
 
-/// What a turn did beside what it did to the board.
+/// What a turn did, beside its changes of the board.
 #[derive(Debug, Drop)]
 pub struct Effects {
     /// Words of chance that were used.
     pub used: usize,
     /// Messages, in order.
     pub lines: Seq<Bytes>,
-    /// The stat's number after the turn, or None where it was removed.
+    /// The stat's number after the turn, or None if it was removed.
     pub number: Option<usize>,
 }
 
@@ -54,7 +54,7 @@ fn fail(alloc: Global, scene: &mut Scene, lines: &mut Seq<Bytes>) -> Result<(), 
     Ok(())
 }
 
-/// Makes a step: the position is `next` where that was done, and else `again`.
+/// Makes a step: the position is `next` if that was done, and `again` otherwise.
 fn finish_step(scene: &mut Scene, from: Place, step: Step, again: usize, next: usize)
     ensures { (ws : List ℕ) → (ls : List (List ℕ))
         → stepped again next (try_move from step scene.old) (state scene.old ws ls)
@@ -277,7 +277,7 @@ fn finish(scene: &mut Scene, reading: Reading)
     }
 }
 
-/// What a turn did beside what it did to the board.
+/// What a turn did, beside its changes of the board.
 fn told(scene: &Scene, left: &Words, lines: Seq<Bytes>, words: &[u16]) -> Effects
     ensures used { result.used ≡ length words.now - length left.now }
     ensures lines { result.lines ≡ lines }
@@ -290,8 +290,9 @@ fn told(scene: &Scene, left: &Words, lines: Seq<Bytes>, words: &[u16]) -> Effect
     }
 }
 
-/// One turn of the program of a stat, with the words of chance that a caller goes on with: the messages, in order. Where a word is
-/// lacking, or memory is refused, the board is left in the middle of the turn.
+/// One turn of the program of a stat. It takes from the caller's words of chance, and answers the
+/// messages, in order. If the words run out or memory is refused, the board is left in the middle
+/// of the turn.
 pub fn have_turn(
     alloc: Global,
     scene: &mut Scene,
@@ -320,8 +321,8 @@ pub fn have_turn(
     Ok(lines)
 }
 
-/// One turn of the program of a stat, with these words of chance. Where a word is lacking, or memory is refused, the board is left in
-/// the middle of the turn.
+/// One turn of the program of a stat, with these words of chance. If the words run out or memory is
+/// refused, the board is left in the middle of the turn.
 pub fn turn(
     alloc: Global,
     scene: &mut Scene,

@@ -12,11 +12,11 @@ pub enum Cause {
     Short,
     /// No edit has this number.
     Op,
-    /// A tag, a boolean, or the number of a field is none of those that there are.
+    /// A tag, a boolean or the number of a field has no meaning.
     Tag,
     /// Bytes follow the last field.
     Long,
-    /// The edit's own stamp or one that it names breaks the rules of stamps.
+    /// The edit's own stamp, or one that it names, breaks the rules of stamps.
     Stamp,
     /// A value is outside its range.
     Range,
@@ -31,7 +31,7 @@ pub enum Cause {
 pub enum EditError {
     #[error("out of memory")]
     Memory,
-    #[error("the edit is no good: {0:?}")]
+    #[error("the edit breaks a rule: {0:?}")]
     BadEdit(Cause),
 }
 

@@ -141,9 +141,9 @@ fn has_good_world(alloc: Global, op: &Op) -> Result<bool, EditError>
     }
 }
 
-/// Whether an edit fits, or the first cause against it: its own stamp and those that it names, then the ranges of its values,
-/// then whether all that it names is earlier, then the bytes of a Genesis. Only a Genesis that has no other fault
-/// and whose bytes begin a world takes memory.
+/// Whether an edit fits, or the first cause against it. The order is: its own stamp and those that
+/// it names; the ranges of its values; whether all that it names is earlier; the bytes of a
+/// Genesis. Only a Genesis that has no other fault and whose bytes begin a world takes memory.
 pub fn check(alloc: Global, edit: &Edit) -> Result<(), EditError>
     ensures result { (result ≡ Err Memory) ⊎ (result ≡ verdict (fault edit.now)) }
     ensures fits { IfOk result (λ _. Fits edit.now) }

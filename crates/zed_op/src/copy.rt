@@ -43,7 +43,8 @@ impl Op {
 }
 
 impl Edit {
-    /// An equal edit. The only refusal is want of memory, for an edit that has a string or bytes that aren't empty.
+    /// An equal edit. The only refusal is Memory, and only for an edit with a string or bytes that
+    /// aren't empty.
     pub fn copy(&self) -> Result<Edit, EditError>
         ensures ok { IfOk result (λ e. e ≡ self.now) }
         ensures err { IfErr result (λ e. e ≡ Memory) }

@@ -9,14 +9,15 @@ pub fn sets_rise()
     ensures set { SetIsRising }
 {}
 
-/// A rising list agrees, and is known by the edits that stand in it.
+/// A rising list agrees, and its edits decide it.
 pub fn rising_lists_are_sets()
     ensures agree { RisingAgrees }
     ensures known { RisingIsItsEdits }
     ensures own { RisingIsItsSet }
 {}
 
-/// The set of a list that agrees has the edits of the list, and no more is to be known of the list: neither order nor repeats.
+/// The set of a list that agrees has exactly the edits of the list. Neither their order nor repeats
+/// count.
 pub fn set_is_its_edits()
     ensures members { SetHasItsEdits }
     ensures order { SetIsOfAnyOrder }
@@ -49,7 +50,7 @@ pub fn sets_stay_fit()
     ensures set { SetKeepsFit }
 {}
 
-/// An edit fits where its stamps, its values, its order and its world are each good.
+/// An edit fits if its stamps, its values, its order and its world are each good.
 pub fn fit_is_of_parts()
     ensures { FitIsEachPart }
 {}

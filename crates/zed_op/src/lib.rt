@@ -1,4 +1,4 @@
-//! Edits: every kind of them, when one fits, what it names, and the sets that they make.
+//! The kinds of edits: when one fits, what it names, and sets of edits.
 #![tactic(auto)]
 
 mod cause;

@@ -85,8 +85,8 @@ fn add(things: &mut SmallVec<Thing, 3>, thing: Option<Thing>)
     }
 }
 
-/// The things that an edit names, at most three, values of registers included; of a range of bytes its ends.
-/// They stand in the value itself, so that nothing can be refused.
+/// The things that an edit names, at most three, values of registers included; of a range of bytes
+/// its ends. They are kept in the result itself, so this takes no memory.
 pub fn names(alloc: Global, edit: &Edit) -> SmallVec<Thing, 3>
     ensures result { result.items ≡ names_of edit.now.op }
     ensures inline { result.capacity ≡ 3 }
@@ -138,8 +138,8 @@ fn passes<F: Fn(Thing) -> bool>(test: &F, thing: Option<Thing>) -> bool
     }
 }
 
-/// Whether all things that an edit names pass a test, which is asked of one after the other. This is asked of each edit that is read, so
-/// no list is made for it.
+/// Whether all things that an edit names pass a test, one after the other. Each edit that is read
+/// is asked this, so no list is made for it.
 pub fn all_named<F: Fn(Thing) -> bool>(op: &Op, test: F) -> bool
     requires { F.IsAlwaysCallable test }
     ensures { (good : TheThing → Bool)

@@ -1,5 +1,6 @@
-//! Which sizes the values of an edit have: each number by its type, each time and each string because the edit fits. None of this
-//! does any work; it tells what is known of edits that a program holds.
+//! The sizes of the values of an edit: those of numbers by their types, those of times and strings
+//! because the edit fits. None of this does any work: it says what is known of edits that a program
+//! holds.
 
 ghost use Rattle.std.specs.Prelude.{◌≡◌, ◌++◌, length, true};
 ghost use Rattle.std.specs.List.{AllByRecursion};

@@ -6,3 +6,5 @@ pub mod Numbering
 pub mod Uniqueness
 pub mod StepThere
 pub mod Refusing
+mod Carrying
+mod Passages

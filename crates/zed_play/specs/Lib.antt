@@ -11,4 +11,5 @@ pub mod Tick
 pub mod Playtest
 pub mod Step
 pub mod Opening
+pub mod Entering
 pub mod Laws

@@ -7,7 +7,7 @@ use std::alloc::{AllocError, Global};
 use zed_oop::{Scene, SceneError, Words, have_turn};
 use zed_types::{Bytes, Seq};
 
-/// A board in play, with what the player carries and was told.
+/// A board in play, with what the player carries, and the messages.
 #[derive(Drop)]
 pub struct Game {
     pub scene: Scene,

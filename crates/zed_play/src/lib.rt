@@ -5,6 +5,7 @@ mod acts;
 mod bullets;
 mod creatures;
 mod ending;
+mod entering;
 mod error;
 mod game;
 mod key;
@@ -22,10 +23,13 @@ mod ticking;
 mod touching;
 
 pub use ending::Ending;
+pub use entering::Way;
 pub use error::PlayError;
 pub use game::Game;
 pub use key::{Asked, Bounds, Intent, Key};
-pub use laws::{later_words_do_not_matter, step_has_one_outcome};
+pub use laws::{
+    later_words_do_not_matter, players_take_along_what_they_have, step_has_one_outcome,
+};
 pub use messages::Messages;
 pub use piece::Piece;
 pub use play::Play;

@@ -57,7 +57,8 @@ impl Messages {
         let _gone = self.lines.push_back(line);
     }
 
-    /// Copies of these lines come after those that are kept, as far as there is room. Memory only where there is a line.
+    /// Appends copies of these lines to those that are kept, as far as there is room. Memory comes
+    /// only if there is a line.
     pub(crate) fn push_all(&mut self, lines: &[Bytes]) -> Result<(), AllocError>
         ensures result { OnOk result (self.new ≡ kept (self.old ++ lines.now)) }
         ensures memory_only_when { OnErr result (0 < length lines.now) }

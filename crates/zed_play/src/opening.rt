@@ -79,7 +79,7 @@ fn stat_from(i: usize, stat: &StatData) -> Stat
 }
 
 #[tactic(auto, using(crate::proofs::Numbering::one_more))]
-fn stats_of(alloc: Global, stats: &[StatData]) -> Result<Seq<Stat>, AllocError>
+pub(crate) fn stats_of(alloc: Global, stats: &[StatData]) -> Result<Seq<Stat>, AllocError>
     ensures { IfOk result (λ a. a ≡ stats_from 0 stats.now) }
 {
     let mut out = Seq::new(alloc);
@@ -90,7 +90,7 @@ fn stats_of(alloc: Global, stats: &[StatData]) -> Result<Seq<Stat>, AllocError>
     Ok(out)
 }
 
-fn programs_of(alloc: Global, stats: &[StatData]) -> Result<Seq<Bytes>, AllocError>
+pub(crate) fn programs_of(alloc: Global, stats: &[StatData]) -> Result<Seq<Bytes>, AllocError>
     ensures { IfOk result (λ p. p ≡ map bytes_of stats.now) }
 {
     let mut out = Seq::new(alloc);
@@ -123,7 +123,7 @@ fn scene_of(alloc: Global, header: &Header, board: &BoardData) -> Result<Scene, 
     Ok(Scene::new(board.tiles, stats, programs, counters_in(header), flags))
 }
 
-fn bounds_of(properties: &Properties) -> Bounds
+pub(crate) fn bounds_of(properties: &Properties) -> Bounds
     ensures result { result ≡ bounds_of properties.now }
 {
     Bounds {
@@ -146,14 +146,22 @@ fn play_of(alloc: Global, header: &Header, board: &BoardData, tick: u16) -> Resu
         left: None,
         messages: Messages::new(alloc)?,
     };
-    Play::begin(alloc, game, bounds_of(&board.properties), tick)
+    Play::begin(alloc, game, bounds_of(&board.properties), tick, None)
 }
 
 impl Play {
-    /// The playtest of the board of this number, which begins at a tick of 1 to 420. The refusals, the first that applies: NoBoard
-    /// where the world has no such board, Memory where a growth was refused.
+    /// The playtest of the board of this number, which begins at a tick of 1 to 420. Refusals, in
+    /// order: NoBoard if the world has no such board; Memory.
     pub fn new(alloc: Global, world: World, board: usize, tick: u16) -> Result<Play, PlayError>
         ensures result { Opens result world board tick }
+        ensures within { IsTick tick → IfOk result (λ p. IsTick p.tick) }
+    {
+        Play::open(alloc, &world, board, tick)
+    }
+
+    /// The same of a world that is lent, over whose boards it can go on.
+    pub fn open(alloc: Global, world: &World, board: usize, tick: u16) -> Result<Play, PlayError>
+        ensures result { Opens result world.now board tick }
         ensures within { IsTick tick → IfOk result (λ p. IsTick p.tick) }
     {
         match world.boards().get(board) {

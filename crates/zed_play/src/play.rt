@@ -18,8 +18,9 @@ use zed_oop::{SceneError, Words};
 pub struct Play {
     pub(crate) alloc: Global,
     pub(crate) game: Game,
-    /// The board on which the next step is made: it becomes equal to the one in play first, and where the step is done the two change
-    /// places. So a step that isn't done leaves the board in play as it was, and none copies the whole of it.
+    /// The board on which the next step is made. First it becomes equal to the one in play; if the
+    /// step is done, the two change places. So a step that isn't done leaves the board in play as
+    /// it was, and no step copies all of it.
     spare: Game,
     pub(crate) bounds: Bounds,
     pub(crate) tick: u16,
@@ -57,15 +58,16 @@ fn step_on(
 }
 
 impl Play {
-    /// A playtest before its first step.
+    /// A playtest before its first step on a board, which may have ended already.
     pub(crate) fn begin(
         alloc: Global,
         game: Game,
         bounds: Bounds,
         tick: u16,
+        ending: Option<Ending>,
     ) -> Result<Play, AllocError>
         ensures result { IfOk result (λ p. p
-            ≡ record { game = game; bounds = bounds; tick = tick; ending = None }) }
+            ≡ record { game = game; bounds = bounds; tick = tick; ending = ending }) }
     {
         let spare = game.copy(alloc)?;
         Ok(Play {
@@ -74,7 +76,7 @@ impl Play {
             spare,
             bounds,
             tick,
-            ending: None,
+            ending,
         })
     }
 
@@ -96,7 +98,8 @@ impl Play {
         self.tick = next_tick(self.tick);
     }
 
-    /// What is told of a step that isn't made: NoWords with nothing changed, or Memory, with which the playtest ends as failed.
+    /// The refusal of a step: NoWords, with nothing changed, or Memory, after which the playtest
+    /// has failed.
     fn refuse(&mut self, error: SceneError) -> PlayError
         ensures { refused error self.old ≡ (result, self.new) }
     {
@@ -109,9 +112,9 @@ impl Play {
         }
     }
 
-    /// Makes a step by a key, and tells how many words of chance it used. The refusals, the first that applies: Over where the
-    /// playtest has ended and NoWords where the step lacks a word, both with nothing changed; Memory where a growth was refused,
-    /// with which the playtest has ended as failed.
+    /// Makes a step by a key, and answers how many words of chance it used. Refusals, in order:
+    /// Over if the playtest has ended; NoWords if the step needs more words; Memory. The first two
+    /// change nothing. After Memory the playtest has ended as failed.
     pub fn step(&mut self, key: Key, words: &[u16]) -> Result<usize, PlayError>
         ensures result { Steps result key self.old words.now self.new }
         ensures within { IsTick self.old.tick → IsTick self.new.tick }

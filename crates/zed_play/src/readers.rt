@@ -1,4 +1,4 @@
-//! What is told of a playtest.
+//! What a playtest shows.
 ghost use Rattle.std.specs.Prelude.{◌≡◌};
 
 use crate::ending::Ending;
@@ -16,7 +16,7 @@ pub struct Carried {
 }
 
 impl Play {
-    /// How the playtest ended, or None where it goes on.
+    /// How the playtest ended, or None if it goes on.
     pub fn ending(&self) -> Option<Ending>
         ensures result { result ≡ self.now.ending }
     {
@@ -48,7 +48,7 @@ impl Play {
         &self.game.scene
     }
 
-    /// The tick of the next step: 1 to 420, where the playtest began at such a tick.
+    /// The tick of the next step: 1 to 420, if the playtest began at such a tick.
     pub fn tick(&self) -> u16
         ensures result { result ≡ self.now.tick }
     {

@@ -66,7 +66,7 @@ impl Game {
     }
 
     #[tactic(auto, unfolding(crate::specs::Touch::touched))]
-    fn touch_piece(&mut self, piece: Piece, tile: Tile, place: Place, step: Step)
+    pub(crate) fn touch_piece(&mut self, piece: Piece, tile: Tile, place: Place, step: Step)
         ensures { self.new ≡ touched piece tile place step self.old }
     {
         match piece {

@@ -1,4 +1,4 @@
-//! `zzted` over any host: which command runs, and what it leaves.
+//! `zzted` over any host.
 #![tactic(auto)]
 
 mod limit;

@@ -1,4 +1,4 @@
-//! Edit files joined to one.
+//! Edit files merged into one.
 ghost use Rattle.std.specs.Prelude.{[], ◌≡◌, ◌<◌, Err, IfErr, IfOk, List, MatchResult, Ok, OnOk, Result, Some, false, length, map};
 ghost use Rattle.zed_op.specs.declared.op.Edit.{Edit as TheEdit};
 ghost use Rattle.zed_document.specs.Counts.{NoCountFalls};
@@ -63,9 +63,10 @@ fn pulled_from(
     Ok(document)
 }
 
-/// Joins the edits of links, one for each name of a file, to one edit file of a world. Where there are fewer links, that is told whether
-/// memory is lacking or not, and none of them is called. Nothing is written to a link, and those behind the one that is refused, and behind
-/// the last one asked for, are as they were.
+/// Merges the edits of links, one for each name of a file, into one edit file of a world. If there
+/// are fewer links than names, this is refused before any want of memory, and no link is called.
+/// Nothing is written to a link. Links after the one that is refused, and after the last one
+/// needed, are as they were.
 pub(crate) fn merge<H: Host>(
     alloc: Global,
     host: &mut H,

@@ -224,13 +224,14 @@ fn count_of(words: &[String]) -> usize
     words.len()
 }
 
-/// Does what the words after the program's name ask for, and answers the exit status: 0; or 1, with a
-/// line on the standard error that names the refusal; or 2 for words that are no command.
+/// Runs the command that the words after the program's name ask for. The exit status is 0; 1 after
+/// a refusal, whose line is on standard error; or 2 if the words are no command.
 ///
-/// A refusal comes before the first write, but for `File` where the host fails at a write: then the
-/// written file is as that left it, or whole where only the printed line failed.
+/// Unless the host fails at a write or at printing (`File`), a refusal writes no file. If a write
+/// failed, the file is as that left it; if only printing failed, the file is whole.
 ///
-/// `merge` pulls over the links, one for each of its files, and lets none go; `show` and `play` use the screen, and `play` takes the keys.
+/// `merge` pulls over the links, one for each of its files, and keeps them all. `show` and `play`
+/// use the screen, and `play` takes the keys.
 pub fn run<H: Host>(
     alloc: Global,
     words: &[String],

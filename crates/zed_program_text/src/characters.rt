@@ -1,11 +1,11 @@
-//! The characters that stand for the bytes of a program, and of each other string of a world.
+//! The characters for the bytes of a program, and of any other string of a world.
 ghost use Rattle.std.specs.Prelude.{◌≡◌};
 ghost use Rattle.zed_program_text.specs.Characters.{byte_of as byte_for, text_point};
 
 use zed_codepage::glyph;
 
 /// The character of a byte of a program in a text: a line feed for 13, which ends a line; a picture
-/// for 0, which has none in the code page; and of each other byte that of the code page.
+/// for 0, which has none in the code page; and that of the code page for any other byte.
 pub(crate) fn text_character(byte: u8) -> char
     ensures { result ≡ text_point byte }
 {

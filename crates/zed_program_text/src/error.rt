@@ -19,8 +19,8 @@ pub struct BadText {
 pub enum TextError {
     #[error("out of memory")]
     Memory,
-    /// Here stands a character that no program has, or bytes that are no character in UTF-8.
-    #[error("no program has what stands in the text at {0:?}")]
+    /// Here is a character that no program has, or bytes that are no character in UTF-8.
+    #[error("the text has something that no program has, at {0:?}")]
     Bad(BadText),
 }
 

@@ -1,7 +1,7 @@
-//! Laws on the texts of programs.
+//! Laws of the texts of programs.
 ghost use Rattle.zed_program_text.specs.Laws.{PrintedIsRead};
 
-/// What is printed of a program is read as that program.
+/// The text of a program reads back as that program.
 pub fn what_is_printed_is_read()
     ensures { PrintedIsRead }
 {}

@@ -1,5 +1,5 @@
-//! Programs as text files and back: a line of the file for each line of the program, in the
-//! characters of code page 437.
+//! Programs as text files, and back: a line of text for each line of the program, in the characters
+//! of code page 437.
 #![tactic(auto)]
 
 mod characters;

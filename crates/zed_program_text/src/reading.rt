@@ -64,10 +64,10 @@ fn spelled_program(alloc: Global, characters: &[char]) -> Result<Vec<u8>, TextEr
     Ok(program)
 }
 
-/// The program that a text spells: what `text_of` prints of a program is read as that program. A
-/// line of the text ends with a line feed, a carriage return, or both, in this order; a byte order
-/// mark in front of it all is left out. Bad at the first place where a character stands that no
-/// program has, or bytes that are no character in UTF-8; Memory.
+/// The program that a text spells: the text that `text_of` makes of a program reads back as that
+/// program. A line of the text ends with a line feed, a carriage return, or a carriage return and a
+/// line feed. A byte order mark at the front is left out. Bad at the first place with a character
+/// that no program has, or with bytes that are no character in UTF-8; Memory.
 #[tactic(auto, using(crate::proofs::Again::empty), unfolding(crate::specs::Reading::program_in))]
 pub fn read_program(alloc: Global, text: &[u8]) -> Result<Vec<u8>, TextError>
     ensures program { MatchResult result

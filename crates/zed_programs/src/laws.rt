@@ -1,11 +1,11 @@
-//! Laws on programs as texts.
+//! Laws of programs as texts.
 ghost use Rattle.zed_programs.specs.Laws.{PrintedSetsNothing};
 
 use zed_program_text::what_is_printed_is_read;
 use zed_reprogram::own_programs_stay;
 use zed_world::read_is_normal;
 
-/// What is printed of a stat and set again changes nothing: FILE isn't written.
+/// Setting the text that was printed changes nothing: FILE isn't written.
 pub fn what_is_printed_sets_nothing()
     ensures { PrintedSetsNothing }
 {

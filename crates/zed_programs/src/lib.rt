@@ -1,4 +1,4 @@
-//! The commands for the programs of stats: `program` prints one as a text, and sets one to a text.
+//! The command `program` of `zztool`: it prints the program of a stat as a text, or sets it to one.
 #![tactic(auto)]
 
 mod laws;

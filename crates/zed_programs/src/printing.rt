@@ -88,11 +88,11 @@ fn text_of_files<H: Host>(
     printed_text(alloc, &document, board, stat)
 }
 
-/// Prints the program of a stat as a text, by the numbers of its board and of itself in the world
-/// of edit files: what docs/PROGRAM.md tells. A stat that shares the program of another has that
-/// one's, and one without a program an empty text. In this order: what the files are refused for;
-/// what an export is refused for, at 32,767 bytes a body; NoBoard where there is no board of this
-/// number; NoSuch where it has no stat of this number. Nothing is printed then.
+/// Prints the program of a stat as a text, given the numbers of its board and of itself in the
+/// world of edit files. docs/PROGRAM.md has the form. A stat that shares a program has the text of
+/// that one, and a stat without a program an empty text. Refusals, in order: those of reading the
+/// files; those of an export, at 32,767 bytes a body; NoBoard if there is no board of this number;
+/// NoSuch if the board has no stat of this number. Then nothing is printed.
 pub fn program<H: Host>(
     alloc: Global,
     host: &mut H,

@@ -187,17 +187,16 @@ fn set_to<H: Host>(
     set_text(alloc, host, file, replica, board, stat, text)
 }
 
-/// Sets the program of a stat to a text, by the numbers of its board and of itself in the world of
-/// an edit file. Edits of a replica are added to the file that lead from its world to the one with
-/// this program, and the file is written, unless its world has that program already; then a line is
-/// printed that counts the edits, as `take` prints it. Stats that share the program share the new
-/// one.
+/// Sets the program of a stat to a text, given the numbers of its board and of itself in the world
+/// of an edit file. The file gets edits of a replica that lead from its world to the one with this
+/// program, unless it has that program already. Then a line counts the edits, as `take` prints it.
+/// Stats that share the program share the new one.
 ///
-/// In this order: BadEdit where the replica is 0; what TEXT is refused for, File or BadText; what
-/// FILE is refused for; what an export is refused for, at 32,767 bytes a body; NoBoard where there
-/// is no board of this number; NoSuch where it has no stat of this number; BoardOver where the
-/// board would have more than 32,767 bytes; ClockSpent where no time is left; NotTaken where the
-/// edits that were found don't lead to that world. Nothing is written or printed then.
+/// Refusals, in order: BadEdit if the replica is 0; File or BadText for TEXT; those of reading
+/// FILE; those of an export, at 32,767 bytes a body; NoBoard if there is no board of this number;
+/// NoSuch if the board has no stat of this number; BoardOver if the board would have more than
+/// 32,767 bytes; ClockSpent if no time is left; NotTaken if the edits that were found don't lead to
+/// that world. Then nothing is written or printed.
 #[tactic(none)]
 pub fn set_program<H: Host>(
     alloc: Global,

@@ -18,9 +18,6 @@ use Rattle.zed_reprogram.proofs.Lists.{all_set, length_set}
 
 -- ---- stats
 
-pub recode : ℕ → List ℕ → ℕ → StatData → StatData
-recode owner program n s = stat_with s (code_in owner program n s.code)
-
 -- what became of a stat
 pub get_from : (owner : ℕ) (program : List ℕ) (i : ℕ) (ss : List StatData) (n : ℕ) (s : StatData) → slice_get ss n ≡ Some s
     → slice_get (stats_from owner program i ss) n ≡ Some (stat_with s (code_in owner program (i + n) s.code))

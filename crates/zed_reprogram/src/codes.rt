@@ -17,7 +17,7 @@ fn own_bytes(code: &Code) -> &[u8]
 }
 
 /// The bytes of the program of a stat, on a board with these stats: its own, or those of the stat
-/// that it shares; none where it has no program.
+/// that it shares with; none if it has no program.
 pub fn program_bytes<'a>(stats: &'a [StatData], code: &'a Code) -> &'a [u8]
     ensures { result.now ≡ program_of stats.now code.now }
 {

@@ -1,7 +1,7 @@
-//! Laws on worlds with other programs.
+//! Laws of worlds with other programs.
 ghost use Rattle.zed_reprogram.specs.Laws.{OwnProgramStays};
 
-/// A world that a file can spell stays as it is where a stat gets the program that it has.
+/// If a stat gets the program that it has, the world stays as it is, if a file can spell it.
 pub fn own_programs_stay()
     ensures { OwnProgramStays }
 {}

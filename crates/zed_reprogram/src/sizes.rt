@@ -1,13 +1,12 @@
 //! How many bytes the boards of a world take in a file.
 ghost use Rattle.std.specs.Prelude.{◌≡◌, ◌<◌, ◌≤◌, length, IfErr, None, OnOk, Some};
 ghost use Rattle.std.specs.List.{AllByRecursion, flat_map};
-ghost use Rattle.zed_runs.specs.Runs.{greedy};
 ghost use Rattle.zed_world.specs.Writing.{body_text, code_text, first_over, stat_text};
 ghost use Rattle.zed_world.specs.declared.error.WorldError.TheVariants.{BoardOver};
 ghost use Rattle.zed_reprogram.specs.Sizes.{CanBeCounted};
 
-use zed_runs::{greedy_is_the_one, runs_len};
-use zed_types::{READ_BODY_LIMIT, TILES, Tile};
+use zed_runs::runs_len;
+use zed_types::READ_BODY_LIMIT;
 use zed_world::{BoardData, Code, StatData};
 
 /// The bytes of a body beside its runs and its stats: the name, the properties, the number of
@@ -22,14 +21,6 @@ const STAT: usize = 33;
 pub(crate) struct Over {
     pub board: usize,
     pub bytes: usize,
-}
-
-fn tiles_len(tiles: &[Tile; TILES]) -> usize
-    ensures result { result ≡ length (greedy tiles.now) }
-    ensures within { result ≤ 4500 }
-{
-    greedy_is_the_one();
-    runs_len(tiles)
 }
 
 fn code_len(code: &Code) -> usize
@@ -58,7 +49,7 @@ fn body_len(board: &BoardData) -> usize
     requires { CanBeCounted board.now }
     ensures { result ≡ length (body_text board.now) }
 {
-    FRAME + tiles_len(&board.tiles) + stats_len(board.stats.as_slice())
+    FRAME + runs_len(&board.tiles) + stats_len(board.stats.as_slice())
 }
 
 /// Refuses the first board that would have more bytes than a file can spell.

@@ -61,13 +61,13 @@ fn with_board(
     Ok(World::new(header, boards))
 }
 
-/// The world with another program for a stat, by the numbers of its board and of itself. A stat
-/// that shares the program of another shares the new one with it, and so do all that share it; a
-/// program without bytes is none. All else is as it was.
+/// The world with another program for a stat, given by the numbers of its board and of itself. All
+/// stats that share the old program share the new one. A program without bytes is none. All else is
+/// as it was.
 ///
-/// In this order, but for Memory: NoBoard where there is no such board; NoSuch where it has no such
-/// stat; BoardOver for the first board that would have more than the 32,767 bytes that a file can
-/// spell.
+/// Refusals, in order: NoBoard if there is no such board; NoSuch if the board has no such stat;
+/// BoardOver for the first board that would have more than the 32,767 bytes that a file can spell.
+/// Memory comes only if the stat is there.
 pub fn with_program(
     alloc: Global,
     world: &World,

@@ -8,17 +8,19 @@ ghost use Rattle.zed_runs.specs.Reading.{tiles_at};
 use crate::error::RunsError;
 use zed_types::{TILES, Tile};
 
-/// How many tiles a count stands for.
+/// How many tiles a count means.
 fn tiles_of(count: u8) -> usize
     ensures { result ≡ tiles_of_count count }
 {
     if count == 0 { 256 } else { usize::from(count) }
 }
 
-/// Reads the runs at the front of the bytes, and tells how many bytes they take; any bytes may follow them.
+/// Reads the runs at the front of the bytes, and answers how many bytes they take. Any bytes may
+/// follow them.
 ///
-/// A run is a count, an element and a colour, a byte each. Count 0 stands for 256 tiles, and the run that fills the board may
-/// stand for more tiles than are wanted. `Truncated` where the bytes end before the board is full. Takes no memory.
+/// A run is a count, an element and a colour, a byte each. Count 0 means 256 tiles. The run that
+/// fills the board may have more tiles than are needed. `Truncated` if the bytes end before the
+/// board is full. Takes no memory.
 pub fn read_runs(bytes: &[u8]) -> Result<([Tile; TILES], usize), RunsError>
     ensures within { IfOk result (λ found. found.1 ≤ length bytes.now) }
     ensures tiles { IfOk result (λ x. tiles_at TILES bytes.now ≡ Some (x.0, drop x.1 bytes.now)) }

@@ -1,7 +1,7 @@
 //! Writing runs.
 ghost use Rattle.std.specs.Prelude.{◌≡◌, ◌<◌, ◌≤◌, ◌+◌, ◌≢◌, [], ◌∷◌, ◌++◌, ℕ, List, length, take, replicate, slice_get, Some, OnOk, OnErr, IfErr, vec_len};
 ghost use Rattle.std.specs.Vec.{vec_capacity};
-ghost use Rattle.zed_runs.specs.Runs.{AppendsGreedy, IsGreedy, NoRoomForGreedy, greedy};
+ghost use Rattle.zed_runs.specs.Runs.{AppendsGreedy, NoRoomForGreedy, greedy};
 
 use crate::error::RunsError;
 use std::alloc::AllocError;
@@ -57,7 +57,7 @@ fn push_runs(tiles: &[Tile], out: &mut Vec<u8>) -> Result<(), AllocError>
 
 /// How many bytes the greedy runs of the tiles take. Takes no memory.
 pub fn runs_len(tiles: &[Tile; TILES]) -> usize
-    ensures result { (bytes : List ℕ) → IsGreedy tiles.now bytes → result ≡ length bytes }
+    ensures result { result ≡ length (greedy tiles.now) }
     ensures within { result ≤ 4500 }
 {
     let mut rest: &[Tile] = tiles;
@@ -70,9 +70,10 @@ pub fn runs_len(tiles: &[Tile; TILES]) -> usize
     bytes
 }
 
-/// Appends the greedy runs of the tiles, which are row after row: each run is as long as it can be, up to 255 tiles.
+/// Appends the greedy runs of the tiles, row after row: each run is as long as it can be, up to 255
+/// tiles.
 ///
-/// `Memory` where a growth was refused; nothing is appended then.
+/// `Memory` if a growth was refused; then nothing is appended.
 pub fn write_runs(tiles: &[Tile; TILES], out: &mut Vec<u8>) -> Result<(), RunsError>
     ensures result { OnOk result (AppendsGreedy tiles.now out.old.items out.new.items) }
     ensures err { IfErr result (λ e. e ≡ RunsError.Memory) }

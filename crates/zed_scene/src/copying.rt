@@ -22,7 +22,7 @@ fn copy_all(alloc: Global, strings: &[Bytes]) -> Result<Seq<Bytes>, AllocError>
     Ok(out)
 }
 
-/// Makes one list of stats equal to another, in its own room where they are as many.
+/// Makes one list of stats equal to another, in its own room if both have as many.
 fn copy_stats_onto(alloc: Global, into: &mut Seq<Stat>, stats: &[Stat]) -> Result<(), AllocError>
     ensures result { OnOk result (into.new ≡ stats.now) }
     ensures memory_only_when { OnErr result (into.old ≢ stats.now) }
@@ -35,7 +35,7 @@ fn copy_stats_onto(alloc: Global, into: &mut Seq<Stat>, stats: &[Stat]) -> Resul
     Ok(())
 }
 
-/// Makes one string equal to another, which takes memory only where they differ.
+/// Makes one string equal to another, which takes memory only if they differ.
 fn copy_one_onto(into: &mut Bytes, string: &Bytes) -> Result<(), AllocError>
     ensures result { OnOk result (into.new ≡ string.now) }
     ensures memory_only_when { OnErr result (into.old ≢ string.now) }
@@ -61,7 +61,8 @@ fn copy_each_onto(into: &mut [Bytes], strings: &[Bytes]) -> Result<(), AllocErro
     Ok(())
 }
 
-/// Makes a list of strings equal to another. Where they are as many, that takes memory only for those that differ.
+/// Makes a list of strings equal to another. If both have as many, this takes memory only for those
+/// that differ.
 fn copy_all_onto(alloc: Global, into: &mut Seq<Bytes>, strings: &[Bytes]) -> Result<(), AllocError>
     ensures result { OnOk result (into.new ≡ strings.now) }
     ensures within { length into.old ≡ length strings.now
@@ -77,8 +78,9 @@ fn copy_all_onto(alloc: Global, into: &mut Seq<Bytes>, strings: &[Bytes]) -> Res
 }
 
 impl Scene {
-    /// Becomes equal to another board. Where both have as many stats and flags that takes memory only for strings that differ, so a
-    /// board of which the other was made costs little, and an equal one nothing. Where a growth is refused it may be partly the other.
+    /// Becomes equal to another board. If both have as many stats and flags, this takes memory only
+    /// for strings that differ. So it costs little if the other board was made from this one, and
+    /// nothing if they are equal. If a growth is refused, it may be partly the other.
     pub fn copy_from(&mut self, alloc: Global, other: &Scene) -> Result<(), AllocError>
         ensures result { OnOk result (self.new ≡ other.now) }
         ensures memory_only_when { OnErr result (self.old ≢ other.now) }

@@ -1,18 +1,19 @@
-//! What is lacking where something isn't done on a board in play.
+//! Why something isn't done on a board in play.
 ghost use Rattle.std.specs.Prelude.{◌≡◌};
 ghost use Rattle.zed_scene.specs.declared.error.SceneError.TheVariants.{Memory};
 
 use std::alloc::{AllocError, AllocFailed};
 use thiserror::Error;
 
-/// What is lacking where something isn't done on a board in play. Its texts are for whoever debugs; the program prints none of them.
+/// Why something isn't done on a board in play. Its texts are for whoever debugs; the program
+/// prints none of them.
 #[derive(Clone, Copy, Debug, PartialEq, Eq, Error)]
 pub enum SceneError {
     /// A growth was refused.
     #[error("out of memory")]
     Memory,
     /// A random number was asked for, and no word is left.
-    #[error("no words left")]
+    #[error("the playtest needs more words of chance")]
     NoWords,
 }
 

@@ -35,7 +35,7 @@ fn first_free(flags: &[Bytes]) -> Option<usize>
     flags.iter().position(|f| f.as_slice().is_empty())
 }
 
-/// Puts a word into the first empty flag, if none has it. Memory only where that changes a flag.
+/// Puts a word into the first empty flag, if none has it. Memory only if that changes a flag.
 #[tactic(auto, unfolding(crate::specs::Flags::flagged), using(crate::proofs::FlagLemmas::flag_changes))]
 fn put_flag(alloc: Global, flags: &mut Seq<Bytes>, word: &[u8]) -> Result<(), AllocError>
     ensures result { OnOk result (flags.new ≡ flagged word.now flags.old) }
@@ -73,8 +73,8 @@ fn empty_flags(alloc: Global, flags: &mut [Bytes], word: &[u8])
 }
 
 impl Scene {
-    /// Puts a word, cut to 20 bytes, into the first empty flag, if none has it. Memory, with nothing changed, only where that
-    /// changes a flag.
+    /// Puts a word, cut to 20 bytes, into the first empty flag, if none has it. Memory comes only
+    /// if that would change a flag, and changes nothing.
     pub fn set_flag(&mut self, alloc: Global, word: &[u8]) -> Result<(), AllocError>
         ensures result { OnOk result
             (self.new ≡ with_flags (flagged (cut word.now) self.old.flags) self.old) }

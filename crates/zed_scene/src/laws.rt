@@ -1,4 +1,4 @@
-//! That a push goes on for as far as it has to.
+//! A push reaches as far as it has to.
 ghost use Rattle.std.specs.Prelude.{◌≡◌, false};
 ghost use Rattle.zed_types.specs.declared.tile.Place.{Place};
 ghost use Rattle.zed_scene.specs.declared.step.Step.{Step};
@@ -6,7 +6,7 @@ ghost use Rattle.zed_scene.specs.Moving.{pushed};
 ghost use Rattle.zed_scene.specs.Scene.{Scene};
 ghost use Rattle.zed_scene.specs.Trying.{is_nowhere, push_rule};
 
-/// However long a row is that is pushed, all of it is: no bound is felt.
+/// A push moves the whole row, however long it is: the bound in the code is never met.
 pub fn reach_suffices()
     ensures result { (p : Place) (d : Step) (s : Scene) → is_nowhere d ≡ false
         → pushed p d s ≡ push_rule p d s }

@@ -76,7 +76,7 @@ impl Scene {
         }
     }
 
-    /// Destroys what stands at a place if pushing does.
+    /// Destroys what is at a place, if a push destroys it.
     fn clear(&mut self, place: Place)
         ensures { self.new ≡ cleared place self.old }
     {

@@ -16,7 +16,8 @@ fn put_position(stats: &mut [Stat], i: usize, position: Option<usize>)
 }
 
 impl Scene {
-    /// Puts a stat at a place of its program, or at none; nothing where there is none of this number.
+    /// Puts a stat at a place of its program, or at none. If there is no stat with this number,
+    /// nothing changes.
     pub fn set_position(&mut self, i: usize, position: Option<usize>)
         ensures result { self.new ≡ at_position i position (slice_get self.old.stats i) self.old }
     {

@@ -45,7 +45,8 @@ fn renumber(stats: &mut [Stat], i: usize)
 }
 
 impl Scene {
-    /// Takes a stat away, but never the player: what was underneath stands at its place, and the later stats move down by one.
+    /// Takes a stat away, unless it is the player. What was underneath comes to its place, and the
+    /// later stats move down by one.
     pub fn remove(&mut self, i: usize)
         ensures result { self.new ≡ remove_stat i self.old }
     {

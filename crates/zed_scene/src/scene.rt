@@ -1,4 +1,4 @@
-//! A board in play: what stands where.
+//! A board in play.
 ghost use Rattle.std.specs.Prelude.{◌≡◌, [], ◌<◌, length, slice_get, option_copied, None, Some};
 ghost use Rattle.zed_scene.specs.Scene.{acting_stat, element_ahead, program_of, put, put_acting_stat, put_program, put_running_stat, put_stat, running_stat, stat_at, there, tile_at, with_tile};
 
@@ -32,13 +32,13 @@ impl Model for Scene {
     ghost invariant = { λ s. length s.flags ≡ 10 };
 }
 
-/// What stands outside of the table.
+/// What is outside the table.
 const EDGE: Tile = Tile {
     element: 1,
     colour: 0,
 };
 
-/// The tile at a place of a table; outside of it there is element 1.
+/// The tile at a place of a table; outside the table it is element 1.
 pub fn tile_in(tiles: &[Tile; 1500], place: Place) -> Tile
     ensures result { result ≡ tile_at tiles.now place }
 {
@@ -127,7 +127,8 @@ impl Scene {
         self.flags.as_slice()
     }
 
-    /// The number of the stat that is looked at in a step. A stat that is removed at or below it makes it one less.
+    /// The number of the stat that a step looks at. If a stat at or below it is removed, it gets
+    /// one less.
     pub fn ticking(&self) -> usize
         ensures result { result ≡ self.now.ticking }
     {
@@ -141,7 +142,8 @@ impl Scene {
         self.acting
     }
 
-    /// The number of the stat whose program has its turn, or had it last; None where none had one yet, or it is gone.
+    /// The number of the stat whose program has its turn, or had it last. None if no program had a
+    /// turn yet, or if the stat is gone.
     pub fn running(&self) -> Option<usize>
         ensures result { result ≡ self.now.running }
     {
@@ -177,14 +179,14 @@ impl Scene {
         };
     }
 
-    /// The tile at a place; outside of the table there is element 1.
+    /// The tile at a place; outside the table it is element 1.
     pub fn tile(&self, place: Place) -> Tile
         ensures result { result ≡ tile_at self.now.tiles place }
     {
         tile_in(&self.tiles, place)
     }
 
-    /// The element at a place; where there is none of the table there is element 1.
+    /// The element at a place; without a place it is element 1.
     pub fn element(&self, place: Option<Place>) -> u8
         ensures result { result ≡ element_ahead self.now place }
     {
@@ -194,7 +196,7 @@ impl Scene {
         }
     }
 
-    /// Puts a tile at a place; outside of the table nothing is written.
+    /// Puts a tile at a place; outside the table nothing is written.
     pub fn put(&mut self, place: Place, tile: Tile)
         ensures result { self.new ≡ put place tile self.old }
     {
@@ -215,14 +217,14 @@ impl Scene {
         self.stats.as_slice().get(i).copied()
     }
 
-    /// A stat, where it stands: nothing of it is copied.
+    /// A stat, lent: nothing is copied.
     pub fn stat_ref(&self, i: usize) -> Option<&Stat>
         ensures result { option_copied result ≡ slice_get self.now.stats i }
     {
         self.stats.as_slice().get(i)
     }
 
-    /// Changes a stat; nothing where there is none of this number.
+    /// Changes a stat. If there is no stat with this number, nothing changes.
     pub fn put_stat(&mut self, i: usize, stat: Stat)
         ensures result { self.new ≡ put_stat i stat self.old }
     {
@@ -260,7 +262,7 @@ impl Scene {
         }
     }
 
-    /// The stat whose program has its turn, where it stands: nothing of it is copied.
+    /// The stat whose program has its turn, lent: nothing is copied.
     pub fn running_stat_ref(&self) -> Option<&Stat>
         ensures result { option_copied result ≡ running_stat self.now }
     {

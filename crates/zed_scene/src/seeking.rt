@@ -9,7 +9,8 @@ use crate::step::{Step, sign};
 use crate::words::Words;
 use zed_types::Place;
 
-/// The step from one place towards another, along the columns where `columns` says so or the rows agree, unless the columns agree.
+/// The step from one place towards another: along the columns if `columns` says so or the rows
+/// agree, unless the columns agree.
 fn towards(from: Place, to: Place, columns: bool) -> Step
     ensures { result ≡ towards from to columns }
 {

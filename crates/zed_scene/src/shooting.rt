@@ -72,8 +72,8 @@ fn bullet(place: Place, step: Step, shooter: Shooter, under: Tile) -> Stat
 
 impl Scene {
     #[tactic(auto, unfolding(crate::specs::Shooting::shot))]
-    /// Shoots from a place along a step, and tells whether that didn't fail: a bullet flies where there is room, else what can be
-    /// hit is damaged.
+    /// Shoots from a place along a step, and answers whether that worked: if there is room, a
+    /// bullet flies; otherwise what can be hit is damaged.
     pub fn shoot(&mut self, from: Place, step: Step, shooter: Shooter) -> Result<bool, AllocError>
         ensures result { IfOk result (λ done. shot from step shooter self.old ≡ (done, self.new)) }
         ensures kept { OnErr result (self.new ≡ self.old) }

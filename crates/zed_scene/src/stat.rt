@@ -5,17 +5,17 @@ use zed_types::{Place, Tile};
 /// A stat in play: something at a place that acts.
 #[derive(Clone, Copy, Debug)]
 pub struct Stat {
-    /// Column and row; numbers outside of the table stand for no place of it.
+    /// Column and row; other numbers are outside the table.
     pub place: Place,
     pub step: Step,
-    /// It ticks where this divides the tick; 0 for never.
+    /// It ticks if this divides the tick; 0 for never.
     pub cycle: u16,
     pub p1: u8,
     pub p2: u8,
     pub p3: u8,
     pub follower: Option<usize>,
     pub leader: Option<usize>,
-    /// What stands underneath.
+    /// What is underneath.
     pub under: Tile,
     /// Where in its program it is, or None after the end.
     pub position: Option<usize>,

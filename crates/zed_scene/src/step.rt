@@ -30,7 +30,7 @@ pub fn is_on_board(place: Place) -> bool
     1 <= place.x && place.x <= 60 && 1 <= place.y && place.y <= 25
 }
 
-/// The column or row that a step leads to, or None where it isn't 1 to `most`.
+/// The column or row that a step leads to, or None if it isn't 1 to `most`.
 fn moved(from: u8, by: i16, most: u8) -> Option<u8>
     ensures { result ≡ moved most from by }
 {
@@ -42,7 +42,7 @@ fn moved(from: u8, by: i16, most: u8) -> Option<u8>
     }
 }
 
-/// The place that a step leads to from another, or None where that is outside of the table.
+/// The place that a step leads to from another, or None if that is outside the table.
 pub fn ahead(place: Place, step: Step) -> Option<Place>
     ensures result { result ≡ ahead place step }
 {

@@ -31,8 +31,8 @@ impl Scene {
     }
 
     #[tactic(auto, unfolding(crate::specs::Trying::try_move))]
-    /// Moves the stat whose program has its turn along a step, pushing what is ahead, and tells whether that was done. A step to
-    /// nowhere always is.
+    /// Moves the stat whose program has its turn along a step, pushing what is ahead, and answers
+    /// whether it did. A step of (0,0) always does.
     pub fn try_move(&mut self, from: Place, step: Step) -> bool
         ensures result { try_move from step self.old ≡ (result, self.new) }
     {

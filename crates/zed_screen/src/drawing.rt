@@ -41,7 +41,8 @@ fn draw_data(board: &BoardData) -> Frame
     Frame { cells }
 }
 
-/// The picture of the board of this number, 0 for the title, or NoBoard where the world has no such board. It takes no memory.
+/// The picture of the board of this number, 0 for the title, or NoBoard if the world has no such
+/// board. It takes no memory.
 pub fn draw_board(world: &World, board: usize) -> Result<Frame, ScreenError>
     ensures result { DrawsBoard result world.now board }
 {

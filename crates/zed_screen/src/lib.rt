@@ -1,4 +1,4 @@
-//! Pictures of boards: 80 by 25 characters with attributes, and as lines of text.
+//! Pictures of boards: 80 by 25 characters with attributes, or lines of text.
 #![tactic(auto)]
 
 mod drawing;

@@ -49,7 +49,7 @@ fn put_line(lines: &mut [[u8; 80]; 25], y: usize, line: [u8; 80])
     lines[y] = line;
 }
 
-/// A picture as 25 lines of text: what can't be printed is `?`.
+/// A picture as 25 lines of text. What can't be printed is `?`.
 #[tactic(auto, using(crate::proofs::Painting::one_such))]
 pub fn ascii(frame: &Frame) -> [[u8; 80]; 25]
     ensures result { AreLines result frame.now 25 }

@@ -9,7 +9,6 @@ pub mod OneInstruction
 pub mod LineLemmas
 pub mod OneCondition
 pub mod OneCommand
-pub mod KindLemmas
 pub mod CommandThere
 pub mod Ahead
 pub mod KeepingLemmas

@@ -106,13 +106,3 @@ empty_word p at h =
     let b = end_of_word_after p (word_start p at) (slice_get p (word_start p at)) in
     let none : end_by_first p (word_start p at) (slice_get p (word_start p at)) - word_start p at ≡ 0 = omega arith in
     rw none refl
-
--- a word of which something is said isn't empty
-pub word_said : {X : Type 0} (says : List ℕ → Option X) (w : List ℕ) (x : X) → says [] ≡ None → says w ≡ Some x → 0 < length w
-word_said says [] x none is = absurd (cc)
-word_said says (b ∷ w) x none is = omega arith
-
--- a word that is another isn't empty, unless that is
-pub word_named : (w x : List ℕ) → bytes_eq [] x ≡ false → bytes_eq w x ≡ true → 0 < length w
-word_named [] x none is = absurd (cc)
-word_named (b ∷ w) x none is = omega arith

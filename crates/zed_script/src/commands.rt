@@ -23,7 +23,7 @@ pub enum Counter {
     Time,
 }
 
-/// A command as a program writes it. None stands for a counter or a kind that there isn't.
+/// A command as a program writes it. None means a counter or a kind that doesn't exist.
 #[derive(Debug, Drop)]
 pub enum OopCommand {
     Go(Heading),
@@ -141,7 +141,7 @@ fn naming_of(word: &[u8]) -> Option<Naming>
     }
 }
 
-/// A command that stands alone.
+/// A command of one word.
 #[derive(Clone, Copy)]
 enum Bare {
     End,
@@ -155,7 +155,7 @@ enum Bare {
     ThrowStar,
 }
 
-/// The command that stands alone which a word is, if it is one.
+/// The command of one word that this word is, if it is one.
 #[tactic(auto, unfolding(crate::specs::Command::is_bare))]
 fn bare_of(word: &[u8]) -> Option<Bare>
     ensures { IsBare (upper word.now) result }
@@ -409,8 +409,9 @@ fn next_word(program: &[u8], at: usize) -> (&[u8], usize)
     }
 }
 
-/// The command that stands at a place, or None where no word does, and the place behind it. THEN is passed over. It takes memory
-/// only for turns, for a name, for the word of a flag, and for a word that is no command.
+/// The command at a place, or None if there is no word, and the place after it. THEN is skipped. It
+/// takes memory only for turns, for a name, for the word of a flag, and for a word that is no
+/// command.
 pub fn next_command(
     alloc: Global,
     program: &[u8],

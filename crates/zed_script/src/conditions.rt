@@ -20,7 +20,7 @@ pub enum Test {
     Contact,
     /// What is ahead can't be walked on.
     Blocked(Heading),
-    /// A tile of the kind is on the board; None where no kind was named.
+    /// A tile of the kind is on the board; None if no kind was named.
     Any(Option<TileKind>),
     Energized,
     /// A flag has this word.
@@ -45,7 +45,7 @@ enum Question {
     Energized,
 }
 
-/// The question that a word is, or None where it is a flag's.
+/// The question that a word is, or None if it is a flag's.
 #[tactic(auto, unfolding(crate::specs::Condition::is_question))]
 fn question_of(word: &[u8]) -> Option<Question>
     ensures { IsQuestion (upper word.now) result }
@@ -88,7 +88,7 @@ fn any_at(program: &[u8], at: usize) -> (Option<Test>, usize)
     (Some(Test::Any(kind)), end)
 }
 
-/// The test that a question begins whose word ends at a place, or None where that is NOT.
+/// The test that a question begins whose word ends at a place, or None if that is NOT.
 fn asked_behind(
     alloc: Global,
     program: &[u8],
@@ -112,7 +112,7 @@ fn asked_behind(
     }
 }
 
-/// The test whose first word ends at a place, or None where that is NOT.
+/// The test whose first word ends at a place, or None if that is NOT.
 fn test_behind(
     alloc: Global,
     program: &[u8],
@@ -130,7 +130,7 @@ fn test_behind(
     }
 }
 
-/// The test that stands at a place, or None where NOT does.
+/// The test at a place, or None if NOT is there.
 fn test_at(alloc: Global, program: &[u8], at: usize) -> Result<(Option<Test>, usize), AllocError>
     ensures result { IfOk result (λ r. PartAt program.now at r.0 r.1) }
     ensures within { IfOk result (λ r. r.1 ≤ max at (length program.now)) }
@@ -142,7 +142,8 @@ fn test_at(alloc: Global, program: &[u8], at: usize) -> Result<(Option<Test>, us
     test_behind(alloc, program, word, end)
 }
 
-/// The condition that stands at a place, and the place behind it. It takes memory only for turns and for the word of a flag.
+/// The condition at a place, and the place after it. It takes memory only for turns and for the
+/// word of a flag.
 pub fn condition(alloc: Global, program: &[u8], at: usize) -> Result<(Query, usize), AllocError>
     ensures result { IfOk result (λ r. QueryAt program.now at r.0 r.1) }
     ensures within { IfOk result (λ r. r.1 ≤ max at (length program.now)) }

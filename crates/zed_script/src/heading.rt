@@ -37,7 +37,7 @@ pub enum Course {
 pub struct Heading {
     /// The first of them turns last.
     pub turns: Seq<Turning>,
-    /// None where no word of a direction stands behind the turns.
+    /// None if no word of a direction follows the turns.
     pub course: Option<Course>,
 }
 
@@ -106,7 +106,7 @@ struct Piece {
     end: usize,
 }
 
-/// The word of a direction that stands at a place.
+/// The word of a direction at a place.
 fn piece_at(program: &[u8], at: usize) -> Piece
     ensures result { IsPiece program.now at result.turning result.course result.end }
     ensures within { result.end ≤ max at (length program.now) }
@@ -120,7 +120,8 @@ fn piece_at(program: &[u8], at: usize) -> Piece
     }
 }
 
-/// The direction that stands at a place, and the place behind it. It takes memory only where the direction has turns.
+/// The direction at a place, and the place after it. It takes memory only if the direction has
+/// turns.
 pub fn direction(alloc: Global, program: &[u8], at: usize) -> Result<(Heading, usize), AllocError>
     ensures result { IfOk result (λ r. DirectionAt program.now at r.0 r.1) }
     ensures within { IfOk result (λ r. r.1 ≤ max at (length program.now)) }

@@ -27,7 +27,7 @@ impl TileKind {
         }
     }
 
-    /// A tile of the kind, which has this colour where the kind has none.
+    /// A tile of the kind. If the kind has no colour, the tile has this one.
     pub fn tile(self, colour: u8) -> Tile
         ensures { result ≡ tile_of self colour }
     {
@@ -118,8 +118,8 @@ fn kind_of(colour: Option<u8>, word: &[u8], player: bool) -> Option<TileKind>
 }
 
 #[tactic(auto, unfolding(crate::specs::Kind::kind_at))]
-/// The kind that stands at a place, or None where none does, and the place behind its words. The player is a kind only where that
-/// is allowed. It takes no memory.
+/// The kind at a place, or None if there is none, and the place after its words. The player is a
+/// kind only if that is allowed. It takes no memory.
 pub fn kind(program: &[u8], at: usize, player: bool) -> (Option<TileKind>, usize)
     ensures result { result ≡ kind_at program.now at player }
     ensures within { result.1 ≤ max at (length program.now) }

@@ -7,14 +7,14 @@ use std::alloc::{AllocError, Global};
 use zed_types::Bytes;
 
 #[tactic(auto, unfolding(crate::specs::Label::one_word))]
-/// Whether two words are one but for the case of their letters.
+/// Whether two words are the same, except for the case of their letters.
 fn one_word(a: &[u8], b: &[u8]) -> bool
     ensures { result ≡ one_word a.now b.now }
 {
     a.eq_ignore_ascii_case(b)
 }
 
-/// Whether this byte stands at a place.
+/// Whether this byte is at a place.
 pub fn byte_is(program: &[u8], at: usize, byte: u8) -> bool
     ensures { result ≡ byte_is program.now at byte }
 {
@@ -34,7 +34,7 @@ fn ends_word(next: Option<u8>) -> bool
     }
 }
 
-/// Whether a label's word stands at a place, and ends there.
+/// Whether a label's word is at a place, and ends there.
 #[tactic(auto, unfolding(crate::specs::Label::follows))]
 fn follows(program: &[u8], at: usize, label: &[u8]) -> bool
     ensures { result ≡ follows program.now at label.now }
@@ -77,7 +77,7 @@ pub fn first_label(program: &[u8], label: &[u8]) -> Option<usize>
     None
 }
 
-/// Whether a label is the word that stands for the beginning.
+/// Whether a label is the word for the beginning.
 pub fn is_restart(label: &[u8]) -> bool
     ensures { result ≡ is_restart label.now }
 {

@@ -1,4 +1,4 @@
-//! That one thing stands at each place of a program.
+//! Each place of a program has one reading.
 ghost use Rattle.std.specs.Prelude.{◌≡◌, ℕ, List, Option};
 ghost use Rattle.zed_script.specs.declared.commands.OopCommand.{OopCommand};
 ghost use Rattle.zed_script.specs.declared.conditions.Query.{Query};
@@ -9,21 +9,21 @@ ghost use Rattle.zed_script.specs.Condition.{QueryAt};
 ghost use Rattle.zed_script.specs.Heading.{DirectionAt};
 ghost use Rattle.zed_script.specs.Line.{InstructionAt};
 
-/// A direction stands at each place, known or not, and no other does there, nor one that ends elsewhere.
+/// There is exactly one direction at each place, known or not, and it ends at one place.
 pub fn one_direction()
     ensures stands { (p : List ℕ) (at : ℕ) → (h : Heading) × ((end : ℕ) × DirectionAt p at h end) }
     ensures alone { (p : List ℕ) (at : ℕ) (h g : Heading) (m n : ℕ)
         → DirectionAt p at h m → DirectionAt p at g n → (h ≡ g) × (m ≡ n) }
 {}
 
-/// A condition stands at each place, and no other does there, nor one that ends elsewhere.
+/// There is exactly one condition at each place, and it ends at one place.
 pub fn one_condition()
     ensures stands { (p : List ℕ) (at : ℕ) → (q : Query) × ((end : ℕ) × QueryAt p at q end) }
     ensures alone { (p : List ℕ) (at : ℕ) (q r : Query) (m n : ℕ)
         → QueryAt p at q m → QueryAt p at r n → (q ≡ r) × (m ≡ n) }
 {}
 
-/// A command stands at each place, or no word does, and no other does there, nor one that ends elsewhere.
+/// There is exactly one command at each place, or no word, and it ends at one place.
 pub fn one_command()
     ensures stands { (p : List ℕ) (at : ℕ)
         → (c : Option OopCommand) × ((end : ℕ) × CommandAt p at c end) }
@@ -31,7 +31,7 @@ pub fn one_command()
         → CommandAt p at c m → CommandAt p at d n → (c ≡ d) × (m ≡ n) }
 {}
 
-/// An instruction stands at each place, and no other does there, nor one behind which the program goes on elsewhere.
+/// There is exactly one instruction at each place, and the program goes on at one place after it.
 pub fn one_instruction()
     ensures stands { (p : List ℕ) (at : ℕ)
         → (i : Instruction) × ((next : ℕ) × InstructionAt p at i next) }

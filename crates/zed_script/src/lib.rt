@@ -1,4 +1,4 @@
-//! Programs of objects as they are written: what a program says at a place.
+//! Programs of objects, parsed: what is at a position.
 #![tactic(auto)]
 
 mod commands;

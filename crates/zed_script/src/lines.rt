@@ -7,7 +7,7 @@ use crate::text::{line_after, line_end, part};
 use std::alloc::{AllocError, Global};
 use zed_types::{Bytes, Seq};
 
-/// What stands where a line begins, without what it says.
+/// The kind of a line, by its first byte.
 #[derive(Clone, Copy, Debug, PartialEq, Eq)]
 pub enum LineKind {
     /// A byte 0, where the program ends.
@@ -26,7 +26,7 @@ pub enum LineKind {
     Message,
 }
 
-/// What stands at a place of a program.
+/// What is at a place of a program.
 #[derive(Debug, Drop)]
 pub enum Instruction {
     End,
@@ -86,15 +86,15 @@ fn copy_of(alloc: Global, bytes: &[u8]) -> Result<Bytes, AllocError>
 }
 
 #[tactic(auto, unfolding(crate::specs::Line::line_text))]
-/// The line that stands at a place, without its end.
+/// The line at a place, without its end.
 fn line_text(program: &[u8], at: usize) -> &[u8]
     ensures { result.now ≡ line_text program.now at }
 {
     part(program, at, line_end(program, at))
 }
 
-/// The instruction that stands at a place, and the place behind it: behind its line, its direction or its mark. It takes memory only
-/// for the line of a message, and for turns.
+/// The instruction at a place, and the place after it: after its line, its direction or its mark.
+/// It takes memory only for the line of a message, and for turns.
 pub fn standing_at(
     alloc: Global,
     program: &[u8],
@@ -127,7 +127,7 @@ pub fn standing_at(
     }
 }
 
-/// The line that stands at a place.
+/// The line at a place.
 #[tactic(auto, using(crate::proofs::LineLemmas::begins))]
 fn line_at(program: &[u8], at: usize) -> Line
     ensures { LineAt program.now at result }

@@ -28,7 +28,7 @@ fn is_of(class: Class, byte: u8) -> bool
     }
 }
 
-/// Where the bytes of a class end that stand from a place on.
+/// Where the bytes of a class that begin at a place end.
 pub(crate) fn run_end(class: Class, program: &[u8], at: usize) -> usize
     ensures result { result ≡ run_end class program.now at }
     ensures within { result ≤ max at (length program.now) }
@@ -53,7 +53,7 @@ pub(crate) fn part(program: &[u8], from: usize, to: usize) -> &[u8]
     &program[from..to]
 }
 
-/// Where the spaces end that stand from a place on.
+/// Where the spaces that begin at a place end.
 fn word_start(program: &[u8], at: usize) -> usize
     ensures result { result ≡ word_start program.now at }
     ensures within { result ≤ max at (length program.now) }
@@ -96,7 +96,7 @@ pub(crate) fn upper(alloc: Global, bytes: &[u8]) -> Result<Bytes, AllocError>
 }
 
 #[tactic(auto, unfolding(crate::specs::Text::word_at, crate::specs::Text::word_end))]
-/// The word that stands at a place, with its letters as they are written, and where it ends.
+/// The word at a place, with its letters as they are written, and where it ends.
 pub(crate) fn written_at(program: &[u8], at: usize) -> (&[u8], usize)
     ensures result { upper result.0.now ≡ word_at program.now at }
     ensures within { (length result.0.now ≡ length (word_at program.now at))
@@ -108,7 +108,7 @@ pub(crate) fn written_at(program: &[u8], at: usize) -> (&[u8], usize)
     (part(program, from, end), end)
 }
 
-/// The word that stands at a place, in upper case, and where it ends.
+/// The word at a place, in upper case, and where it ends.
 pub fn word_at(alloc: Global, program: &[u8], at: usize) -> Result<(Bytes, usize), AllocError>
     ensures result { IfOk result (λ r. r.0 ≡ word_at program.now at) }
     ensures within { IfOk result (λ r. r.1 ≤ max at (length program.now)) }
@@ -119,7 +119,7 @@ pub fn word_at(alloc: Global, program: &[u8], at: usize) -> Result<(Bytes, usize
     Ok((upper(alloc, word)?, end))
 }
 
-/// Whether bytes are a word but for the case of their letters, which the word has in upper case.
+/// Whether bytes are a word, except for the case of their letters. The word is in upper case.
 fn is_upper_of(bytes: &[u8], word: &[u8]) -> bool
     ensures { result ≡ bytes_eq (upper bytes.now) word.now }
 {
@@ -136,7 +136,7 @@ fn is_upper_of(bytes: &[u8], word: &[u8]) -> bool
     true
 }
 
-/// Whether the word that stands at a place is this one.
+/// Whether the word at a place is this one.
 pub fn is_word_at(program: &[u8], at: usize, word: &[u8]) -> bool
     ensures result { result ≡ bytes_eq (word_at program.now at) word.now }
 {
@@ -153,7 +153,7 @@ pub(crate) fn says(written: &[u8], name: &str) -> bool
     is_upper_of(written, name.as_bytes())
 }
 
-/// A number with a digit more, or one that is as good where it is over 32,767 by then.
+/// A number with one more digit, or any number over 32,767 once it is over that.
 fn with_digit(n: u32, digit: u8) -> u32
     ensures { result ≡ with_digit n digit }
 {
@@ -175,7 +175,7 @@ fn number_of(digits: &[u8]) -> u16
     if n > 32767 { 32767 } else { n as u16 }
 }
 
-/// The value that stands at a place: 0 without a digit, at most 32,767.
+/// The value at a place: 0 without a digit, at most 32,767.
 #[tactic(auto, unfolding(crate::specs::Text::value_at, crate::specs::Text::value_end))]
 pub(crate) fn value_at(program: &[u8], at: usize) -> u16
     ensures { result ≡ value_at program.now at }
@@ -186,7 +186,7 @@ pub(crate) fn value_at(program: &[u8], at: usize) -> u16
 }
 
 #[tactic(auto, unfolding(crate::specs::Text::value_end))]
-/// Where the value ends that stands at a place.
+/// Where the value at a place ends.
 pub(crate) fn value_end(program: &[u8], at: usize) -> usize
     ensures result { result ≡ value_end program.now at }
     ensures within { result ≤ max at (length program.now) }
@@ -197,7 +197,7 @@ pub(crate) fn value_end(program: &[u8], at: usize) -> usize
 }
 
 #[tactic(auto, unfolding(crate::specs::Text::line_end))]
-/// Where the line ends that stands at a place: at its byte 13, or at the end.
+/// Where the line at a place ends: at its byte 13, or at the end of the program.
 pub fn line_end(program: &[u8], at: usize) -> usize
     ensures result { result ≡ line_end program.now at }
     ensures within { result ≤ max at (length program.now) }
@@ -207,7 +207,7 @@ pub fn line_end(program: &[u8], at: usize) -> usize
 }
 
 #[tactic(auto, unfolding(crate::specs::Text::line_after))]
-/// The place behind the line that stands at a place.
+/// The place after the line at a place.
 pub fn line_after(program: &[u8], at: usize) -> usize
     ensures result { result ≡ line_after program.now at }
     ensures within { result ≤ max at (length program.now) }

@@ -17,7 +17,7 @@ use zed_play::Play;
 use zed_screen::{Frame, draw_board};
 use zed_world::World;
 
-/// What is told where a board of a document can't be exported for want of memory. It takes none.
+/// The refusal if a board of a document can't be exported for want of memory. It takes none.
 fn lack(document: &Document, board: usize) -> SessionError
     requires { document.now.is_stale ≡ false }
     ensures { result ≡ lack_of (slice_get (exported_boards (replay document.now.edits)) board) }
@@ -76,9 +76,10 @@ pub(crate) fn playtest_of(
     Ok(Play::new(alloc, world, board, 1)?)
 }
 
-/// Shows the board of this number of the world that a document exports at a limit, the most bytes of a board's body, which is at most
-/// 32,767, on a screen. The refusals, the first that applies: those of the export; NoBoard where the world has no such board; ScreenFault
-/// where the screen failed. Where it is refused for anything else, the screen isn't called, and else once.
+/// Shows the board of this number on a screen, in the world that a document exports. The limit, at
+/// most 32,767, is the most bytes of a board's body. Refusals, in order: those of the export;
+/// NoBoard if the world has no such board; ScreenFault if the screen failed. The screen is called
+/// once, or not at all after another refusal.
 pub fn show_board(
     alloc: Global,
     screen: &mut dyn Screen,

@@ -1,4 +1,4 @@
-//! Why a session doesn't do what it is asked for.
+//! Why a session refuses a call.
 ghost use Rattle.std.specs.Prelude.{◌≡◌};
 ghost use Rattle.zed_session.specs.declared.error.SessionError.TheVariants.{NoBoard as NoSuchBoard};
 ghost use Rattle.zed_session.specs.Refusals.{export_refusal, play_refusal};
@@ -12,7 +12,7 @@ use zed_play::PlayError;
 use zed_screen::ScreenError;
 use zed_types::Stamp;
 
-/// Why a session doesn't do what it is asked for. Its texts are for whoever debugs; the program prints none of them.
+/// Why a session refuses a call. Its texts are for whoever debugs; the program prints none of them.
 #[derive(Clone, Copy, Debug, PartialEq, Eq, Error)]
 pub enum SessionError {
     #[error("out of memory")]
@@ -23,9 +23,9 @@ pub enum SessionError {
     NewVersion,
     #[error("edits of another world")]
     OtherWorld,
-    #[error("a record of no possible length")]
+    #[error("a record has an impossible length")]
     RecordLength,
-    #[error("the edit is no good: {0:?}")]
+    #[error("the edit breaks a rule: {0:?}")]
     BadEdit(Cause),
     #[error("the edit file ends inside its head or a record")]
     CutShort,
@@ -43,9 +43,9 @@ pub enum SessionError {
     BoardOver { board: usize, bytes: usize },
     #[error("no such board")]
     NoBoard,
-    #[error("no words left")]
+    #[error("the playtest needs more words of chance")]
     NoWords,
-    #[error("no playtest goes on")]
+    #[error("no playtest is running")]
     Over,
     #[error("the link failed")]
     LinkFault,
@@ -53,7 +53,7 @@ pub enum SessionError {
     ScreenFault,
     #[error("the source of keys failed")]
     KeyFault,
-    #[error("the link comes to no end")]
+    #[error("too many reads of a link")]
     TooManyTurns,
     #[error("no such link")]
     NoLink,

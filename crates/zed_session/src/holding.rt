@@ -1,10 +1,10 @@
-//! What holds a document among other things.
+//! Things that hold a document.
 ghost use Rattle.std.specs.Prelude.{◌≡◌};
 
 use zed_document::Document;
 
-/// A thing that holds a document, and lends it to be changed. The trait names the thing's own type in the clause, which a function that
-/// lends out of boxed objects can't.
+/// A thing that holds a document, and lends it to be changed. The trait names the thing's own type
+/// in its clause; a function that lends out of boxed objects can't.
 pub trait HoldsDocument {
     ghost use Rattle.std.specs.Borrow.{Lends, sem};
     ghost use Rattle.zed_document.specs.Replica.{Replica};
@@ -16,7 +16,7 @@ pub trait HoldsDocument {
     /// The same thing with another document.
     ghost holding: { Self → Replica → Self };
 
-    /// The document, to be changed. All else stays as it is, whatever is done to that.
+    /// The document, to be changed. All else stays as it is, whatever is done to the document.
     fn document_mut(&mut self) -> &mut Document
         ensures* writes_back { sem 𝓛 (Lends Self.row document_type self.entry result
             (holding self.entry.now)) }

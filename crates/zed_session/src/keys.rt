@@ -11,16 +11,17 @@ use zed_play::Key;
 pub trait Keys: Drop {
     ghost use Rattle.zed_play.specs.declared.key.Key.{Key};
 
-    /// The keys that are left; or that these aren't told.
+    /// The keys that are left, or none if it doesn't say.
     ghost left: { Self → Option (List Key) };
 
     /// How many calls of `next` failed.
     ghost key_failures: { Self → ℕ };
 
-    /// Which of the calls of `next` to come fail, one after the other, and none behind these; or that this isn't told.
+    /// Which of the next calls of `next` fail, one after the other, and none after these; or none
+    /// if it doesn't say.
     ghost keys_foretell: { Self → Option (List Bool) };
 
-    /// The next key, or None where no more come. Where that fails, no key is taken.
+    /// The next key, or None if no more come. If that fails, no key is taken.
     fn next(&mut self) -> Result<Option<Key>, DeviceFailed>
         ensures key { IfOk result (λ key. IfSome (left self.old) (λ keys. key ≡ first_of keys)) }
         ensures ok { OnOk result (left self.new ≡ without_first (left self.old)) }

@@ -1,8 +1,8 @@
-//! What calls of a session bring into its document.
+//! The edits that calls of a session bring into its document.
 ghost use Rattle.zed_session.specs.Gains.{EditsAreHandedOver};
 
-/// Whatever calls of a session follow one another, but those that lend its document: that has the edits then that it had before, and such as
-/// were spelled by the bytes that its links handed over, but no others.
+/// After any calls of a session, except those that lend its document, the document has its old
+/// edits, and only such new ones as the bytes from its links spelled.
 pub fn edits_are_handed_over()
     ensures { EditsAreHandedOver }
 {}

@@ -1,4 +1,4 @@
-//! What goes over one boxed link.
+//! Sending and receiving over a boxed link.
 ghost use Rattle.std.specs.Prelude.{◌≡◌, ◌≢◌, ◌<◌, ◌↔◌, ℕ, true, false, Ok, Err, Some, IfErr, IfOk, OnErr, OnOk, length, map, remove, slice_get};
 ghost use Rattle.zed_document.specs.Counts.{NoCountFalls};
 ghost use Rattle.zed_host.specs.Counting.{Counts};
@@ -53,7 +53,8 @@ pub(crate) fn receive_over(
     receive(alloc, link.as_mut(), document)
 }
 
-/// Sends bytes over the link of this place. A link that failed is taken out, and handed over as the writes left it, with no other call.
+/// Sends bytes over the link at this place. A link that failed is taken out, and handed over as the
+/// writes left it, with no other call.
 #[tactic(auto, using(crate::proofs::Places::others_at, crate::proofs::Places::shown_same))]
 pub(crate) fn send_at(
     links: &mut Vec<Box<dyn Link>>,
@@ -98,8 +99,8 @@ pub(crate) struct Failed {
     pub(crate) error: LinkError,
 }
 
-/// Receives the edits of the link of this place. A link over which that is refused is taken out, and handed over as the reads left it, with no
-/// other call.
+/// Receives the edits of the link at this place. If that is refused, the link is taken out, and
+/// handed over as the reads left it, with no other call.
 #[tactic(auto, using(crate::proofs::Places::others_at, crate::proofs::Places::shown_same))]
 pub(crate) fn receive_at(
     alloc: Global,

@@ -1,4 +1,4 @@
-//! What is being played.
+//! The playtest of a stage.
 ghost use Rattle.std.specs.Prelude.{◌≡◌, ◌≤◌, None, IfErr, IfOk, OnErr, OnOk, false, is_err, is_some, option_map, true};
 ghost use Rattle.zed_host.specs.Counting.{Counts};
 ghost use Rattle.zed_types.specs.declared.limits.TheConstants.{READ_BODY_LIMIT};
@@ -41,9 +41,10 @@ impl Playing {
         self.playtest.as_ref()
     }
 
-    /// Starts a playtest, at tick 1, of the board of this number of the world that the document exports at a limit, the most bytes of a
-    /// board's body, which is at most 32,767; a key that was kept is dropped. The refusals, the first that applies: those of the export;
-    /// NoBoard where the world has no such board; Memory. After each of them the playtest before and a key that was kept are as they were.
+    /// Starts a playtest, at tick 1, of the board of this number, in the world that the document
+    /// exports. The limit, at most 32,767, is the most bytes of a board's body. A key that was kept
+    /// is dropped. Refusals, in order: those of the export; NoBoard if the world has no such board;
+    /// Memory. A refusal leaves the old playtest and a key that was kept as they were.
     pub fn start(
         &mut self,
         alloc: Global,
@@ -71,7 +72,7 @@ impl Playing {
         }
     }
 
-    /// Makes a step of the playtest, and keeps the key where words lack.
+    /// Makes a step of the playtest, and keeps the key if the words run out.
     pub(crate) fn step(&mut self, key: Key, words: &[u16]) -> Result<usize, PlayError>
         requires { goes_on self.old.playtest ≡ true }
         ensures result { MakesStep result key words.now self.old.playtest self.new.playtest }
@@ -107,7 +108,7 @@ impl Playing {
         }
     }
 
-    /// Shows the playtest that was started on a screen, as it stands.
+    /// Shows the playtest that was started on a screen.
     fn show(&self, screen: &mut dyn Screen) -> Result<(), SessionError>
         requires { is_some self.now.playtest ≡ true }
         ensures ok { OnOk result (ShowsPlay
@@ -125,10 +126,11 @@ impl Playing {
         }
     }
 
-    /// Takes a key, makes a step of the playtest by it and shows that on a screen, and tells how many words of chance it used; None where
-    /// no key is left. The refusals, the first that applies: Over where no playtest goes on; KeyFault where the source of keys failed;
-    /// NoWords where the step lacks a word, with the key kept for the next call; Memory, with which the playtest has ended; ScreenFault
-    /// where the screen failed, after a step that stands.
+    /// Takes a key, makes a step of the playtest by it, shows that on a screen, and answers how
+    /// many words of chance it used; None if no key is left. Refusals, in order: Over if no
+    /// playtest is running; KeyFault if the source of keys failed; NoWords if the step needs more
+    /// words: then the key is kept for the next call; Memory, after which the playtest has ended;
+    /// ScreenFault if the screen failed: then the step is made.
     pub fn play_key(
         &mut self,
         screen: &mut dyn Screen,

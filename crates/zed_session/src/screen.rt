@@ -6,7 +6,7 @@ ghost use Rattle.zed_session.specs.Devices.{Foretold, showing};
 use crate::error::SessionError;
 use zed_screen::Frame;
 
-/// What a device answers that failed.
+/// The answer of a device that failed.
 #[derive(Clone, Copy, Debug, PartialEq, Eq)]
 pub struct DeviceFailed;
 
@@ -14,16 +14,17 @@ pub struct DeviceFailed;
 pub trait Screen: Drop {
     ghost use Rattle.zed_screen.specs.declared.frame.Frame.{Frame};
 
-    /// The frame that it shows, if there is one; or that this isn't told.
+    /// The frame that it shows, if there is one; or none if it doesn't say.
     ghost shown: { Self → Option (Option Frame) };
 
     /// How many calls of `show` failed.
     ghost screen_failures: { Self → ℕ };
 
-    /// Which of the calls of `show` to come fail, one after the other, and none behind these; or that this isn't told.
+    /// Which of the next calls of `show` fail, one after the other, and none after these; or none
+    /// if it doesn't say.
     ghost screen_foretells: { Self → Option (List Bool) };
 
-    /// Shows a frame in place of the one before. Where that fails, what it shows may be anything.
+    /// Shows a frame in place of the one before. If that fails, it may show anything.
     fn show(&mut self, frame: &Frame) -> Result<(), DeviceFailed>
         ensures ok { OnOk result (shown self.new ≡ showing frame.now (shown self.old)) }
         ensures err { OnErr result (is_some (shown self.new) ≡ is_some (shown self.old)) }

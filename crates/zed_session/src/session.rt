@@ -34,7 +34,7 @@ pub struct Session {
 }
 
 impl Session {
-    /// A session of a document, without links, where nothing was played yet. It takes no memory.
+    /// A session of a document, without links, in which nothing was played yet. It takes no memory.
     pub fn new(
         alloc: Global,
         document: Document,
@@ -55,7 +55,8 @@ impl Session {
         }
     }
 
-    /// Puts a link behind the others, and answers its place. Where memory is lacking, the link is handed back.
+    /// Puts a link after the others, and answers its place. If memory runs out, the link is handed
+    /// back.
     pub fn attach(&mut self, link: Box<dyn Link>) -> Result<usize, AllocFailed<Box<dyn Link>>>
         ensures result { IfOk result (λ place. place ≡ length self.old.links.items) }
         ensures ok { OnOk result (self.new.links.items ≡ self.old.links.items ++ link ∷ []) }
@@ -71,7 +72,8 @@ impl Session {
         Ok(place)
     }
 
-    /// Hands over the link of this place, as it is; those behind it move down by one. NoLink where no link has this place.
+    /// Hands over the link at this place, as it is. Those after it move down by one. NoLink if
+    /// there is no link at this place.
     pub fn detach(&mut self, i: usize) -> Result<Box<dyn Link>, SessionError>
         ensures no_link { (result ≡ Err SessionError.NoLink) ↔ (length self.old.links.items ≤ i) }
         ensures ok { OnOk result (self.new.links.items ≡ remove self.old.links.items i) }
@@ -108,9 +110,9 @@ impl Session {
         self.stage.playtest()
     }
 
-    /// Shows the board of this number of the world that the document exports at a limit, the most bytes of a board's body, which is at
-    /// most 32,767. The refusals, the first that applies: those of the export; NoBoard where the world has no such board; ScreenFault
-    /// where the screen failed.
+    /// Shows the board of this number, in the world that the document exports. The limit, at most
+    /// 32,767, is the most bytes of a board's body. Refusals, in order: those of the export;
+    /// NoBoard if the world has no such board; ScreenFault if the screen failed.
     pub fn show(&mut self, board: usize, limit: usize) -> Result<(), SessionError>
         requires { limit ≤ READ_BODY_LIMIT }
         ensures result { Answers (world_shown limit self.old.document) board
@@ -129,9 +131,10 @@ impl Session {
         self.stage.show(&self.document, board, limit)
     }
 
-    /// Starts a playtest, at tick 1, of the board of this number of the world that the document exports at a limit, the most bytes of a
-    /// board's body, which is at most 32,767; a key that was kept is dropped. The refusals, the first that applies: those of the export;
-    /// NoBoard where the world has no such board; Memory. After each of them the playtest before and a key that was kept are as they were.
+    /// Starts a playtest, at tick 1, of the board of this number, in the world that the document
+    /// exports. The limit, at most 32,767, is the most bytes of a board's body. A key that was kept
+    /// is dropped. Refusals, in order: those of the export; NoBoard if the world has no such board;
+    /// Memory. A refusal leaves the old playtest and a key that was kept as they were.
     pub fn play(&mut self, board: usize, limit: usize) -> Result<(), SessionError>
         requires { limit ≤ READ_BODY_LIMIT }
         ensures result { Answers (world_shown limit self.old.document) board
@@ -145,10 +148,11 @@ impl Session {
         self.stage.play(&self.document, board, limit)
     }
 
-    /// Takes a key, makes a step of the playtest by it and shows that, and tells how many words of chance it used; None where no key is
-    /// left. The refusals, the first that applies: Over where no playtest goes on; KeyFault where the source of keys failed; NoWords
-    /// where the step lacks a word, with the key kept for the next call; Memory, with which the playtest has ended; ScreenFault where
-    /// the screen failed, after a step that stands.
+    /// Takes a key, makes a step of the playtest by it, shows that, and answers how many words of
+    /// chance it used; None if no key is left. Refusals, in order: Over if no playtest is running;
+    /// KeyFault if the source of keys failed; NoWords if the step needs more words: then the key is
+    /// kept for the next call; Memory, after which the playtest has ended; ScreenFault if the
+    /// screen failed: then the step is made.
     pub fn play_key(&mut self, words: &[u16]) -> Result<Option<usize>, SessionError>
         ensures result { PlaysKey result words.now
             self.old.stage.playing (left self.old.stage.keys)
@@ -172,9 +176,10 @@ impl Session {
         self.stage.play_key(words)
     }
 
-    /// Writes the edit file of the document, all of its edits, to the link of this place, and answers their number. The refusals, the
-    /// first that applies: NoLink where no link has this place; Memory, with all links as they were; LinkFault where the link failed, or
-    /// took nothing of what it was given: then the link is let go, whatever front of the file it took.
+    /// Writes the edit file of the document, with all its edits, to the link at this place, and
+    /// answers their number. Refusals, in order: NoLink if there is no link at this place; Memory,
+    /// with all links as they were; LinkFault if the link failed, or took no byte of a write: then
+    /// the link is let go, whatever front of the file it took.
     #[tactic(auto, using(crate::proofs::Places::others_at, crate::proofs::Places::shown_same))]
     pub fn push(&mut self, i: usize) -> Result<usize, SessionError>
         ensures no_link { (result ≡ Err SessionError.NoLink) ↔ (length self.old.links.items ≤ i) }
@@ -218,11 +223,13 @@ impl Session {
         }
     }
 
-    /// Reads an edit file of the document's world from the link of this place, to the end of input, and delivers each of its edits as
-    /// soon as it is whole. NoLink where no link has this place; then Stale, with nothing read. After any other refusal the link is let
-    /// go, and what was delivered before stays: what comes first of LinkFault where a read fails, the refusals of an edit file, Clash,
-    /// Memory, after which the document may be stale, and TooManyTurns after 1,048,576 reads that weren't the end. But for Memory no count
-    /// of looks is lower than before.
+    /// Reads an edit file of the document's world from the link at this place, to the end of input,
+    /// and delivers each of its edits as soon as it is whole. NoLink if there is no link at this
+    /// place; then Stale, before any read. After that the first refusal ends it: LinkFault if a
+    /// read fails; the refusals of an edit file; Clash; Memory, after which the document may be
+    /// stale; TooManyTurns after 1,048,576 reads that weren't the end. Then the link is let go, and
+    /// what was delivered before stays. Except after Memory, no count of looks is lower than
+    /// before.
     #[tactic(auto, using(crate::proofs::Places::others_at, crate::proofs::Places::shown_same))]
     pub fn pull(&mut self, i: usize) -> Result<Pulled, SessionError>
         ensures no_link { (result ≡ Err SessionError.NoLink) ↔ (length self.old.links.items ≤ i) }

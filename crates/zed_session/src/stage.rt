@@ -26,7 +26,7 @@ pub struct Stage {
 }
 
 impl Stage {
-    /// A stage where nothing was played yet. It takes no memory.
+    /// A stage on which nothing was played yet. It takes no memory.
     pub fn new(alloc: Global, screen: Box<dyn Screen>, keys: Box<dyn Keys>) -> Stage
         ensures screen { result.screen ≡ screen }
         ensures keys { result.keys ≡ keys }
@@ -47,9 +47,9 @@ impl Stage {
         self.playing.playtest()
     }
 
-    /// Shows the board of this number of the world that the document exports at a limit, the most bytes of a board's body, which is at
-    /// most 32,767. The refusals, the first that applies: those of the export; NoBoard where the world has no such board; ScreenFault
-    /// where the screen failed.
+    /// Shows the board of this number, in the world that the document exports. The limit, at most
+    /// 32,767, is the most bytes of a board's body. Refusals, in order: those of the export;
+    /// NoBoard if the world has no such board; ScreenFault if the screen failed.
     pub fn show(
         &mut self,
         document: &Document,
@@ -71,9 +71,10 @@ impl Stage {
         show_board(self.alloc, self.screen.as_mut(), document, board, limit)
     }
 
-    /// Starts a playtest, at tick 1, of the board of this number of the world that the document exports at a limit, the most bytes of a
-    /// board's body, which is at most 32,767; a key that was kept is dropped. The refusals, the first that applies: those of the export;
-    /// NoBoard where the world has no such board; Memory. After each of them the playtest before and a key that was kept are as they were.
+    /// Starts a playtest, at tick 1, of the board of this number, in the world that the document
+    /// exports. The limit, at most 32,767, is the most bytes of a board's body. A key that was kept
+    /// is dropped. Refusals, in order: those of the export; NoBoard if the world has no such board;
+    /// Memory. A refusal leaves the old playtest and a key that was kept as they were.
     pub fn play(
         &mut self,
         document: &Document,
@@ -89,10 +90,11 @@ impl Stage {
         self.playing.start(self.alloc, document, board, limit)
     }
 
-    /// Takes a key, makes a step of the playtest by it and shows that, and tells how many words of chance it used; None where no key is
-    /// left. The refusals, the first that applies: Over where no playtest goes on; KeyFault where the source of keys failed; NoWords
-    /// where the step lacks a word, with the key kept for the next call; Memory, with which the playtest has ended; ScreenFault where
-    /// the screen failed, after a step that stands.
+    /// Takes a key, makes a step of the playtest by it, shows that, and answers how many words of
+    /// chance it used; None if no key is left. Refusals, in order: Over if no playtest is running;
+    /// KeyFault if the source of keys failed; NoWords if the step needs more words: then the key is
+    /// kept for the next call; Memory, after which the playtest has ended; ScreenFault if the
+    /// screen failed: then the step is made.
     pub fn play_key(&mut self, words: &[u16]) -> Result<Option<usize>, SessionError>
         ensures result { PlaysKey result words.now
             self.old.playing (left self.old.keys) self.new.playing (left self.new.keys) }

@@ -6,19 +6,18 @@ use thiserror::Error;
 use zed_files::Refusal;
 use zed_set_words::BadWord;
 
-/// Why nothing was set. The texts are for a reader of an error value; the program prints none of
-/// them.
+/// Why nothing was set. The texts are for whoever debugs; the program prints none of them.
 #[derive(Clone, Copy, Debug, Error)]
 pub enum SetError {
-    /// What other commands are refused for too.
+    /// A refusal of other commands too.
     #[error("{0}")]
     Refused(Refusal),
-    /// The words wish nothing. No file was read.
-    #[error("words that wish nothing: {0:?}")]
+    /// A word is wrong. No file was read.
+    #[error("a word is wrong: {0:?}")]
     BadWord(BadWord),
 }
 
-/// The answer of a command whose words wish something.
+/// The answer of a command whose words are right.
 pub(crate) fn answer(told: Result<(), Refusal>) -> Result<(), SetError>
     ensures { result ≡ set_answer told }
 {

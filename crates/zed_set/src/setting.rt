@@ -1,4 +1,4 @@
-//! A wish of an author for an edit file.
+//! Setting what an author's words say, in an edit file.
 ghost use Rattle.std.specs.Prelude.{[], ◌∷◌, ◌≡◌, ◌⊎◌, Err, IfErr, MatchResult, Ok, Some, false};
 ghost use Rattle.zed_files.specs.Asked.{Asks, reading, refusal_in, writing};
 ghost use Rattle.zed_files.specs.Effects.{Ends};
@@ -15,13 +15,12 @@ ghost use Rattle.zed_set_words.specs.Readers.{words_of};
 ghost use Rattle.zed_set_words.specs.Rows.{wish_of};
 
 use crate::error::{SetError, answer};
-use crate::opening::open;
 use std::alloc::Global;
 use zed_document::Document;
 use zed_edit::Cause;
 use zed_files::{Refusal, edits_told};
 use zed_host::Host;
-use zed_making::write_document;
+use zed_making::{open, write_document};
 use zed_set_words::{Wish, wish};
 use zed_wishes::grant;
 
@@ -97,17 +96,17 @@ fn set_wish<H: Host>(
     write_document(alloc, host, file, &document, line.as_str())
 }
 
-/// Sets what the words say, as an author with this number, and rewrites the file: `world`, `board`
-/// or `stat`, what of it, and the value, as docs/SET.md has them. One edit is made, or two where a
-/// column and a row are given; also where it is so already. A line tells how many edits the file
-/// has then.
+/// Sets what the words say, as the author with this number, and rewrites the file. The words are
+/// `world`, `board` or `stat`, what of it, and the value, as in docs/SET.md. This makes one edit,
+/// or two for a column and a row, even if nothing changes. A line says how many edits the file has
+/// then.
 ///
 /// # Errors
-/// In this order: `BadWord` for the first word that may not be there, and then no file is read;
-/// `BadEdit` with `Stamp` for author 0; what an edit file is refused for; `NoSuch` for a number
-/// without a board or stat, and for a stat without a text that is to be shared; what an edit is
-/// refused for, such as `NoSuch` for a name of nothing; what writing is refused for. The file is as
-/// it was, unless the host fails while it is written.
+/// Refusals, in order: `BadWord` for the first wrong word, before any file is read; `BadEdit` with
+/// `Stamp` for author 0; those of reading an edit file; `NoSuch` for a number without a board or
+/// stat, and for a stat without a text that is to be shared; those of making an edit, such as
+/// `NoSuch` for a name of nothing; those of writing. The file is as it was, unless the host fails
+/// while writing it.
 pub fn set<H: Host>(
     alloc: Global,
     host: &mut H,

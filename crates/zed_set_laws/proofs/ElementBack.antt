@@ -10,7 +10,8 @@ use Rattle.zed_types.specs.declared.kind.Look.TheVariants.{Character}
 use Rattle.zed_types.specs.declared.kind.Push.TheVariants.{Not}
 use Rattle.zed_log.specs.Fields.{element, element_word, number}
 use Rattle.zed_log.proofs.Elements.{at_row}
-use Rattle.zed_set_words.specs.Values.{Word, digits_of, element_below, element_of, has_idle_zero, is_word_of, number_of, worded_of}
+use Rattle.zed_digits.specs.Digits.{digits_of}
+use Rattle.zed_set_words.specs.Values.{Word, element_below, element_of, has_idle_zero, is_word_of, number_of, worded_of}
 use Rattle.zed_set_laws.proofs.Back.{free_digits, number_back, number_digits}
 use Rattle.zed_set_words.proofs.Cuts.{Free, cut_at}
 use Rattle.zed_set_words.proofs.Tests.{eq_of}

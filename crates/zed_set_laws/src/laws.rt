@@ -1,7 +1,7 @@
-//! What holds of words.
+//! What holds of the words of a list of edits.
 ghost use Rattle.zed_set_laws.specs.Printed.{FieldIsRead, HeaderIsRead, OtherIsNotRead, PropertyIsRead};
 
-/// What a list of edits prints of a setting is read as it: its words, cut at the spaces, with a
+/// The words of a setting in a list of edits read back as that setting: cut at the spaces, with a
 /// string as one word.
 pub fn printed_settings_are_read()
     ensures header { HeaderIsRead }
@@ -9,7 +9,7 @@ pub fn printed_settings_are_read()
     ensures field { FieldIsRead }
 {}
 
-/// What a list of edits prints of an edit that sets nothing isn't read: its first word is wrong.
+/// The words of an edit that sets nothing don't read: the first word is wrong.
 #[tactic(auto, using(crate::proofs::Others::other_is_not_read))]
 pub fn other_edits_are_not_read()
     ensures { OtherIsNotRead }

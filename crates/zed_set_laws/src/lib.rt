@@ -1,5 +1,5 @@
-//! Laws on the words of `zed_set_words`: what a list of edits prints of a setting is read as it, and
-//! what it prints of any other edit isn't read.
+//! Laws of `zed_set_words`: the line of a setting in a list of edits reads back as that setting,
+//! and the line of any other edit doesn't read.
 #![tactic(auto)]
 
 mod laws;

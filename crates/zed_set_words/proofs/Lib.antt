@@ -1,7 +1,6 @@
 pub mod Characters
 pub mod Cuts
 pub mod First
-pub mod Numbers
 pub mod Signs
 pub mod Tests
 pub mod Whole

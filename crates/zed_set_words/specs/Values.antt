@@ -1,9 +1,9 @@
 -- The values that a word may be.
 use Rattle.std.specs.Prelude.{ℕ, zero, suc, ℤ, pos, negsuc, ◌+◌, ◌*◌, ◌-◌, nat_le, Bool, true, false, ◌&&◌, ◌==◌, if◌then◌else◌, List, [], ◌∷◌, length, map, codes, Option, Some, None, option_and_then, option_map}
-use Rattle.std.specs.List.{find, list_all}
+use Rattle.std.specs.List.{find}
 use Rattle.std.specs.Str.{bytes_eq}
-use Rattle.std.specs.Str.Parse.{digits_value}
-use Rattle.std.specs.Char.{is_ascii_digit, to_ascii_lowercase}
+use Rattle.std.specs.Char.{to_ascii_lowercase}
+use Rattle.zed_digits.specs.Digits.{digits_of}
 use Rattle.zed_types.specs.declared.names.Name.{Name}
 use Rattle.zed_types.specs.declared.header.FlagSlot.{FlagSlot}
 use Rattle.zed_types.specs.declared.header.FlagSlot.TheVariants.{First, Second, Third, Fourth, Fifth, Sixth, Seventh, Eighth, Ninth, Tenth}
@@ -32,14 +32,6 @@ or_else None o = o
 or_else (Some x) o = Some x
 
 -- ---- numbers
-
--- one digit or more, and nothing else
-abbrev pub is_number : Word → Bool
-is_number word = nat_le 1 (length word) && list_all is_ascii_digit word
-
--- the number that digits spell, if it is at most `most`
-abbrev pub digits_of : ℕ → Word → Option ℕ
-digits_of most word = if is_number word && nat_le (digits_value 10 word) most then Some (digits_value 10 word) else None
 
 -- whether a 0 (48) stands in front of something
 abbrev pub has_idle_zero : Word → Bool

@@ -1,9 +1,9 @@
-//! Words that wish nothing.
+//! Wrong words.
 ghost use Rattle.std.specs.Prelude.{◌≡◌, length};
 ghost use Rattle.zed_set_words.specs.Texts.{text_of};
 ghost use Rattle.zed_set_words.specs.Readers.{stop as stop_at, words_of};
 
-/// What may be where another word was found, or none.
+/// What may be in the place of a wrong or missing word.
 #[derive(Clone, Copy, Debug)]
 pub enum Expected {
     Thing,
@@ -96,7 +96,7 @@ impl Expected {
 /// The first wrong word.
 #[derive(Clone, Copy, Debug)]
 pub struct BadWord {
-    /// Which word it is, from 0 on. Where the words end too early it is how many there are.
+    /// Which word it is, counted from 0. If the words end too early, it is how many there are.
     pub at: usize,
     /// What may be there.
     pub expected: Expected,
@@ -110,7 +110,7 @@ pub(crate) struct Stop {
     pub(crate) expected: Expected,
 }
 
-/// A stop at the first of these words, or where there are none.
+/// A stop at the first of these words, or at their end if there are none.
 #[tactic(auto, using(crate::proofs::Tests::lent_length))]
 pub(crate) fn stopped(words: &[&str], expected: Expected) -> Stop
     ensures { result ≡ stop_at (words_of words.now) expected }

@@ -1,4 +1,4 @@
-//! Words that say what is to be set: a register of the world, a property of a board or a field of a
+//! The words of `zztool set`, read: a register of the world, a property of a board or a field of a
 //! stat, and its value.
 #![tactic(auto)]
 

@@ -1,30 +1,10 @@
 //! Numbers in words: decimal digits, and a sign in front of some.
 ghost use Rattle.std.specs.Prelude.{◌≡◌, ◌≢◌, ◌∷◌, ◌≤◌, ℕ, List, IfSome, MatchOption, option_map, pos};
-ghost use Rattle.std.specs.Char.{is_ascii_digit};
-ghost use Rattle.std.specs.List.{list_all};
-ghost use Rattle.zed_set_words.specs.Values.{below_zero as less, digits_of, has_idle_zero as idles, integer_of, number_of};
+ghost use Rattle.zed_set_words.specs.Values.{below_zero as less, has_idle_zero as idles, integer_of, number_of};
 
-fn is_digits(word: &str) -> bool
-    ensures { result ≡ list_all is_ascii_digit word.now }
-{
-    word.as_bytes().iter().all(|byte| byte.is_ascii_digit())
-}
+use zed_digits::digits;
 
-/// The number that a word of digits spells, if it is at most `most`.
-fn digits(word: &str, most: u64) -> Option<u64>
-    ensures result { result ≡ digits_of most word.now }
-    ensures within { IfSome result (λ n. n ≤ most) }
-{
-    if !is_digits(word) {
-        return None;
-    }
-    match word.parse::<u64>() {
-        Ok(n) => { if n <= most { Some(n) } else { None } }
-        Err(_) => None,
-    }
-}
-
-/// Whether a 0 stands in front of something.
+/// Whether a 0 is in front of something.
 fn has_idle_zero(word: &[u8]) -> bool
     ensures { result ≡ idles word.now }
 {
@@ -88,7 +68,7 @@ fn above_zero(word: &str) -> Option<i16>
     Some(n as i16)
 }
 
-/// What stands behind `-`.
+/// What follows `-`.
 fn behind_minus(word: &str) -> Option<&str>
     ensures { MatchOption result
         ((rest : List ℕ) → word.now ≢ 45 ∷ rest)

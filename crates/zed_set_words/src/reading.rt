@@ -84,12 +84,11 @@ fn thing<'a>(words: &[&'a str]) -> Result<Wish<'a>, Stop>
 }
 
 /// What is to be set, and where: `world` and a register, `board`, a board and a property, or
-/// `stat`, a stat and a field; and the
-/// value behind it. docs/SET.md has the table of all words. A board or a stat is given by its
-/// number or by its name.
+/// `stat`, a stat and a field; then the value. docs/SET.md has the table of all words. A board or a
+/// stat is given by its number or by its name.
 ///
 /// # Errors
-/// The first word that may not be there, and what may.
+/// The first wrong word, and what may be in its place.
 #[tactic(auto, unfolding(crate::specs::Rows::wish_of), using(crate::proofs::Tests::lent_length))]
 pub fn wish<'a>(words: &[&'a str]) -> Result<Wish<'a>, BadWord>
     ensures { result ≡ rows.wish_of (words_of words.now) }

@@ -119,7 +119,7 @@ pub(crate) fn colour(word: &str) -> Option<u8>
     }
 }
 
-/// What stands before the first such character, and what behind it.
+/// What is before the first such character, and what is after it.
 pub(crate) fn cut(word: &str, at: char) -> Option<(&str, &str)>
     requires { at < 128 }
     ensures { MatchOption result (cut_at at word.now ≡ None)

@@ -1,4 +1,4 @@
-//! Last words: a value, and no more.
+//! The last words: a value, and nothing after it.
 ghost use Rattle.std.specs.Prelude.{◌≡◌, MatchResult, Err, Ok};
 ghost use Rattle.zed_set_words.specs.Readers.{behind as behind_word, the_end as ends, value, words_of};
 ghost use Rattle.zed_set_words.specs.Rows as rows;

@@ -1,4 +1,4 @@
-//! What words may wish.
+//! What the words may ask for.
 use crate::text::Text;
 use zed_types::{
     BoardByte, BoardFlag, BoardId, BoardText, FlagSlot, HeaderNumber, KeyColour, Side, StatByte,
@@ -39,7 +39,7 @@ pub enum BoardWish<'a> {
     Flag(BoardFlag, bool),
     TimeLimit(i16),
     Rank(u16),
-    /// Without a board nothing is behind the side.
+    /// None for no board behind the side.
     Exit(Side, Option<BoardPlace>),
     /// At most 50 bytes of a name, at most 58 of a message.
     Text(BoardText, Text<'a>),

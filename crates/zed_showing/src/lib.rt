@@ -1,4 +1,4 @@
-//! The command that prints a board of the world of edit files, as ZZT shows it.
+//! The picture of a board as `zztool` prints it.
 #![tactic(auto)]
 
 mod picturing;

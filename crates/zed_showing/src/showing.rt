@@ -40,8 +40,9 @@ fn shown_of_files<H: Host>(
 /// Prints a board of the world of edit files in a form, as ZZT's editor shows it. Bodies of a board may have 32,767 bytes.
 ///
 /// # Errors
-/// The first of these: a file that can't be read, a clash or a fault of the files; what the world can't be exported for; NoBoard where it
-/// has no board of this number; File where the text can't be printed. And Memory.
+/// Refusals, in order: a file that can't be read, a clash or a fault of the files; those of an
+/// export; NoBoard if the world has no board of this number; File if the text can't be printed.
+/// Memory may come at any of these steps.
 pub fn show<H: Host>(
     alloc: Global,
     host: &mut H,

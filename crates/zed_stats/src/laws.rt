@@ -1,4 +1,4 @@
-//! What stats hold once writes came, whatever their order.
+//! What stats hold after writes, in whatever order these came.
 
 ghost use Rattle.zed_stats.specs.Arrivals.{FieldsHoldTheLatest};
 

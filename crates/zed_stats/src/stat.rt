@@ -106,7 +106,7 @@ impl LiveStat {
         }
     }
 
-    /// Marks the stat removed, but for a player.
+    /// Marks the stat removed, unless it is a player.
     pub fn remove(&mut self)
         ensures { self.new ≡ removed self.old }
     {

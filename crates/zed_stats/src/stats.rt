@@ -4,11 +4,10 @@ ghost use Rattle.std.specs.Prelude.{◌≡◌, ◌<◌, ◌&&◌, not, [], lengt
 ghost use Rattle.zed_stats.specs.Fields.{new_stat, value_of, write, remove as removed};
 ghost use Rattle.zed_stats.specs.Stats.{has as is_there, add as added, change, number_of as number_in};
 
-use crate::error::StatsError;
 use crate::field::StatField;
 use crate::stat::{LiveStat, StatValues};
 use indexmap::IndexMap;
-use std::alloc::Global;
+use std::alloc::{AllocError, Global};
 use std::marker::Model;
 use zed_names::{add, seek};
 use zed_types::{Stamp, StatId, StatSetting};
@@ -60,19 +59,15 @@ impl Stats {
         }
     }
 
-    /// Adds a stat at its place. One that was added before stays as it is, removed or not.
-    pub fn add(&mut self, id: StatId, is_player: bool, values: StatValues) -> Result<(), StatsError>
+    /// Adds a stat at its place. A stat that is there already stays as it is, removed or not.
+    pub fn add(&mut self, id: StatId, is_player: bool, values: StatValues) -> Result<(), AllocError>
         ensures ok { OnOk result
             (self.new ≡ added id (new_stat is_player id.name.stamp values) self.old) }
-        ensures err { IfErr result (λ e. e ≡ StatsError.Memory) }
         ensures kept { OnErr result (self.new ≡ self.old) }
         ensures memory_only_when { OnErr result (is_there id self.old ≡ false) }
     {
         let stat = LiveStat::new(is_player, id.name.stamp, values);
-        match add(&mut self.entries, id, stat) {
-            Ok(()) => Ok(()),
-            Err(_) => Err(StatsError::Memory),
-        }
+        add(&mut self.entries, id, stat)
     }
 
     /// Whether a stat of this name was added, removed or not.
@@ -82,7 +77,7 @@ impl Stats {
         seek(&self.entries, self.last, id).is_some()
     }
 
-    /// Seeks a stat, so that it is found at once when it is asked for or changed. Nothing changes.
+    /// Looks for a stat, so that the next call finds it at once. Nothing changes.
     pub fn hint(&mut self, id: StatId)
         ensures { self.new ≡ self.old }
     {
@@ -91,7 +86,7 @@ impl Stats {
         }
     }
 
-    /// Marks a stat removed, but for a player. It keeps its name and its fields.
+    /// Marks a stat removed, unless it is a player. It keeps its name and its fields.
     pub fn remove(&mut self, id: StatId)
         ensures { self.new ≡ change id removed self.old }
     {

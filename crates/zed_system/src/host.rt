@@ -11,8 +11,8 @@ use std::marker::Model;
 use zed_disk::NamedFile;
 use zed_host::{Host, ReadError, WriteError};
 
-/// Files by their paths; `stdin` and `stdout` are the streams. It doesn't tell what they hold. It writes the files that it is told of, and
-/// nothing else.
+/// Files by their paths; `stdin` and `stdout` are the streams. It doesn't say what they hold. It
+/// writes only the files that it was allowed to write.
 #[derive(Drop)]
 pub struct SystemHost {
     rt: HostRuntime,
@@ -44,13 +44,15 @@ impl SystemHost {
         }
     }
 
-    /// Lets the command write the file of a name. An edit file that stands there then is kept beside it, under its name and a tilde.
+    /// Lets the command write the file of a name. If an edit file is there then, it is kept beside
+    /// it, under its name and a tilde.
     ///
-    /// A file that it gets to by another name already, or in another way, isn't written by this one, nor one that an earlier one would be
-    /// kept as. To tell of a name once more changes nothing.
+    /// This name isn't written if its file was allowed before, by another name or in another way,
+    /// or is the one as which an earlier one would be kept. Allowing a name again changes nothing.
     ///
     /// # Errors
-    /// `OutOfMemory` alone: all memory that a write takes is had here. What else fails is told where the file is written.
+    /// Only `OutOfMemory`: this takes all memory that a write needs. Any other failure comes when
+    /// the file is written.
     pub fn writes(&mut self, name: &str) -> io::Result<()>
         ensures kept { self.new ≡ self.old }
     {
@@ -58,14 +60,14 @@ impl SystemHost {
         self.admit(name, Place::new(file, Way::Writes))
     }
 
-    /// Lets the command read the file of a name and write it again. From the read on it is held: nobody else replaces it before this
-    /// command has written it, or has ended.
+    /// Lets the command read the file of a name and write it again. From the read on it is held:
+    /// nobody else replaces it before this command has written it, or has ended.
     ///
-    /// A file that it gets to by another name already, or in another way, is neither read nor written by this one. To tell of a name once
-    /// more changes nothing.
+    /// This name is neither read nor written if its file was allowed before, by another name or in
+    /// another way. Allowing a name again changes nothing.
     ///
     /// # Errors
-    /// `OutOfMemory` alone, as of `writes`.
+    /// Only `OutOfMemory`, as for `writes`.
     pub fn edits(&mut self, name: &str) -> io::Result<()>
         ensures kept { self.new ≡ self.old }
     {
@@ -73,12 +75,12 @@ impl SystemHost {
         self.admit(name, Place::new(file, Way::Edits))
     }
 
-    /// Lets the command write the file of a name, where it reads others over links. If one of these is that file itself, by whatever name,
-    /// it is held from now on, as by `edits`, and else written as by `writes`. Where that can't be told nothing but a device is written
-    /// there.
+    /// Lets the command write the file of a name, while it reads others over links. If one of these
+    /// is that file itself, by any name, it is held from now on, as by `edits`; otherwise it is
+    /// written as by `writes`. If this can't be found out, only a device is written there.
     ///
     /// # Errors
-    /// `OutOfMemory` alone, as of `writes`.
+    /// Only `OutOfMemory`, as for `writes`.
     pub fn joins(&mut self, name: &str, links: &[&str]) -> io::Result<()>
         ensures kept { self.new ≡ self.old }
     {

@@ -1,5 +1,4 @@
-//! The host of a program over real files and streams: it finds, locks and replaces the files that a
-//! command writes.
+//! The host over real files and streams.
 #![tactic(auto)]
 
 mod host;

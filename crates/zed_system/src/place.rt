@@ -5,10 +5,11 @@ use std::fs::File;
 use std::io::{self, ErrorKind, Seek};
 use zed_disk::{Beginning, NamedFile, held, is_kept, leads_to, stands, write, write_keeping};
 
-/// How an edit file begins. Where a command writes a file that begins so, and doesn't read it, the old one is kept.
+/// The first bytes of an edit file. If a command writes a file that begins so, and doesn't read it,
+/// the old one is kept.
 const EDITS: Beginning = *b"ZED";
 
-/// How a command gets to a file.
+/// How a command uses a file.
 #[derive(Clone, Copy, PartialEq, Eq)]
 pub(crate) enum Way {
     /// It writes the file.
@@ -28,7 +29,7 @@ enum Hold {
     Refused,
 }
 
-/// A file that a command writes, where it stands, and as far as it is held.
+/// A file that a command writes: its place, and its lock, if it is held.
 #[derive(Drop)]
 pub(crate) struct Place {
     file: NamedFile,
@@ -59,12 +60,12 @@ impl Place {
         self.way == Way::Edits && self.is_of(name)
     }
 
-    /// Whether the command gets to both in the same way.
+    /// Whether the command uses both in the same way.
     pub(crate) fn is_as(&self, other: &Place) -> bool {
         self.way == other.way
     }
 
-    /// Whether nothing is read or written there.
+    /// Whether nothing may be read or written there.
     pub(crate) fn is_refused(&self) -> bool {
         matches!(&self.hold, Hold::Refused)
     }
@@ -74,7 +75,8 @@ impl Place {
         self.hold = Hold::Refused;
     }
 
-    /// Whether two places have one name or lead to one file, or the file of the one is what that of the other would be kept as.
+    /// Whether two places have the same name or lead to the same file, or one would be kept as the
+    /// other's file.
     ///
     /// # Errors
     /// A device failed.
@@ -93,7 +95,8 @@ impl Place {
         )
     }
 
-    /// Holds the file, if it is there, before it is read otherwise. Until this command has written it, no other one replaces it.
+    /// Holds the file, if it is there, before it is read in another way. Until this command has
+    /// written it, no other one replaces it.
     pub(crate) fn hold(&mut self, rt: &HostRuntime) {
         let (Hold::Nothing, Ok(found)) = (&self.hold, self.file.found()) else {
             return;
@@ -121,7 +124,8 @@ impl Place {
         Ok(bytes)
     }
 
-    /// Remembers that a file was read, whose name may lead to what the file would be kept as.
+    /// Remembers that a file was read: its name may lead to the file as which this one would be
+    /// kept.
     ///
     /// # Errors
     /// A device failed.
@@ -135,7 +139,7 @@ impl Place {
         Ok(())
     }
 
-    /// Writes the file. What was read from it must still stand there.
+    /// Writes the file. If it was read, the file that was read must still be there.
     pub(crate) fn write(&self, rt: &HostRuntime, name: &str, bytes: &[u8]) -> io::Result<()> {
         let found = self.file.found();
         match (&self.hold, &found) {

@@ -10,8 +10,9 @@ const READS: u32 = 1_048_576;
 /// Most bytes of one read.
 const PIECE: usize = 4096;
 
-/// Most bytes of one file: one that has more is a failure. So what comes to no end takes no more memory than this, and ends within
-/// seconds. It is far above what authors have: a world file has less than 4 MB, and a million edits have some 30 MB.
+/// Most bytes of one file: a longer one is a failure. So an endless file takes no more memory than
+/// this, and fails within seconds. This is far above what authors have: a world file has less than
+/// 4 MB, and a million edits have some 30 MB.
 const MOST: usize = 268_435_456;
 
 /// Why reading stopped.

@@ -1,4 +1,4 @@
-//! Why what a world file has can't be taken into a document.
+//! Why a drawn world can't be taken into a document.
 ghost use Rattle.std.specs.Prelude.{◌≡◌};
 ghost use Rattle.zed_take.specs.declared.error.TakeError.TheVariants.{Memory};
 ghost use Rattle.zed_take.specs.Refusals.{of_plan};
@@ -8,7 +8,8 @@ use std::alloc::{AllocError, AllocFailed};
 use thiserror::Error;
 use zed_export::ExportError;
 
-/// Why what a world file has can't be taken into a document. Its texts are for whoever debugs; the program prints none of them.
+/// Why a drawn world can't be taken into a document. Its texts are for whoever debugs; the program
+/// prints none of them.
 #[derive(Clone, Copy, Debug, PartialEq, Eq, Error)]
 pub enum TakeError {
     #[error("out of memory")]

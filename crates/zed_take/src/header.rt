@@ -98,7 +98,7 @@ fn plan_strings(plan: &mut Plan, before: &Header, after: &Header) -> Result<(), 
     Ok(())
 }
 
-/// Plans to set the registers of a header that differ but for the current board.
+/// Plans to set the registers of a header that differ, except the current board.
 pub(crate) fn plan_header(
     plan: &mut Plan,
     before: &Header,

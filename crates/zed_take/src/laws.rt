@@ -1,4 +1,4 @@
-//! What holds of taking, each law the contract of a function with nothing to do.
+//! Laws of taking. Each law is the contract of a function with an empty body.
 ghost use Rattle.std.specs.Prelude.{ℕ, ◌<◌};
 ghost use Rattle.zed_types.specs.declared.names.BoardId.{BoardId};
 ghost use Rattle.zed_types.specs.declared.names.StatId.{StatId};
@@ -29,7 +29,7 @@ pub fn taking_again_takes_nothing()
     ensures { TakingAgainTakesNothing }
 {}
 
-/// Of a world file that was saved from a base and wasn't drawn in nothing is taken.
+/// If a world file was saved from a base and wasn't drawn in, nothing is taken.
 pub fn nothing_is_taken_unchanged()
     ensures { NothingIsTakenUnchanged }
 {
@@ -37,7 +37,7 @@ pub fn nothing_is_taken_unchanged()
     rising_lists_are_sets();
 }
 
-/// What stands in a register of the header that no new edit writes is as it was before.
+/// A register of the header keeps its value, unless a new edit writes it.
 pub fn unwritten_header_stays()
     ensures numbers { (f : HeaderNumber) → StaysUnwritten (of_header (header_number f)) }
     ensures keys { (k : KeyColour) → StaysUnwritten (of_header (key k)) }
@@ -49,7 +49,7 @@ pub fn unwritten_header_stays()
     greatest_stamp_wins_the_header();
 }
 
-/// And of a board.
+/// So does a register of a board.
 pub fn unwritten_boards_stay()
     ensures bytes { (b : BoardId) (f : BoardByte) → StaysUnwritten (of_board b (board_byte f)) }
     ensures flags { (b : BoardId) (f : BoardFlag) → StaysUnwritten (of_board b (board_flag f)) }
@@ -63,7 +63,7 @@ pub fn unwritten_boards_stay()
     greatest_stamp_wins_boards();
 }
 
-/// And of a stat.
+/// So does a register of a stat.
 pub fn unwritten_stats_stay()
     ensures bytes { (x : StatId) (f : StatByte) → StaysUnwritten (of_stat x (stat_byte f)) }
     ensures numbers { (x : StatId) (f : StatNumber) → StaysUnwritten (of_stat x (stat_number f)) }

@@ -1,5 +1,4 @@
-//! What another editor changed in a world file, as edits: they lead from a document to the world of
-//! the file.
+//! Edits that lead from a document to a drawn world.
 #![tactic(auto)]
 
 mod aligning;

@@ -1,5 +1,5 @@
-//! The edits that lead from one world to another, as they are planned. Nothing is claimed of them: they are tried before they are
-//! handed out.
+//! The edits that lead from one world to another, as they are planned. No contract says that they
+//! do: `take` tries them before it hands them out.
 use crate::boards::{Boards, plan_boards};
 use crate::cells::plan_cells;
 use crate::claims::Claims;

@@ -74,7 +74,8 @@ fn plan_exit(
     plan.set_board(board, BoardSetting::Exit(side, there))
 }
 
-/// Plans to set the properties of a board that differ but for its rank. The boards have these names by number.
+/// Plans to set the properties of a board that differ, except its rank. The boards have these names
+/// by number.
 pub(crate) fn plan_properties(
     plan: &mut Plan,
     boards: &[BoardId],

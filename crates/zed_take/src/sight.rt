@@ -1,4 +1,5 @@
-//! What is to be known of a document beside its world: the names of its things, and the registers that name things.
+//! What a document has beside its world: the names of its things, and the registers that name
+//! things.
 ghost use Rattle.std.specs.Prelude.{◌<◌, length};
 
 use crate::plan_error::PlanError;

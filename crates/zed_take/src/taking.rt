@@ -20,7 +20,7 @@ use zed_op::Edit;
 use zed_types::{READ_BODY_LIMIT, Stamp};
 use zed_world::{World, WorldError, write_world};
 
-/// What can be told of a world that can't be written: a board that is too large.
+/// Why a world can't be written: a board is too large.
 fn over_of(error: WorldError) -> Option<TakeError>
     ensures { result ≡ over_told error }
 {
@@ -30,7 +30,7 @@ fn over_of(error: WorldError) -> Option<TakeError>
     }
 }
 
-/// The one text of a world, unless memory lacks. That a board is too large is told before that.
+/// The text of a world. A board that is too large is refused before any want of memory.
 fn text_of(alloc: Global, world: &World) -> Result<Result<Vec<u8>, AllocError>, TakeError>
     ensures fits { OnOk result (HasText 32767 world.now) }
     ensures text { IfOk result (λ r. IfOk r (λ text. text.items ≡ world_text world.now)) }
@@ -46,7 +46,7 @@ fn text_of(alloc: Global, world: &World) -> Result<Result<Vec<u8>, AllocError>, 
     }
 }
 
-/// The file of a base, unless memory lacks. What refuses it is told before that.
+/// The file of a base. Its refusals come before any want of memory.
 fn file_of(alloc: Global, base: &Document) -> Result<Result<Vec<u8>, AllocError>, TakeError>
     ensures fine { OnOk result (IsWithin base.now) }
     ensures saved { IfOk result (λ r. IfOk r (λ file.
@@ -126,14 +126,17 @@ fn sought(
     Ok(tried(alloc, base, world, &text, first, edits)?)
 }
 
-/// The edits of a replica that lead from what a base shows to a world that another editor left: the base with these edits shows that
-/// world. Their times come one after the other behind all those of the document, which has the edits of the base and may have more.
-/// There are none where the base shows the world already.
+/// The edits of a replica that lead from what a base shows to a world that another editor left: the
+/// base with these edits shows that world. Their times follow all those of the document, one after
+/// the other. The document has the edits of the base, and may have more. If the base shows the
+/// world already, there are no edits.
 ///
-/// In this order: ClockSpent where no time is left; WorldOver where a board of the world, written again, has more than 32,767 bytes, with
-/// its number and how many; Base where the base can't be exported at that limit, and why; Memory, or ClockSpent where the edits need more
-/// times than are left, or NotTaken where the edits that were found don't lead to the world. The last two never come where the base shows
-/// the world already, and the first three come before any want of memory.
+/// Refusals, in order: ClockSpent if no time is left; WorldOver for the first board of the world
+/// that, written again, has more than 32,767 bytes, with its number and its bytes; Base if the base
+/// can't be exported at that limit, and why; then Memory, or ClockSpent if the edits need more
+/// times than are left, or NotTaken if the edits that were found don't lead to the world. The last
+/// two never come if the base shows the world already. The first three come before any want of
+/// memory.
 pub fn take(
     alloc: Global,
     document: &Document,

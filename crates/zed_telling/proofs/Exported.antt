@@ -1,16 +1,13 @@
 -- The exported world.
-use Rattle.zed_edit.specs.declared.plain.Plain.{Plain}
 use Rattle.zed_export.specs.declared.error.ExportError.{ExportError}
 use Rattle.zed_export.specs.declared.error.ExportError.TheVariants.{Memory}
-use Rattle.std.proofs.Common.{◌≡◌, ◌∙◌, ◌≤◌, ℕ, false, length, Option, Some, None, Ok, Err, ap, refl, sym, subst, inl, inr}
-use Rattle.std.proofs.lemmas.List.{length-map}
+use Rattle.std.proofs.Common.{◌≡◌, ℕ, false, Option, Some, None, Ok, Err, ap, refl, sym, inl, inr}
 use mathlib.Core.Logic.{◌⊎◌}
 use Rattle.zed_world.specs.Contents.{Contents}
-use Rattle.zed_edit.specs.Numbers.{alive_boards}
 use Rattle.zed_edit.specs.Replay.{replay}
 use Rattle.zed_document.specs.Replica.{Replica}
 use Rattle.zed_export.specs.Limits.{Answers, exported, refusal_of, unless_over as over, unless_stale}
-use Rattle.zed_export.specs.World.{exported_board, world_of}
+use Rattle.zed_export.specs.World.{world_of}
 
 is_world : (o : Option ExportError) (v w : Contents) → Answers {X = Contents} (λ x. x) (over o v) (Ok w) → (w ≡ v) × (o ≡ None)
 is_world None v w is = (is, refl)
@@ -29,7 +26,3 @@ is_refused (Some x) v e is = inr (let same : e ≡ x = cc in ap (λ y. Some y) (
 pub refused_so : (limit : ℕ) (d : Replica) (e : ExportError) → d.is_stale ≡ false → Answers {X = Contents} (λ x. x) (unless_stale d (exported limit)) (Err e)
     → (e ≡ Memory) ⊎ (refusal_of limit (replay d.edits) ≡ Some e)
 refused_so limit d e sound is = is_refused (refusal_of limit (replay d.edits)) (world_of (replay d.edits)) e (rw sound at is)
-
--- the boards that aren't removed are as many as those of the world
-pub few : (p : Plain) (w : Contents) → w ≡ world_of p → length w.boards ≤ 101 → length (alive_boards p) ≤ 101
-few p w is le = subst (λ n. n ≤ 101) (ap (λ (v : Contents). length v.boards) is ∙ length-map (alive_boards p) (exported_board p)) le

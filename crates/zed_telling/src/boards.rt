@@ -23,7 +23,7 @@ fn ranks_at(alloc: Global, view: &View, places: &[usize]) -> Result<Vec<u16>, Al
     Ok(ranks)
 }
 
-/// The ranks of the boards that aren't removed, by number, where there are 101 at most.
+/// The ranks of the boards that aren't removed, by number, if there are at most 101.
 pub(crate) fn ranks(alloc: Global, view: &View) -> Result<Vec<u16>, AllocError>
     requires ordered { IsOrdered view.now }
     requires few { length (alive_boards view.now) ≤ 101 }

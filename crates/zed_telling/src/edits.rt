@@ -1,4 +1,4 @@
-//! Which edits are of a board, and which of a cell.
+//! Which edits are about a board, and which about a cell.
 ghost use Rattle.std.specs.Prelude.{◌≡◌, ◌<◌, ◌&&◌, length};
 ghost use Rattle.std.specs.List.{list_any};
 ghost use Rattle.zed_types.specs.Names.{same_board};
@@ -174,7 +174,7 @@ fn passes_since(since: Option<u64>, edit: &Edit) -> bool
     }
 }
 
-/// Whether an edit is all that is asked for.
+/// Whether an edit passes all filters.
 pub(crate) fn passes(view: &View, sought: &Sought, edit: &Edit) -> bool
     ensures { result ≡ passes_all view.now sought.now edit.now }
 {

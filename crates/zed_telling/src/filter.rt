@@ -1,10 +1,11 @@
-//! Which edits are asked for, as words name them.
+//! The filters of `log`, as its words give them.
 
-/// Which edits `log` prints: those that pass each filter that is given. Boards are told by today's numbers.
+/// Which edits `log` prints: those that pass all given filters. Boards have their numbers of today.
 #[derive(Clone, Copy, Debug, PartialEq, Eq)]
 pub struct Filter {
-    /// The edits of this board: the one that made it, those that set its properties or its cells, that add a stat, remove the board, or work on
-    /// a stat of it, removed or not, or on a text that a stat of it has.
+    /// The edits of this board: the one that made it; those that set its properties or its cells,
+    /// add a stat or remove the board; those of its stats, removed or not; and those of texts that
+    /// its stats have.
     pub board: Option<u16>,
     /// Board, column and row: the edits that set this cell, and the one that made the board.
     pub cell: Option<(u16, u16, u16)>,

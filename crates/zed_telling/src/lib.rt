@@ -1,5 +1,4 @@
-//! The commands that tell: `list`, the numbers of boards, stats and programs, `log`, the edits of
-//! authors, and `lint`, what ZZT or who plays would stumble over.
+//! The commands `list`, `log` and `lint` of `zztool`.
 #![tactic(auto)]
 
 mod boards;

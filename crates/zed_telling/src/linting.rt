@@ -18,8 +18,8 @@ use zed_files::Refusal;
 use zed_host::Host;
 use zed_types::READ_BODY_LIMIT;
 
-/// What is found in the world of a document that isn't stale, or what an export refuses, at 32,767
-/// bytes a body.
+/// The lines of the findings in the world of a document that isn't stale, or the refusal of its
+/// export, at 32,767 bytes a body.
 pub(crate) fn findings_text(alloc: Global, document: &Document) -> Result<Vec<u8>, Refusal>
     requires sound { document.now.is_stale ≡ false }
     ensures { MatchResult result
@@ -32,10 +32,9 @@ pub(crate) fn findings_text(alloc: Global, document: &Document) -> Result<Vec<u8
     Ok(text)
 }
 
-/// Prints a line for each thing that ZZT, or who plays, would stumble over in the world of edit
-/// files, as docs/LINT.md tells them, and answers how many lines these are. In this order: what the
-/// files are refused for; what an export is refused for, at 32,767 bytes a body. Nothing is printed
-/// then.
+/// Prints a line for each thing that ZZT or a player would stumble over in the world of edit files,
+/// in the forms of docs/LINT.md, and answers how many lines these are. Refusals, in order: those of
+/// reading the files; those of an export, at 32,767 bytes a body. Then nothing is printed.
 pub fn lint<H: Host>(alloc: Global, host: &mut H, files: &[&str]) -> Result<usize, Refusal>
     ensures ends { (t : HostContents) → H.contents host.old ≡ Some t
         → let failed = Rose (H.faults host.old) (H.faults host.new) in

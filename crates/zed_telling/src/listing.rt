@@ -118,8 +118,9 @@ fn listed_text(
     }
 }
 
-/// What is listed of a document that isn't stale. In this order: what an export refuses, at 32,767 bytes a body; NoBoard where there is no board of this
-/// number; NoSuch where it has no stat of this number.
+/// The lines of a document that isn't stale. Refusals, in order: those of an export, at 32,767
+/// bytes a body; NoBoard if there is no board of this number; NoSuch if the board has no stat of
+/// this number.
 pub(crate) fn listing_text(
     alloc: Global,
     document: &Document,
@@ -134,9 +135,10 @@ pub(crate) fn listing_text(
     listed_text(alloc, document, &world, listing)
 }
 
-/// Prints the numbers of boards, stats or positions in the world of edit files: the lines that docs/LIST.md tells. In this order: what the files are
-/// refused for; what an export is refused for, at 32,767 bytes a body; NoBoard where there is no board of this number; NoSuch where it has no stat
-/// of this number. Nothing is printed then.
+/// Prints the boards, the stats of one, or the program of one, in the world of edit files, as lines
+/// in the forms of docs/LIST.md. Refusals, in order: those of reading the files; those of an
+/// export, at 32,767 bytes a body; NoBoard if there is no board of this number; NoSuch if the board
+/// has no stat of this number. Then nothing is printed.
 pub fn list<H: Host>(
     alloc: Global,
     host: &mut H,

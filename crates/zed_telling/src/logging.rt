@@ -62,8 +62,9 @@ fn lines_sought(
     Ok(lines_of(alloc, document, &view, length, sought)?)
 }
 
-/// The lines of the edits of a document that isn't stale which pass a filter. In this order: NoBoard where there is no board of the filter's number;
-/// OutOfRange where its cell is outside the table; NoBoard where the cell's board isn't there.
+/// The lines of the edits that pass a filter, of a document that isn't stale. Refusals, in order:
+/// NoBoard if there is no board of the filter's number; OutOfRange if its cell is outside the
+/// table; NoBoard if the cell's board isn't there.
 pub(crate) fn log_text(
     alloc: Global,
     document: &Document,
@@ -81,9 +82,10 @@ pub(crate) fn log_text(
     }
 }
 
-/// Prints a line for each edit of edit files that passes a filter, short or in full, in the order of their stamps, with a mark in front of those
-/// that are held: the lines that docs/LOG.md tells. In this order: what the files are refused for; NoBoard where there is no board of the filter's number; OutOfRange where its
-/// cell is outside the table; NoBoard where the cell's board isn't there. Nothing is printed then.
+/// Prints a line for each edit of edit files that passes a filter, short or in full, in stamp
+/// order, in the forms of docs/LOG.md. Held edits have a mark in front. Refusals, in order: those
+/// of reading the files; NoBoard if there is no board of the filter's number; OutOfRange if its
+/// cell is outside the table; NoBoard if the cell's board isn't there. Then nothing is printed.
 pub fn log<H: Host>(
     alloc: Global,
     host: &mut H,
@@ -103,7 +105,7 @@ pub fn log<H: Host>(
     tell(alloc, host, Telling::Edits(length, *filter), files)
 }
 
-/// Where nothing is asked for, each edit has its line, and nothing is refused.
+/// Without a filter, each edit has its line, and no filter is refused.
 #[tactic(auto, using(crate::proofs::Unfiltered::tells_all))]
 pub fn no_filter_leaves_an_edit_out()
     ensures { TellsAllUnfiltered }

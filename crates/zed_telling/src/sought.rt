@@ -1,4 +1,4 @@
-//! Which edits are asked for, in a document: its boards by their names.
+//! The filters of `log` in a document: boards by their names.
 ghost use Rattle.std.specs.Prelude.{◌≡◌, false};
 ghost use Rattle.zed_edit.specs.Replay.{replay};
 ghost use Rattle.zed_telling.specs.Logged.{board_sought, cell_at, cell_sought, named_board, place_of, sought_of as sought_in};
@@ -86,8 +86,9 @@ fn cell_sought(document: &Document, cell: Option<(u16, u16, u16)>) -> Result<Opt
     }
 }
 
-/// What a filter asks for in a document that isn't stale. In this order: NoBoard where there is no board of its number; OutOfRange where its cell is
-/// outside the table; NoBoard where the cell's board isn't there.
+/// What a filter asks for in a document that isn't stale. Refusals, in order: NoBoard if there is
+/// no board of its number; OutOfRange if its cell is outside the table; NoBoard if the cell's board
+/// isn't there.
 pub(crate) fn sought_of(document: &Document, filter: &Filter) -> Result<Sought, Refusal>
     requires { document.now.is_stale ≡ false }
     ensures { result ≡ sought_in (replay document.now.edits) filter.now }

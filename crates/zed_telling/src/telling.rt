@@ -1,4 +1,4 @@
-//! What is told of a document, and how it is printed.
+//! What the three commands print, and how.
 ghost use Rattle.std.specs.Prelude.{[], ◌∷◌, ◌≡◌, ◌⊎◌, false, IfErr, MatchResult, Ok, Err, Some};
 ghost use Rattle.zed_host.specs.Calls.{Printing};
 ghost use Rattle.zed_host.specs.Counting.{Rose};
@@ -21,7 +21,7 @@ use zed_files::{Refusal, load, print_out};
 use zed_host::Host;
 use zed_log::Length;
 
-/// What is asked of the edits of files.
+/// What a command prints of edit files.
 #[derive(Clone, Copy)]
 pub(crate) enum Telling {
     Numbers(Listing),
@@ -72,9 +72,9 @@ fn count_lines(text: &[u8]) -> usize
     text.iter().filter(|byte| **byte == b'\n').count()
 }
 
-/// Prints what is told of edit files, and answers how many lines that has. Up to here `list`, `log`
-/// and `lint` differ in that text alone: what they read, how they are refused and what they leave in
-/// their host is proved of all here, once.
+/// Prints what a command says of edit files, and answers how many lines that has. `list`, `log` and
+/// `lint` differ only in this text. What they read, how they are refused and what they leave in
+/// their host is proved here once, for all of them.
 pub(crate) fn tell_counted<H: Host>(
     alloc: Global,
     host: &mut H,
@@ -96,7 +96,7 @@ pub(crate) fn tell_counted<H: Host>(
     Ok(count_lines(bytes))
 }
 
-/// Prints what is told of edit files.
+/// Prints what a command says of edit files.
 pub(crate) fn tell<H: Host>(
     alloc: Global,
     host: &mut H,

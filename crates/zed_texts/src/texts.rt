@@ -87,8 +87,8 @@ impl LiveTexts {
         }
     }
 
-    /// Seeks the byte that an insertion or a deletion names, so that it is found at once when the edit is put in.
-    /// Nothing of the texts changes.
+    /// Looks for the byte that an insertion or a deletion names, so that it is found at once when
+    /// the edit is put in. The texts don't change.
     pub fn hint(&mut self, edit: &Edit)
         ensures { self.new ≡ self.old }
     {
@@ -138,9 +138,10 @@ impl LiveTexts {
         (*id, text)
     }
 
-    /// Puts an edit in, whenever it comes: changes the text that it is of, if that is there, or adds the texts that it makes.
-    /// Memory leaves the texts as they were. None is taken by an edit of another thing, by one of a text that isn't there, or by a
-    /// deletion of bytes that its text doesn't have.
+    /// Puts an edit in, whenever it comes: changes its text, if that is there, or adds the texts
+    /// that it makes. Memory leaves the texts as they were. No memory is taken by an edit of
+    /// another thing, by one of a text that isn't there, or by a deletion of bytes that its text
+    /// doesn't have.
     pub fn take(&mut self, alloc: Global, edit: &Edit) -> Result<(), AllocError>
         requires fits { Fits edit.now }
         requires ready { IsReady edit.now.stamp edit.now.op (elements_of self.old) }
@@ -225,7 +226,8 @@ impl LiveTexts {
         Ok(())
     }
 
-    /// Adds the texts of the world that an edit makes, as `take` does, for a caller who made it. Memory leaves the texts as they were.
+    /// Adds the texts of the world that an edit makes, as `take` does, for a caller who has made
+    /// that world already. Memory leaves the texts as they were.
     pub fn open(
         &mut self,
         alloc: Global,

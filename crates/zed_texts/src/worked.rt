@@ -1,4 +1,4 @@
-//! How one text is changed, and by how many its count of runs looked at rises.
+//! Changing one text, and how much its count of runs looked at rises.
 
 ghost use Rattle.std.specs.Prelude.{◌≡◌, ◌≤◌, ◌<◌, ◌+◌, true, length, IfOk, OnOk, OnErr};
 ghost use Rattle.zed_types.specs.declared.limits.TheConstants.{READ_BODY_LIMIT};
@@ -10,7 +10,7 @@ use std::alloc::AllocError;
 use zed_code::Text;
 use zed_types::{ByteRange, ElemId, Stamp};
 
-/// Puts bytes into a text. Answers by how many its count of runs looked at rises.
+/// Puts bytes into a text. Answers how much its count of runs looked at rises.
 pub(crate) fn put_into(
     text: &mut Text,
     after: Option<ElemId>,
@@ -32,7 +32,7 @@ pub(crate) fn put_into(
     Ok(text.visits() - before)
 }
 
-/// Marks bytes of a text dead. Answers by how many its count of runs looked at rises.
+/// Marks bytes of a text dead. Answers how much its count of runs looked at rises.
 pub(crate) fn kill_in(text: &mut Text, range: ByteRange) -> Result<u64, AllocError>
     ensures ok { OnOk result (elements text.new ≡ kill range (elements text.old)) }
     ensures kept { OnErr result (text.new ≡ text.old) }

@@ -1,4 +1,4 @@
-//! What commands answer, as the program hands it on.
+//! The answers of commands, as the program hands them on.
 ghost use Rattle.std.specs.Prelude.{◌≡◌, map};
 ghost use Rattle.zed_tool.specs.Answers.{answer_of, drawn_as, lint_status as status_for, linted_as, set_as, told_as};
 
@@ -8,7 +8,7 @@ use zed_files::Refusal;
 use zed_set::SetError;
 use zed_tool_words::Strictness;
 
-/// That of a command that only tells.
+/// That of a command that only prints.
 pub(crate) fn told<'a>(answer: Result<(), Refusal>) -> Result<u8, ToolError<'a>>
     ensures { answer_of result ≡ told_as answer }
 {

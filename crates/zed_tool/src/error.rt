@@ -7,12 +7,12 @@ use zed_set_words::Expected;
 /// Why a command was not carried out.
 #[derive(Clone, Copy)]
 pub(crate) enum ToolError<'a> {
-    /// What commands of `zzted` are refused for too.
+    /// A refusal of commands of `zzted` too.
     Refused(Refusal),
     /// A world file was drawn in since it was written, or no edits were found that lead to it.
     NotTaken,
-    /// A word that may not be there, or none where more are wanted; and what may be there.
+    /// A wrong word, or none if words are missing; and what may be in its place.
     BadWord(Option<&'a str>, Expected),
-    /// The file of a text that is no program, and the place where that shows.
+    /// The file of a text that is no program, and the place of the fault.
     BadText(&'a str, BadText),
 }

@@ -1,4 +1,4 @@
-//! The work of the program `zztool`, over any host.
+//! `zztool` over any host.
 #![tactic(auto)]
 
 mod answers;

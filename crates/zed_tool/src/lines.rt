@@ -1,4 +1,4 @@
-//! The lines that the program writes where a command was not carried out: those of `zzted`, under its own name, and some more.
+//! The lines of refusals: those of `zzted`, under the name `zztool`, and some more.
 ghost use Rattle.std.specs.Prelude.{◌≡◌, IfOk, IfSome, None, option_map, string_bytes, true};
 ghost use Rattle.zed_files.specs.declared.refusal.Refusal.TheVariants.{BadEdit};
 ghost use Rattle.zed_tool.specs.Answers.{BadText as TextFailure, BadWord, Refused, failure_of};
@@ -70,7 +70,7 @@ fn shared_line(refusal: Refusal) -> Option<&'static str>
     Some(text)
 }
 
-/// The line of a failure that tells nothing but its name, for the standard error.
+/// The line of a refusal that has only a name, for standard error.
 pub(crate) fn plain_line(error: ToolError<'_>) -> Option<&'static str>
     ensures line { IfSome result (λ text. text.now ≡ line_for (failure_of error.entry)) }
     ensures none { result ≡ None → tells_more (failure_of error.entry) ≡ true }
@@ -127,8 +127,8 @@ fn bad_text_line(alloc: Global, file: &str, bad: BadText) -> Result<String, Allo
     format!(in alloc; "zztool: {file}:{line}:{column}: BadText\n")
 }
 
-/// The line for the standard error: `zztool: `, the name of the refusal, and its numbers or cause, each after a space; or what a wrong
-/// word or a wrong text is told with.
+/// The line for standard error: `zztool: `, the name of the refusal, and its numbers or cause, each
+/// after a space; or the line of a wrong word or a wrong text.
 pub(crate) fn line_of(alloc: Global, error: ToolError<'_>) -> Result<String, AllocError>
     ensures { IfOk result (λ text. string_bytes text ≡ line_for (failure_of error.entry)) }
 {

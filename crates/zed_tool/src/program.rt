@@ -175,12 +175,12 @@ fn run_words<H: Host>(alloc: Global, words: &[String], host: &mut H) -> u8
     }
 }
 
-/// Does what the words after the program's name ask for, and answers the exit status: 0, or 1 for what `lint --strict` finds; or 1, with a
-/// line on the standard error that names the refusal; or 2 for words that are no command. Help that words ask for is printed, with status 0,
-/// and so is the version.
+/// Runs the command that the words after the program's name ask for. The exit status is 0; 1 if
+/// `lint --strict` finds something; 1 after a refusal, whose line is on standard error; or 2 if the
+/// words are no command. Help and the version are printed with status 0.
 ///
-/// A refusal comes before the first write, but for `File` where the host fails at a write: then the files that were written before are whole,
-/// and the one that it failed at is as that left it.
+/// Unless the host fails at a write or at printing (`File`), a refusal writes no file. If a write
+/// failed, the files before it are whole, and that file is as the failure left it.
 pub fn run<H: Host>(alloc: Global, words: &[String], host: &mut H) -> u8
     // What is left in a host that tells what it holds, what was asked of it, call by call, and that no failure was forgotten.
     ensures runs { Runs (hosts H.contents H.called H.failed H.faults) (map string_bytes words.now)

@@ -1,11 +1,11 @@
 //! What words may ask for.
 
-/// What is done to a world file that was drawn in.
+/// What `open` does to a world file that was drawn in.
 #[derive(Clone, Copy)]
 pub enum Forcing {
-    /// It is kept.
+    /// It keeps the drawing.
     Careful,
-    /// It is written over: `--force`.
+    /// It replaces the drawing: `--force`.
     Forced,
 }
 
@@ -29,7 +29,7 @@ pub enum Length {
     Full,
 }
 
-/// Whether what is found in a world makes a command fail.
+/// Whether `lint` fails if it finds something.
 #[derive(Clone, Copy)]
 pub enum Strictness {
     /// It doesn't.
@@ -38,7 +38,7 @@ pub enum Strictness {
     Strict,
 }
 
-/// What of a world is listed.
+/// What `list` prints.
 #[derive(Clone, Copy)]
 pub enum Listing {
     /// Its boards.
@@ -52,23 +52,23 @@ pub enum Listing {
 /// What is to be done.
 #[derive(Drop)]
 pub enum Command<'a> {
-    /// The world file of an edit file is to be written, to be drawn in by another editor.
+    /// Write the world file of an edit file, to draw in with another editor.
     Open {
-        /// The time of the last edits that count; all count without it.
+        /// The time of the last edits that count; without it all count.
         until: Option<u64>,
         forcing: Forcing,
         file: &'a str,
         world: &'a str,
     },
-    /// What was drawn in a world file is to be added to an edit file, as edits of an author.
+    /// Add what was drawn in a world file to an edit file, as edits of an author.
     Take {
-        /// The edit file of what the world was before it was drawn in.
+        /// The edit file of the world before it was drawn in.
         base: Option<&'a str>,
         file: &'a str,
         replica: u16,
         world: &'a str,
     },
-    /// The edits of files are to be listed: those alone that pass each filter that is there.
+    /// List the edits of files: those that pass all given filters.
     Log {
         length: Length,
         board: Option<u16>,
@@ -78,35 +78,35 @@ pub enum Command<'a> {
         since: Option<u64>,
         files: Vec<&'a str>,
     },
-    /// The world of edit files is to be listed.
+    /// List the world of edit files.
     List {
         listing: Listing,
         files: Vec<&'a str>,
     },
-    /// The board of this number of the world of edit files is to be shown.
+    /// Show the board of this number of the world of edit files.
     Show {
         form: Form,
         board: u16,
         files: Vec<&'a str>,
     },
-    /// What is wrong in the world of edit files is to be listed.
+    /// List what is wrong in the world of edit files.
     Lint {
         strictness: Strictness,
         files: Vec<&'a str>,
     },
-    /// What these words say is to be set in an edit file, as edits of an author.
+    /// Set what these words say in an edit file, as edits of an author.
     Set {
         file: &'a str,
         replica: u16,
         words: Vec<&'a str>,
     },
-    /// The program of a stat in the world of edit files is to be printed.
+    /// Print the program of a stat in the world of edit files.
     Program {
         board: u16,
         stat: u16,
         files: Vec<&'a str>,
     },
-    /// The text of a file is to be the program of a stat in an edit file, as edits of an author.
+    /// Make the text of a file the program of a stat in an edit file, as edits of an author.
     SetProgram {
         file: &'a str,
         replica: u16,

@@ -88,7 +88,7 @@ fn replica_argument<'a>(alloc: Global) -> Arg<'a>
     number_word(
         alloc,
         "REPLICA",
-        "The author's own number, 1 to 65535; no other author of the world has it",
+        "The author's number, 1 to 65535; no other author has it, and no other copy that is edited",
     )
 }
 
@@ -107,11 +107,7 @@ fn files_argument<'a>(alloc: Global) -> Arg<'a>
     ensures rule { rule_of result ≡ several_rule (codes "FILES") }
     ensures local { result.global ≡ false }
 {
-    several_argument(
-        alloc,
-        "FILES",
-        "Edit files, in the order in which they are read; stdin is standard input",
-    )
+    several_argument(alloc, "FILES", "The edit files; stdin is standard input")
 }
 
 // A command of this name, without arguments.
@@ -141,7 +137,7 @@ fn open_command<'a>(alloc: Global) -> Result<Command<'a>, AllocError>
     let command = bare_command(
         alloc,
         "open",
-        "Write the world file of an edit file, to draw in with another editor; take brings the drawing back",
+        "Write the world file of an edit file, to draw in with another editor",
     );
     let command = with_argument(command, required_argument(alloc, "FILE", "The edit file"))?;
     let command = with_argument(
@@ -149,24 +145,16 @@ fn open_command<'a>(alloc: Global) -> Result<Command<'a>, AllocError>
         required_argument(
             alloc,
             "WORLD",
-            "The world file to write; beside it WORLD.base is written, the edit file that take compares with",
+            "The world file to write, with WORLD.base beside it: the edits that take compares with",
         ),
     )?;
     let command = with_argument(
         command,
-        time_argument(
-            alloc,
-            "until",
-            "Write the world as it was at this time, without the edits of later ones",
-        ),
+        time_argument(alloc, "until", "Write the world as it was at this time"),
     )?;
     with_argument(
         command,
-        flag_argument(
-            alloc,
-            "force",
-            "Write over a world file that was drawn in and not taken",
-        ),
+        flag_argument(alloc, "force", "Replace a drawing that wasn't taken"),
     )
 }
 
@@ -182,11 +170,7 @@ fn take_command<'a>(alloc: Global) -> Result<Command<'a>, AllocError>
     );
     let command = with_argument(
         command,
-        required_argument(
-            alloc,
-            "FILE",
-            "The edit file, which is read and written again",
-        ),
+        required_argument(alloc, "FILE", "The edit file to add to"),
     )?;
     let command = with_argument(command, replica_argument(alloc))?;
     let command = with_argument(
@@ -199,7 +183,7 @@ fn take_command<'a>(alloc: Global) -> Result<Command<'a>, AllocError>
             alloc,
             "base",
             "BASE",
-            "The edit file of the world before it was drawn in, which is written again; without it WORLD.base, and FILE where there is none",
+            "The edits that WORLD was drawn from, which get the new ones too; by default WORLD.base, or FILE if there is none",
         ),
     )
 }
@@ -212,16 +196,12 @@ fn log_command<'a>(alloc: Global) -> Result<Command<'a>, AllocError>
     let command = bare_command(
         alloc,
         "log",
-        "List the edits of edit files, a line each: when, by whom and what",
+        "List edits, a line each: when, by whom and what",
     );
     let command = with_argument(command, files_argument(alloc))?;
     let command = with_argument(
         command,
-        flag_argument(
-            alloc,
-            "full",
-            "Print the line of a world in full, with all its bytes",
-        ),
+        flag_argument(alloc, "full", "Print the bytes of a starting world too"),
     )?;
     let command = with_argument(
         command,
@@ -244,11 +224,7 @@ fn log_command<'a>(alloc: Global) -> Result<Command<'a>, AllocError>
     )?;
     with_argument(
         command,
-        time_argument(
-            alloc,
-            "since",
-            "List only edits of this time and of later ones",
-        ),
+        time_argument(alloc, "since", "List only edits of this time or later"),
     )
 }
 
@@ -260,14 +236,14 @@ fn list_command<'a>(alloc: Global) -> Result<Command<'a>, AllocError>
     let command = bare_command(
         alloc,
         "list",
-        "List the world of edit files: list FILES its boards, list B FILES the stats of board B, list B S FILES the program of stat S there",
+        "List the boards; list B FILES the stats of board B; list B S FILES the program of its stat S",
     );
     with_argument(
         command,
         several_argument(
             alloc,
             "WORDS",
-            "At most two numbers, of a board (0 for the title) and of a stat on it (0 for the player); then edit files, in the order in which they are read; stdin is standard input, and ./7 a file named 7",
+            "Up to two numbers, of a board (0: the title) and of its stat (0: the player), and then edit files; write ./7 for a file named 7",
         ),
     )
 }
@@ -280,20 +256,20 @@ fn show_command<'a>(alloc: Global) -> Result<Command<'a>, AllocError>
     let command = bare_command(
         alloc,
         "show",
-        "Show a board of the world of edit files as ZZT shows it: in colours for a terminal, as plain text, or as a picture",
+        "Show a board as ZZT does: in colours at a terminal, as plain text, or as a picture",
     );
     let command = with_argument(
         command,
         number_word(
             alloc,
             "BOARD",
-            "The number of the board, 0 for the title; list tells the numbers",
+            "The number of the board, 0 for the title; list prints the numbers",
         ),
     )?;
     let command = with_argument(command, files_argument(alloc))?;
     let command = with_argument(
         command,
-        flag_argument(alloc, "plain", "Print text alone, without colours"),
+        flag_argument(alloc, "plain", "Print only text, without colours"),
     )?;
     with_argument(
         command,
@@ -309,16 +285,12 @@ fn lint_command<'a>(alloc: Global) -> Result<Command<'a>, AllocError>
     let command = bare_command(
         alloc,
         "lint",
-        "List what ZZT, or who plays, would stumble over in the world of edit files, a line each",
+        "List what ZZT or a player would stumble over, a line each",
     );
     let command = with_argument(command, files_argument(alloc))?;
     with_argument(
         command,
-        flag_argument(
-            alloc,
-            "strict",
-            "Fail with status 1 where a line is printed",
-        ),
+        flag_argument(alloc, "strict", "Exit with status 1 if a line is printed"),
     )
 }
 
@@ -330,15 +302,11 @@ fn set_command<'a>(alloc: Global) -> Result<Command<'a>, AllocError>
     let command = bare_command(
         alloc,
         "set",
-        "Set a register of the world, a property of a board or a field of a stat in an edit file, as an edit of an author",
+        "Set a register of the world, a property of a board or a field of a stat, as an edit of an author",
     );
     let command = with_argument(
         command,
-        required_argument(
-            alloc,
-            "FILE",
-            "The edit file, which is read and written again",
-        ),
+        required_argument(alloc, "FILE", "The edit file to add to"),
     )?;
     let command = with_argument(command, replica_argument(alloc))?;
     with_argument(
@@ -346,7 +314,7 @@ fn set_command<'a>(alloc: Global) -> Result<Command<'a>, AllocError>
         trailing_argument(
             alloc,
             "WORDS",
-            "What is set, and to what: world ammo 10, board 1 exit north 2, stat 1 3 cycle -1; of a wrong word it is told what may be in its place",
+            "What to set, and its value: world ammo 10, board 1 exit north 2, stat 1 3 cycle -1; a refusal says what may be in the place of a wrong word",
         ),
     )
 }
@@ -359,23 +327,19 @@ fn program_command<'a>(alloc: Global) -> Result<Command<'a>, AllocError>
     let command = bare_command(
         alloc,
         "program",
-        "Print the program of a stat: program B S FILES; or put the text of a file in its place, as edits of an author: program --set FILE REPLICA B S TEXT",
+        "Print the program of a stat: program B S FILES; or replace it with the text of a file, as edits of an author: program --set FILE REPLICA B S TEXT",
     );
     let command = with_argument(
         command,
         several_argument(
             alloc,
             "WORDS",
-            "The numbers of a board (0 for the title) and of a stat on it (0 for the player), which list tells, and edit files; with --set an edit file, the author's own number, both numbers, and the file of a text",
+            "The numbers of a board (0: the title) and of its stat (0: the player), as list prints them, and edit files; with --set an edit file, the author's number, both numbers, and a text file",
         ),
     )?;
     with_argument(
         command,
-        flag_argument(
-            alloc,
-            "set",
-            "Put the text of a file in the place of the program",
-        ),
+        flag_argument(alloc, "set", "Replace the program with the text of a file"),
     )
 }
 
@@ -385,7 +349,7 @@ fn top_command<'a>(alloc: Global) -> Result<Command<'a>, AllocError>
 {
     Command::new(alloc, "zztool")
         .about(
-            "Shows, lists and checks the worlds of zzted edit files, sets what is in them, opens them to another editor and takes back what was drawn",
+            "Connects zzted to other editors of ZZT worlds: opens and takes drawings, shows, lists and checks worlds, and sets what no drawing sets",
         )
         .version(VERSION)
         .no_binary_name(true)

@@ -1,20 +1,23 @@
-//! What plain words ask for. A number is written in decimal digits, where a plus may stand first, so its word begins with no hyphen.
+//! What plain words ask for. A number is written in decimal digits, with or without a plus in
+//! front, so its word begins with no hyphen.
 ghost use Rattle.zed_tool_words.specs.Laws.{HelpAsksHelp, HelpOfCommands, ListsBoards, ListsProgram, ListsStats, LogInFull, LogOfBoard, LogOfCell, LogOfReplica, LogSince, PlainWordsLint, PlainWordsLog, PlainWordsOpen, PlainWordsProgram, PlainWordsSet, PlainWordsShow, PlainWordsTake, SetsProgram, VersionAsksVersion};
 
-/// `open FILE WORLD`, where no word begins with a hyphen, asks to open; in front of them may stand `--until TIME`, where `TIME` is a number
-/// below 2^64, and then `--force`.
+/// `open FILE WORLD`, where no word begins with a hyphen, asks to open. `--until TIME`, where
+/// `TIME` is a number below 2^64, and then `--force`, may come first.
 pub fn plain_words_open()
     ensures { PlainWordsOpen }
 {}
 
-/// `take FILE REPLICA WORLD`, where `REPLICA` is a number below 2^16 and no other word begins with a hyphen, asks to take what was drawn;
-/// in front of them may stand `--base BASE`, where `BASE` begins with no hyphen.
+/// `take FILE REPLICA WORLD`, where `REPLICA` is a number below 2^16 and no other word begins with
+/// a hyphen, asks to take what was drawn. `--base BASE`, where `BASE` begins with no hyphen, may
+/// come first.
 pub fn plain_words_take()
     ensures { PlainWordsTake }
 {}
 
-/// `log FILES...`, where no word begins with a hyphen, asks for short lines of the edits of the files, with `--full` in front of them for
-/// lines in full, and with a filter for those that pass it.
+/// `log FILES...`, where no word begins with a hyphen, asks for short lines of the edits of the
+/// files. With `--full` in front it asks for full lines, and with a filter for the edits that pass
+/// it.
 pub fn plain_words_log()
     ensures all { PlainWordsLog }
     ensures full { LogInFull }
@@ -24,8 +27,8 @@ pub fn plain_words_log()
     ensures since { LogSince }
 {}
 
-/// `list FILES...`, where no word begins with a hyphen, asks for the boards; with a number in front of the files for the stats of this
-/// board, and with two for the program of a stat.
+/// `list FILES...`, where no word begins with a hyphen, asks for the boards. With a number in front
+/// of the files it asks for the stats of that board, and with two for the program of a stat.
 pub fn plain_words_list()
     ensures boards { ListsBoards }
     ensures stats { ListsStats }
@@ -38,8 +41,8 @@ pub fn plain_words_show()
     ensures { PlainWordsShow }
 {}
 
-/// `lint FILES...`, where no word begins with a hyphen, asks what is wrong in the world of the files, and so it does with `--strict` in front
-/// of them.
+/// `lint FILES...`, where no word begins with a hyphen, asks what is wrong in the world of the
+/// files, also with `--strict` in front of them.
 pub fn plain_words_lint()
     ensures { PlainWordsLint }
 {}
@@ -57,7 +60,7 @@ pub fn plain_words_program()
     ensures put { SetsProgram }
 {}
 
-/// `--help` asks for help, alone or behind the name of a command.
+/// `--help` asks for help, alone or after the name of a command.
 pub fn help_words()
     ensures alone { HelpAsksHelp }
     ensures commands { HelpOfCommands }

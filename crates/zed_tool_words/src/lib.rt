@@ -1,4 +1,4 @@
-//! The words of the command line of `zztool`: what they may be, which `clap` is told, and what they ask for.
+//! The command line of `zztool`: the words that `clap` parses, and the command that they ask for.
 #![tactic(auto)]
 
 mod asked;

@@ -42,7 +42,7 @@ fn cell_of(words: &[&str]) -> Option<(u16, u16, u16)>
     Some((board, x, y))
 }
 
-/// The cell of the words behind `--cell`, if that is there; `None` where they name no cell.
+/// The cell of the words after `--cell`, if that is there; `None` if they name no cell.
 pub(crate) fn cell_in(words: Option<&[&str]>) -> Option<Option<(u16, u16, u16)>>
     ensures { result ≡ cell_asked (option_map (λ ws. map (λ s. s.now) ws.now) words.entry) }
 {
@@ -99,7 +99,7 @@ fn board_listed<'a>(
     }
 }
 
-/// What the words behind `list` ask for.
+/// What the words after `list` ask for.
 pub(crate) fn listed<'a>(
     alloc: Global,
     words: &[&'a str],

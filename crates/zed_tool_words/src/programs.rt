@@ -41,7 +41,7 @@ fn program_on<'a>(
     }
 }
 
-/// What the words behind `program` ask for.
+/// What the words after `program` ask for.
 pub(crate) fn program<'a>(
     alloc: Global,
     words: &[&'a str],

@@ -26,7 +26,7 @@ const TWO_FORMS: &str =
 const NO_PROGRAM: &str =
     "error: 'program' takes the numbers of a board and of a stat, up to 65535, and a file behind them; with '--set' FILE REPLICA B S TEXT\n\nFor more information, try '--help'.\n";
 
-/// Why the words ask for nothing.
+/// Why the words are no command.
 #[derive(Debug, Drop)]
 pub enum ParseError {
     Memory,
@@ -319,8 +319,8 @@ fn no_command(alloc: Global, matches: &ArgMatches<'_>) -> Result<String, AllocEr
 /// Reads the words after the program's name.
 ///
 /// # Errors
-/// `Help`, with clap's text, where help is asked for; `Version` where the version is; `Refused`, with a text that says why, where the words
-/// are those of no command.
+/// `Help`, with clap's text, if the words ask for help; `Version` if they ask for the version;
+/// `Refused`, with a text that says why, if they are no command.
 pub fn parse<'a>(alloc: Global, words: &'a [String]) -> Result<Command<'a>, ParseError>
     ensures { MatchResult result
         (λ a. command_of (map string_bytes words.entry.now) ≡ Some (meaning_of a))

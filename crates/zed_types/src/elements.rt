@@ -23,7 +23,7 @@ macro_rules! kind {
 /// A letter of a text, whose colour is its character.
 const LETTER: Element = kind!("", Look::Colour, false, Not, false);
 
-/// What stands for every element over 53.
+/// Every element over 53 counts as this one.
 const UNKNOWN: Element = kind!("", Look::Character(b'?'), false, Not, false);
 
 /// The elements by their numbers.

@@ -9,7 +9,7 @@ pub enum Push {
     EastWest,
 }
 
-/// What is shown where an element stands: this project's own characters, not ZZT's graphics.
+/// What is shown for an element: this project's own characters, not ZZT's graphics.
 #[derive(Clone, Copy, Debug, PartialEq, Eq)]
 pub enum Look {
     Character(u8),
@@ -22,7 +22,7 @@ pub enum Look {
 /// A kind of tile.
 #[derive(Clone, Copy, Debug)]
 pub struct Element {
-    /// Its word in ZZT-OOP; empty where it has none.
+    /// Its word in ZZT-OOP; empty if it has none.
     pub word: &'static str,
     pub look: Look,
     /// Whether the player and creatures may go there.

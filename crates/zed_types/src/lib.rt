@@ -1,5 +1,5 @@
-//! Words that all crates share: stamps, names, tiles, registers and their settings, texts, limits.
-//! Memory is taken by the copies of strings and settings, and by a list that grows.
+//! Types that all crates share: stamps, names, tiles, registers and their settings, texts, limits.
+//! Only copies of strings and settings, and lists that grow, take memory.
 #![tactic(auto)]
 
 mod bytes;

@@ -31,7 +31,7 @@ pub const BOARDS_LIMIT: usize = 100;
 /// Most stats of a board beside the player.
 pub const STATS_LIMIT: usize = 150;
 
-/// Each constant is the number that definitions give to the formats and to their limits.
+/// Each constant is the number that the definitions give for the formats and their limits.
 pub fn numbers_of_formats()
     ensures columns { COLUMNS ≡ table_columns }
     ensures rows { ROWS ≡ table_rows }

@@ -190,7 +190,8 @@ pub enum BoardSetting {
     Byte(BoardByte, u8),
     Flag(BoardFlag, bool),
     TimeLimit(i16),
-    /// Where the board stands among the others: lower ranks first. The title is first whatever its own is.
+    /// The board's place among the others: lower ranks come first. The title is first, whatever its
+    /// rank.
     Rank(u16),
     Exit(Side, Option<BoardId>),
     Text(BoardText, Bytes),

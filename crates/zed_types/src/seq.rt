@@ -105,7 +105,7 @@ impl<T: Drop> Seq<T> {
         self.items[i] = x;
     }
 
-    /// Replaces the element `i`, and answers what stood there.
+    /// Replaces the element `i`, and answers the old one.
     pub fn replace(&mut self, i: usize, x: T) -> T
         requires { i < length self.old }
         ensures list { self.new ≡ slice_set self.old i x }

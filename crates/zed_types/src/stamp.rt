@@ -30,7 +30,8 @@ impl Stamp {
     }
 }
 
-/// The order of stamps is total, stamps that compare alike are one, and the test of the order says what it decides.
+/// The order of stamps is total, and stamps that compare alike are equal. `is_before` decides this
+/// order.
 pub fn one_order()
     ensures total { IsTotalOrder stamp_cmp }
     ensures result { (a b : Stamp) → stamp_cmp a b ≡ Equal → a ≡ b }

@@ -2,7 +2,7 @@
 use crate::names::ElemId;
 use crate::stamp::Stamp;
 
-/// A byte of a text, under its name. A deleted one stays as a tombstone: it is no longer alive.
+/// A byte of a text, under its name. A deleted byte stays as a tombstone: it is no longer alive.
 #[derive(Clone, Copy, Debug, PartialEq, Eq)]
 pub struct TextByte {
     pub id: ElemId,

@@ -11,7 +11,7 @@ pub const TILES: usize = 1500;
 
 const _: () = prove!(TILES == COLUMNS * ROWS);
 
-/// What stands at one place of a board.
+/// What is at one place of a board.
 #[derive(Clone, Copy, Debug, PartialEq, Eq, PartialOrd, Ord, Hash, Default)]
 pub struct Tile {
     pub element: u8,

@@ -12,7 +12,7 @@ pub struct Written<V> {
     pub value: V,
 }
 
-/// The value that a register shows: that of its latest write, or this one where it was never written.
+/// The value that a register shows: that of its latest write, or this one if it was never written.
 pub fn value_or<V: Copy>(register: &Option<Written<V>>, unwritten: V) -> V
     ensures result { result ≡ value_or unwritten register.now }
 {
@@ -22,7 +22,7 @@ pub fn value_or<V: Copy>(register: &Option<Written<V>>, unwritten: V) -> V
     }
 }
 
-/// The string that a register shows, lent: empty where it was never written.
+/// The string that a register shows, lent: empty if it was never written.
 pub fn string_or_empty(register: &Option<Written<Bytes>>) -> &[u8]
     ensures result { result.now ≡ value_or [] register.now }
 {

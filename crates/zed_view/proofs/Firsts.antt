@@ -295,22 +295,6 @@ put-past n b z xs o long at h = ap (take (suc n)) (put-last n b z xs o long at h
     front [] = refl
     front (y ∷ ys) = ap (λ zs. y ∷ zs) (front ys)
 
--- ---- putting a board among others by its place
-
-module _ (at : ℕ → Board) (b : Board) (ps : List ℕ) (k : ℕ) (lt : k < length ps) where
-  -- before a member that the board comes before
-  pub put-here : comes_before b (at (get_or ps k 0)) ≡ true → put b (map at (drop k ps)) ≡ b ∷ map at (drop k ps)
-  put-here h =
-      let rest = map at (drop (suc k) ps) in
-      ap (λ xs. put b (map at xs)) (drop-cons ps k 0 lt) ∙ ap (λ t. cond t (b ∷ at (get_or ps k 0) ∷ rest) (at (get_or ps k 0) ∷ put b rest)) h ∙ ap (λ xs. b ∷ map at xs) (sym (drop-cons ps k 0 lt))
-
-  -- or behind it
-  pub put-next : comes_before b (at (get_or ps k 0)) ≡ false → put b (map at (drop k ps)) ≡ at (get_or ps k 0) ∷ put b (map at (drop (k + 1) ps))
-  put-next h =
-      let rest = map at (drop (suc k) ps) in
-      let e : suc k ≡ k + 1 = omega arith in
-      ap (λ xs. put b (map at xs)) (drop-cons ps k 0 lt) ∙ ap (λ t. cond t (b ∷ at (get_or ps k 0) ∷ rest) (at (get_or ps k 0) ∷ put b rest)) h ∙ ap (λ n. at (get_or ps k 0) ∷ put b (map at (drop n ps))) e
-
 -- ---- going through the boards
 
 module _ (m : ℕ) (q : Board → Bool) (bs : List Board) (i : ℕ) (d : Board) (lt : i < length bs) where

@@ -1,8 +1,6 @@
 -- What a view shows, by the numbers of things in the order in which they were made.
-use Rattle.std.specs.Prelude.{ℕ, ℤ, nat_le, Bool, true, false, ◌&&◌, List, [], slice_index_or, Option, Some, None}
+use Rattle.std.specs.Prelude.{ℕ, ℤ, Bool, true, false, List, [], slice_index_or, Option, None}
 use Rattle.zed_types.specs.declared.names.BoardId.{BoardId}
-use Rattle.zed_types.specs.declared.tile.Tile.{Tile}
-use Rattle.zed_types.specs.declared.tile.Place.{Place}
 use Rattle.zed_types.specs.declared.property.Side.{Side}
 use Rattle.zed_types.specs.declared.property.BoardByte.{BoardByte}
 use Rattle.zed_types.specs.declared.property.BoardFlag.{BoardFlag}
@@ -11,7 +9,6 @@ use Rattle.zed_types.specs.declared.stat_field.StatByte.{StatByte}
 use Rattle.zed_types.specs.declared.stat_field.StatNumber.{StatNumber}
 use Rattle.zed_types.specs.Board.{side_index, board_byte_index, board_flag_index, board_text_index}
 use Rattle.zed_types.specs.Stat.{stat_byte_index, stat_number_index}
-use Rattle.zed_types.specs.Table.{index_of}
 use Rattle.zed_edit.specs.declared.plain.Properties.{Properties}
 use Rattle.zed_edit.specs.declared.plain.Board.{Board}
 use Rattle.zed_edit.specs.declared.plain.Stat.{Stat}
@@ -19,7 +16,7 @@ use Rattle.zed_edit.specs.declared.plain.Plain.{Plain}
 use Rattle.zed_types.specs.Names.{title, stat_of}
 use Rattle.zed_edit.specs.Stat.{new_stat, player_fields}
 use Rattle.zed_laws.specs.Fields.{number_at}
-use Rattle.zed_edit.specs.Board.{new_board, empty_tile}
+use Rattle.zed_edit.specs.Board.{new_board}
 
 -- a stat to speak of where a number is past the end
 abbrev pub no_stat : Stat
@@ -36,14 +33,6 @@ board_at p i = slice_index_or p.boards i no_board
 -- stat j of those that were made on a board, removed ones too
 abbrev pub stat_at : Board → ℕ → Stat
 stat_at b j = slice_index_or b.stats j no_stat
-
--- whether a place is one of the table
-abbrev pub is_place : Place → Bool
-is_place place = (nat_le 1 place.x && nat_le place.x 60) && (nat_le 1 place.y && nat_le place.y 25)
-
--- the tile at a place of a table
-abbrev pub tile_at : List Tile → Place → Tile
-tile_at tiles place = slice_index_or tiles (index_of place) empty_tile
 
 -- a property that is one byte
 abbrev pub board_byte : BoardByte → Properties → ℕ

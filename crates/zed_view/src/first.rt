@@ -1,4 +1,4 @@
-//! The boards one after the other by where they stand, as they are numbered.
+//! The boards in the order of their numbers.
 ghost use Rattle.std.specs.Prelude.{◌≡◌, ◌<◌, ◌≤◌, ◌&&◌, true, not, length, map, take, insert};
 ghost use Rattle.std.specs.List.{All};
 ghost use Rattle.zed_edit.specs.Numbers.{boards_there, standing};
@@ -10,7 +10,7 @@ use smallvec::SmallVec;
 use std::alloc::Global;
 use zed_edit::Standing;
 
-/// Whether a board is not removed, and stands behind another, if there is one.
+/// Whether a board is not removed, and comes after another, if one is given.
 fn passes(view: &View, i: usize, after: Option<Standing>) -> bool
     requires { i < length view.now.boards }
     ensures { result
@@ -57,7 +57,7 @@ fn place_among(view: &View, first: &[usize], i: usize) -> usize
     first.len()
 }
 
-/// Puts a board among the first ones by where it stands. Of more than 101 the last one goes.
+/// Puts a board among the first ones, by its place. Of more than 101 the last one is dropped.
 fn put(view: &View, first: &mut SmallVec<usize, 102>, i: usize)
     requires board { i < length view.now.boards }
     requires others { All (λ j. j < length view.now.boards) first.old.items }
@@ -81,7 +81,7 @@ fn put(view: &View, first: &mut SmallVec<usize, 102>, i: usize)
 }
 
 impl<'a> View<'a> {
-    /// Where a board stands among the others.
+    /// A board's place among the others.
     pub fn standing_of(&self, i: usize) -> Standing
         requires { i < length self.now.boards }
         ensures { result ≡ standing (board_at self.now i) }
@@ -90,8 +90,8 @@ impl<'a> View<'a> {
         Standing::new(id, board.properties.rank())
     }
 
-    /// Of the boards that are not removed, or of those of them that stand behind another, the first 101 in the order of their numbers.
-    /// It goes through the boards once, and takes no memory.
+    /// The first 101 boards in the order of their numbers, of those that are not removed and, if
+    /// one is given, come after it. It goes through the boards once, and takes no memory.
     pub fn first_boards(&self, alloc: Global, after: Option<Standing>) -> SmallVec<usize, 102>
         ensures boards { map (board_at self.now) result.items
             ≡ first_of 101 (is_behind after) (boards_there self.now) }
@@ -107,7 +107,8 @@ impl<'a> View<'a> {
     }
 }
 
-/// Who goes from the first boards to the first of those behind them goes through the boards by their numbers.
+/// To go through all boards by their numbers, take the first ones, then the first ones after the
+/// last of these, and so on.
 pub fn first_boards_have_the_first_numbers()
     ensures first { FirstHaveFirstNumbers }
     ensures next { NextHaveNextNumbers }

@@ -5,7 +5,8 @@ use zed_laws::held_edits_are_remembered;
 use zed_live::document_shows_the_replay;
 use zed_texts::texts_show_the_replay;
 
-/// Live parts that show the edits that the replay takes, beside an inbox of those that it holds, show what the replay has.
+/// Live parts show the replay, if they show the edits that it takes, and the inbox has those that
+/// it holds.
 pub fn parts_show_the_replay()
     ensures { ReplayedPartsAreShown }
 {

@@ -26,8 +26,8 @@ fn alive_stat(view: &View, i: usize, n: usize) -> Option<StatId>
 }
 
 impl<'a> View<'a> {
-    /// The name of the stat with this number on a board: its place among the stats of the board that are not removed,
-    /// from 0 on. None where the board was not made.
+    /// The name of the stat with this number on a board: its place, counted from 0, among the stats
+    /// of the board that are not removed. None if the board was not made.
     pub fn stat_numbered(&self, board: BoardId, n: usize) -> Option<StatId>
         ensures { result ≡ stat_of_number self.now board n }
     {

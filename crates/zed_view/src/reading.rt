@@ -1,4 +1,4 @@
-//! What a view tells of the text of a stat, and of the bytes of a text.
+//! The text of a stat, and the bytes of a text, in a view.
 ghost use Rattle.std.specs.Prelude.{◌≡◌, ◌<◌, length, filter, find, slice_get, option_map};
 ghost use Rattle.zed_types.specs.Names.{same_stat};
 ghost use Rattle.zed_op.specs.declared.thing.Thing.TheVariants.{Text as the_text};
@@ -24,7 +24,8 @@ fn text_on(view: &View, i: usize, stat: StatId) -> Option<Option<TextId>>
 }
 
 impl<'a> View<'a> {
-    /// The text of a stat, which may be none. None where the stat was not made; a removed one still has its text.
+    /// The text of a stat, which may be none. None if the stat was not made; a removed stat still
+    /// has its text.
     pub fn text_of_stat(&self, stat: StatId) -> Option<Option<TextId>>
         ensures { result ≡ text_register self.now stat }
     {

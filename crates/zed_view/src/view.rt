@@ -1,10 +1,9 @@
-//! What a document shows, lent from its live parts to who exports it.
-ghost use Rattle.std.specs.Prelude.{◌≡◌, ◌<◌, ◌≤◌, if◌then◌else◌, length, slice_get, None, Some};
+//! What a document shows, lent from its live parts, for an export.
+ghost use Rattle.std.specs.Prelude.{◌≡◌, ◌<◌, length, None, Some};
 ghost use Rattle.zed_live.specs.Board.{shown_board};
 ghost use Rattle.zed_live.specs.Shown.{shown as shown_header, shown_properties};
 ghost use Rattle.zed_live.specs.Stat.{shown_stat};
-ghost use Rattle.zed_view.specs.View.{board_at, stat_at, is_place, tile_at};
-ghost use Rattle.std.specs.Bool.{OnTrue};
+ghost use Rattle.zed_view.specs.View.{board_at, stat_at};
 ghost use Rattle.std.specs.Option.{option_copied};
 ghost use Rattle.zed_edit.specs.Document.{text, elements};
 ghost use Rattle.zed_view.specs.Shown.{shown, spelled};
@@ -15,11 +14,12 @@ use zed_inbox::Inbox;
 use zed_live::{LiveBoard, LiveBoards, LiveDocument, LiveHeader, LiveProperties};
 use zed_stats::{LiveStat, Stats};
 use zed_texts::LiveTexts;
-use zed_types::{BoardId, COLUMNS, Place, ROWS, StatId, TILES, TextId, Tile};
+use zed_types::{BoardId, StatId, TILES, TextId, Tile};
 
-/// What a document shows, lent: its header, boards, cells, stats and texts, removed and dead things included.
-/// Boards, and the stats of each, go by their numbers in the order in which they were made, which the caller keeps below those told.
-/// Contracts see the plain document. None of its calls takes memory.
+/// What a document shows, lent: its header, boards, cells, stats and texts, removed and dead things
+/// included. Boards, and the stats of each board, are numbered in the order in which they were
+/// made. The caller keeps these numbers below `boards` and `stats`. Contracts see the plain
+/// document. None of its calls takes memory.
 #[derive(Drop)]
 pub struct View<'a> {
     pub(crate) live: &'a LiveDocument,
@@ -34,17 +34,6 @@ impl<'a> Model for View<'a> {
     ghost Value = { ThePlain };
 
     ghost view = { λ v. shown v.live.now v.texts.now v.inbox.now };
-}
-
-/// Whether a place is one of the table.
-fn is_place(place: Place) -> bool
-    ensures result { result ≡ is_place place }
-    ensures column { OnTrue result ((1 ≤ place.x) × (place.x ≤ 60)) }
-    ensures row { OnTrue result ((1 ≤ place.y) × (place.y ≤ 25)) }
-{
-    let column = usize::from(place.x);
-    let row = usize::from(place.y);
-    1 <= column && column <= COLUMNS && 1 <= row && row <= ROWS
 }
 
 impl<'a> View<'a> {
@@ -87,20 +76,6 @@ impl<'a> View<'a> {
     {
         let (_, board) = self.board(i);
         &board.properties
-    }
-
-    /// The tile at a place of the table, columns 1 to 60 and rows 1 to 25. None at any other place.
-    pub fn tile(&self, i: usize, place: Place) -> Option<Tile>
-        requires { i < length self.now.boards }
-        ensures { result ≡ (if is_place place
-            then Some (tile_at (board_at self.now i).tiles place) else None) }
-    {
-        let (_, board) = self.board(i);
-        if is_place(place) {
-            Some(board.cells.get(place))
-        } else {
-            None
-        }
     }
 
     /// All tiles of a board, row after row, lent.
@@ -149,16 +124,6 @@ impl<'a> View<'a> {
         match self.text(id) {
             Some(text) => text.length(),
             None => 0,
-        }
-    }
-
-    /// The k-th live byte of a text, if there are so many.
-    pub fn byte(&self, id: TextId, k: usize) -> Option<u8>
-        ensures { result ≡ slice_get (text self.now id) k }
-    {
-        match self.text(id) {
-            Some(text) => text.byte_at(k),
-            None => None,
         }
     }
 }

@@ -1,16 +1,15 @@
 -- Where a wish may want memory.
-use Rattle.std.proofs.Common.{◌≡◌, ◌∙◌, ◌<◌, ℕ, length, Option, Some, None, Result, Ok, Err, ap, subst, sym}
+use Rattle.std.proofs.Common.{◌≡◌, ◌∙◌, ◌<◌, ℕ, length, Option, Some, None, Ok, Err, ap, subst, sym}
 use mathlib.Core.Logic.{◌⊎◌, inl, inr}
 use Rattle.zed_types.specs.declared.names.BoardId.{BoardId}
 use Rattle.zed_types.specs.declared.names.StatId.{StatId}
 use Rattle.zed_edit.specs.declared.plain.Plain.{Plain}
-use Rattle.zed_edit.specs.Numbers.{board_numbered, stat_numbered}
 use Rattle.zed_edit.specs.Replay.{replay}
 use Rattle.zed_document.specs.declared.error.DocumentError.{DocumentError}
 use Rattle.zed_document.specs.declared.error.DocumentError.TheVariants as document
 use Rattle.zed_document.specs.Reading.{text_of}
 use Rattle.zed_document.specs.Replica.{Replica}
-use Rattle.zed_action.specs.Deeds.{◌>>=◌, board_in, found, stat_in}
+use Rattle.zed_action.proofs.Wants.{IsCalm, done_calm, found_calm, then_calm, board_calm as number_calm, stat_calm as numbers_calm}
 use Rattle.zed_set_words.specs.declared.wishes.BoardPlace.{BoardPlace}
 use Rattle.zed_set_words.specs.declared.wishes.BoardPlace.TheVariants as board
 use Rattle.zed_set_words.specs.declared.wishes.StatPlace.{StatPlace}
@@ -28,50 +27,6 @@ use Rattle.zed_set_words.specs.declared.wishes.Wish.TheVariants as wish
 use Rattle.zed_wishes.specs.declared.deed.Deed.{Deed}
 use Rattle.zed_wishes.specs.Deeds.{board_at, board_deed, deed_of, exit_at, header_of, kept_in, p3_of, shared_text, stat_at, stat_deed, stat_or_none}
 use Rattle.zed_wishes.specs.Granting.{AnyMayTake, DeedMayTake, WishMayTake}
-
-abbrev Answer : Type 0 → Type 0
-Answer X = Result X DocumentError
-
-abbrev lacking : {X : Type 0} → Answer X
-lacking = Err document.Memory
-
-abbrev refused : {X : Type 0} → DocumentError → Answer X
-refused e = Err e
-
-abbrev done : {X : Type 0} → X → Answer X
-done x = Ok x
-
-abbrev not_there : {X : Type 0} → Answer X
-not_there = Err document.NoSuch
-
--- a look-up that doesn't want memory
-abbrev IsCalm : {X : Type 0} → Answer X → Type 0
-IsCalm r = r ≡ lacking → ⊥
-
-done_calm : {X : Type 0} (x : X) → IsCalm (done x)
-done_calm x same = let bad : done x ≡ lacking = same in absurd cc
-
-not_there_calm : {X : Type 0} → IsCalm {X = X} not_there
-not_there_calm {X = X} same = let bad : not_there {X = X} ≡ lacking = same in absurd cc
-
-found_calm : {X : Type 0} (o : Option X) → IsCalm (found o)
-found_calm None = not_there_calm
-found_calm (Some x) = done_calm x
-
-then_calm : {X Y : Type 0} (r : Answer X) (f : X → Answer Y) → IsCalm r → ((x : X) → IsCalm (f x)) → IsCalm (r >>= f)
-then_calm {X = X} {Y = Y} (Ok x) f first next = next x
-then_calm {X = X} {Y = Y} (Err e) f first next = λ same.
-    let bad : refused {X = Y} e ≡ lacking = same in
-    let is : e ≡ document.Memory = cc in
-    first (ap (λ (z : DocumentError). refused {X = X} z) is)
-
--- ---- things
-
-number_calm : (p : Plain) (b : ℕ) → IsCalm (board_in p b)
-number_calm p b = found_calm (board_numbered p b)
-
-numbers_calm : (p : Plain) (b s : ℕ) → IsCalm (stat_in p b s)
-numbers_calm p b s = then_calm (board_in p b) _ (number_calm p b) (λ board. found_calm (stat_numbered p board s))
 
 board_calm : (p : Plain) (place : BoardPlace) → IsCalm (board_at p place)
 board_calm p (board.Numbered n) = number_calm p n

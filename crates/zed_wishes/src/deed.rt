@@ -1,4 +1,4 @@
-//! What a wish comes to, by the names of the things that it speaks of.
+//! What a wish does, with the names of its things.
 ghost use Rattle.std.specs.Prelude.{◌≡◌, false};
 ghost use Rattle.zed_edit.specs.Replay.{replay};
 ghost use Rattle.zed_action.specs.Deeds.{board_in, stat_in};
@@ -13,7 +13,7 @@ use zed_types::{
     ThirdParameter,
 };
 
-/// What a wish comes to: an edit, or two.
+/// What a wish does: an edit, or two.
 #[derive(Drop)]
 pub(crate) enum Deed {
     One(Op),
@@ -264,8 +264,8 @@ fn deed_at_stat(
     stat_deed(document, stat, wish)
 }
 
-/// The deed of a wish. NoSuch where a board or a stat isn't there, and where a text is to be shared
-/// that isn't; Memory only where bytes are kept.
+/// The deed of a wish. NoSuch if a board or a stat isn't there, or a text that is to be shared;
+/// Memory only if bytes are kept.
 #[tactic(auto, using(crate::proofs::Coming::comes_same))]
 pub(crate) fn deed_of(alloc: Global, document: &Document, wish: Wish) -> Result<Deed, DocumentError>
     requires { document.now.is_stale ≡ false }

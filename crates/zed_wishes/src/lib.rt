@@ -1,4 +1,4 @@
-//! What an author wishes by the words of `zztool set`, done on a document.
+//! What the words of `zztool set` do to a document.
 #![tactic(auto)]
 
 mod deed;

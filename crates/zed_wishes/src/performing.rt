@@ -1,4 +1,4 @@
-//! Wishes done on a document, by the edits that they come to.
+//! Wishes done on a document, by edits.
 ghost use Rattle.std.specs.Prelude.{◌≡◌, ◌≢◌, Err, false, OnErr, OnOk};
 ghost use Rattle.zed_document.specs.Authoring.{is_spent_for};
 ghost use Rattle.zed_action.specs.Deeds.{Authors, Ends, MayTakeToAuthor};
@@ -64,11 +64,11 @@ fn perform(document: &mut Document, replica: u16, deed: Deed) -> Result<(), Acti
     }
 }
 
-/// Does a wish as a replica, to a document that isn't stale. In this order: NoSuch for a number
-/// without a board or stat, and for a stat without a text that is to be shared; then what authoring
-/// an edit answers, of two edits for the one after the other. A refusal leaves the document as it
-/// was, but that of two edits the first may have been made. Where bytes of the words are kept, and
-/// where an edit is made, memory may be lacking.
+/// Does a wish as a replica, on a document that isn't stale. Refusals, in order: NoSuch for a
+/// number without a board or stat, and for a stat without a text that is to be shared; then those
+/// of authoring each edit. A refusal leaves the document as it was, except that of two edits the
+/// first may be made. Memory can run out when bytes of the words are kept, and when an edit is
+/// made.
 pub fn grant(
     alloc: Global,
     document: &mut Document,

@@ -42,11 +42,7 @@ fn files_argument<'a>(alloc: Global) -> Arg<'a>
     ensures rule { rule_of result ≡ files_rule }
     ensures local { result.global ≡ false }
 {
-    several_argument(
-        alloc,
-        "FILES",
-        "Edit files, in the order in which they are read; stdin is standard input",
-    )
+    several_argument(alloc, "FILES", "The edit files; stdin is standard input")
 }
 
 // The option that takes the larger limit.
@@ -57,9 +53,7 @@ fn big_argument<'a>(alloc: Global) -> Arg<'a>
     Arg::new(alloc, "big")
         .long("big")
         .action(ArgAction::SetTrue)
-        .help(
-            "Take boards of up to 32767 bytes, for tools that read larger ones than the 20000 bytes of ZZT's own",
-        )
+        .help("Allow boards of up to 32767 bytes, for tools that read more than the 20000 of ZZT")
 }
 
 // A command of this name, without arguments.
@@ -86,7 +80,7 @@ fn save_command<'a>(alloc: Global) -> Result<Command<'a>, AllocError>
     ensures shape { IfOk result (λ c. shape_of c ≡ save_shape) }
     ensures local { IfOk result (λ c. (out-Command c).has_globals ≡ false) }
 {
-    let command = bare_command(alloc, "save", "Write the world file of edit files");
+    let command = bare_command(alloc, "save", "Write the world file (.zzt) of edit files");
     let command = with_argument(
         command,
         required_argument(
@@ -107,7 +101,7 @@ fn check_command<'a>(alloc: Global) -> Result<Command<'a>, AllocError>
     let command = bare_command(
         alloc,
         "check",
-        "Print what looks wrong in the world of edit files, and its counts",
+        "Print what looks wrong in the world, and its counts",
     );
     let command = with_argument(command, files_argument(alloc))?;
     with_argument(command, big_argument(alloc))
@@ -119,7 +113,7 @@ fn world_argument<'a>(alloc: Global) -> Arg<'a>
 {
     Arg::new(alloc, "WORLD")
         .help(
-            "The number of the world, 0 to 18446744073709551615; edit files of one number can be joined",
+            "The number of the world: any that you choose, below 2^64. Only edit files of the same number merge",
         )
         .required(true)
         .value_parser(clap::value_parser!(u64))
@@ -130,7 +124,7 @@ fn new_command<'a>(alloc: Global) -> Result<Command<'a>, AllocError>
     ensures shape { IfOk result (λ c. shape_of c ≡ create_shape) }
     ensures local { IfOk result (λ c. (out-Command c).has_globals ≡ false) }
 {
-    let command = bare_command(alloc, "new", "Make an edit file that makes a world");
+    let command = bare_command(alloc, "new", "Make the edit file of a new world");
     let command = with_argument(
         command,
         required_argument(
@@ -146,7 +140,7 @@ fn new_command<'a>(alloc: Global) -> Result<Command<'a>, AllocError>
             alloc,
             "from",
             "FILE",
-            "A world file to start from; without it there is an empty title board",
+            "Start from this world file instead of an empty title board",
         ),
     )?;
     with_argument(
@@ -155,7 +149,7 @@ fn new_command<'a>(alloc: Global) -> Result<Command<'a>, AllocError>
             alloc,
             "name",
             "TEXT",
-            "The name of the new world, at most 20 bytes; not for a world file",
+            "The name of the new world, at most 20 bytes; a world from a file keeps its own",
         ),
     )
 }
@@ -165,7 +159,9 @@ fn replica_argument<'a>(alloc: Global) -> Arg<'a>
     ensures local { result.global ≡ false }
 {
     Arg::new(alloc, "REPLICA")
-        .help("The author's own number, 1 to 65535; no other author of the world has it")
+        .help(
+            "The author's number, 1 to 65535; no other author has it, and no other copy that is edited",
+        )
         .required(true)
         .value_parser(clap::value_parser!(u16))
 }
@@ -178,11 +174,7 @@ fn edit_command<'a>(alloc: Global) -> Result<Command<'a>, AllocError>
     let command = bare_command(alloc, "edit", "Add an action of an author to an edit file");
     let command = with_argument(
         command,
-        required_argument(
-            alloc,
-            "FILE",
-            "The edit file, which is read and written again",
-        ),
+        required_argument(alloc, "FILE", "The edit file to add to"),
     )?;
     let command = with_argument(command, replica_argument(alloc))?;
     with_argument(
@@ -190,7 +182,7 @@ fn edit_command<'a>(alloc: Global) -> Result<Command<'a>, AllocError>
         several_argument(
             alloc,
             "WORDS",
-            "The action: board-add NAME, board-remove B, board-name B NAME, rank B VALUE (boards stand by their ranks), exit B north|south|west|east TO (0 for none), cells B X0 Y0 X1 Y1 ELEMENT COLOUR, stat-add B X Y CYCLE, stat-remove B S, insert B S POS TEXT (| ends a line) or delete B S FROM TO; B is a board's number, 0 for the title, and S a stat's on it, 0 for the player",
+            "The action: board-add NAME, board-remove B, board-name B NAME, rank B VALUE (orders the boards: lower ranks come first), exit B north|south|west|east TO (0 for none), cells B X0 Y0 X1 Y1 ELEMENT COLOUR, stat-add B X Y CYCLE, stat-remove B S, insert B S POS TEXT (| ends a line) or delete B S FROM TO; B is a board's number, 0 for the title, and S a stat's on it, 0 for the player",
         ),
     )
 }
@@ -200,11 +192,7 @@ fn merge_command<'a>(alloc: Global) -> Result<Command<'a>, AllocError>
     ensures shape { IfOk result (λ c. shape_of c ≡ merge_shape) }
     ensures local { IfOk result (λ c. (out-Command c).has_globals ≡ false) }
 {
-    let command = bare_command(
-        alloc,
-        "merge",
-        "Join edit files of a world to one, with the edits in the order of their stamps",
-    );
+    let command = bare_command(alloc, "merge", "Merge edit files of a world into one");
     let command = with_argument(
         command,
         required_argument(
@@ -233,11 +221,7 @@ fn show_command<'a>(alloc: Global) -> Result<Command<'a>, AllocError>
     ensures shape { IfOk result (λ c. shape_of c ≡ show_shape) }
     ensures local { IfOk result (λ c. (out-Command c).has_globals ≡ false) }
 {
-    let command = bare_command(
-        alloc,
-        "show",
-        "Print the picture of a board of the world of edit files",
-    );
+    let command = bare_command(alloc, "show", "Print a picture of a board");
     let command = with_argument(command, board_argument(alloc))?;
     let command = with_argument(command, files_argument(alloc))?;
     with_argument(command, big_argument(alloc))
@@ -251,7 +235,7 @@ fn play_command<'a>(alloc: Global) -> Result<Command<'a>, AllocError>
     let command = bare_command(
         alloc,
         "play",
-        "Play a board of the world of edit files by keys of standard input: n s e w move, N S E W shoot, . waits",
+        "Play a board by keys from standard input: n s e w move, N S E W shoot, . waits",
     );
     let command = with_argument(command, board_argument(alloc))?;
     let command = with_argument(
@@ -259,7 +243,7 @@ fn play_command<'a>(alloc: Global) -> Result<Command<'a>, AllocError>
         required_argument(
             alloc,
             "WORDS",
-            "A file of the chances of the playtest: 16-bit numbers, the low byte first",
+            "A file of numbers for chance: two bytes each, the low one first",
         ),
     )?;
     let command = with_argument(command, files_argument(alloc))?;
@@ -272,7 +256,7 @@ fn top_command<'a>(alloc: Global) -> Result<Command<'a>, AllocError>
 {
     Command::new(alloc, "zzted")
         .about(
-            "Makes, edits, joins, shows and plays edit files of a ZZT world; without words it does save stdout stdin",
+            "Makes, edits, merges, shows and plays edit files of a ZZT world; without any words: save stdout stdin",
         )
         .no_binary_name(true)
         .subcommand_required(true)

@@ -1,4 +1,5 @@
-//! What plain words ask for. A number is written in decimal digits, where a plus may stand first, so its word begins with no hyphen.
+//! What plain words ask for. A number is written in decimal digits, with or without a plus in
+//! front, so its word begins with no hyphen.
 ghost use Rattle.zed_words.specs.Laws.{PlainWordsCheck, PlainWordsEdit, PlainWordsMerge, PlainWordsNew, PlainWordsPlay, PlainWordsSave, PlainWordsShow};
 
 /// `save OUT FILES...`, where no word begins with a hyphen, asks to save, and so does `save --big OUT FILES...`, in the large profile.
@@ -11,8 +12,9 @@ pub fn plain_words_check()
     ensures { PlainWordsCheck }
 {}
 
-/// `new OUT WORLD`, where `WORLD` is a number below 2^64 and `OUT` begins with no hyphen, asks for a new world; behind them may stand
-/// `--from FILE`, and then `--name TEXT`, where `FILE` and `TEXT` begin with no hyphen.
+/// `new OUT WORLD`, where `WORLD` is a number below 2^64 and `OUT` begins with no hyphen, asks for
+/// a new world. `--from FILE`, and then `--name TEXT`, may follow, where `FILE` and `TEXT` begin
+/// with no hyphen.
 pub fn plain_words_new()
     ensures { PlainWordsNew }
 {}

@@ -1,4 +1,4 @@
-//! The command line of `zzted`: what `clap` is told, and which command the words ask for.
+//! The command line of `zzted`: the words that `clap` parses, and the command that they ask for.
 #![tactic(auto)]
 
 mod grammar;

@@ -15,43 +15,43 @@ use std::alloc::{AllocError, Global};
 /// What is to be done.
 #[derive(Drop)]
 pub enum Command<'a> {
-    /// The world file of edit files is to be written.
+    /// Write the world file of edit files.
     Save {
         profile: Profile,
         out: &'a str,
         files: Vec<&'a str>,
     },
-    /// What looks wrong in the world of edit files is to be told.
+    /// Print what looks wrong in the world of edit files.
     Check {
         profile: Profile,
         files: Vec<&'a str>,
     },
-    /// An edit file that makes a world is to be written.
+    /// Write the edit file of a new world.
     New {
         out: &'a str,
         world: u64,
         from: Option<&'a str>,
         name: Option<&'a str>,
     },
-    /// An action of an author is to be added to an edit file.
+    /// Add an action of an author to an edit file.
     Edit {
         file: &'a str,
         replica: u16,
         words: Vec<&'a str>,
     },
-    /// Edit files of a world are to be joined to one.
+    /// Merge edit files of a world into one.
     Merge {
         out: &'a str,
         world: u64,
         files: Vec<&'a str>,
     },
-    /// A board of the world of edit files is to be shown.
+    /// Show a board of the world of edit files.
     Show {
         profile: Profile,
         board: u16,
         files: Vec<&'a str>,
     },
-    /// A board of the world of edit files is to be played, by the words of chance of a file.
+    /// Play a board of the world of edit files, by the words of chance of a file.
     Play {
         profile: Profile,
         board: u16,
@@ -60,7 +60,7 @@ pub enum Command<'a> {
     },
 }
 
-/// Why the words ask for nothing.
+/// Why the words are no command.
 #[derive(Debug, Drop)]
 pub enum ParseError {
     Memory,
@@ -68,7 +68,7 @@ pub enum ParseError {
     Refused(String),
 }
 
-/// What the user is told where clap has no text.
+/// The text for the user if clap has none.
 const NO_COMMAND: &str = "error: these words are no command\n";
 
 impl From<AllocError> for ParseError {
@@ -303,8 +303,8 @@ fn refused(alloc: Global, text: String) -> Result<ParseError, AllocError>
 /// Reads the words after the program's name.
 ///
 /// # Errors
-/// `Refused` only where the words are not those of a command, with clap's text, which isn't empty; a request for help
-/// counts as one. `Memory` may come in its place, since the text takes memory.
+/// `Refused`, with clap's text, which isn't empty, only if the words are no command; a request for
+/// help counts as that. `Memory` may come in its place, since the text takes memory.
 pub fn parse<'a>(alloc: Global, words: &'a [String]) -> Result<Command<'a>, ParseError>
     ensures { MatchResult result
         (λ a. command_of (map string_bytes words.entry.now) ≡ Some (meaning_of a))

@@ -15,7 +15,7 @@ use std::alloc::Global;
 use zed_runs::read_runs;
 use zed_types::{Bytes, READ_BODY_LIMIT, STATS_LIMIT, Seq, TILES, Tile};
 
-/// A count that isn't negative and not over its limit.
+/// A count that is neither negative nor over its limit.
 pub(crate) fn count_of(
     most: usize,
     fault: WorldError,

@@ -1,4 +1,4 @@
-//! Files that are just what the writer makes.
+//! Files that are exactly what the writer makes.
 ghost use Rattle.std.specs.Prelude.{◌≡◌, ◌↔◌, IsTrue, IfOk, IfErr};
 ghost use Rattle.zed_world.specs.Reading.{BeginsAWorld};
 ghost use Rattle.zed_world.specs.Canonical.{IsCanonical, is_canonical};
@@ -9,9 +9,11 @@ use crate::writing::write_world;
 use std::alloc::Global;
 use zed_types::READ_BODY_LIMIT;
 
-/// Whether the bytes are a world file just as `write_world` makes it: they are read, and writing what was read gives them back.
+/// Whether the bytes are a world file exactly as `write_world` makes it: they can be read, and
+/// writing what was read gives them back.
 ///
-/// A file that is read with leniency isn't canonical, nor one with bytes behind its last board. `Memory` is the only refusal.
+/// A file that is read with leniency isn't canonical, nor is one with bytes after its last board.
+/// `Memory` is the only refusal.
 #[tactic(auto, unfolding(crate::specs::Canonical::is_canonical))]
 pub fn is_canonical(alloc: Global, bytes: &[u8]) -> Result<bool, WorldError>
     ensures result { IfOk result (λ is. IsTrue is ↔ IsCanonical bytes.now) }

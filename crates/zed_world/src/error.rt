@@ -14,13 +14,13 @@ pub enum WorldError {
     /// A growth was refused.
     #[error("out of memory")]
     Memory,
-    /// The type in front isn't that of a world file.
+    /// The type at the front isn't that of a world file.
     #[error("not a world file")]
     NotZzt,
     /// The number of boards beside the title is negative or over 100.
     #[error("too many boards")]
     TooManyBoards,
-    /// Bytes are missing, of the file or of a board's body.
+    /// The file, or the body of a board, ends too early.
     #[error("the file ends too early")]
     Truncated,
     /// The body of a board has more than 32,767 bytes.

@@ -1,7 +1,8 @@
 //! The header of a world.
 use zed_types::{Bytes, Seq};
 
-/// What stands in front of the boards: the player's counters, the flags that programs set, and the name of the world.
+/// What comes before the boards: the player's counters, the flags that programs set, and the name
+/// of the world.
 #[derive(Debug, Drop)]
 pub struct Header {
     pub ammo: i16,

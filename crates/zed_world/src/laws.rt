@@ -1,4 +1,4 @@
-//! Laws on world files.
+//! Laws of world files.
 ghost use Rattle.zed_world.specs.Laws.{ReadIsNormal, ReadByPlace, FoundByPlace, WrittenIsRead, WrittenIsCanonical, CanonicalIsShort, CanonicalIsTested};
 
 use zed_runs::{greedy_is_read, tiles_are_runs};
@@ -8,7 +8,7 @@ pub fn read_is_normal()
     ensures { ReadIsNormal }
 {}
 
-/// A world is read exactly where the file spells it, field by field at its place.
+/// A world is read exactly if the file spells it, field by field, each at its place.
 pub fn files_are_read_by_place()
     ensures spelled { ReadByPlace }
     ensures read { FoundByPlace }
@@ -16,8 +16,8 @@ pub fn files_are_read_by_place()
     tiles_are_runs();
 }
 
-/// What is written of a world whose parts fit their fields is read again, whatever follows it, if its bodies aren't too large for
-/// the reader; so with nothing behind it, it is canonical.
+/// The text of a world whose parts fit their fields reads back, whatever follows it, if its bodies
+/// aren't too large for the reader. So with nothing after it, it is canonical.
 pub fn written_is_read()
     ensures back { WrittenIsRead }
     ensures canonical { WrittenIsCanonical }
@@ -25,12 +25,13 @@ pub fn written_is_read()
     greedy_is_read();
 }
 
-/// A canonical file has 512 bytes for the header, and for each of at most 101 boards two bytes and at most 32,767 of a body.
+/// A canonical file has 512 bytes for the header. Each of at most 101 boards has two bytes, and a
+/// body of at most 32,767.
 pub fn canonical_files_are_short()
     ensures { CanonicalIsShort }
 {}
 
-/// The test whether a file is canonical finds just those that are.
+/// `is_canonical` finds exactly the canonical files.
 pub fn canonical_files_are_tested()
     ensures { CanonicalIsTested }
 {}

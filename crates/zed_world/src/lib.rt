@@ -1,5 +1,4 @@
-//! World files of ZZT 3.2: what they say, how they are read and written. docs/FORMATS.md has the
-//! layout.
+//! World files of ZZT 3.2: reading and writing them. docs/FORMATS.md has the layout.
 #![tactic(auto)]
 
 mod blocks;
@@ -27,6 +26,7 @@ pub use laws::{
     written_is_read,
 };
 pub use reading::read_world;
+pub use size::body_len;
 pub use stat::{Code, StatData};
 pub use stats::is_passage;
 pub use world::World;

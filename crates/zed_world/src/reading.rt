@@ -50,11 +50,13 @@ fn world_of(alloc: Global, bytes: &[u8]) -> Result<World, WorldError>
 
 /// Reads a world file, with all leniency.
 ///
-/// A string longer than its field is cut to the field; a flag byte is true if it isn't 0; a number of a board or a stat that
-/// isn't there is read as none; chains of shared programs are followed to the stat that has the bytes; unused bytes, pointers
-/// and what follows the last stat of a board or the last board are dropped. The refusals come in the order in which they are
-/// met: `Truncated` below 2 bytes, `NotZzt`, `Truncated` below 512 bytes, `TooManyBoards`, and then board by board `Truncated`,
-/// `BadBoardSize`, `TooManyStats` and `BadShare`. `Memory` where a growth was refused, and so never before the boards are counted.
+/// A string longer than its field is cut to the field. A flag byte is true if it isn't 0. A number
+/// of a board or a stat that isn't there is read as none. Chains of shared programs are followed to
+/// the stat that has the bytes. Unused bytes, pointers, and what follows the last stat of a board
+/// or the last board are dropped. Refusals, in order: `Truncated` below 2 bytes, `NotZzt`,
+/// `Truncated` below 512 bytes, `TooManyBoards`, and then board by board `Truncated`,
+/// `BadBoardSize`, `TooManyStats` and `BadShare`. `Memory` comes if a growth was refused, so never
+/// before the boards are counted.
 pub fn read_world(alloc: Global, bytes: &[u8]) -> Result<World, WorldError>
     ensures result { Gives (λ w. w) result (world_at bytes.now) }
 

@@ -1,30 +1,20 @@
-//! How many bytes a board takes, told without writing it.
+//! How many bytes a board takes, counted without writing it.
 ghost use Rattle.std.specs.Prelude.{◌≡◌, ◌≤◌, ◌*◌, None, Some, length, OnOk, IfErr, FitsSigned};
 ghost use Rattle.std.specs.Int.{w16};
 ghost use Rattle.std.specs.List.{flat_map, AllByRecursion};
-ghost use Rattle.zed_runs.specs.Runs.{greedy};
 ghost use Rattle.zed_world.specs.Writing.{code_length, code_text, stat_text, body_text, first_over};
 ghost use Rattle.zed_world.specs.Normal.{IsWritable};
 
 use crate::board::BoardData;
 use crate::error::WorldError;
 use crate::stat::{Code, StatData};
-use zed_runs::{greedy_is_the_one, runs_len};
-use zed_types::{TILES, Tile};
+use zed_runs::runs_len;
 
 /// The bytes of a body beside its runs and its stats: the name, the properties, the number of stats.
 const FRAME: usize = 51 + 86 + 2;
 
 /// The bytes of a stat beside its program.
 const STAT: usize = 33;
-
-fn tiles_len(tiles: &[Tile; TILES]) -> usize
-    ensures result { result ≡ length (greedy tiles.now) }
-    ensures within { result ≤ 4500 }
-{
-    greedy_is_the_one();
-    runs_len(tiles)
-}
 
 /// How many bytes a program takes with its stat.
 fn code_len(code: &Code) -> usize
@@ -53,11 +43,12 @@ fn stats_len(stats: &[StatData]) -> usize
 }
 
 /// How many bytes the body of a board takes.
-fn body_len(board: &BoardData) -> usize
+pub fn body_len(board: &BoardData) -> usize
     requires { IsWritable board.now }
-    ensures { result ≡ length (body_text board.now) }
+    ensures result { result ≡ length (body_text board.now) }
+    ensures within { result ≤ 4957439 }
 {
-    FRAME + tiles_len(&board.tiles) + stats_len(board.stats.as_slice())
+    FRAME + runs_len(&board.tiles) + stats_len(board.stats.as_slice())
 }
 
 /// Refuses the first board whose body is over the limit.

@@ -34,7 +34,7 @@ pub struct StatData {
     pub follower: Option<u8>,
     /// The number of a stat of the board.
     pub leader: Option<u8>,
-    /// What stands underneath.
+    /// What is underneath.
     pub under: Tile,
     /// Where in its program the stat is; -1 after its end.
     pub position: i16,
@@ -42,7 +42,8 @@ pub struct StatData {
 }
 
 impl StatData {
-    /// A stat at a place that stands on an empty tile and acts in every tick. It has no step, parameters, neighbours or program.
+    /// A stat at a place, with an empty tile under it, that acts in every tick. It has no step,
+    /// parameters, neighbours or program.
     pub fn standing(x: u8, y: u8) -> StatData
         ensures result { result ≡ standing x y }
     {

@@ -13,7 +13,7 @@ use zed_types::{Bytes, Seq, TILES, Tile};
 /// The element of a passage.
 const PASSAGE: u8 = 11;
 
-/// Whether a passage stands at a place. Outside the table nothing does.
+/// Whether there is a passage at a place. Outside the table there is none.
 #[tactic(auto, unfolding(crate::specs::Offsets::is_passage_at))]
 pub fn is_passage(tiles: &[Tile; TILES], x: u8, y: u8) -> bool
     ensures { result ≡ is_passage_at tiles.now x y }

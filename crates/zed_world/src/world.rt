@@ -9,8 +9,9 @@ use crate::laws::{read_is_normal, written_is_read};
 use std::marker::Model;
 use zed_types::Seq;
 
-/// A world that some file spells: each number, string and list fits its field, each board, stat and program that it names is
-/// there, and what a board has fits in one body. Contracts see its header and the list of its boards.
+/// A world that some file spells: each number, string and list fits its field, each board, stat and
+/// program that it names is there, and each board fits in one body. Contracts see its header and
+/// the list of its boards.
 #[derive(Debug, Drop)]
 pub struct World {
     header: Header,
@@ -48,7 +49,7 @@ impl World {
         World { header, boards }
     }
 
-    /// What stands in front of the boards.
+    /// What comes before the boards.
     pub fn header(&self) -> &Header
         ensures result { result.now ≡ self.now.header }
         ensures normal { HasNormalParts self.now }

@@ -106,9 +106,10 @@ fn text_of(alloc: Global, header: &Header, boards: &[BoardData]) -> Result<Vec<u
 
 /// Writes the one text of a world.
 ///
-/// The limit is the most bytes that the body of a board may have, at most 32,767, which is the most that `read_world` takes.
-/// `BoardOver` for the first board whose body has more, with its number and how many; then `Memory` where a growth was refused.
-/// Unused bytes and pointers are 0, flags are 0 or 1, runs are greedy, and a shared program stands with the stat that owns it.
+/// The limit is the most bytes that the body of a board may have. It is at most 32,767, the most
+/// that `read_world` takes. `BoardOver` for the first board whose body has more, with its number
+/// and its bytes; then `Memory` if a growth was refused. Unused bytes and pointers are 0, flags are
+/// 0 or 1, runs are greedy, and a shared program is written with the stat that owns it.
 pub fn write_world(alloc: Global, world: &World, limit: usize) -> Result<Vec<u8>, WorldError>
     requires { limit ≤ READ_BODY_LIMIT }
     ensures result { Gives (λ v. v.items) result (written limit world.now) }

@@ -1,23 +1,9 @@
--- The words of chance of a file, and the messages of a playtest.
-use Rattle.std.proofs.Common.{◌≡◌, ◌+◌, ◌*◌, ◌<◌, ◌≤◌, ◌++◌, ℕ, List, [], ◌∷◌, arith, drop, take, length, refl, slice_get, slice_index, Some, suc, append_assoc, sym, ap, ◌∙◌}
+-- The messages of a playtest.
+use Rattle.std.proofs.Common.{◌≡◌, ◌+◌, ◌++◌, ℕ, List, [], ◌∷◌, arith, drop, slice_get, Some, suc, append_assoc, sym, ap, ◌∙◌}
 use Rattle.std.specs.List.{flat_map}
 use Rattle.std.proofs.Math.Seq.{drop-cons}
 use Rattle.std.proofs.lemmas.Option.{get_or_from_slice_get, slice_get_within}
 use Rattle.zed_worlds.specs.Told.{message_line}
-use Rattle.zed_worlds.specs.Shown.{chances_in}
-
--- two bytes are a word
-pub next_word : (bytes : List ℕ) → 2 ≤ length bytes
-    → chances_in bytes ≡ (slice_index (take 2 bytes) 0 + 256 * slice_index (take 2 bytes) 1) ∷ chances_in (drop 2 bytes)
-next_word [] two = absurd (omega (arith, two))
-next_word (low ∷ []) two = absurd (omega (arith, two))
-next_word (low ∷ high ∷ bytes) two = refl
-
--- less than two bytes are none
-pub no_word : (bytes : List ℕ) → length bytes < 2 → chances_in bytes ≡ []
-no_word [] few = refl
-no_word (low ∷ []) few = refl
-no_word (low ∷ high ∷ bytes) few = absurd (omega (arith, few))
 
 -- the lines from a message on are its own and those behind it
 pub next_message : (ms : List (List ℕ)) (i : ℕ) (m : List ℕ) → slice_get ms i ≡ Some m

@@ -1,8 +1,5 @@
 -- Steps of a playtest, one after the other.
-use Rattle.std.proofs.Common.{◌≡◌, ◌+◌, ◌≤◌, ℕ, suc, false, List, arith, length, Ok, refl, subst}
-use Rattle.zed_play.specs.declared.key.Key.{Key}
-use Rattle.zed_play.specs.Playtest.{Playtest}
-use Rattle.zed_play.specs.Step.{Steps}
+use Rattle.std.proofs.Common.{◌≡◌, ◌+◌, ℕ, suc, false, arith, refl, subst}
 use Rattle.zed_worlds.specs.Shown.{Advances, Course, StepsTo}
 
 -- from a course to another, so that what steps follow may be counted to those before
@@ -17,10 +14,6 @@ one_more n first c d leads on m e steps =
 -- no step more
 pub none_more : (n : ℕ) (first c : Course) → Leads n first c → StepsTo n first c
 none_more n first c leads = subst (λ k. StepsTo k first c) (let same : n + 0 ≡ n = omega arith in same) (leads 0 c refl)
-
--- a step uses at most the words that there are
-pub uses_few : (used : ℕ) (key : Key) (p q : Playtest) (words : List ℕ) → Steps (Ok used) key p words q → used ≤ length words
-uses_few used key p q words step = let is = step.1.1.1 in omega (arith, is)
 
 -- before the first step
 pub at_start : (first : Course) → Leads 0 first first

@@ -187,8 +187,9 @@ fn played<H: Host>(
     )
 }
 
-/// Plays a board of the world of edit files, of at most so many bytes a body, by the words of chance of a file, and prints what is told of the playtest.
-/// Where the command is refused before that is begun, but for want of memory, neither the screen nor the source of keys is called.
+/// Plays a board of the world of edit files, by the words of chance of a file, and prints the
+/// playtest. The limit is the most bytes of a board's body. If the command is refused before the
+/// playtest begins, except for want of memory, neither the screen nor the source of keys is called.
 pub fn play<H: Host>(
     alloc: Global,
     host: &mut H,

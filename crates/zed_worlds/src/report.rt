@@ -13,7 +13,8 @@ use zed_export::{Warning, export, warnings};
 use zed_files::Refusal;
 use zed_world::{World, write_world};
 
-/// The world file of a document, of at most so many bytes a body. A limit that it is over is told whatever is lacking.
+/// The world file of a document, of at most so many bytes a body. A limit that it exceeds is
+/// refused before any want of memory.
 pub(crate) fn world_file(
     alloc: Global,
     document: &Document,
@@ -79,8 +80,8 @@ fn size_of(alloc: Global, world: &World, limit: usize) -> Result<usize, Refusal>
     }
 }
 
-/// The warnings of a document's world, one a line, and then its counts, where no body has more bytes than the limit. A limit that it is
-/// over is told whatever is lacking.
+/// The warnings of a document's world, one a line, and then its counts, if no body has more bytes
+/// than the limit. A limit that it exceeds is refused before any want of memory.
 pub(crate) fn report(alloc: Global, document: &Document, limit: usize) -> Result<Vec<u8>, Refusal>
     requires sound { document.now.is_stale ≡ false }
     requires limit { limit ≤ READ_BODY_LIMIT }

@@ -1,4 +1,4 @@
-//! Worlds saved, and reported on.
+//! The commands `save` and `check`.
 ghost use Rattle.std.specs.Prelude.{[], ◌∷◌, ◌≡◌, ◌≤◌, ◌⊎◌, false, IfErr, MatchResult, Ok, Err, Some};
 ghost use Rattle.zed_types.specs.declared.limits.TheConstants.{READ_BODY_LIMIT};
 ghost use Rattle.zed_host.specs.Calls.{Printing};

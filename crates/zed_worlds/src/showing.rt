@@ -1,4 +1,4 @@
-//! Boards shown.
+//! The command `show`.
 ghost use Rattle.std.specs.Prelude.{[], ◌≡◌, ◌≤◌, ◌⊎◌, Bool, Err, List, MatchResult, Ok, Option, Some, false};
 ghost use Rattle.zed_types.specs.declared.limits.TheConstants.{READ_BODY_LIMIT};
 ghost use Rattle.zed_host.specs.Counting.{Counts, Rose};
@@ -46,8 +46,8 @@ fn show_on(
     Ok(())
 }
 
-/// Shows a board of the world of edit files, of at most so many bytes a body. The screen is called once, and not at all where the command
-/// is refused before.
+/// Shows a board of the world of edit files, of at most so many bytes a body. The screen is called
+/// once, or not at all if the command is refused before.
 pub fn show<H: Host>(
     alloc: Global,
     host: &mut H,

@@ -10,10 +10,11 @@ use zed_play::Key;
 use zed_screen::{Frame, ascii};
 use zed_session::{DeviceFailed, Keys, Screen};
 
-/// A read that was interrupted is made again, so many times.
+/// An interrupted read is made again, at most so many times.
 const TRIES: u32 = 1024;
 
-/// Most bytes of one file that is pulled over a link: the next read fails. So one that comes to no end takes no more memory than this many.
+/// Most bytes of one file that is pulled over a link: the next read fails. So an endless file takes
+/// no more memory than this.
 const MOST: u64 = 268_435_456;
 
 /// So many line feeds in a row are a failure.
@@ -32,8 +33,8 @@ fn read_some<R: Read>(reader: &mut R, into: &mut [u8]) -> io::Result<usize>
     Err(io::Error::from(ErrorKind::Interrupted))
 }
 
-/// A file that is read, from its first read on; `stdin` is standard input. Nothing can be written to it, and it doesn't tell what it
-/// holds.
+/// A file to read, opened at its first read; `stdin` is standard input. Nothing can be written to
+/// it, and it doesn't say what it holds.
 #[derive(Drop)]
 pub struct FileLink {
     rt: HostRuntime,

@@ -1,11 +1,11 @@
 use Rattle.std.proofs.Common.{◌≡◌, ◌∙◌, ◌++◌, ◌∷◌, [], None, ap, sym, subst, rules, List, Option, arith}
 use Rattle.zed_op.specs.declared.op.Edit.{Edit}
-use Rattle.zed_op.specs.Set.{IsRising}
+use Rattle.zed_op.specs.Set.{IsRising, with_edit}
 use Rattle.zed_history.specs.Batch.{first_of}
 use Rattle.zed_history.specs.Finding.{AllBelow, edit_with}
 use Rattle.zed_history.specs.Runs.{AreRuns, count_in, found_in}
 use Rattle.zed_history.proofs.Opened.{SetsHold}
-use Rattle.zed_history.proofs.Runs.{count-last, count-push, found-empty, found-push, last-rises, runs-empty, runs-push}
+use Rattle.zed_history.proofs.Runs.{count-in-last, count-last, count-push, found-empty, found-in-last, found-push, last-rises, runs-empty, runs-more, runs-push}
 use Rattle.zed_history.proofs.history.put_late.Goals as goal
 
 pub is_latest-requires : goal.is_latest-requires
@@ -35,6 +35,33 @@ returns-then-is_latest-clause-count c =
     let items : c.push_reserved.new.self.items ≡ c.args.run.now.items ++ c.args.edit ∷ [] = search rules in
     let is : count_in (left ++ c.push_reserved.new.self.items ∷ []) ≡ count_in (left ++ (c.args.run.now.items ++ c.args.edit ∷ []) ∷ []) = ap (λ (es : List Edit). count_in (left ++ es ∷ [])) items in
     let last = count-push left c.args.run.now.items c.args.edit in
+    omega (arith, is, last)
+
+pub place_in-requires : goal.place_in-requires
+place_in-requires c = subst IsRising (sym c.deref-2.ensures.value) (last-rises c.args.settled.now.items c.args.run.now.items c.requires.runs)
+
+pub returns-in-Some-clause-runs : goal.returns-in-Some-clause-runs
+returns-in-Some-clause-runs c = λ log h none.
+    let laws : SetsHold = record { rises = c.sets_rise.ensures.edit; joins = c.sets_rise.ensures.union; known = c.rising_lists_are_sets.ensures.known } in
+    let left = c.args.settled.now.items in
+    let items : c.put_at.new.run.items ≡ with_edit c.args.edit c.args.run.now.items = search rules in
+    let new : found_in c.args.edit.stamp (log ∷ (left ++ c.args.run.now.items ∷ [])) ≡ None =
+    ap (λ (o : Option Edit). first_of o (found_in c.args.edit.stamp (left ++ c.args.run.now.items ∷ []))) none ∙ c.requires.new in
+    subst (λ (es : List Edit). AreRuns (log ∷ (left ++ es ∷ []))) (sym items) (runs-more laws c.args.edit (log ∷ left) c.args.run.now.items h new)
+
+pub returns-in-Some-clause-found : goal.returns-in-Some-clause-found
+returns-in-Some-clause-found c = λ s.
+    let laws : SetsHold = record { rises = c.sets_rise.ensures.edit; joins = c.sets_rise.ensures.union; known = c.rising_lists_are_sets.ensures.known } in
+    let left = c.args.settled.now.items in
+    let items : c.put_at.new.run.items ≡ with_edit c.args.edit c.args.run.now.items = search rules in
+    ap (λ (es : List Edit). found_in s (left ++ es ∷ [])) items ∙ found-in-last laws s c.args.edit left c.args.run.now.items c.requires.runs
+
+pub returns-in-Some-clause-count : goal.returns-in-Some-clause-count
+returns-in-Some-clause-count c =
+    let left = c.args.settled.now.items in
+    let items : c.put_at.new.run.items ≡ with_edit c.args.edit c.args.run.now.items = search rules in
+    let is : count_in (left ++ c.put_at.new.run.items ∷ []) ≡ count_in (left ++ with_edit c.args.edit c.args.run.now.items ∷ []) = ap (λ (es : List Edit). count_in (left ++ es ∷ [])) items in
+    let last = count-in-last left c.args.run.now.items c.args.edit in
     omega (arith, is, last)
 
 pub returns-clause-runs : goal.returns-clause-runs

@@ -69,4 +69,4 @@ loop-rest-preserved c =
     let t = subst P (sym c.pass_known.ensures.kept) c.loop-rest.invariant in
     let o = c.in-Ok.ensures in
     let k = o.result in
-    more_taken _ _ _ _ _ _ _ _ _ c.take_record.new.intake k.0 _ c.in-Ok.more c.plus-pulled.result t c.first.ensures.whole k.1 k.2.0 o.asked k.2.1 k.2.2 c.plus-pulled.ensures o.world (o.stale (λ bad. cc)) (o.visits (λ bad. cc))
+    more_taken _ _ _ _ _ _ _ _ _ c.take_records.new.intake k.0 _ c.in-Ok.more c.plus-pulled.result t c.first.ensures.whole k.1 k.2.0 o.asked k.2.1 k.2.2 c.plus-pulled.ensures o.world (o.stale (λ bad. cc)) (o.visits (λ bad. cc))

@@ -6,4 +6,4 @@ pub returns : goal.returns
 returns c =
     let whole = length_body c.args.board.now c.requires.name c.requires.message in
     let stats = rw c.as_slice.ensures at c.stats_len.ensures.result in
-    omega (arith, whole, stats, c.tiles_len.ensures.result)
+    omega (arith, whole, stats, c.runs_len.ensures.result)

@@ -1,7 +1,7 @@
 use Rattle.std.proofs.Common.{◌≡◌, ◌<◌, ◌≤◌, ◌+◌, ◌++◌, ℕ, List, [], ◌∷◌, length, drop, ap, sym, ◌∙◌, length-drop, arith}
 use Rattle.std.proofs.lemmas.List.{take_rest}
 use Rattle.zed_runs.specs.Runs.{greedy}
-use Rattle.zed_runs.proofs.Greedy.{greedy_step, greedy_end, greedy_alone, some_tile}
+use Rattle.zed_runs.proofs.Greedy.{greedy_step, greedy_end, some_tile}
 use Rattle.zed_runs.proofs.writing.runs_len.Goals as goal
 
 pub loop-tile-preserved : goal.loop-tile-preserved
@@ -19,5 +19,4 @@ loop-tile-preserved c =
     }
 
 pub returns-clause-result : goal.returns-clause-result
-returns-clause-result c bytes g =
-    omega (arith, ap length (greedy_end c.loop-tile.rest.now c.in_default.ensures.value), ap length (greedy_alone c.args.tiles.now bytes g), c.loop-tile.invariant.counted)
+returns-clause-result c = omega (arith, ap length (greedy_end c.loop-tile.rest.now c.in_default.ensures.value), c.loop-tile.invariant.counted)
