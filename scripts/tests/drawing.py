@@ -389,12 +389,6 @@ def filled(world):
     world.flags = [b"F" * 20] * 10
 
 
-def long_strings(data):
-    """The lengths of the world's name, a flag, a board's name and its message are greater than their fields."""
-    data = zzt.poked(zzt.poked(data, 29, 21), 50, 255)
-    return zzt.with_body(data, 1, lambda body: zzt.poked(zzt.poked(body, 0, 255), body.index(b":" + b"m" * 58), 59))
-
-
 def lenient():
     """What the reader reads leniently: the world counts, and not how it is spelled."""
     plain = [
@@ -408,7 +402,7 @@ def lenient():
     for what, how in plain:
         draws(f"a cell, with {what}", lambda world: world.boards[1].put(33, 3, (21, 14)), 1, **how)
         draws(f"nothing but {what}", lambda world: None, 0, **how)
-    draws("lengths past their strings", filled, 13, spell=long_strings)
+    draws("lengths past their strings", filled, 13, spell=zzt.long_strings)
     # what is read as another value makes an edit where that one is new
     for path, value, wanted in [
         ("keys.3", 200, 1), ("saved", 255, 1), ("board.1.dark", 2, 1), ("board.1.re_enter", 255, 1), ("board.2.dark", 9, 0),

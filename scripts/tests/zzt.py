@@ -257,3 +257,9 @@ def long_last_run(body):
     while tiles + (body[at] or 256) < 1500:
         tiles, at = tiles + (body[at] or 256), at + 3
     return poked(body, at, 0)
+
+
+def long_strings(data):
+    """The lengths of the world's name, a flag, a board's name and its message are greater than their fields."""
+    data = poked(poked(data, 29, 21), 50, 255)
+    return with_body(data, 1, lambda body: poked(poked(body, 0, 255), body.index(b":" + b"m" * 58), 59))
