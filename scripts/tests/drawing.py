@@ -151,7 +151,8 @@ def programs():
         ("a line in front", b"#cycle 1\r" + old, 1),
         ("a line in the middle", old.replace(b":touch", b"#lock\r:touch"), 1),
         ("a line at the end", old + b":shot\r", 1),
-        ("a line less", old.replace(b"#char 33\r", b""), None),
+        # the line stands between two that begin with the same byte, and was inserted by one edit
+        ("a line less", old.replace(b"#char 33\r", b""), 1),
         ("a byte in a line", old.replace(b"Halt", b"Hault"), 1),
         ("a byte less in a line", old.replace(b"Halt", b"Hat"), 1),
         ("a word for another", old.replace(b"Halt", b"Stop"), 2),
@@ -583,6 +584,12 @@ def two_authors():
         hall(lambda b: change_stat(b, 1, program=b.stats[1].program.replace(b"Halt!", b"Halt, you!"))),
     )
     is_so("two lines", seen.boards[1].stats[1].program, b"@guard\r#lock\r#char 33\r#end\r:touch\rHalt, you!\r#end\r")
+    # a line more, and the one behind it less: whole lines are inserted and deleted, though both begin with the same byte
+    seen = merged(
+        hall(lambda b: change_stat(b, 1, program=b.stats[1].program.replace(b"#end\r:touch", b"#lock\r#end\r:touch"))),
+        hall(lambda b: change_stat(b, 1, program=b.stats[1].program.replace(b"#end\r:touch", b":touch"))),
+    )
+    is_so("a line beside one that goes", seen.boards[1].stats[1].program, b"@guard\r#char 33\r#lock\r:touch\rHalt!\r#end\r")
     seen = merged(lambda world: move_boards(world, [0, 1, 2, 3, -1]), lambda world: move_boards(world, [0, 3, 1, 2]))
     is_so("a new board and another order", sorted(b.name for b in seen.boards), [b"Cave", b"Hall", b"New", b"Title", b"Tower"])
     # the number of the second author, who began from the first one's number: my world over theirs, with what both began with as base

@@ -26,9 +26,9 @@ pub struct MemoryLink {
 }
 
 impl MemoryLink {
-    /// A link that hands over these bytes. A read hands over `piece` of them, or one if that is 0,
-    /// and a write takes at most as many. It fails at the one call after `passing` of them, and
-    /// again after 2^64 - 1 more calls, and so on; or none of its reads ever fails.
+    /// A link that hands over these bytes. A read hands over at most `piece` of them, or one if
+    /// that is 0; a write takes at most `piece`. It fails at the one call after `passing` of them,
+    /// and again after 2^64 - 1 more calls, and so on; or none of its reads ever fails.
     pub fn new(alloc: Global, handed: Vec<u8>, piece: usize, passing: Option<u64>) -> MemoryLink
         ensures ends { ⟦<MemoryLink as Link>⟧.ends result
             ≡ Some (record {
