@@ -324,22 +324,6 @@ def counts(said):
     return (int(words[1]), int(words[3])) if len(words) == 5 and words[0] == "0" and words[2] == "taken," else said
 
 
-def differences(one, other):
-    """Where two worlds differ, in short."""
-    if isinstance(one, str) or isinstance(other, str):
-        return f"{one} {other}"[:200]
-    for name in vars(one):
-        if name != "boards" and getattr(one, name) != getattr(other, name):
-            return f"{name}: {getattr(one, name)} {getattr(other, name)}"
-    if len(one.boards) != len(other.boards):
-        return f"boards: {len(one.boards)} {len(other.boards)}"
-    for number, (b, c) in enumerate(zip(one.boards, other.boards)):
-        for name in vars(b):
-            if getattr(b, name) != getattr(c, name):
-                return f"board {number} {name}: {str(getattr(b, name))[:90]} {str(getattr(c, name))[:90]}"
-    return "nothing"
-
-
 # drawings that put a stat before the twin, which is made anew then and loses the line that others put into its program meanwhile
 MADE_ANEW = ("a stat in front", "stats that changed places")
 # boards are found by their names, so these are drawn anew
@@ -387,7 +371,7 @@ def draws(what, change_it, wanted=None, rubbish=0, longest=255, spell=lambda dat
     is_so(f"{what}: edits of FILE", there, made + 5)
     if wanted is not None:
         is_so(f"{what}: edits made", made, wanted)
-    is_so(f"{what}: the base's world", differences(world_of("mine.zzt.base"), zzt.normal(world)), "nothing")
+    is_so(f"{what}: the base's world", zzt.differences(world_of("mine.zzt.base"), zzt.normal(world)), "nothing")
     if made == 0:
         is_so(f"{what}: nothing is written", (written("mine.zed"), written("mine.zzt.base")), before)
     before = written("mine.zed"), written("mine.zzt.base")
@@ -406,12 +390,6 @@ def filled(world):
     world.flags = [b"F" * 20] * 10
 
 
-def long_strings(data):
-    """The lengths of the world's name, a flag, a board's name and its message are greater than their fields."""
-    data = zzt.poked(zzt.poked(data, 29, 21), 50, 255)
-    return zzt.with_body(data, 1, lambda body: zzt.poked(zzt.poked(body, 0, 255), body.index(b":" + b"m" * 58), 59))
-
-
 def lenient():
     """What the reader reads leniently: the world counts, and not how it is spelled."""
     plain = [
@@ -425,7 +403,7 @@ def lenient():
     for what, how in plain:
         draws(f"a cell, with {what}", lambda world: world.boards[1].put(33, 3, (21, 14)), 1, **how)
         draws(f"nothing but {what}", lambda world: None, 0, **how)
-    draws("lengths past their strings", filled, 13, spell=long_strings)
+    draws("lengths past their strings", filled, 13, spell=zzt.long_strings)
     # what is read as another value makes an edit where that one is new
     for path, value, wanted in [
         ("keys.3", 200, 1), ("saved", 255, 1), ("board.1.dark", 2, 1), ("board.1.re_enter", 255, 1), ("board.2.dark", 9, 0),
@@ -516,14 +494,35 @@ def goes_on():
         draws_on("mine", 1, lambda world: world.boards[1].put(30 + turn, 1, (21, turn)), 1)
         is_so("others", zzted("edit", "mine.zed", 9, "cells", 1, 50, turn, 50, turn, 19, 9), f"0 {3 + 2 * turn} edits")
     drawn = zzt.read(bytes_of("mine.zzt"))
-    is_so("the base's world", differences(world_of("mine.zzt.base"), zzt.normal(drawn)), "nothing")
+    is_so("the base's world", zzt.differences(world_of("mine.zzt.base"), zzt.normal(drawn)), "nothing")
     drawn.boards[1].fill(50, 1, 50, 3, (19, 9))
-    is_so("all of it", differences(world_of("mine.zed"), zzt.normal(drawn)), "nothing")
+    is_so("all of it", zzt.differences(world_of("mine.zed"), zzt.normal(drawn)), "nothing")
+    # each edit is behind all that FILE had
+    stamps = [line.split()[:2] for line in zztool("log", "--since", 4, "mine.zed")[2:].splitlines()]
+    is_so("stamps", stamps, [["4", "1"], ["5", "9"], ["6", "1"], ["7", "9"], ["8", "1"], ["9", "9"]])
     # without a base FILE stands for it, so that what others did is undone; and none is made
     os.remove(at("mine.zzt.base"))
     draws_on("mine", 1, lambda world: world.boards[1].put(40, 1, (21, 9)), 2)
     is_so("no base is made", bytes_of("mine.zzt.base"), None)
-    is_so("FILE shows what was drawn", differences(world_of("mine.zed"), zzt.normal(zzt.read(bytes_of("mine.zzt")))), "nothing")
+    is_so("FILE shows what was drawn", zzt.differences(world_of("mine.zed"), zzt.normal(zzt.read(bytes_of("mine.zzt")))), "nothing")
+
+
+def others_renumber():
+    """Others put a board behind the rest and remove a stat meanwhile: what was drawn is of the same boards and stats, whatever their numbers."""
+    shutil.copy(at("start.zed"), at("mine.zed"))
+    is_so("open", zztool("open", "--force", "mine.zed", "mine.zzt")[:2], "0 ")
+    is_so("a stat less", zzted("edit", "mine.zed", 9, "stat-remove", 1, 1), "0 4 edits")
+    is_so("the hall last", zzted("edit", "mine.zed", 9, "rank", 1, 5), "0 5 edits")
+
+    def redraw(world):
+        world.boards[1].exits[0] = 3
+        change_stat(world.boards[1], 2, p1=77)
+        world.boards[3].put(1, 1, (21, 9))
+
+    draws_on("mine", 1, redraw, 3)
+    _, cave, tower, hall = world_of("mine.zed").boards
+    is_so("the hall's stat and exit", (hall.name, hall.stats[1].p1, hall.exits[0]), (b"Hall", 77, 2))
+    is_so("the tower's cell", (cave.at(1, 1), tower.at(1, 1)), ((21, 8), (21, 9)))
 
 
 def over_dead_bytes():
@@ -549,7 +548,7 @@ def many_boards():
 
     draws_on("mine", 1, redraw, 3)
     draws_on("mine", 1, lambda world: move_boards(world, [*range(100), -1]), 5)
-    is_so("all of it", differences(world_of("mine.zed"), zzt.normal(zzt.read(bytes_of("mine.zzt")))), "nothing")
+    is_so("all of it", zzt.differences(world_of("mine.zed"), zzt.normal(zzt.read(bytes_of("mine.zzt")))), "nothing")
 
 
 def two_authors():
@@ -617,7 +616,7 @@ def undoes():
     seen = world_of("mine.zed")
     is_so("as it was, with what came meanwhile", (seen.boards[1].at(*OTHERS[0]), seen.boards[1].at(1, 25)), ((0, 0), (19, 9)))
     drawn.boards[1].put(1, 25, (19, 9))
-    is_so("all of it", differences(seen, zzt.normal(drawn)), "nothing")
+    is_so("all of it", zzt.differences(seen, zzt.normal(drawn)), "nothing")
 
 
 def all_files():
@@ -778,6 +777,7 @@ def main():
     lenient()
     two_authors()
     goes_on()
+    others_renumber()
     over_dead_bytes()
     many_boards()
     undoes()

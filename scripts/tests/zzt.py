@@ -213,6 +213,22 @@ def normal(world):
     return world
 
 
+def differences(one, other):
+    """Where two worlds differ, in short."""
+    if isinstance(one, str) or isinstance(other, str):
+        return f"{one} {other}"[:200]
+    for name in vars(one):
+        if name != "boards" and getattr(one, name) != getattr(other, name):
+            return f"{name}: {getattr(one, name)} {getattr(other, name)}"
+    if len(one.boards) != len(other.boards):
+        return f"boards: {len(one.boards)} {len(other.boards)}"
+    for number, (b, c) in enumerate(zip(one.boards, other.boards)):
+        for name in vars(b):
+            if getattr(b, name) != getattr(c, name):
+                return f"board {number} {name}: {str(getattr(b, name))[:90]} {str(getattr(c, name))[:90]}"
+    return "nothing"
+
+
 # ---- worlds that are spelled as no editor spells them
 
 
@@ -241,3 +257,9 @@ def long_last_run(body):
     while tiles + (body[at] or 256) < 1500:
         tiles, at = tiles + (body[at] or 256), at + 3
     return poked(body, at, 0)
+
+
+def long_strings(data):
+    """The lengths of the world's name, a flag, a board's name and its message are greater than their fields."""
+    data = poked(poked(data, 29, 21), 50, 255)
+    return with_body(data, 1, lambda body: poked(poked(body, 0, 255), body.index(b":" + b"m" * 58), 59))
