@@ -8,7 +8,7 @@ use Rattle.zed_drawing.specs.declared.error.DrawingError.TheVariants.{Refused}
 use Rattle.zed_files.specs.declared.refusal.Refusal.TheVariants as refusal
 use Rattle.zed_op.specs.declared.cause.Cause.TheVariants as cause
 use Rattle.std.proofs.Common.{◌≡◌, ◌∙◌, ◌==◌, ◌<◌, ◌^◌, ℕ, Bool, true, false, List, [], ◌∷◌, ◌++◌, Option, Some, None, Result, Ok, Err, refl, ap, ap₂, sym, subst, arith, inl, inr, ◌≢◌}
-use Rattle.std.specs.Prelude.{not, Contains, MatchBool}
+use Rattle.std.specs.Prelude.{◌⊎◌, not, Contains, MatchBool}
 use Rattle.std.proofs.lemmas.List.Elements.{Contains-append_left, Contains-append_right}
 use Rattle.std.proofs.lemmas.Bool.{ne_eqb}
 use Rattle.zed_op.specs.Set.{Agrees, set_of, union}
@@ -26,9 +26,8 @@ use Rattle.zed_drawing.specs.Files.{FileEdits, IsOpened, IsWorld, OfFile, OpensA
 use Rattle.zed_drawing.specs.Refusals.{take_refusal}
 use Rattle.zed_drawing.specs.Steps.{Steps, Then}
 use Rattle.zed_drawing.specs.Taking.{ComesToTake, Draws, Gathers, Given, IsJoined, IsTaken, TakesFrom, drawn, given}
-use Rattle.zed_playing.specs.Led.{Led}
-use Rattle.zed_tool_words.specs.Commands.{Take}
-use Rattle.zed_tool.specs.Calm.{EndsCalmly, HasStatus, left_by}
+use Rattle.zed_tool.specs.Answers.{memory}
+use Rattle.zed_tool.specs.Calm.{Ending, HasStatus, Leaves, left_by}
 use Rattle.zed_tool.specs.Taking.{AsksToTake, TakesSet}
 
 -- the text of a list of edits, in either version, reads as that list, to its end
@@ -198,11 +197,17 @@ draws_of law words t name file replica number own based shown x asks comes =
     let is = gathered law words t name file replica number own based shown at.0 asks at.1 in
     draws_set name file replica number (set_of own) (set_of based) shown x (sets_agree own based asks.agree) (then_ok (Draws name file replica) at.0 _ x is at.2)
 
+-- how `take` ends where its host didn't fail, whatever the devices of a playtest are
+abbrev EndsTaking : HostContents → Option (List ℕ) → List ℕ → ℕ → List ℕ → ℕ → Option HostContents → Type 0
+EndsTaking t base file replica world status new =
+    ((ending : Ending) × Leaves (left_by file t) (ComesToTake ⊥ t base file replica world) ending × HasStatus ending t status new)
+    ⊎ HasStatus (Err memory) t status new
+
 -- and `run` ends so
-pub run_takes : WrittenIsRead → (moved : Led) (words : List (List ℕ)) (t : HostContents) (name file : List ℕ) (replica number : ℕ) (own based : List Edit) (shown : Contents) (status : ℕ)
+pub run_takes : WrittenIsRead → (words : List (List ℕ)) (t : HostContents) (name file : List ℕ) (replica number : ℕ) (own based : List Edit) (shown : Contents) (status : ℕ)
     (new : Option HostContents) → (asks : AsksToTake words t name file replica number own based shown)
-    → EndsCalmly t moved (Take asks.base file replica asks.world) status new → TakesSet name file t replica number (set_of own) (set_of based) shown status new
-run_takes law moved words t name file replica number own based shown status new asks ended = elim ended [
+    → EndsTaking t asks.base file replica asks.world status new → TakesSet name file t replica number (set_of own) (set_of based) shown status new
+run_takes law words t name file replica number own based shown status new asks ended = elim ended [
   | inl done ↦ (
       let comes = done.1 in
       taken_set name file t replica number (set_of own) (set_of based) shown comes.0 status new

@@ -33,5 +33,5 @@ returns-clause-accepted g c = λ some.
 
 pub returns-clause-takes_sets : goal.returns-clause-takes_sets
 returns-clause-takes_sets g c = λ t name file replica number own based shown asks at calm.
-    run_takes (written_is_read c.one_reading.ensures.one c.one_reading.ensures.file) _ (map string_bytes c.args.words.now) t name file replica number own based shown c.run_words.result _ asks
+    run_takes (written_is_read c.one_reading.ensures.one c.one_reading.ensures.file) (map string_bytes c.args.words.now) t name file replica number own based shown c.run_words.result _ asks
     (returns-clause-ends_calmly g c t (Take asks.base file replica asks.world) asks.asks at calm)
