@@ -20,7 +20,7 @@ use Rattle.zed_drawing.specs.Effects.{Effect as Drawn, after as drawn_by}
 use Rattle.zed_drawing.specs.Opening.{ComesToOpen}
 use Rattle.zed_drawing.specs.Taking.{ComesToTake}
 use Rattle.zed_tool_words.specs.declared.asked.Strictness.{Strictness}
-use Rattle.zed_tool_words.specs.Commands.{Command, Open, Take, Log, Lists, Show, Lint, Set, ProgramOf, SetProgram}
+use Rattle.zed_tool_words.specs.Commands.{Command, Open, Take, Log, Lists, Show, Play, Lint, Set, ProgramOf, SetProgram}
 use Rattle.zed_tool.specs.Answers.{Failure, Refused, drawing_failure, lint_status, memory, wrong_word}
 use Rattle.zed_tool.specs.Commands.{filter_of, forcing_of, form_of, length_of, listing_of}
 use Rattle.zed_tool.specs.Lines.{line_of}
@@ -58,7 +58,7 @@ abbrev pub ComesToSetting : Type 0 → HostContents → List ℕ → ℕ → Lis
 ComesToSetting failed t file replica words (Ok wish) ending = Leaves (told_left t) (ComesToSet failed t file replica wish) ending
 ComesToSetting failed t file replica words (Err bad) ending = ending ≡ Err (wrong_word words bad)
 
--- what a command comes to: a status with what its host holds then, or the first refusal
+-- what a command that plays no board comes to: a status with what its host holds then, or the first refusal
 abbrev pub ComesTo : Type 0 → HostContents → Command → Ending → Type 0
 ComesTo failed t (Open until forcing file world) ending = Leaves (left_by file t) (ComesToOpen failed t until (forcing_of forcing) file world) ending
 ComesTo failed t (Take base file replica world) ending = Leaves (left_by file t) (ComesToTake failed t base file replica world) ending
@@ -66,6 +66,7 @@ ComesTo failed t (Log length board cell replica since files) ending =
     Leaves (told_left t) (ComesToTell failed t (log_of (length_of length) (filter_of board cell replica since)) files) ending
 ComesTo failed t (Lists listing files) ending = Leaves (told_left t) (ComesToTell failed t (list_of (listing_of listing)) files) ending
 ComesTo failed t (Show form board files) ending = Leaves (told_left t) (ComesToShow failed t (form_of form) board files) ending
+ComesTo failed t (Play rows words keys board files) ending = ⊥
 ComesTo failed t (Lint strictness files) ending = Leaves (lint_left strictness t) (ComesToTell failed t lint_of files) ending
 ComesTo failed t (Set file replica words) ending = ComesToSetting failed t file replica words (wish_of words) ending
 ComesTo failed t (ProgramOf board stat files) ending = Leaves (told_left t) (ComesToTell failed t (printed board stat) files) ending

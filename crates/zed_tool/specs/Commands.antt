@@ -16,8 +16,8 @@ use Rattle.zed_tool_words.specs.declared.asked.Length.{Length as LengthWord}
 use Rattle.zed_tool_words.specs.declared.asked.Length.TheVariants.{Short, Full}
 use Rattle.zed_tool_words.specs.declared.asked.Listing.{Listing as ListingWords}
 use Rattle.zed_tool_words.specs.declared.asked.Listing.TheVariants.{Boards, Stats, Program}
-use Rattle.zed_tool_words.specs.Commands.{Command, Open, Take, Log, Lists, Show, Lint, Set, ProgramOf, SetProgram}
-use Rattle.std.specs.Prelude.{◌≡◌, ℕ, List, [], ◌∷◌, Option, Some, Result, Ok, Err}
+use Rattle.zed_tool_words.specs.Commands.{Command, Open, Take, Log, Lists, Show, Play, Lint, Set, ProgramOf, SetProgram}
+use Rattle.std.specs.Prelude.{◌≡◌, ℕ, List, [], ◌∷◌, Option, Some, Result, Ok, Err, IfOk}
 use Rattle.zed_host.specs.Calls.{Call, Printing}
 use Rattle.zed_host.specs.HostContents.{HostContents}
 use Rattle.zed_files.specs.declared.refusal.Refusal.{Refusal}
@@ -40,6 +40,7 @@ use Rattle.zed_drawing.specs.Effects.{Ends}
 use Rattle.zed_drawing.specs.Opening.{ComesToOpen, OpenReads, OpenWrites}
 use Rattle.zed_drawing.specs.Taking.{ComesToTake, TakeReads, TakeWrites}
 use Rattle.zed_tool.specs.Answers.{Answer, Handed, drawn_as, linted_as, told_as, wrong_word}
+use Rattle.zed_tool.specs.Playing.{EndsPlay, Playtests, rows_of}
 
 -- ---- what words ask for, as the commands take it
 
@@ -90,27 +91,29 @@ AsksSet called file words (Ok wish) answer old new =
     Handed told_as (λ r. AsksFiles called (reading (file ∷ [])) (writing file) (refusal_in r) old new) answer
 AsksSet called file words (Err bad) answer old new = (answer ≡ Err (wrong_word words bad)) × (new ≡ old)
 
--- so a command ends, with this in its host
-abbrev pub EndsCommand : {H : Type 0} → (H → Call → H → Type 0) → Type 0 → Command → H → H → HostContents → Answer → Option HostContents → Type 0
-EndsCommand called failed (Open until forcing file world) old new t answer left =
+-- so a command ends, with this in its host, where its devices lead to such playtests
+abbrev pub EndsCommand : {H : Type 0} → (H → Call → H → Type 0) → Playtests → Type 0 → Command → H → H → HostContents → Answer → Option HostContents → Type 0
+EndsCommand called played failed (Open until forcing file world) old new t answer left =
     Handed (drawn_as file) (λ r. Ends failed (ComesToOpen failed t until (forcing_of forcing) file world)
     (Did called (OpenReads (forcing_of forcing) file world) old new) t r left) answer
-EndsCommand called failed (Take base file replica world) old new t answer left =
+EndsCommand called played failed (Take base file replica world) old new t answer left =
     Handed (drawn_as file) (λ r. Ends failed (ComesToTake failed t base file replica world)
     (Did called (TakeReads (presence_of base) (base_word base world) file world) old new) t r left) answer
-EndsCommand called failed (Log length board cell replica since files) old new t answer left =
+EndsCommand called played failed (Log length board cell replica since files) old new t answer left =
     EndsTold failed (ComesToTell failed t (log_of (length_of length) (filter_of board cell replica since)) files) t answer left
-EndsCommand called failed (Lists listing files) old new t answer left = EndsTold failed (ComesToTell failed t (list_of (listing_of listing)) files) t answer left
-EndsCommand called failed (Show form board files) old new t answer left = EndsTold failed (ComesToShow failed t (form_of form) board files) t answer left
-EndsCommand called failed (Lint strictness files) old new t answer left =
+EndsCommand called played failed (Lists listing files) old new t answer left = EndsTold failed (ComesToTell failed t (list_of (listing_of listing)) files) t answer left
+EndsCommand called played failed (Show form board files) old new t answer left = EndsTold failed (ComesToShow failed t (form_of form) board files) t answer left
+EndsCommand called played failed (Play rows words keys board files) old new t answer left =
+    EndsPlay failed (played failed t words keys (rows_of rows) board files) answer left
+EndsCommand called played failed (Lint strictness files) old new t answer left =
     Handed (linted_as strictness) (λ r. EndsCounted failed (ComesToTell failed t lint_of files) t r left) answer
-EndsCommand called failed (Set file replica words) old new t answer left = EndsSet failed t file replica words (wish_of words) answer left
-EndsCommand called failed (ProgramOf board stat files) old new t answer left = EndsTold failed (ComesToTell failed t (printed board stat) files) t answer left
-EndsCommand called failed (SetProgram file replica board stat text) old new t answer left =
+EndsCommand called played failed (Set file replica words) old new t answer left = EndsSet failed t file replica words (wish_of words) answer left
+EndsCommand called played failed (ProgramOf board stat files) old new t answer left = EndsTold failed (ComesToTell failed t (printed board stat) files) t answer left
+EndsCommand called played failed (SetProgram file replica board stat text) old new t answer left =
     Handed (drawn_as text) (λ r. Ends failed (ComesToSetProgram failed t file replica board stat text)
     (Did called (SetReads file text) old new) t r left) answer
 
--- and this it asks of its host, call by call
+-- and this it asks of its host, call by call; of a playtest only its status is told here
 abbrev pub AsksCommand : {H : Type 0} → (H → Call → H → Type 0) → Command → Answer → H → H → Type 0
 AsksCommand called (Open until forcing file world) answer old new =
     Handed (drawn_as file) (λ r. Asks called (OpenReads (forcing_of forcing) file world) (OpenWrites world) r old new) answer
@@ -119,6 +122,7 @@ AsksCommand called (Take base file replica world) answer old new =
 AsksCommand called (Log length board cell replica since files) answer old new = AsksTold called files answer old new
 AsksCommand called (Lists listing files) answer old new = AsksTold called files answer old new
 AsksCommand called (Show form board files) answer old new = AsksTold called files answer old new
+AsksCommand called (Play rows words keys board files) answer old new = IfOk answer (λ status. status ≡ 0)
 AsksCommand called (Lint strictness files) answer old new =
     Handed (linted_as strictness) (λ r. AsksFiles called (reading files) (Printing ∷ []) (refusal_in r) old new) answer
 AsksCommand called (Set file replica words) answer old new = AsksSet called file words (wish_of words) answer old new

@@ -3,4 +3,5 @@ pub mod Calm
 pub mod Commands
 pub mod Lines
 pub mod Outcome
+pub mod Playing
 pub mod Taking

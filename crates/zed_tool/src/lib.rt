@@ -5,6 +5,7 @@ mod answers;
 mod asked;
 mod error;
 mod lines;
+mod playing;
 mod program;
 
 pub use program::run;

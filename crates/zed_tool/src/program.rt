@@ -1,16 +1,18 @@
 //! The program, over any host.
-ghost use Rattle.std.specs.Prelude.{◌≡◌, ◌≤◌, ◌⊎◌, ℕ, IsSome, List, Some, map, string_bytes};
+ghost use Rattle.std.specs.Prelude.{◌≡◌, ◌≤◌, ◌⊎◌, ℕ, IsSome, List, None, Some, drop, false, map, string_bytes};
 ghost use Rattle.zed_op.specs.declared.op.Edit.{Edit as TheEdit};
 ghost use Rattle.zed_op.specs.Set.{set_of};
 ghost use Rattle.zed_world.specs.Contents.{Contents};
 ghost use Rattle.zed_host.specs.Counting.{NothingFailed, Rose};
 ghost use Rattle.zed_host.specs.HostContents.{HostContents};
+ghost use Rattle.zed_turns.specs.Stage.{stage};
 ghost use Rattle.zed_tool_words.specs.Commands.{AsksHelp, AsksVersion, Command as Asked, command_of, meaning_of};
 ghost use Rattle.zed_tool_words.specs.Version.{version_text};
 ghost use Rattle.zed_tool.specs.Answers.{answer_of, failure_of, memory};
 ghost use Rattle.zed_tool.specs.Calm.{EndsCalmly};
 ghost use Rattle.zed_tool.specs.Commands.{AsksCommand, EndsCommand};
 ghost use Rattle.zed_tool.specs.Lines.{line_of as line_for};
+ghost use Rattle.zed_tool.specs.Playing.{between, is_playtest, plays};
 ghost use Rattle.zed_tool.specs.Taking.{AsksToTake, TakesSet};
 ghost use Rattle.zed_tool.specs.Outcome.{Complained, Prints, Runs, TellsFailures, TellsOf, hosts};
 
@@ -18,6 +20,7 @@ use crate::answers::{drawn, linted, set_told, told};
 use crate::asked::{forcing_of, form_of, length_of, listing_of};
 use crate::error::ToolError;
 use crate::lines::{line_of, plain_line};
+use crate::playing::{playtest, rows_of};
 use std::alloc::Global;
 use zed_drawing::{open, take};
 use zed_editfile::one_reading;
@@ -26,8 +29,10 @@ use zed_host::Host;
 use zed_programs::set_program;
 use zed_set::set;
 use zed_showing::show;
+use zed_staging::Inputs;
 use zed_telling::{Filter, lint, list, log};
 use zed_tool_words::{Command, ParseError, parse, version};
+use zed_turns::{Chance, Console, Terminal};
 
 const MEMORY_LINE: &[u8] = b"zztool: Memory\n";
 
@@ -54,13 +59,26 @@ fn complain_of<H: Host>(alloc: Global, host: &mut H, error: ToolError<'_>)
 }
 
 // Carries a command out, and answers its status.
-fn act<'a, H: Host>(alloc: Global, host: &mut H, command: &Command<'a>) -> Result<u8, ToolError<'a>>
+fn act<'a, H: Host, T: Terminal, I: Inputs, C: Chance>(
+    alloc: Global,
+    host: &mut H,
+    console: &mut Console<T, I, C>,
+    command: &Command<'a>,
+) -> Result<u8, ToolError<'a>>
     ensures ends { (t : HostContents) → H.contents host.old ≡ Some t
-        → EndsCommand H.called (Rose (H.faults host.old) (H.faults host.new))
+        → let before = stage (T.drawn console.old.terminal) (T.draws_foretell console.old.terminal)
+        (I.left console.old.inputs.source) None (C.to_come console.old.chance) in
+        let rest = drop console.new.inputs.taken console.new.inputs.kept.items in
+        let after = stage (T.drawn console.new.terminal) (T.draws_foretell console.new.terminal)
+        (I.left console.new.inputs.source) None (C.to_come console.new.chance) in
+        EndsCommand H.called (between before rest after) (Rose (H.faults host.old) (H.faults host.new))
         (meaning_of command.now) host.old host.new t (answer_of result) (H.contents host.new) }
     ensures asked { AsksCommand H.called (meaning_of command.now) (answer_of result)
         host.old host.new }
     ensures failures { TellsFailures H.faults H.failed (answer_of result) host.old host.new }
+    ensures idle { is_playtest (meaning_of command.now) ≡ false → console.new ≡ console.old }
+    ensures left { T.is_entered console.old.terminal ≡ false
+        → T.is_entered console.new.terminal ≡ false }
 {
     match command {
         Command::Open {
@@ -108,6 +126,22 @@ fn act<'a, H: Host>(alloc: Global, host: &mut H, command: &Command<'a>) -> Resul
             *board,
             files.as_slice(),
         )),
+        Command::Play {
+            rows,
+            words,
+            keys,
+            board,
+            files,
+        } => playtest(
+            alloc,
+            host,
+            console,
+            *words,
+            *keys,
+            rows_of(*rows),
+            *board,
+            files.as_slice(),
+        ),
         Command::Lint { strictness, files } => {
             linted(*strictness, lint(alloc, host, files.as_slice()))
         }
@@ -150,12 +184,26 @@ fn print_text<H: Host>(alloc: Global, host: &mut H, text: &[u8]) -> u8
 }
 
 // What `run` does.
-fn run_words<H: Host>(alloc: Global, words: &[String], host: &mut H) -> u8
-    ensures { Runs (hosts H.contents H.called H.failed H.faults) (map string_bytes words.now)
-        result host.old host.new }
+fn run_words<H: Host, T: Terminal, I: Inputs, C: Chance>(
+    alloc: Global,
+    words: &[String],
+    host: &mut H,
+    console: &mut Console<T, I, C>,
+) -> u8
+    ensures runs { let before = stage (T.drawn console.old.terminal) (T.draws_foretell console.old.terminal)
+        (I.left console.old.inputs.source) None (C.to_come console.old.chance) in
+        let rest = drop console.new.inputs.taken console.new.inputs.kept.items in
+        let after = stage (T.drawn console.new.terminal) (T.draws_foretell console.new.terminal)
+        (I.left console.new.inputs.source) None (C.to_come console.new.chance) in
+        Runs (hosts H.contents H.called H.failed H.faults) (between before rest after)
+        (map string_bytes words.now) result host.old host.new }
+    ensures idle { plays (command_of (map string_bytes words.now)) ≡ false
+        → console.new ≡ console.old }
+    ensures left { T.is_entered console.old.terminal ≡ false
+        → T.is_entered console.new.terminal ≡ false }
 {
     match parse(alloc, words) {
-        Ok(command) => match act(alloc, host, &command) {
+        Ok(command) => match act(alloc, host, console, &command) {
             Ok(status) => status,
             Err(error) => {
                 complain_of(alloc, host, error);
@@ -181,19 +229,37 @@ fn run_words<H: Host>(alloc: Global, words: &[String], host: &mut H) -> u8
 ///
 /// A refusal comes before the first write, but for `File` where the host fails at a write: then the files that were written before are whole,
 /// and the one that it failed at is as that left it.
-pub fn run<H: Host>(alloc: Global, words: &[String], host: &mut H) -> u8
-    // What is left in a host that tells what it holds, what was asked of it, call by call, and that no failure was forgotten.
-    ensures runs { Runs (hosts H.contents H.called H.failed H.faults) (map string_bytes words.now)
-        result host.old host.new }
+pub fn run<H: Host, T: Terminal, I: Inputs, C: Chance>(
+    alloc: Global,
+    words: &[String],
+    host: &mut H,
+    console: &mut Console<T, I, C>,
+) -> u8
+    // What is left in a host that tells what it holds, what was asked of it, call by call, and that no failure was forgotten; and where
+    // the devices of a playtest were led.
+    ensures runs { let before = stage (T.drawn console.old.terminal) (T.draws_foretell console.old.terminal)
+        (I.left console.old.inputs.source) None (C.to_come console.old.chance) in
+        let rest = drop console.new.inputs.taken console.new.inputs.kept.items in
+        let after = stage (T.drawn console.new.terminal) (T.draws_foretell console.new.terminal)
+        (I.left console.new.inputs.source) None (C.to_come console.new.chance) in
+        Runs (hosts H.contents H.called H.failed H.faults) (between before rest after)
+        (map string_bytes words.now) result host.old host.new }
 
-    // Where its `failures()` stay as they were, nothing failed.
-    ensures calm { H.faults host.old ≤ H.failed host.old
+    // The devices are called only where words ask to play, and the terminal is left then.
+    ensures idle { plays (command_of (map string_bytes words.now)) ≡ false
+        → console.new ≡ console.old }
+    ensures left { T.is_entered console.old.terminal ≡ false
+        → T.is_entered console.new.terminal ≡ false }
+
+    // Where the `failures()` of the host stay as they were, nothing failed; of a playtest it isn't told which calls it makes.
+    ensures calm { plays (command_of (map string_bytes words.now)) ≡ false
+        → H.faults host.old ≤ H.failed host.old
         → NothingFailed (H.failed host.old) (H.failed host.new)
         → NothingFailed (H.faults host.old) (H.faults host.new) }
 
     // Where nothing fails.
     ensures ends_calmly { (t : HostContents) (command : Asked)
-        → command_of (map string_bytes words.now) ≡ Some command
+        → command_of (map string_bytes words.now) ≡ Some command → is_playtest command ≡ false
         → H.contents host.old ≡ Some t → NothingFailed (H.faults host.old) (H.faults host.new)
         → EndsCalmly t command result (H.contents host.new) }
 
@@ -218,5 +284,5 @@ pub fn run<H: Host>(alloc: Global, words: &[String], host: &mut H) -> u8
         ⊎ ((result ≡ 1) × Complained all (line_for memory) host.old host.new) }
 {
     one_reading();
-    run_words(alloc, words, host)
+    run_words(alloc, words, host, console)
 }

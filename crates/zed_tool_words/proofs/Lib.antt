@@ -6,6 +6,7 @@ pub mod TakeWords
 pub mod LogWords
 pub mod ListWords
 pub mod ShowWords
+pub mod PlayWords
 pub mod LintWords
 pub mod SetWords
 pub mod ProgramWords

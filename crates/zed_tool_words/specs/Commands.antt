@@ -32,6 +32,7 @@ pub data Command : Type 0 where
   Log : (length : Length) → (board : Option ℕ) → (cell : Option (ℕ × ℕ × ℕ)) → (replica : Option ℕ) → (since : Option ℕ) → (files : List Text) → Command
   Lists : (listing : Listing) → (files : List Text) → Command
   Show : (form : Form) → (board : ℕ) → (files : List Text) → Command
+  Play : (rows : Option ℕ) → (words : Option Text) → (keys : Option Text) → (board : ℕ) → (files : List Text) → Command
   Lint : (strictness : Strictness) → (files : List Text) → Command
   Set : (file : Text) → (replica : ℕ) → (words : List Text) → Command
   ProgramOf : (board : ℕ) → (stat : ℕ) → (files : List Text) → Command
@@ -44,6 +45,8 @@ meaning_of (spoken.Take base file replica world) = Take (option_map (λ s. s.now
 meaning_of (spoken.Log length board cell replica since files) = Log length board cell replica since (map (λ s. s.now) files.items)
 meaning_of (spoken.List listing files) = Lists listing (map (λ s. s.now) files.items)
 meaning_of (spoken.Show form board files) = Show form board (map (λ s. s.now) files.items)
+meaning_of (spoken.Play rows words keys board files) =
+    Play rows (option_map (λ s. s.now) words) (option_map (λ s. s.now) keys) board (map (λ s. s.now) files.items)
 meaning_of (spoken.Lint strictness files) = Lint strictness (map (λ s. s.now) files.items)
 meaning_of (spoken.Set file replica words) = Set file.now replica (map (λ s. s.now) words.items)
 meaning_of (spoken.Program board stat files) = ProgramOf board stat (map (λ s. s.now) files.items)
@@ -151,6 +154,12 @@ abbrev pub show_of : List Row → Option Command
 show_of rows = option_and_then (λ form. option_and_then (λ board. option_map (λ files.
     Show form board files) (all_of (codes "FILES") rows)) (option_number 16 (codes "BOARD") rows)) (form_of rows)
 
+-- for `play`
+abbrev pub play_of : List Row → Option Command
+play_of rows = option_and_then (λ board. option_map (λ files.
+    Play (option_number 16 (codes "rows") rows) (first_of (codes "words") rows) (first_of (codes "keys") rows) board files)
+    (all_of (codes "FILES") rows)) (option_number 16 (codes "BOARD") rows)
+
 -- for `lint`
 abbrev pub lint_of : List Row → Option Command
 lint_of rows = option_map (λ files. Lint (strictness_of rows) files) (all_of (codes "FILES") rows)
@@ -197,9 +206,10 @@ subcommand_asks p =
     else (if bytes_eq p.0 (codes "log") then log_of p.1
     else (if bytes_eq p.0 (codes "list") then list_of p.1
     else (if bytes_eq p.0 (codes "show") then show_of p.1
+    else (if bytes_eq p.0 (codes "play") then play_of p.1
     else (if bytes_eq p.0 (codes "lint") then lint_of p.1
     else (if bytes_eq p.0 (codes "set") then set_of p.1
-    else (if bytes_eq p.0 (codes "program") then program_of p.1 else None)))))))
+    else (if bytes_eq p.0 (codes "program") then program_of p.1 else None))))))))
 
 -- what is asked for where `clap` finds no fault
 abbrev pub unless_refused : Kinds → Option Command → Option Command

@@ -73,6 +73,11 @@ abbrev pub show_shape : Shape
 show_shape = shape_with (codes "show")
     (number_rule (codes "BOARD") ∷ several_rule (codes "FILES") ∷ flag_rule (codes "plain") ∷ flag_rule (codes "svg") ∷ [])
 
+-- `play [--rows ROWS] [--words WORDS] [--keys KEYS] BOARD FILES...`
+abbrev pub play_shape : Shape
+play_shape = shape_with (codes "play")
+    (number_rule (codes "BOARD") ∷ several_rule (codes "FILES") ∷ number_option (codes "rows") ∷ option_rule (codes "words") ∷ option_rule (codes "keys") ∷ [])
+
 -- `lint [--strict] FILES...`
 abbrev pub lint_shape : Shape
 lint_shape = shape_with (codes "lint") (several_rule (codes "FILES") ∷ flag_rule (codes "strict") ∷ [])
@@ -92,4 +97,4 @@ top_app = on_top (λ s. record s { no_binary_name = true; arg_required_else_help
 -- the whole command line
 abbrev pub tool_app : App
 tool_app = fold with_subcommand top_app
-    (open_shape ∷ take_shape ∷ log_shape ∷ list_shape ∷ show_shape ∷ lint_shape ∷ set_shape ∷ program_shape ∷ [])
+    (open_shape ∷ take_shape ∷ log_shape ∷ list_shape ∷ show_shape ∷ play_shape ∷ lint_shape ∷ set_shape ∷ program_shape ∷ [])

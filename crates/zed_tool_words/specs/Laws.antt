@@ -13,7 +13,7 @@ use Rattle.zed_tool_words.specs.declared.asked.Length.TheVariants.{Short, Full}
 use Rattle.zed_tool_words.specs.declared.asked.Listing.TheVariants.{Boards, Stats, Program}
 use Rattle.zed_tool_words.specs.declared.asked.Strictness.{Strictness}
 use Rattle.zed_tool_words.specs.declared.asked.Strictness.TheVariants.{Lenient, Strict}
-use Rattle.zed_tool_words.specs.Commands.{AsksHelp, AsksVersion, Open, Take, Log, Lists, Show, Lint, Set, ProgramOf, SetProgram, command_of, is_decimal, number_within}
+use Rattle.zed_tool_words.specs.Commands.{AsksHelp, AsksVersion, Open, Take, Log, Lists, Show, Play, Lint, Set, ProgramOf, SetProgram, command_of, is_decimal, number_within}
 
 -- the words that force, if it is forced
 abbrev pub force_words : Forcing → List Text
@@ -116,6 +116,38 @@ PlainWordsShow =
     → length (file ∷ files) ≤ 18446744073709551615
     → command_of (codes "show" ∷ form_words form ++ number ∷ file ∷ files) ≡ Some (Show form board (file ∷ files))
 
+-- words in front of the board of `play`, and what it is asked for with them
+abbrev pub Playtests : List Text → Option ℕ → Option Text → Option Text → Type 0
+Playtests front rows words keys =
+    (number file : Text) (files : List Text) (board : ℕ)
+    → number_of 16 number ≡ Some board
+    → list_all is_plain (file ∷ files) ≡ true
+    → length (file ∷ files) ≤ 18446744073709551615
+    → command_of (codes "play" ∷ front ++ number ∷ file ∷ files) ≡ Some (Play rows words keys board (file ∷ files))
+
+-- `play BOARD FILES...` asks to play the board of this number, and to keep nothing of it
+abbrev pub PlainWordsPlay : Type 0
+PlainWordsPlay = Playtests [] None None None
+
+-- with `--rows ROWS` in front at a terminal of so many rows
+abbrev pub PlaysInRows : Type 0
+PlaysInRows = (word : Text) (rows : ℕ) → number_of 16 word ≡ Some rows → Playtests (codes "--rows" ∷ word ∷ []) (Some rows) None None
+
+-- with `--words WORDS` with chance that is kept in a file
+abbrev pub PlaysByWords : Type 0
+PlaysByWords = (words : Text) → is_plain words ≡ true → Playtests (codes "--words" ∷ words ∷ []) None (Some words) None
+
+-- with `--keys KEYS` by keys that are
+abbrev pub PlaysByKeys : Type 0
+PlaysByKeys = (keys : Text) → is_plain keys ≡ true → Playtests (codes "--keys" ∷ keys ∷ []) None None (Some keys)
+
+-- and so with all three
+abbrev pub PlaysKept : Type 0
+PlaysKept =
+    (word words keys : Text) (rows : ℕ)
+    → number_of 16 word ≡ Some rows → is_plain words ≡ true → is_plain keys ≡ true
+    → Playtests (codes "--rows" ∷ word ∷ codes "--words" ∷ words ∷ codes "--keys" ∷ keys ∷ []) (Some rows) (Some words) (Some keys)
+
 -- the words that ask to be strict, if it is asked for
 abbrev pub strict_words : Strictness → List Text
 strict_words Lenient = []
@@ -165,8 +197,9 @@ abbrev pub HelpOfCommands : Type 0
 HelpOfCommands =
     AsksHelp (codes "open" ∷ codes "--help" ∷ []) × AsksHelp (codes "take" ∷ codes "--help" ∷ [])
     × AsksHelp (codes "log" ∷ codes "--help" ∷ []) × AsksHelp (codes "list" ∷ codes "--help" ∷ [])
-    × AsksHelp (codes "show" ∷ codes "--help" ∷ []) × AsksHelp (codes "lint" ∷ codes "--help" ∷ [])
-    × AsksHelp (codes "set" ∷ codes "--help" ∷ []) × AsksHelp (codes "program" ∷ codes "--help" ∷ [])
+    × AsksHelp (codes "show" ∷ codes "--help" ∷ []) × AsksHelp (codes "play" ∷ codes "--help" ∷ [])
+    × AsksHelp (codes "lint" ∷ codes "--help" ∷ []) × AsksHelp (codes "set" ∷ codes "--help" ∷ [])
+    × AsksHelp (codes "program" ∷ codes "--help" ∷ [])
 
 -- `--version` asks for the version
 abbrev pub VersionAsksVersion : Type 0

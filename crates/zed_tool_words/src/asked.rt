@@ -89,6 +89,17 @@ pub enum Command<'a> {
         board: u16,
         files: Vec<&'a str>,
     },
+    /// The board of this number of the world of edit files is to be played at a terminal.
+    Play {
+        /// How many rows the terminal has.
+        rows: Option<u16>,
+        /// The file in which words of chance are kept, and from which they come first.
+        words: Option<&'a str>,
+        /// That of keys.
+        keys: Option<&'a str>,
+        board: u16,
+        files: Vec<&'a str>,
+    },
     /// What is wrong in the world of edit files is to be listed.
     Lint {
         strictness: Strictness,

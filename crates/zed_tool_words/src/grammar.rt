@@ -2,7 +2,7 @@
 ghost use Rattle.std.specs.Prelude.{◌≡◌, codes, false, IfOk};
 ghost use Rattle.clap.specs.Words.{app_of, new_app, rule_of, shape_of, with_rule, with_subcommand};
 ghost use Rattle.clap.specs.declared.builder.command.Command.TheViews.{out-Command};
-ghost use Rattle.zed_tool_words.specs.Grammar.{cell_rule, flag_rule, lint_shape, list_shape, log_shape, number_option, number_rule, open_shape, option_rule, program_shape, required_rule, set_shape, several_rule, show_shape, take_shape, time_option, tool_app, top_app, trailing_rule};
+ghost use Rattle.zed_tool_words.specs.Grammar.{cell_rule, flag_rule, lint_shape, list_shape, log_shape, number_option, number_rule, open_shape, option_rule, play_shape, program_shape, required_rule, set_shape, several_rule, show_shape, take_shape, time_option, tool_app, top_app, trailing_rule};
 
 use crate::release::VERSION;
 use clap::{Arg, ArgAction, Command};
@@ -301,6 +301,54 @@ fn show_command<'a>(alloc: Global) -> Result<Command<'a>, AllocError>
     )
 }
 
+/// `play [--rows ROWS] [--words WORDS] [--keys KEYS] BOARD FILES...`
+fn play_command<'a>(alloc: Global) -> Result<Command<'a>, AllocError>
+    ensures shape { IfOk result (λ c. shape_of c ≡ play_shape) }
+    ensures local { IfOk result (λ c. (out-Command c).has_globals ≡ false) }
+{
+    let command = bare_command(
+        alloc,
+        "play",
+        "Play a board of the world of edit files at a terminal, by keys as they are typed; scripts/playtest sets the terminal up",
+    );
+    let command = with_argument(
+        command,
+        number_word(
+            alloc,
+            "BOARD",
+            "The number of the board, 0 for the title; list tells the numbers",
+        ),
+    )?;
+    let command = with_argument(command, files_argument(alloc))?;
+    let command = with_argument(
+        command,
+        number_argument(
+            alloc,
+            "rows",
+            "ROWS",
+            "The number of rows of the terminal, 27 without it",
+        ),
+    )?;
+    let command = with_argument(
+        command,
+        option_argument(
+            alloc,
+            "words",
+            "WORDS",
+            "A file of chance: what it has comes first, and at the end it has all that was played",
+        ),
+    )?;
+    with_argument(
+        command,
+        option_argument(
+            alloc,
+            "keys",
+            "KEYS",
+            "A file of keys: what it has is played first, and at the end it has all that was played",
+        ),
+    )
+}
+
 /// `lint [--strict] FILES...`
 fn lint_command<'a>(alloc: Global) -> Result<Command<'a>, AllocError>
     ensures shape { IfOk result (λ c. shape_of c ≡ lint_shape) }
@@ -385,7 +433,7 @@ fn top_command<'a>(alloc: Global) -> Result<Command<'a>, AllocError>
 {
     Command::new(alloc, "zztool")
         .about(
-            "Shows, lists and checks the worlds of zzted edit files, sets what is in them, opens them to another editor and takes back what was drawn",
+            "Shows, lists, checks and plays the worlds of zzted edit files, sets what is in them, opens them to another editor and takes back what was drawn",
         )
         .version(VERSION)
         .no_binary_name(true)
@@ -412,6 +460,7 @@ pub(crate) fn tool_command<'a>(alloc: Global) -> Result<Command<'a>, AllocError>
     let program = with_command(program, log_command(alloc)?)?;
     let program = with_command(program, list_command(alloc)?)?;
     let program = with_command(program, show_command(alloc)?)?;
+    let program = with_command(program, play_command(alloc)?)?;
     let program = with_command(program, lint_command(alloc)?)?;
     let program = with_command(program, set_command(alloc)?)?;
     with_command(program, program_command(alloc)?)

@@ -4,7 +4,7 @@ ghost use Rattle.clap.specs.Walk.{all_of, first_of, one_of};
 ghost use Rattle.clap.specs.Words.{FailsBy, fault_of, found_of, rows_of, subcommand_of, subcommand_rows_of};
 ghost use Rattle.zed_tool_words.specs.declared.words.ParseError.TheVariants.{Memory};
 ghost use Rattle.zed_tool_words.specs.Grammar.{tool_app};
-ghost use Rattle.zed_tool_words.specs.Commands.{AsksNothing, command_of, forcing_of, form_of, has_flag as has_that_flag, length_of, lint_of, list_of, log_of, meaning_of, open_of, option_number, program_of, set_of, show_of, strictness_of, subcommand_asks, take_of};
+ghost use Rattle.zed_tool_words.specs.Commands.{AsksNothing, command_of, forcing_of, form_of, has_flag as has_that_flag, length_of, lint_of, list_of, log_of, meaning_of, open_of, option_number, play_of, program_of, set_of, show_of, strictness_of, subcommand_asks, take_of};
 
 use crate::asked::{Command, Forcing, Form, Length, Strictness};
 use crate::grammar::tool_command;
@@ -215,6 +215,29 @@ fn show_in<'a>(alloc: Global, matches: &ArgMatches<'a>) -> Result<Option<Command
     }
 }
 
+fn play_in<'a>(alloc: Global, matches: &ArgMatches<'a>) -> Result<Option<Command<'a>>, AllocError>
+    ensures { IfOk result (λ a.
+        option_map meaning_of a ≡ play_of (rows_of (found_of matches.now))) }
+{
+    let rows = number_in(matches, "rows");
+    let words = word_in(matches, "words");
+    let keys = word_in(matches, "keys");
+    let board = number_in(matches, "BOARD");
+    let files = words_in(matches, "FILES");
+    if let (Some(board), Some(files)) = (board, files) {
+        let files = Vec::from_slice(alloc, files)?;
+        Ok(Some(Command::Play {
+            rows,
+            words,
+            keys,
+            board,
+            files,
+        }))
+    } else {
+        Ok(None)
+    }
+}
+
 fn lint_in<'a>(alloc: Global, matches: &ArgMatches<'a>) -> Result<Option<Command<'a>>, AllocError>
     ensures { IfOk result (λ a.
         option_map meaning_of a ≡ lint_of (rows_of (found_of matches.now))) }
@@ -287,6 +310,8 @@ fn command_named<'a>(
         list_in(alloc, inner)
     } else if name == "show" {
         show_in(alloc, inner)
+    } else if name == "play" {
+        play_in(alloc, inner)
     } else if name == "lint" {
         lint_in(alloc, inner)
     } else if name == "set" {

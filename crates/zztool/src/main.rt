@@ -1,13 +1,18 @@
 //! `zztool`: the program over real files and streams.
 #![tactic(auto)]
 
+mod devices;
+
+use crate::devices::{Display, Keyboard, SystemChance};
 use std::alloc::{AllocError, Global};
 use std::env;
 use std::io::{self, ErrorKind, Write};
 use std::process::ExitCode;
+use zed_staging::Typist;
 use zed_system::SystemHost;
 use zed_tool::run;
 use zed_tool_words::{Command, ParseError, parse};
+use zed_turns::Console;
 
 // The words after the program's name. They are pushed one by one: `collect` goes on after a growth that is refused, with a smaller one.
 fn words_of(rt: &HostRuntime) -> io::Result<Vec<String>> {
@@ -39,6 +44,14 @@ fn writes(host: &mut SystemHost, name: &str) -> io::Result<()> {
     host.writes(name)
 }
 
+// Tells the host that a file is read and then written, if one is named.
+fn holds_if_named(host: &mut SystemHost, name: Option<&str>) -> io::Result<()> {
+    match name {
+        Some(name) => holds(host, name),
+        None => Ok(()),
+    }
+}
+
 // Tells the host which files the command of these words writes, and how. Words that are refused have none; the program tells of them.
 fn prepare(rt: &HostRuntime, words: &[String], host: &mut SystemHost) -> io::Result<()> {
     match parse(rt.alloc(), words) {
@@ -60,6 +73,16 @@ fn prepare(rt: &HostRuntime, words: &[String], host: &mut SystemHost) -> io::Res
                 Some(base) => holds(host, base),
                 None => holds(host, &base_of(rt.alloc(), world)?),
             }
+        }
+        Ok(
+            Command::Play {
+                words: chance,
+                keys,
+                ..
+            },
+        ) => {
+            holds_if_named(host, chance)?;
+            holds_if_named(host, keys)
         }
         Ok(Command::Set { file, .. } | Command::SetProgram { file, .. }) => holds(host, file),
         Ok(
@@ -84,12 +107,14 @@ fn status_of(rt: &HostRuntime, error: &io::Error) -> u8 {
     status
 }
 
-// Carries out what the words ask for, over real files and streams.
+// Carries out what the words ask for, over real files and streams, and a terminal.
 fn carry_out(rt: HostRuntime, words: &[String]) -> io::Result<u8> {
     let alloc = rt.alloc();
     let mut host = SystemHost::new(rt);
     prepare(&rt, words, &mut host)?;
-    Ok(run(alloc, words, &mut host))
+    let typist = Typist::new(Keyboard::new(rt));
+    let mut console = Console::new(alloc, Display::new(rt), typist, SystemChance::new(rt));
+    Ok(run(alloc, words, &mut host, &mut console))
 }
 
 // The status of what the words ask for.

@@ -1,0 +1,4 @@
+pub mod Refusing
+pub mod Opening
+pub mod Boards
+pub mod Program

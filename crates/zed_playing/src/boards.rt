@@ -1,0 +1,134 @@
+//! Boards of documents and of edit files played in place.
+ghost use Rattle.std.specs.Prelude.{[], ◌≡◌, ◌≢◌, ◌⊎◌, Err, IfErr, MatchResult, Ok, Some, false};
+ghost use Rattle.zed_host.specs.Counting.{Counts, Rose};
+ghost use Rattle.zed_host.specs.HostContents.{HostContents};
+ghost use Rattle.zed_files.specs.Asked.{Asks, reading, refusal_in};
+ghost use Rattle.zed_files.specs.Faults.{TellsFailures};
+ghost use Rattle.zed_files.specs.Refusals.{is_key_fault, is_screen_fault};
+ghost use Rattle.zed_files.specs.Texts.{texts_of};
+ghost use Rattle.zed_playing.specs.Boards.{IsPerformed, PerformsAny, PlaysFrom};
+ghost use Rattle.zed_turns.specs.Course.{point};
+ghost use Rattle.zed_playing.specs.Opening.{opened};
+ghost use Rattle.zed_turns.specs.Stage.{stage};
+
+use crate::opening::opened;
+use crate::refusing::turn_refusal;
+use std::alloc::Global;
+use zed_document::Document;
+use zed_files::{Refusal, load};
+use zed_host::Host;
+use zed_play::Play;
+use zed_staging::Inputs;
+use zed_turns::{Chance, Tape, Terminal, play_from};
+
+/// Plays a playtest from its beginning.
+fn play_whole<T: Terminal, I: Inputs, C: Chance>(
+    alloc: Global,
+    play: Play,
+    words: Vec<u16>,
+    rows: usize,
+    terminal: &mut T,
+    inputs: &mut I,
+    chance: &mut C,
+) -> Result<Tape, Refusal>
+    ensures performs { let before = stage (T.drawn terminal.old) (T.draws_foretell terminal.old)
+        (I.left inputs.old) (I.inputs_foretell inputs.old) (C.to_come chance.old) in
+        let after = stage (T.drawn terminal.new) (T.draws_foretell terminal.new)
+        (I.left inputs.new) (I.inputs_foretell inputs.new) (C.to_come chance.new) in
+        MatchResult result
+        (λ tape. PlaysFrom rows play words.items before after (Ok (point tape)))
+        (λ e. PlaysFrom rows play words.items before after (Err e)) }
+    ensures key_faults { Counts (is_key_fault result)
+        (I.input_failures inputs.old) (I.input_failures inputs.new) }
+    ensures screen_faults { Counts (is_screen_fault result)
+        (T.draw_failures terminal.old) (T.draw_failures terminal.new) }
+    ensures other { IfErr result (λ e. e ≢ Refusal.File) }
+{
+    match play_from(alloc, play, words, rows, terminal, inputs, chance) {
+        Ok(tape) => Ok(tape),
+        Err(error) => Err(turn_refusal(error)),
+    }
+}
+
+/// Plays a board of a document's world.
+pub(crate) fn play_board<T: Terminal, I: Inputs, C: Chance>(
+    alloc: Global,
+    document: &Document,
+    board: usize,
+    words: Vec<u16>,
+    rows: usize,
+    terminal: &mut T,
+    inputs: &mut I,
+    chance: &mut C,
+) -> Result<Tape, Refusal>
+    requires sound { document.now.is_stale ≡ false }
+    ensures performs { let before = stage (T.drawn terminal.old) (T.draws_foretell terminal.old)
+        (I.left inputs.old) (I.inputs_foretell inputs.old) (C.to_come chance.old) in
+        let after = stage (T.drawn terminal.new) (T.draws_foretell terminal.new)
+        (I.left inputs.new) (I.inputs_foretell inputs.new) (C.to_come chance.new) in
+        MatchResult result
+        (λ tape. PerformsAny rows (opened board document.now.edits) words.items before after
+        (Ok (point tape)))
+        (λ e. ((e ≡ Refusal.Memory) × (after ≡ before))
+        ⊎ PerformsAny rows (opened board document.now.edits) words.items before after (Err e)) }
+    ensures key_faults { Counts (is_key_fault result)
+        (I.input_failures inputs.old) (I.input_failures inputs.new) }
+    ensures screen_faults { Counts (is_screen_fault result)
+        (T.draw_failures terminal.old) (T.draw_failures terminal.new) }
+    ensures other { IfErr result (λ e. e ≢ Refusal.File) }
+{
+    let play = opened(alloc, document, board)?;
+    play_whole(alloc, play, words, rows, terminal, inputs, chance)
+}
+
+/// Plays a board of the world of edit files in place: draws it on a terminal of so many rows, and
+/// then plays turn by turn, with words of chance that came already before those of a source, and
+/// draws each, to the end of the playtest or of what is typed. Bodies of a board may have 32,767
+/// bytes.
+///
+/// # Errors
+/// The first of these: a file that can't be read, a clash or a fault of the files; what the world
+/// can't be exported for; NoBoard where it has no board of this number; ScreenFault, KeyFault,
+/// NoWords and TooManyTurns of the playtest. And Memory.
+pub fn perform<H: Host, T: Terminal, I: Inputs, C: Chance>(
+    alloc: Global,
+    host: &mut H,
+    board: u16,
+    words: Vec<u16>,
+    files: &[&str],
+    rows: usize,
+    terminal: &mut T,
+    inputs: &mut I,
+    chance: &mut C,
+) -> Result<Tape, Refusal>
+    ensures performed { (t : HostContents) → H.contents host.old ≡ Some t
+        → let failed = Rose (H.faults host.old) (H.faults host.new) in
+        let before = stage (T.drawn terminal.old) (T.draws_foretell terminal.old)
+        (I.left inputs.old) (I.inputs_foretell inputs.old) (C.to_come chance.old) in
+        let after = stage (T.drawn terminal.new) (T.draws_foretell terminal.new)
+        (I.left inputs.new) (I.inputs_foretell inputs.new) (C.to_come chance.new) in
+        MatchResult result
+        (λ tape. IsPerformed failed t board rows words.items (texts_of files.now) before after
+        (Ok (point tape)))
+        (λ e. ((e ≡ Refusal.Memory) × (after ≡ before))
+        ⊎ IsPerformed failed t board rows words.items (texts_of files.now) before after (Err e)) }
+    ensures kept { H.contents host.new ≡ H.contents host.old }
+    ensures key_faults { Counts (is_key_fault result)
+        (I.input_failures inputs.old) (I.input_failures inputs.new) }
+    ensures screen_faults { Counts (is_screen_fault result)
+        (T.draw_failures terminal.old) (T.draw_failures terminal.new) }
+    ensures asked { Asks H.called (reading (texts_of files.now)) [] (refusal_in result) host.old host.new }
+    ensures failures { TellsFailures H.faults H.failed result host.old host.new }
+{
+    let document = load(alloc, host, files)?;
+    play_board(
+        alloc,
+        &document,
+        usize::from(board),
+        words,
+        rows,
+        terminal,
+        inputs,
+        chance,
+    )
+}

@@ -1,0 +1,153 @@
+//! Playtests kept in files, and read from them.
+ghost use Rattle.std.specs.Prelude.{◌≡◌, ◌⊎◌, ◌++◌, IfErr, IfOk, OnOk, Some};
+ghost use Rattle.zed_host.specs.Counting.{Rose};
+ghost use Rattle.zed_host.specs.HostContents.{HostContents, file_in};
+ghost use Rattle.zed_files.specs.Faults.{TellsFailures};
+ghost use Rattle.zed_files.specs.Texts.{text_in};
+ghost use Rattle.zed_turns.specs.Course.{point};
+ghost use Rattle.zed_playing.specs.Program.{bytes_or_none, kept_in, with_kept, with_record};
+ghost use Rattle.zed_turns.specs.Record.{keys_in, letters_of, spelled_all, words_in};
+
+use std::alloc::{AllocError, Global};
+use zed_files::Refusal;
+use zed_host::{Host, ReadError};
+use zed_play::Key;
+use zed_turns::{Tape, keys_in, put_letters, put_words, words_in};
+
+/// The bytes of the file of a name, or none where there is no such file.
+fn bytes_of<H: Host>(alloc: Global, host: &mut H, name: &str) -> Result<Vec<u8>, Refusal>
+    ensures bytes { (t : HostContents) → H.contents host.old ≡ Some t
+        → IfOk result (λ bytes. bytes.items ≡ bytes_or_none (file_in t name.now)) }
+    ensures kept { H.contents host.new ≡ H.contents host.old }
+    ensures err { IfErr result (λ e. (e ≡ Refusal.Memory)
+        ⊎ ((e ≡ Refusal.File) × Rose (H.faults host.old) (H.faults host.new))) }
+    ensures failures { TellsFailures H.faults H.failed result host.old host.new }
+{
+    match host.read(name) {
+        Ok(bytes) => Ok(bytes),
+        Err(ReadError::NoFile) => Ok(Vec::new(alloc)),
+        Err(ReadError::Memory) => Err(Refusal::Memory),
+        Err(ReadError::File) => Err(Refusal::File),
+    }
+}
+
+/// What is kept in the file of a name, if one is named and there is one.
+fn kept_in<H: Host>(alloc: Global, host: &mut H, name: Option<&str>) -> Result<Vec<u8>, Refusal>
+    ensures bytes { (t : HostContents) → H.contents host.old ≡ Some t
+        → IfOk result (λ bytes. bytes.items ≡ kept_in t (text_in name.entry)) }
+    ensures kept { H.contents host.new ≡ H.contents host.old }
+    ensures err { IfErr result (λ e. (e ≡ Refusal.Memory)
+        ⊎ ((e ≡ Refusal.File) × Rose (H.faults host.old) (H.faults host.new))) }
+    ensures failures { TellsFailures H.faults H.failed result host.old host.new }
+{
+    match name {
+        Some(name) => bytes_of(alloc, host, name),
+        None => Ok(Vec::new(alloc)),
+    }
+}
+
+/// Keeps bytes in the file of a name, if one is named.
+fn keep<H: Host>(host: &mut H, name: Option<&str>, bytes: &[u8]) -> Result<(), Refusal>
+    ensures ok { (t : HostContents) → H.contents host.old ≡ Some t → OnOk result
+        (H.contents host.new ≡ Some (with_kept (text_in name.entry) bytes.now t)) }
+    ensures err { IfErr result (λ e. (e ≡ Refusal.File)
+        × Rose (H.faults host.old) (H.faults host.new)) }
+    ensures failures { TellsFailures H.faults H.failed result host.old host.new }
+{
+    if let Some(name) = name {
+        host.write(name, bytes)?;
+    }
+    Ok(())
+}
+
+/// The file of keys that were played, and of others behind them.
+fn letters_in(alloc: Global, keys: &[Key], rest: &[Key]) -> Result<Vec<u8>, AllocError>
+    ensures { IfOk result (λ bytes. bytes.items ≡ letters_of keys.now ++ letters_of rest.now) }
+{
+    let mut bytes = Vec::new(alloc);
+    put_letters(&mut bytes, keys)?;
+    put_letters(&mut bytes, rest)?;
+    Ok(bytes)
+}
+
+/// What was kept of a playtest: its words of chance, and its keys.
+#[derive(Drop)]
+pub(crate) struct Kept {
+    pub words: Vec<u16>,
+    pub keys: Vec<Key>,
+}
+
+/// What is kept in the files of two names, as far as there are such.
+pub(crate) fn read_kept<H: Host>(
+    alloc: Global,
+    host: &mut H,
+    words: Option<&str>,
+    keys: Option<&str>,
+) -> Result<Kept, Refusal>
+    ensures read { (t : HostContents) → H.contents host.old ≡ Some t
+        → IfOk result (λ kept. (kept.words.items ≡ words_in (kept_in t (text_in words.entry)))
+        × (kept.keys.items ≡ keys_in (kept_in t (text_in keys.entry)))) }
+    ensures kept { H.contents host.new ≡ H.contents host.old }
+    ensures err { IfErr result (λ e. (e ≡ Refusal.Memory) ⊎ (e ≡ Refusal.File)) }
+    ensures failures { TellsFailures H.faults H.failed result host.old host.new }
+{
+    let word_bytes = kept_in(alloc, host, words)?;
+    let key_bytes = kept_in(alloc, host, keys)?;
+    let words = words_in(alloc, word_bytes.as_slice())?;
+    let keys = keys_in(alloc, key_bytes.as_slice())?;
+    Ok(Kept { words, keys })
+}
+
+/// The file of words that came.
+fn word_bytes_of(alloc: Global, words: &[u16]) -> Result<Vec<u8>, AllocError>
+    ensures { IfOk result (λ bytes. bytes.items ≡ spelled_all words.now) }
+{
+    let mut bytes = Vec::new(alloc);
+    put_words(&mut bytes, words)?;
+    Ok(bytes)
+}
+
+/// Keeps bytes in the files of two names, the one behind the other.
+fn keep_both<H: Host>(
+    host: &mut H,
+    words: Option<&str>,
+    keys: Option<&str>,
+    word_bytes: &[u8],
+    key_bytes: &[u8],
+) -> Result<(), Refusal>
+    ensures ok { (t : HostContents) → H.contents host.old ≡ Some t → OnOk result
+        (H.contents host.new ≡ Some (with_kept (text_in keys.entry) key_bytes.now
+        (with_kept (text_in words.entry) word_bytes.now t))) }
+    ensures err { IfErr result (λ e. e ≡ Refusal.File) }
+    ensures failures { TellsFailures H.faults H.failed result host.old host.new }
+{
+    keep(host, words, word_bytes)?;
+    keep(host, keys, key_bytes)
+}
+
+/// Keeps a playtest in the files of two names, with keys behind those that were played.
+pub(crate) fn keep_all<H: Host>(
+    alloc: Global,
+    host: &mut H,
+    words: Option<&str>,
+    keys: Option<&str>,
+    tape: &Tape,
+    rest: &[Key],
+) -> Result<(), Refusal>
+    ensures ok { (t : HostContents) → H.contents host.old ≡ Some t → OnOk result
+        (H.contents host.new ≡ Some (with_record
+        (text_in words.entry) (text_in keys.entry) (point tape.now) rest.now t)) }
+    ensures err { IfErr result (λ e.
+        ((e ≡ Refusal.Memory) × (H.contents host.new ≡ H.contents host.old)) ⊎ (e ≡ Refusal.File)) }
+    ensures failures { TellsFailures H.faults H.failed result host.old host.new }
+{
+    let word_bytes = word_bytes_of(alloc, tape.words.as_slice())?;
+    let key_bytes = letters_in(alloc, tape.keys.as_slice(), rest)?;
+    keep_both(
+        host,
+        words,
+        keys,
+        word_bytes.as_slice(),
+        key_bytes.as_slice(),
+    )
+}

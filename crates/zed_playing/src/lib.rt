@@ -1,0 +1,12 @@
+//! The command that plays a board of the world of edit files in place, and keeps the playtest, so that it
+//! can be played again.
+#![tactic(auto)]
+
+mod boards;
+mod keeping;
+mod opening;
+mod program;
+mod refusing;
+
+pub use boards::perform;
+pub use program::play;

@@ -1,0 +1,3 @@
+mod Keys
+mod Rows
+mod Sizes

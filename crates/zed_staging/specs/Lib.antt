@@ -1,0 +1,4 @@
+pub mod Devices
+pub mod Laws
+pub mod Staged
+pub mod Typing

@@ -1,0 +1,14 @@
+//! A playtest in place at a terminal: what its bytes come to, and what it is told of a playtest.
+#![tactic(auto)]
+
+mod input;
+mod laws;
+mod stage;
+mod typing;
+mod typist;
+
+pub use input::{DeviceFailed, Input, Inputs};
+pub use laws::{arrows_are_keys, letters_are_keys, sizes_are_told};
+pub use stage::staged;
+pub use typing::{Reading, Stroke, typed};
+pub use typist::{Bytes, Typist};

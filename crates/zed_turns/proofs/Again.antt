@@ -1,0 +1,67 @@
+-- What was played is played again by the keys and words that were kept.
+use Rattle.std.proofs.Common.{◌≡◌, ◌∙◌, ◌+◌, ◌-◌, ◌++◌, ℕ, zero, suc, List, [], ◌∷◌, Option, Some, Ok, ap, append-nil, append_assoc, arith, drop, length, length-append, refl, subst, sym}
+use Rattle.std.proofs.Math.Seq.{drop-append_seam}
+use Rattle.zed_play.proofs.Front.{front_step}
+use Rattle.zed_play.specs.declared.key.Key.{Key}
+use Rattle.zed_play.specs.Playtest.{Playtest}
+use Rattle.zed_play.specs.Step.{Step, Steps}
+use Rattle.zed_staging.specs.declared.input.Input.{Input}
+use Rattle.zed_staging.specs.declared.input.Input.TheVariants.{Pressed, Resized}
+use Rattle.zed_turns.specs.Again.{Comes, PlaysAgain}
+use Rattle.zed_turns.specs.Course.{Answers, Course, Plays, Point}
+
+-- a step isn't changed by words behind those that it had, and leaves them too
+steps_more : (used : ℕ) (key : Key) (p q : Playtest) (words more : List ℕ) → Steps (Ok used) key p words q
+    → Steps (Ok used) key p (words ++ more) q × (drop used (words ++ more) ≡ drop used words ++ more)
+steps_more used key p q words more (going, (left, (step, is))) =
+    let front = front_step key p q words left step in
+    let taken = front.0 in
+    let all : words ≡ taken ++ left = front.1.0 in
+    let whole : words ++ more ≡ taken ++ (left ++ more) = ap (λ l. l ++ more) all ∙ append_assoc taken left more in
+    let again : Step key p (words ++ more) (Some (q, left ++ more)) = subst (λ l. Step key p l (Some (q, left ++ more))) (sym whole) (front.1.1 (left ++ more)) in
+    let size : length words ≡ length taken + length left = ap length all ∙ length-append taken left in
+    let count : used ≡ length taken = omega (arith, is, size) in
+    let longer : length (words ++ more) ≡ length taken + length (left ++ more) = ap length whole ∙ length-append taken (left ++ more) in
+    let same : used ≡ length (words ++ more) - length (left ++ more) = omega (arith, count, longer) in
+    let behind : drop used (words ++ more) ≡ left ++ more = ap (λ n. drop n (words ++ more)) count ∙ ap (drop (length taken)) whole ∙ drop-append_seam taken (left ++ more) in
+    let before : drop used words ≡ left = ap (λ n. drop n words) count ∙ ap (drop (length taken)) all ∙ drop-append_seam taken left in
+    ((going, (left ++ more, (again, same))), behind ∙ ap (λ l. l ++ more) (sym before))
+
+-- a course that starts with these words left, and has others come later
+comes_on : (used : ℕ) (key : Key) (p next q : Playtest) (keys : List Key) (left came more rest behind : List ℕ)
+    → Steps (Ok used) key p (left ++ came) next → behind ≡ drop used (left ++ came) → Comes next keys (behind ++ more) q rest
+    → Comes p (key ∷ keys) (left ++ (came ++ more)) q rest
+comes_on used key p next q keys left came more rest behind step is later =
+    let on = steps_more used key p next (left ++ came) more step in
+    let same : (left ++ came) ++ more ≡ left ++ (came ++ more) = append_assoc left came more in
+    let now : Comes p (key ∷ keys) ((left ++ came) ++ more) q rest =
+    (next, used, on.0, subst (λ l. Comes next keys l q rest) (ap (λ l. l ++ more) is ∙ sym on.1) later) in
+    subst (λ l. Comes p (key ∷ keys) l q rest) same now
+
+-- keys and words that come from one place to another
+abbrev pub Kept : Point → Point → Type 0
+Kept a b =
+    (keys : List Key) × (came : List ℕ) × (b.keys ≡ a.keys ++ keys) × (b.words ≡ a.words ++ came)
+    × Comes a.play keys (a.left ++ came) b.play b.left
+
+-- what is answered in front of others
+kept_on : (input : Input) (a next b : Point) (chance chance_then : Option (List ℕ)) → Answers input a chance next chance_then → Kept next b → Kept a b
+kept_on (Pressed key) a next b chance chance_then (supplied, (kept, same)) (keys, (more, (put, (words, comes)))) =
+    let came = supplied.0 in
+    let makes = supplied.3 in
+    let all_keys : b.keys ≡ a.keys ++ (key ∷ keys) = put ∙ ap (λ l. l ++ keys) kept ∙ append_assoc a.keys (key ∷ []) keys in
+    let all_words : b.words ≡ a.words ++ (came ++ more) = words ∙ ap (λ l. l ++ more) makes.3 ∙ append_assoc a.words came more in
+    (key ∷ keys, came ++ more, all_keys, all_words, comes_on makes.0 key a.play next.play b.play keys a.left came more b.left next.left makes.1 makes.2 comes)
+kept_on (Resized rows) a next b chance chance_then (same, still) kept = subst (λ p. Kept p b) same kept
+
+pub plays_again : PlaysAgain
+plays_again zero c d is =
+    let at : d.at ≡ c.at = ap (λ (x : Course). x.at) is in (
+      [],
+      [],
+      ap (λ (a : Point). a.keys) at ∙ sym (append-nil c.at.keys),
+      ap (λ (a : Point). a.words) at ∙ sym (append-nil c.at.words),
+      (ap (λ (a : Point). a.play) at, ap (λ (a : Point). a.left) at ∙ sym (append-nil c.at.left)),
+    )
+plays_again (suc n) c d (next, going, (input, takes, answers, draws), on) =
+    kept_on input c.at next.at d.at c.stage.chance next.stage.chance answers (plays_again n next d on)

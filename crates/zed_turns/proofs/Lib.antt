@@ -1,0 +1,7 @@
+pub mod Again
+mod Coming
+mod Messages
+mod Queued
+mod ReadBack
+mod Supply
+mod Turning

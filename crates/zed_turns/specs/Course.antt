@@ -1,0 +1,121 @@
+-- How a playtest goes on, turn by turn.
+use Rattle.std.specs.Prelude.{◌≡◌, ◌⊎◌, ◌≤◌, ◌<◌, ℕ, zero, suc, Bool, true, false, List, [], ◌∷◌, ◌++◌, drop, Option, Some, None, is_some, Result, Ok, Err, ⊤}
+use Rattle.zed_play.specs.declared.error.PlayError.TheVariants as step
+use Rattle.zed_play.specs.declared.key.Key.{Key}
+use Rattle.zed_play.specs.Playtest.{Playtest}
+use Rattle.zed_play.specs.Step.{Steps}
+use Rattle.zed_staging.specs.declared.input.Input.{Input}
+use Rattle.zed_staging.specs.declared.input.Input.TheVariants.{Pressed, Resized}
+use Rattle.zed_staging.specs.Staged.{stage_text}
+use Rattle.zed_turns.specs.declared.error.TurnError.{TurnError}
+use Rattle.zed_turns.specs.declared.error.TurnError.TheVariants.{KeyFault, Memory, NoWords, ScreenFault, TooManyTurns}
+use Rattle.zed_turns.specs.declared.tape.Tape.{Tape}
+use Rattle.zed_turns.specs.Devices.{Brings}
+use Rattle.zed_turns.specs.Stage.{Draws, DrawsNothing, LacksKey, Stage, TakesInput}
+
+-- where a playtest has come to: by which keys, with which words of chance that came, and which of them are left; and how many rows its terminal has
+pub record Point : Type 0 where
+  pub play : Playtest
+  pub keys : List Key
+  pub words : List ℕ
+  pub left : List ℕ
+  pub rows : ℕ
+
+-- where a tape is at
+abbrev pub point : Tape → Point
+point t = record { play = t.play; keys = t.keys.items; words = t.words.items; left = drop t.used t.words.items; rows = t.rows }
+
+-- the same, and what the devices tell then
+pub record Course : Type 0 where
+  pub at : Point
+  pub stage : Stage
+
+abbrev pub course : Point → Stage → Course
+course at stage = record { at = at; stage = stage }
+
+-- the words that are left are too few for a step by a key
+abbrev pub LacksWords : Key → Playtest → List ℕ → Type 0
+LacksWords key p words = Steps (Err step.NoWords) key p words p
+
+-- words came for the step by a key: those that were left, and those that came before the last of them, were too few
+abbrev pub IsBehind : Key → Point → List ℕ → Type 0
+IsBehind key a came = (before : List ℕ) × (last : List ℕ) × (came ≡ before ++ last) × LacksWords key a.play (a.left ++ before)
+
+-- they are needed, if any came
+abbrev pub IsNeeded : Key → Point → List ℕ → Type 0
+IsNeeded key a came = (came ≡ []) ⊎ IsBehind key a came
+
+-- a step is made by a key, with the words that were left and those that came for it
+abbrev pub Makes : Key → List ℕ → Point → Point → Type 0
+Makes key came a b =
+    (used : ℕ) × Steps (Ok used) key a.play (a.left ++ came) b.play × (b.left ≡ drop used (a.left ++ came)) × (b.words ≡ a.words ++ came)
+
+-- the same, with the words from a source of chance that are needed
+abbrev pub IsSupplied : Key → Point → Option (List ℕ) → Point → Option (List ℕ) → Type 0
+IsSupplied key a chance b chance_then =
+    (came : List ℕ) × Brings came chance chance_then × IsNeeded key a came × Makes key came a b
+
+-- the source never has enough for the step by a key, or fails: nothing is played
+abbrev pub LacksSupply : Key → Point → Option (List ℕ) → Point → Option (List ℕ) → Type 0
+LacksSupply key a chance b chance_then =
+    (came : List ℕ) × Brings came chance chance_then × IsBehind key a came × (b.play ≡ a.play) × (b.keys ≡ a.keys)
+
+-- a key is played, and kept
+abbrev pub PlaysKey : Key → Point → Option (List ℕ) → Point → Option (List ℕ) → Type 0
+PlaysKey key a chance b chance_then = IsSupplied key a chance b chance_then × (b.keys ≡ a.keys ++ key ∷ []) × (b.rows ≡ a.rows)
+
+-- what is done is answered: a key is played, and a size is taken over
+abbrev pub Answers : Input → Point → Option (List ℕ) → Point → Option (List ℕ) → Type 0
+Answers (Pressed key) a chance b chance_then = PlaysKey key a chance b chance_then
+Answers (Resized rows) a chance b chance_then = (b ≡ record a { rows = rows }) × (chance_then ≡ chance)
+
+-- it isn't for want of chance: a key
+abbrev pub LacksInput : Input → Point → Option (List ℕ) → Point → Option (List ℕ) → Type 0
+LacksInput (Pressed key) a chance b chance_then = LacksSupply key a chance b chance_then
+LacksInput (Resized rows) a chance b chance_then = ⊥
+
+-- the next of what is typed is answered, and what comes of it is drawn, or the terminal fails
+abbrev pub Advances : Bool → Course → Course → Type 0
+Advances failing c d =
+    (input : Input)
+    × TakesInput (Some input) c.stage d.stage × Answers input c.at c.stage.chance d.at d.stage.chance
+    × Draws failing (stage_text d.at.rows d.at.play) c.stage.drawn c.stage.terminal d.stage.drawn d.stage.terminal
+
+-- the next key isn't played for want of words, and nothing is drawn
+abbrev pub LacksChance : Course → Course → Type 0
+LacksChance c d =
+    (input : Input)
+    × TakesInput (Some input) c.stage d.stage × LacksInput input c.at c.stage.chance d.at d.stage.chance × DrawsNothing c.stage d.stage
+
+-- a turn: a key is played, or a size taken over, and drawn; or nothing is left; or why not
+abbrev pub Turns : Result Bool TurnError → Course → Course → Type 0
+Turns (Ok true) c d = Advances false c d
+Turns (Ok false) c d =
+    TakesInput None c.stage d.stage × (d.stage.chance ≡ c.stage.chance) × DrawsNothing c.stage d.stage × (d.at ≡ c.at)
+Turns (Err KeyFault) c d =
+    LacksKey c.stage d.stage × (d.stage.chance ≡ c.stage.chance) × DrawsNothing c.stage d.stage × (d.at ≡ c.at)
+Turns (Err NoWords) c d = LacksChance c d
+Turns (Err ScreenFault) c d = Advances true c d
+Turns (Err Memory) c d = DrawsNothing c.stage d.stage
+Turns (Err TooManyTurns) c d = ⊥
+
+-- how many turns there are at most
+abbrev pub most_turns : ℕ
+most_turns = 1048576
+
+-- so many turns are made, and each is drawn
+abbrev pub Plays : ℕ → Course → Course → Type 0
+Plays zero c d = d ≡ c
+Plays (suc n) c d = (next : Course) × (c.at.play.ending ≡ None) × Advances false c next × Plays n next d
+
+-- how it ends after so many turns: the playtest is over; nothing is left, or a turn is refused; or no more may be made
+abbrev pub Ends : ℕ → Course → Course → Result ⊤ TurnError → Type 0
+Ends n c last r =
+    ((r ≡ Ok tt) × (is_some c.at.play.ending ≡ true) × (last ≡ c))
+    ⊎ ((r ≡ Ok tt) × (c.at.play.ending ≡ None) × Turns (Ok false) c last)
+    ⊎ ((e : TurnError) × (r ≡ Err e) × (c.at.play.ending ≡ None) × Turns (Err e) c last)
+    ⊎ ((r ≡ Err TooManyTurns) × (n ≡ most_turns) × (last ≡ c))
+
+-- a playtest is played on to its end
+abbrev pub PlaysOn : Course → Course → Result ⊤ TurnError → Type 0
+PlaysOn first last r = (n : ℕ) × (c : Course) × (n ≤ most_turns) × Plays n first c × Ends n c last r

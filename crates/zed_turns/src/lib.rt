@@ -1,0 +1,25 @@
+//! A playtest in place over a terminal, a source of what is typed and one of chance: turn by turn, each
+//! drawn, and so that it can be played again.
+#![tactic(auto)]
+
+mod console;
+mod devices;
+mod error;
+mod laws;
+mod performing;
+mod queue;
+mod record;
+mod report;
+mod tape;
+mod turns;
+
+pub use console::Console;
+pub use devices::{Chance, Terminal};
+pub use error::TurnError;
+pub use laws::{performances_come_again, plays_again, record_is_read_back};
+pub use performing::play_from;
+pub use queue::Queue;
+pub use record::{keys_in, put_letters, put_words, words_in};
+pub use report::report_of;
+pub use tape::Tape;
+pub use turns::play_on;

@@ -1,0 +1,47 @@
+//! A playtest that is drawn, and then played to its end.
+ghost use Rattle.std.specs.Prelude.{◌≡◌, Err, MatchResult, Ok};
+ghost use Rattle.zed_host.specs.Counting.{Counts};
+ghost use Rattle.zed_turns.specs.Course.{point};
+ghost use Rattle.zed_turns.specs.Errors.{is_key_fault, is_screen_fault};
+ghost use Rattle.zed_turns.specs.Performing.{Performs, at_start};
+ghost use Rattle.zed_turns.specs.Stage.{stage};
+
+use crate::devices::{Chance, Terminal};
+use crate::error::TurnError;
+use crate::tape::Tape;
+use crate::turns::{play_on, show};
+use std::alloc::Global;
+use zed_play::Play;
+use zed_staging::Inputs;
+
+/// Draws a playtest before its first step on a terminal of so many rows, and plays it on: with words of
+/// chance that came already before those of the source.
+///
+/// # Errors
+/// ScreenFault where the terminal fails at once, and those of `play_on`.
+pub fn play_from<T: Terminal, I: Inputs, C: Chance>(
+    alloc: Global,
+    play: Play,
+    words: Vec<u16>,
+    rows: usize,
+    terminal: &mut T,
+    inputs: &mut I,
+    chance: &mut C,
+) -> Result<Tape, TurnError>
+    ensures performs { let before = stage (T.drawn terminal.old) (T.draws_foretell terminal.old)
+        (I.left inputs.old) (I.inputs_foretell inputs.old) (C.to_come chance.old) in
+        let after = stage (T.drawn terminal.new) (T.draws_foretell terminal.new)
+        (I.left inputs.new) (I.inputs_foretell inputs.new) (C.to_come chance.new) in
+        MatchResult result
+        (λ tape. Performs (at_start rows play words.items) before after (Ok (point tape)))
+        (λ e. Performs (at_start rows play words.items) before after (Err e)) }
+    ensures key_faults { Counts (is_key_fault result)
+        (I.input_failures inputs.old) (I.input_failures inputs.new) }
+    ensures screen_faults { Counts (is_screen_fault result)
+        (T.draw_failures terminal.old) (T.draw_failures terminal.new) }
+{
+    let mut tape = Tape::new(play, words, rows);
+    show(alloc, &tape, terminal)?;
+    play_on(alloc, &mut tape, terminal, inputs, chance)?;
+    Ok(tape)
+}

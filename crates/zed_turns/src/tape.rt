@@ -1,0 +1,176 @@
+//! A playtest with what it came of.
+ghost use Rattle.std.specs.Prelude.{◌≡◌, ◌≢◌, ◌+◌, ◌⊎◌, ◌≤◌, ◌++◌, ◌∷◌, ℕ, [], Err, IfErr, List, None, Ok, OnOk, drop, false, length, true};
+ghost use Rattle.zed_play.specs.Step.{Steps};
+ghost use Rattle.zed_turns.specs.Devices.{Brings};
+ghost use Rattle.zed_turns.specs.Course.{Answers, IsSupplied, LacksInput, LacksSupply, LacksWords, PlaysKey, point};
+
+use crate::devices::Chance;
+use crate::error::TurnError;
+use std::alloc::AllocError;
+use zed_play::{Key, Play, PlayError};
+use zed_staging::{DeviceFailed, Input};
+
+/// A step that lacks words is tried again with more of them, so many times.
+const TRIES: u32 = 4096;
+
+/// A playtest with the keys that were played and the words of chance that came, of which some
+/// aren't used yet.
+#[derive(Drop)]
+pub struct Tape {
+    pub play: Play,
+    pub keys: Vec<Key>,
+    pub words: Vec<u16>,
+    /// How many words were used.
+    pub used: usize,
+    /// How many rows the terminal has.
+    pub rows: usize,
+}
+
+impl Tape {
+    /// A playtest before its first step, with words of chance that came already, on a terminal of so
+    /// many rows. It takes no memory.
+    pub fn new(play: Play, words: Vec<u16>, rows: usize) -> Tape
+        ensures play { result.play ≡ play }
+        ensures keys { result.keys.items ≡ [] }
+        ensures words { result.words ≡ words }
+        ensures used { result.used ≡ 0 }
+        ensures rows { result.rows ≡ rows }
+    {
+        let keys = Vec::new(*words.allocator());
+        Tape {
+            play,
+            keys,
+            words,
+            used: 0,
+            rows,
+        }
+    }
+
+    /// Makes a step by a key where the words that are left are enough; whether they are.
+    fn attempt(&mut self, key: Key) -> Result<bool, TurnError>
+        requires within { self.old.used ≤ length self.old.words.items }
+        requires going { self.old.play.ending ≡ None }
+        ensures made { result ≡ Ok true → (used : ℕ)
+            × Steps (Ok used) key self.old.play (drop self.old.used self.old.words.items) self.new.play
+            × (self.new.used ≡ self.old.used + used) }
+        ensures lacking { result ≡ Ok false
+            → LacksWords key self.old.play (drop self.old.used self.old.words.items)
+            × (self.new.play ≡ self.old.play) × (self.new.used ≡ self.old.used) }
+        ensures err { IfErr result (λ e. e ≡ TurnError.Memory) }
+        ensures words { self.new.words ≡ self.old.words }
+        ensures keys { self.new.keys ≡ self.old.keys }
+        ensures rows { self.new.rows ≡ self.old.rows }
+        ensures within { self.new.used ≤ length self.new.words.items }
+    {
+        let left = self.words.split_at(self.used).1;
+        match self.play.step(key, left) {
+            Ok(used) => {
+                self.used += used;
+                Ok(true)
+            }
+            Err(PlayError::NoWords) => Ok(false),
+            Err(_) => Err(TurnError::Memory),
+        }
+    }
+
+    /// Appends the next words of a source of chance.
+    fn refill<C: Chance>(&mut self, chance: &mut C) -> Result<(), TurnError>
+        ensures ok { OnOk result ((last : List ℕ)
+            × (self.new.words.items ≡ self.old.words.items ++ last)
+            × Brings last (C.to_come chance.old) (C.to_come chance.new)) }
+        ensures err { IfErr result (λ e. (e ≡ TurnError.Memory) ⊎ ((e ≡ TurnError.NoWords)
+            × (C.to_come chance.new ≡ C.to_come chance.old))) }
+        ensures calm { (result ≢ Err TurnError.NoWords)
+            → C.chance_failures chance.new ≡ C.chance_failures chance.old }
+        ensures grown { length self.old.words.items ≤ length self.new.words.items }
+        ensures play { self.new.play ≡ self.old.play }
+        ensures keys { self.new.keys ≡ self.old.keys }
+        ensures used { self.new.used ≡ self.old.used }
+        ensures rows { self.new.rows ≡ self.old.rows }
+    {
+        match chance.more() {
+            Ok(words) => Ok(self.words.extend_from_slice(&words)?),
+            Err(DeviceFailed) => Err(TurnError::NoWords),
+        }
+    }
+
+    /// Makes the step of a key, with as many words of chance as it needs.
+    fn supply<C: Chance>(&mut self, chance: &mut C, key: Key) -> Result<(), TurnError>
+        requires within { self.old.used ≤ length self.old.words.items }
+        requires going { self.old.play.ending ≡ None }
+        ensures ok { OnOk result (IsSupplied key (point self.old) (C.to_come chance.old)
+            (point self.new) (C.to_come chance.new)) }
+        ensures err { IfErr result (λ e. (e ≡ TurnError.Memory) ⊎ ((e ≡ TurnError.NoWords)
+            × LacksSupply key (point self.old) (C.to_come chance.old)
+            (point self.new) (C.to_come chance.new))) }
+        ensures calm { (result ≢ Err TurnError.NoWords)
+            → C.chance_failures chance.new ≡ C.chance_failures chance.old }
+        ensures keys { self.new.keys ≡ self.old.keys }
+        ensures rows { self.new.rows ≡ self.old.rows }
+        ensures within { self.new.used ≤ length self.new.words.items }
+    {
+        for _ in 0..TRIES {
+            if self.attempt(key)? {
+                return Ok(());
+            }
+            self.refill(chance)?;
+        }
+        Err(TurnError::NoWords)
+    }
+
+    /// Keeps a key.
+    fn keep(&mut self, key: Key) -> Result<(), AllocError>
+        ensures keys { OnOk result (self.new.keys.items ≡ self.old.keys.items ++ key ∷ []) }
+        ensures play { self.new.play ≡ self.old.play }
+        ensures words { self.new.words ≡ self.old.words }
+        ensures used { self.new.used ≡ self.old.used }
+        ensures rows { self.new.rows ≡ self.old.rows }
+    {
+        self.keys.push(key)?;
+        Ok(())
+    }
+
+    /// Plays a key, and keeps it.
+    fn play_key<C: Chance>(&mut self, chance: &mut C, key: Key) -> Result<(), TurnError>
+        requires within { self.old.used ≤ length self.old.words.items }
+        requires going { self.old.play.ending ≡ None }
+        ensures ok { OnOk result (PlaysKey key (point self.old) (C.to_come chance.old)
+            (point self.new) (C.to_come chance.new)) }
+        ensures err { IfErr result (λ e. (e ≡ TurnError.Memory) ⊎ ((e ≡ TurnError.NoWords)
+            × LacksSupply key (point self.old) (C.to_come chance.old)
+            (point self.new) (C.to_come chance.new))) }
+        ensures calm { (result ≢ Err TurnError.NoWords)
+            → C.chance_failures chance.new ≡ C.chance_failures chance.old }
+        ensures within { self.new.used ≤ length self.new.words.items }
+    {
+        self.supply(chance, key)?;
+        self.keep(key)?;
+        Ok(())
+    }
+
+    /// Answers what is typed: plays a key, and takes a size over.
+    pub(crate) fn answer<C: Chance>(
+        &mut self,
+        chance: &mut C,
+        input: Input,
+    ) -> Result<(), TurnError>
+        requires within { self.old.used ≤ length self.old.words.items }
+        requires going { self.old.play.ending ≡ None }
+        ensures ok { OnOk result (Answers input (point self.old) (C.to_come chance.old)
+            (point self.new) (C.to_come chance.new)) }
+        ensures err { IfErr result (λ e. (e ≡ TurnError.Memory) ⊎ ((e ≡ TurnError.NoWords)
+            × LacksInput input (point self.old) (C.to_come chance.old)
+            (point self.new) (C.to_come chance.new))) }
+        ensures calm { (result ≢ Err TurnError.NoWords)
+            → C.chance_failures chance.new ≡ C.chance_failures chance.old }
+        ensures within { self.new.used ≤ length self.new.words.items }
+    {
+        match input {
+            Input::Pressed(key) => self.play_key(chance, key),
+            Input::Resized(rows) => {
+                self.rows = usize::from(rows);
+                Ok(())
+            }
+        }
+    }
+}
