@@ -156,6 +156,14 @@ impl Play {
         ensures result { Opens result world board tick }
         ensures within { IsTick tick → IfOk result (λ p. IsTick p.tick) }
     {
+        Play::open(alloc, &world, board, tick)
+    }
+
+    /// The same of a world that is lent, over whose boards it can go on.
+    pub fn open(alloc: Global, world: &World, board: usize, tick: u16) -> Result<Play, PlayError>
+        ensures result { Opens result world.now board tick }
+        ensures within { IsTick tick → IfOk result (λ p. IsTick p.tick) }
+    {
         match world.boards().get(board) {
             None => Err(PlayError::NoBoard),
             Some(data) => match play_of(alloc, world.header(), data, tick) {
