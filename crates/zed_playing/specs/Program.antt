@@ -5,6 +5,7 @@ use Rattle.zed_files.specs.declared.refusal.Refusal.{Refusal}
 use Rattle.zed_files.specs.declared.refusal.Refusal.TheVariants.{File, Memory}
 use Rattle.zed_host.specs.HostContents.{HostContents, file_in, with_file}
 use Rattle.zed_turns.specs.Course.{Point}
+use Rattle.zed_playing.specs.declared.opening.Going.{Going}
 use Rattle.zed_playing.specs.Boards.{IsPerformed}
 use Rattle.zed_turns.specs.Record.{keys_in, letters_of, spelled_all, words_in}
 use Rattle.zed_turns.specs.Report.{report_of}
@@ -35,17 +36,17 @@ abbrev pub with_keys : List Key → Stage → Stage
 with_keys keys s = stage s.drawn s.terminal (behind_keys keys s.inputs) None s.chance
 
 -- a board of the world of files of these names is played by what is kept in two files, and on by what is typed, to where these keys of those kept are left
-abbrev pub IsPlayed : Type 0 → HostContents → Option (List ℕ) → Option (List ℕ) → ℕ → ℕ → List (List ℕ) → Stage → List Key → Stage → Result Point Refusal → Type 0
-IsPlayed failed t words keys rows board files old rest new r =
-    IsPerformed failed t board rows (words_in (kept_in t words)) files (with_keys (keys_in (kept_in t keys)) old) (with_keys rest new) r
+abbrev pub IsPlayed : Type 0 → HostContents → Option (List ℕ) → Option (List ℕ) → Going → ℕ → ℕ → List (List ℕ) → Stage → List Key → Stage → Result Point Refusal → Type 0
+IsPlayed failed t words keys going rows board files old rest new r =
+    IsPerformed failed t going board rows (words_in (kept_in t words)) files (with_keys (keys_in (kept_in t keys)) old) (with_keys rest new) r
 
 -- a playtest that was played to its end: what is told of it, and what a host has then, where it is kept
-abbrev pub PlaysToEnd : Type 0 → HostContents → Option (List ℕ) → Option (List ℕ) → ℕ → ℕ → List (List ℕ) → Stage → List Key → Stage → List ℕ → Option HostContents → Type 0
-PlaysToEnd failed t words keys rows board files old rest new text now =
+abbrev pub PlaysToEnd : Type 0 → HostContents → Option (List ℕ) → Option (List ℕ) → Going → ℕ → ℕ → List (List ℕ) → Stage → List Key → Stage → List ℕ → Option HostContents → Type 0
+PlaysToEnd failed t words keys going rows board files old rest new text now =
     (p : Point)
-    × IsPlayed failed t words keys rows board files old rest new (Ok p) × (text ≡ report_of p.play) × (now ≡ Some (with_record words keys p rest t))
+    × IsPlayed failed t words keys going rows board files old rest new (Ok p) × (text ≡ report_of p.play) × (now ≡ Some (with_record words keys p rest t))
 
 -- why it wasn't: for want of memory, or where a file of the record can't be read or written; or as it is refused itself
-abbrev pub IsRefused : Type 0 → HostContents → Option (List ℕ) → Option (List ℕ) → ℕ → ℕ → List (List ℕ) → Stage → List Key → Stage → Refusal → Type 0
-IsRefused failed t words keys rows board files old rest new e =
-    (e ≡ Memory) ⊎ (e ≡ File) ⊎ IsPlayed failed t words keys rows board files old rest new (Err e)
+abbrev pub IsRefused : Type 0 → HostContents → Option (List ℕ) → Option (List ℕ) → Going → ℕ → ℕ → List (List ℕ) → Stage → List Key → Stage → Refusal → Type 0
+IsRefused failed t words keys going rows board files old rest new e =
+    (e ≡ Memory) ⊎ (e ≡ File) ⊎ IsPlayed failed t words keys going rows board files old rest new (Err e)

@@ -9,4 +9,5 @@ mod program;
 mod refusing;
 
 pub use boards::perform;
+pub use opening::Going;
 pub use program::play;

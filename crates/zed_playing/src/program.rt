@@ -10,6 +10,7 @@ ghost use Rattle.zed_playing.specs.Program.{IsRefused, PlaysToEnd};
 
 use crate::boards::perform;
 use crate::keeping::{Kept, keep_all, read_kept};
+use crate::opening::Going;
 use std::alloc::Global;
 use zed_files::Refusal;
 use zed_host::Host;
@@ -22,6 +23,7 @@ fn play_and_keep<H: Host, T: Terminal, I: Inputs, C: Chance>(
     host: &mut H,
     words: Option<&str>,
     keys: Option<&str>,
+    going: Going,
     rows: usize,
     board: u16,
     files: &[&str],
@@ -37,9 +39,9 @@ fn play_and_keep<H: Host, T: Terminal, I: Inputs, C: Chance>(
         let after = stage (T.drawn terminal.new) (T.draws_foretell terminal.new)
         (I.left inputs.new.source) None (C.to_come chance.new) in
         MatchResult result
-        (λ text. PlaysToEnd failed t (text_in words.entry) (text_in keys.entry) rows board
+        (λ text. PlaysToEnd failed t (text_in words.entry) (text_in keys.entry) going rows board
         (texts_of files.now) before rest after text.items (H.contents host.new))
-        (λ e. IsRefused failed t (text_in words.entry) (text_in keys.entry) rows board
+        (λ e. IsRefused failed t (text_in words.entry) (text_in keys.entry) going rows board
         (texts_of files.now) before rest after e) }
     ensures kept { IfErr result (λ e. (e ≢ Refusal.File)
         → H.contents host.new ≡ H.contents host.old) }
@@ -56,7 +58,7 @@ fn play_and_keep<H: Host, T: Terminal, I: Inputs, C: Chance>(
     } = kept;
     inputs.fill(first);
     let tape = perform(
-        alloc, host, board, came, files, rows, terminal, inputs, chance,
+        alloc, host, going, board, came, files, rows, terminal, inputs, chance,
     )?;
     let text = report_of(alloc, &tape.play)?;
     keep_all(alloc, host, words, keys, &tape, inputs.rest())?;
@@ -77,6 +79,7 @@ pub fn play<H: Host, T: Terminal, I: Inputs, C: Chance>(
     host: &mut H,
     words: Option<&str>,
     keys: Option<&str>,
+    going: Going,
     rows: usize,
     board: u16,
     files: &[&str],
@@ -90,9 +93,9 @@ pub fn play<H: Host, T: Terminal, I: Inputs, C: Chance>(
         let after = stage (T.drawn console.new.terminal) (T.draws_foretell console.new.terminal)
         (I.left console.new.inputs.source) None (C.to_come console.new.chance) in
         MatchResult result
-        (λ text. PlaysToEnd failed t (text_in words.entry) (text_in keys.entry) rows board
+        (λ text. PlaysToEnd failed t (text_in words.entry) (text_in keys.entry) going rows board
         (texts_of files.now) before rest after text.items (H.contents host.new))
-        (λ e. IsRefused failed t (text_in words.entry) (text_in keys.entry) rows board
+        (λ e. IsRefused failed t (text_in words.entry) (text_in keys.entry) going rows board
         (texts_of files.now) before rest after e) }
     ensures kept { IfErr result (λ e. (e ≢ Refusal.File)
         → H.contents host.new ≡ H.contents host.old) }
@@ -108,6 +111,7 @@ pub fn play<H: Host, T: Terminal, I: Inputs, C: Chance>(
         host,
         words,
         keys,
+        going,
         rows,
         board,
         files,

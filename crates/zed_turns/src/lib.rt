@@ -2,6 +2,7 @@
 //! drawn, and so that it can be played again.
 #![tactic(auto)]
 
+mod atlas;
 mod console;
 mod devices;
 mod error;
@@ -13,10 +14,11 @@ mod report;
 mod tape;
 mod turns;
 
+pub use atlas::Atlas;
 pub use console::Console;
 pub use devices::{Chance, Terminal};
 pub use error::TurnError;
-pub use laws::{performances_come_again, plays_again, record_is_read_back};
+pub use laws::{performances_come_again, plays_again, record_is_read_back, same_until_left};
 pub use performing::play_from;
 pub use queue::Queue;
 pub use record::{keys_in, put_letters, put_words, words_in};

@@ -17,6 +17,6 @@ returns-clause-plays g c = λ t at.
     ap (λ d. stage d (g.T.Terminal.draws_foretell c.leave.new.self) left None chance) c.leave.ensures.drawn
     ∙ ap (λ f. stage (g.T.Terminal.drawn c.play_and_keep.new.terminal) f left None chance) c.leave.ensures.foretold in
     subst (λ after. MatchResult c.play_and_keep.result
-    (λ text. PlaysToEnd _ t (text_in c.args.words) (text_in c.args.keys) c.args.rows c.args.board (texts_of c.args.files.now) before rest after text.items _)
-    (λ e. IsRefused _ t (text_in c.args.words) (text_in c.args.keys) c.args.rows c.args.board (texts_of c.args.files.now) before rest after e)) (sym same)
+    (λ text. PlaysToEnd _ t (text_in c.args.words) (text_in c.args.keys) c.args.going c.args.rows c.args.board (texts_of c.args.files.now) before rest after text.items _)
+    (λ e. IsRefused _ t (text_in c.args.words) (text_in c.args.keys) c.args.going c.args.rows c.args.board (texts_of c.args.files.now) before rest after e)) (sym same)
     (c.play_and_keep.ensures.plays t at)

@@ -17,7 +17,7 @@ returns-clause-plays g c = λ t at.
     let left = filled c.fill.new.self.taken c.fill.new.self.kept.items _ _ _ c.fill.ensures.taken keys (ap g.I.Inputs.left c.fill.ensures.source) in
     let begins = ap (λ k. stage (g.T.Terminal.drawn c.args.terminal.now) (g.T.Terminal.draws_foretell c.args.terminal.now) k None (g.C.Chance.to_come c.args.chance.now)) left in (
       point c.in_ok-tape.tape,
-      performed_so _ _ t c.args.board c.args.rows _ _ (texts_of c.args.files.now) _ _ _ (Ok (point c.in_ok-tape.tape))
+      performed_so _ _ t c.args.going c.args.board c.args.rows _ _ (texts_of c.args.files.now) _ _ _ (Ok (point c.in_ok-tape.tape))
           (rose_within (g.H.Host.faults c.args.host.now) (g.H.Host.faults c.read_kept.new.host) (g.H.Host.faults c.perform.new.host) (g.H.Host.faults c.keep_all.new.host)
           c.in_ok-kept.ensures.failures.0.0 c.in_ok-keep_all.ensures.failures.0.0)
           words begins (c.in_ok-tape.ensures.performed t here),
