@@ -66,7 +66,7 @@ ComesTo failed t (Log length board cell replica since files) ending =
     Leaves (told_left t) (ComesToTell failed t (log_of (length_of length) (filter_of board cell replica since)) files) ending
 ComesTo failed t (Lists listing files) ending = Leaves (told_left t) (ComesToTell failed t (list_of (listing_of listing)) files) ending
 ComesTo failed t (Show form board files) ending = Leaves (told_left t) (ComesToShow failed t (form_of form) board files) ending
-ComesTo failed t (Play rows words keys board files) ending = ⊥
+ComesTo failed t (Play going rows words keys board files) ending = ⊥
 ComesTo failed t (Lint strictness files) ending = Leaves (lint_left strictness t) (ComesToTell failed t lint_of files) ending
 ComesTo failed t (Set file replica words) ending = ComesToSetting failed t file replica words (wish_of words) ending
 ComesTo failed t (ProgramOf board stat files) ending = Leaves (told_left t) (ComesToTell failed t (printed board stat) files) ending

@@ -12,6 +12,10 @@ use Rattle.zed_tool_words.specs.declared.asked.Forcing.{Forcing as ForcingWord}
 use Rattle.zed_tool_words.specs.declared.asked.Forcing.TheVariants.{Careful, Forced}
 use Rattle.zed_tool_words.specs.declared.asked.Form.{Form as FormWord}
 use Rattle.zed_tool_words.specs.declared.asked.Form.TheVariants.{Coloured, Plain, Svg}
+use Rattle.zed_playing.specs.declared.opening.Going.{Going}
+use Rattle.zed_playing.specs.declared.opening.Going.TheVariants as playing
+use Rattle.zed_tool_words.specs.declared.asked.Going.{Going as GoingWord}
+use Rattle.zed_tool_words.specs.declared.asked.Going.TheVariants.{Stays, On}
 use Rattle.zed_tool_words.specs.declared.asked.Length.{Length as LengthWord}
 use Rattle.zed_tool_words.specs.declared.asked.Length.TheVariants.{Short, Full}
 use Rattle.zed_tool_words.specs.declared.asked.Listing.{Listing as ListingWords}
@@ -54,6 +58,11 @@ abbrev pub listing_of : ListingWords → Listing
 listing_of Boards = telling.Boards
 listing_of (Stats b) = telling.Stats b
 listing_of (Program b s) = telling.Program b s
+
+-- whether a playtest goes on over boards
+abbrev pub going_of : GoingWord → Going
+going_of Stays = playing.Stays
+going_of On = playing.On
 
 -- how much of the line of a world is printed
 abbrev pub length_of : LengthWord → Length
@@ -103,8 +112,8 @@ EndsCommand called played failed (Log length board cell replica since files) old
     EndsTold failed (ComesToTell failed t (log_of (length_of length) (filter_of board cell replica since)) files) t answer left
 EndsCommand called played failed (Lists listing files) old new t answer left = EndsTold failed (ComesToTell failed t (list_of (listing_of listing)) files) t answer left
 EndsCommand called played failed (Show form board files) old new t answer left = EndsTold failed (ComesToShow failed t (form_of form) board files) t answer left
-EndsCommand called played failed (Play rows words keys board files) old new t answer left =
-    EndsPlay failed (played failed t words keys (rows_of rows) board files) answer left
+EndsCommand called played failed (Play going rows words keys board files) old new t answer left =
+    EndsPlay failed (played failed t words keys (going_of going) (rows_of rows) board files) answer left
 EndsCommand called played failed (Lint strictness files) old new t answer left =
     Handed (linted_as strictness) (λ r. EndsCounted failed (ComesToTell failed t lint_of files) t r left) answer
 EndsCommand called played failed (Set file replica words) old new t answer left = EndsSet failed t file replica words (wish_of words) answer left
@@ -122,7 +131,7 @@ AsksCommand called (Take base file replica world) answer old new =
 AsksCommand called (Log length board cell replica since files) answer old new = AsksTold called files answer old new
 AsksCommand called (Lists listing files) answer old new = AsksTold called files answer old new
 AsksCommand called (Show form board files) answer old new = AsksTold called files answer old new
-AsksCommand called (Play rows words keys board files) answer old new = IfOk answer (λ status. status ≡ 0)
+AsksCommand called (Play going rows words keys board files) answer old new = IfOk answer (λ status. status ≡ 0)
 AsksCommand called (Lint strictness files) answer old new =
     Handed (linted_as strictness) (λ r. AsksFiles called (reading files) (Printing ∷ []) (refusal_in r) old new) answer
 AsksCommand called (Set file replica words) answer old new = AsksSet called file words (wish_of words) answer old new

@@ -1,9 +1,10 @@
 //! What words ask for, as the commands take it.
 ghost use Rattle.std.specs.Prelude.{◌≡◌};
-ghost use Rattle.zed_tool.specs.Commands.{forcing_of as forcing_for, form_of as form_for, length_of as length_for, listing_of as listing_for};
+ghost use Rattle.zed_tool.specs.Commands.{forcing_of as forcing_for, form_of as form_for, going_of as going_for, length_of as length_for, listing_of as listing_for};
 
 use zed_drawing::Forcing;
 use zed_look::Form;
+use zed_playing::Going;
 use zed_telling::{Length, Listing};
 
 /// What is done to a world file that was drawn in.
@@ -34,6 +35,16 @@ pub(crate) fn length_of(length: zed_tool_words::Length) -> Length
     match length {
         zed_tool_words::Length::Short => Length::Short,
         zed_tool_words::Length::Full => Length::Full,
+    }
+}
+
+/// Whether a playtest goes on over boards.
+pub(crate) fn going_of(going: zed_tool_words::Going) -> Going
+    ensures { result ≡ going_for going }
+{
+    match going {
+        zed_tool_words::Going::Stays => Going::Stays,
+        zed_tool_words::Going::On => Going::On,
     }
 }
 

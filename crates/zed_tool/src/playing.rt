@@ -12,7 +12,7 @@ use crate::error::ToolError;
 use std::alloc::Global;
 use zed_files::Refusal;
 use zed_host::Host;
-use zed_playing::play;
+use zed_playing::{Going, play};
 use zed_staging::Inputs;
 use zed_turns::{Chance, Console, Terminal};
 
@@ -34,6 +34,7 @@ pub(crate) fn playtest<'a, H: Host, T: Terminal, I: Inputs, C: Chance>(
     console: &mut Console<T, I, C>,
     words: Option<&str>,
     keys: Option<&str>,
+    going: Going,
     rows: usize,
     board: u16,
     files: &[&str],
@@ -46,12 +47,12 @@ pub(crate) fn playtest<'a, H: Host, T: Terminal, I: Inputs, C: Chance>(
         let after = stage (T.drawn console.new.terminal) (T.draws_foretell console.new.terminal)
         (I.left console.new.inputs.source) None (C.to_come console.new.chance) in
         EndsPlay failed (between before rest after failed t (text_in words.entry) (text_in keys.entry)
-        rows board (texts_of files.now)) (answer_of result) (H.contents host.new) }
+        going rows board (texts_of files.now)) (answer_of result) (H.contents host.new) }
     ensures status { IfOk result (λ status. status ≡ 0) }
     ensures failures { TellsFailures H.faults H.failed (answer_of result) host.old host.new }
     ensures left { T.is_entered console.new.terminal ≡ false }
 {
-    match play(alloc, host, words, keys, rows, board, files, console) {
+    match play(alloc, host, words, keys, going, rows, board, files, console) {
         Ok(text) => match host.print(text.as_slice()) {
             Ok(()) => Ok(0),
             Err(_) => Err(ToolError::Refused(Refusal::File)),

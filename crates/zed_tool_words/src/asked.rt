@@ -29,6 +29,15 @@ pub enum Length {
     Full,
 }
 
+/// Whether a playtest goes on over boards.
+#[derive(Clone, Copy)]
+pub enum Going {
+    /// It is of one board.
+    Stays,
+    /// It goes on on the board for which the player leaves: `--boards`.
+    On,
+}
+
 /// Whether what is found in a world makes a command fail.
 #[derive(Clone, Copy)]
 pub enum Strictness {
@@ -91,6 +100,7 @@ pub enum Command<'a> {
     },
     /// The board of this number of the world of edit files is to be played at a terminal.
     Play {
+        going: Going,
         /// How many rows the terminal has.
         rows: Option<u16>,
         /// The file in which words of chance are kept, and from which they come first.

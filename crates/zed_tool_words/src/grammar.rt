@@ -301,7 +301,7 @@ fn show_command<'a>(alloc: Global) -> Result<Command<'a>, AllocError>
     )
 }
 
-/// `play [--rows ROWS] [--words WORDS] [--keys KEYS] BOARD FILES...`
+/// `play [--boards] [--rows ROWS] [--words WORDS] [--keys KEYS] BOARD FILES...`
 fn play_command<'a>(alloc: Global) -> Result<Command<'a>, AllocError>
     ensures shape { IfOk result (λ c. shape_of c ≡ play_shape) }
     ensures local { IfOk result (λ c. (out-Command c).has_globals ≡ false) }
@@ -320,6 +320,14 @@ fn play_command<'a>(alloc: Global) -> Result<Command<'a>, AllocError>
         ),
     )?;
     let command = with_argument(command, files_argument(alloc))?;
+    let command = with_argument(
+        command,
+        flag_argument(
+            alloc,
+            "boards",
+            "Go on on the next board where the player leaves one, over an edge or through a passage",
+        ),
+    )?;
     let command = with_argument(
         command,
         number_argument(
