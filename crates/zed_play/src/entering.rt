@@ -1,6 +1,6 @@
 //! Another board, where the player of a playtest comes to it.
 ghost use Rattle.std.specs.Prelude.{◌≡◌, ◌<◌, ◌≤◌, IfOk, slice_get};
-ghost use Rattle.zed_play.specs.Entering.{bared, beyond, brought, carried, comes_by, comes_onto, comes_through, entered, game_on, goes_on, is_passage, last_passage, met, passage_among, place_of, scene_on, stays, way_from, way_of, way_to};
+ghost use Rattle.zed_play.specs.Entering.{arrives, bared, beyond, brought, carried, comes_by, comes_onto, comes_through, entered, game_on, goes_on, is_passage, last_passage, met, passage_among, place_of, scene_on, stays, way_from, way_of, way_to};
 
 use crate::ending::ending_by;
 use crate::game::{Game, copy_lines};
@@ -232,9 +232,7 @@ impl Play {
         ensures { IfOk result (λ p. p ≡ goes_on bounds game self.now) }
     {
         let ending = ending_by(None, game.scene.counters().health);
-        let mut play = Play::begin(alloc, game, bounds, self.tick)?;
-        play.ending = ending;
-        Ok(play)
+        Play::begin(alloc, game, bounds, self.tick, ending)
     }
 
     /// The playtest that goes on on the board that the player left.
@@ -246,12 +244,23 @@ impl Play {
         self.go_on(alloc, game, self.bounds)
     }
 
+    /// The playtest that goes on on the board that the player came to, or else on the one that it left.
+    fn arrive(&self, alloc: Global, came: Option<Game>, bounds: Bounds) -> Result<Play, AllocError>
+        ensures { IfOk result (λ p. p ≡ arrives bounds came self.now) }
+    {
+        match came {
+            Some(game) => self.go_on(alloc, game, bounds),
+            None => self.stay(alloc),
+        }
+    }
+
     /// The playtest of the board of this number to which the player of this one comes by a way, or
     /// None where the world has no such board. The player keeps its counters but for the time on the
     /// board, its keys, flags and message lines; the tick goes on. Over an edge it touches the place
     /// on the other side and comes onto it if it can be walked on; else it stays on the board that it
     /// left. Through a passage it comes onto the last one of that colour, the furthest to the right
-    /// and the lowest there, or else where the board has its player. Only a growth that is refused makes it an error.
+    /// and the lowest there, or else where the board has its player. Only a growth that is refused
+    /// makes it an error.
     pub fn enter(
         &self,
         alloc: Global,
@@ -265,10 +274,7 @@ impl Play {
             return Ok(None);
         };
         let game = self.game.on_board(alloc, data)?;
-        let play = match game.come_by(way) {
-            Some(game) => self.go_on(alloc, game, bounds_of(&data.properties))?,
-            None => self.stay(alloc)?,
-        };
+        let play = self.arrive(alloc, game.come_by(way), bounds_of(&data.properties))?;
         Ok(Some(play))
     }
 }

@@ -146,7 +146,7 @@ fn play_of(alloc: Global, header: &Header, board: &BoardData, tick: u16) -> Resu
         left: None,
         messages: Messages::new(alloc)?,
     };
-    Play::begin(alloc, game, bounds_of(&board.properties), tick)
+    Play::begin(alloc, game, bounds_of(&board.properties), tick, None)
 }
 
 impl Play {

@@ -57,15 +57,16 @@ fn step_on(
 }
 
 impl Play {
-    /// A playtest before its first step.
+    /// A playtest before its first step on a board, which may have ended already.
     pub(crate) fn begin(
         alloc: Global,
         game: Game,
         bounds: Bounds,
         tick: u16,
+        ending: Option<Ending>,
     ) -> Result<Play, AllocError>
         ensures result { IfOk result (λ p. p
-            ≡ record { game = game; bounds = bounds; tick = tick; ending = None }) }
+            ≡ record { game = game; bounds = bounds; tick = tick; ending = ending }) }
     {
         let spare = game.copy(alloc)?;
         Ok(Play {
@@ -74,7 +75,7 @@ impl Play {
             spare,
             bounds,
             tick,
-            ending: None,
+            ending,
         })
     }
 
