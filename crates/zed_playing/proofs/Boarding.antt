@@ -99,11 +99,3 @@ pub filled : (taken : ℕ) (kept keys : List Key) (source now : Option (List Inp
     → behind_keys (drop taken kept) now ≡ behind_keys keys source
 filled taken kept keys source now none same is =
     ap (λ n. behind_keys (drop n kept) now) none ∙ ap (λ ks. behind_keys ks now) same ∙ ap (behind_keys keys) is
-
--- what is told where the files of a record can't be read, or written
-pub kept_for : {X : Type 0} (e : Refusal) → (e ≡ Memory) ⊎ (e ≡ File) → (e ≡ Memory) ⊎ (e ≡ File) ⊎ X
-kept_for e why = elim why [ inl memory ↦ inl memory | inr file ↦ inr (inl file) ]
-
--- the same where more is told of want of memory
-pub kept_so : {X Y : Type 0} (e : Refusal) → ((e ≡ Memory) × X) ⊎ (e ≡ File) → (e ≡ Memory) ⊎ (e ≡ File) ⊎ Y
-kept_so e why = elim why [ inl memory ↦ inl memory.0 | inr file ↦ inr (inl file) ]

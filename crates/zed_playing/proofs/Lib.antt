@@ -1,1 +1,3 @@
+mod Asking
 mod Boarding
+pub mod Kept

@@ -1,4 +1,7 @@
 pub mod Refusing
 pub mod Opening
 pub mod Boards
-pub mod Program
+pub mod Led
+pub mod Kept
+pub mod Asking
+pub mod Ending

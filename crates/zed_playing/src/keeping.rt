@@ -1,12 +1,15 @@
 //! Playtests kept in files, and read from them.
-ghost use Rattle.std.specs.Prelude.{◌≡◌, ◌⊎◌, ◌++◌, IfErr, IfOk, OnOk, Some};
+ghost use Rattle.std.specs.Prelude.{[], ◌≡◌, ◌⊎◌, ◌++◌, ℕ, Err, IfErr, IfOk, List, MatchResult, OnErr, OnOk, Some, None, map, false};
+ghost use Rattle.zed_host.specs.Calls.{Writing};
 ghost use Rattle.zed_host.specs.Counting.{Rose};
-ghost use Rattle.zed_host.specs.HostContents.{HostContents, file_in};
+ghost use Rattle.zed_host.specs.HostContents.{HostContents, StillTells, file_in};
+ghost use Rattle.zed_files.specs.Asked.{Asks, named, refusal_in};
 ghost use Rattle.zed_files.specs.Faults.{TellsFailures};
 ghost use Rattle.zed_files.specs.Texts.{text_in};
 ghost use Rattle.zed_turns.specs.Course.{point};
-ghost use Rattle.zed_playing.specs.Program.{bytes_or_none, kept_in, with_kept, with_record};
 ghost use Rattle.zed_turns.specs.Record.{keys_in, letters_of, spelled_all, words_in};
+ghost use Rattle.zed_playing.specs.Asking.{AsksBehind, AsksKept, AsksNoMore, keeping};
+ghost use Rattle.zed_playing.specs.Kept.{HalfKept, HalfRecorded, bytes_or_none, kept_in, key_bytes, with_kept, with_record};
 
 use std::alloc::{AllocError, Global};
 use zed_files::Refusal;
@@ -21,6 +24,7 @@ fn bytes_of<H: Host>(alloc: Global, host: &mut H, name: &str) -> Result<Vec<u8>,
     ensures kept { H.contents host.new ≡ H.contents host.old }
     ensures err { IfErr result (λ e. (e ≡ Refusal.Memory)
         ⊎ ((e ≡ Refusal.File) × Rose (H.faults host.old) (H.faults host.new))) }
+    ensures asked { AsksKept H.called (Some name.now) (refusal_in result) host.old host.new }
     ensures failures { TellsFailures H.faults H.failed result host.old host.new }
 {
     match host.read(name) {
@@ -38,6 +42,7 @@ fn kept_in<H: Host>(alloc: Global, host: &mut H, name: Option<&str>) -> Result<V
     ensures kept { H.contents host.new ≡ H.contents host.old }
     ensures err { IfErr result (λ e. (e ≡ Refusal.Memory)
         ⊎ ((e ≡ Refusal.File) × Rose (H.faults host.old) (H.faults host.new))) }
+    ensures asked { AsksKept H.called (text_in name.entry) (refusal_in result) host.old host.new }
     ensures failures { TellsFailures H.faults H.failed result host.old host.new }
 {
     match name {
@@ -50,8 +55,12 @@ fn kept_in<H: Host>(alloc: Global, host: &mut H, name: Option<&str>) -> Result<V
 fn keep<H: Host>(host: &mut H, name: Option<&str>, bytes: &[u8]) -> Result<(), Refusal>
     ensures ok { (t : HostContents) → H.contents host.old ≡ Some t → OnOk result
         (H.contents host.new ≡ Some (with_kept (text_in name.entry) bytes.now t)) }
+    ensures half { (t : HostContents) → H.contents host.old ≡ Some t → OnErr result
+        (StillTells (HalfKept (text_in name.entry) bytes.now t) (H.contents host.new)) }
     ensures err { IfErr result (λ e. (e ≡ Refusal.File)
         × Rose (H.faults host.old) (H.faults host.new)) }
+    ensures asked { Asks H.called [] (map (λ name. Writing name) (named (text_in name.entry)))
+        (refusal_in result) host.old host.new }
     ensures failures { TellsFailures H.faults H.failed result host.old host.new }
 {
     if let Some(name) = name {
@@ -88,7 +97,10 @@ pub(crate) fn read_kept<H: Host>(
         → IfOk result (λ kept. (kept.words.items ≡ words_in (kept_in t (text_in words.entry)))
         × (kept.keys.items ≡ keys_in (kept_in t (text_in keys.entry)))) }
     ensures kept { H.contents host.new ≡ H.contents host.old }
-    ensures err { IfErr result (λ e. (e ≡ Refusal.Memory) ⊎ (e ≡ Refusal.File)) }
+    ensures err { IfErr result (λ e. (e ≡ Refusal.Memory)
+        ⊎ ((e ≡ Refusal.File) × Rose (H.faults host.old) (H.faults host.new))) }
+    ensures asked { AsksBehind H.called (text_in words.entry) (text_in keys.entry)
+        AsksNoMore (refusal_in result) host.old host.new }
     ensures failures { TellsFailures H.faults H.failed result host.old host.new }
 {
     let word_bytes = kept_in(alloc, host, words)?;
@@ -118,7 +130,13 @@ fn keep_both<H: Host>(
     ensures ok { (t : HostContents) → H.contents host.old ≡ Some t → OnOk result
         (H.contents host.new ≡ Some (with_kept (text_in keys.entry) key_bytes.now
         (with_kept (text_in words.entry) word_bytes.now t))) }
-    ensures err { IfErr result (λ e. e ≡ Refusal.File) }
+    ensures half { (t : HostContents) → H.contents host.old ≡ Some t → OnErr result (StillTells
+        (λ u. HalfKept (text_in words.entry) word_bytes.now t u ⊎ HalfKept (text_in keys.entry)
+        key_bytes.now (with_kept (text_in words.entry) word_bytes.now t) u) (H.contents host.new)) }
+    ensures err { IfErr result (λ e. (e ≡ Refusal.File)
+        × Rose (H.faults host.old) (H.faults host.new)) }
+    ensures asked { Asks H.called [] (keeping (text_in words.entry) (text_in keys.entry))
+        (refusal_in result) host.old host.new }
     ensures failures { TellsFailures H.faults H.failed result host.old host.new }
 {
     keep(host, words, word_bytes)?;
@@ -137,8 +155,14 @@ pub(crate) fn keep_all<H: Host>(
     ensures ok { (t : HostContents) → H.contents host.old ≡ Some t → OnOk result
         (H.contents host.new ≡ Some (with_record
         (text_in words.entry) (text_in keys.entry) (point tape.now) rest.now t)) }
+    ensures half { (t : HostContents) → H.contents host.old ≡ Some t
+        → IfErr result (λ e. e ≡ Refusal.File → StillTells (HalfRecorded
+        (text_in words.entry) (text_in keys.entry) (point tape.now) rest.now t) (H.contents host.new)) }
     ensures err { IfErr result (λ e.
-        ((e ≡ Refusal.Memory) × (H.contents host.new ≡ H.contents host.old)) ⊎ (e ≡ Refusal.File)) }
+        ((e ≡ Refusal.Memory) × (H.contents host.new ≡ H.contents host.old))
+        ⊎ ((e ≡ Refusal.File) × Rose (H.faults host.old) (H.faults host.new))) }
+    ensures asked { Asks H.called [] (keeping (text_in words.entry) (text_in keys.entry))
+        (refusal_in result) host.old host.new }
     ensures failures { TellsFailures H.faults H.failed result host.old host.new }
 {
     let word_bytes = word_bytes_of(alloc, tape.words.as_slice())?;

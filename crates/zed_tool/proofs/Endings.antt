@@ -33,12 +33,17 @@ use Rattle.zed_drawing.specs.Asked.{Did}
 use Rattle.zed_drawing.specs.Base.{base_word, presence_of}
 use Rattle.zed_drawing.specs.Opening.{ComesToOpen, OpenReads}
 use Rattle.zed_drawing.specs.Taking.{ComesToTake, TakeReads}
+use Rattle.zed_turns.specs.Course.{Point}
+use Rattle.zed_playing.specs.Asking.{AsksPlay}
+use Rattle.zed_playing.specs.Ending.{EndsPlay, IsPlayed, Request, request, told_after}
+use Rattle.zed_playing.specs.Led.{Led}
+use Rattle.zed_playing.proofs.Kept.{played_so}
 use Rattle.zed_tool_words.specs.Grammar.{tool_app}
 use Rattle.zed_tool_words.specs.Version.{version_text}
-use Rattle.zed_tool_words.specs.Commands.{AsksHelp, AsksVersion, Command, Open, Take, Log, Lists, Show, Lint, Set, ProgramOf, SetProgram, command_of, subcommand_asks, unless_refused}
+use Rattle.zed_tool_words.specs.Commands.{AsksHelp, AsksVersion, Command, Open, Take, Log, Lists, Show, Play, Lint, Set, ProgramOf, SetProgram, command_of, subcommand_asks, unless_refused}
 use Rattle.zed_tool.specs.Answers.{Answer, Failure, Refused, drawing_failure, drawn_as, lint_status, linted_as, memory, told_as, wrong_word}
-use Rattle.zed_tool.specs.Calm.{ComesTo, ComesToSetting, Ending, EndsCalmly, Leaves, left_by, lint_left, told_left}
-use Rattle.zed_tool.specs.Commands.{AsksCommand, AsksSet, EndsCommand, EndsSet, filter_of, forcing_of, form_of, length_of, listing_of}
+use Rattle.zed_tool.specs.Calm.{ComesTo, ComesToSetting, Ending, EndsCalmly, Leaves, left_by, lint_left, play_left, told_left}
+use Rattle.zed_tool.specs.Commands.{AsksCommand, AsksSet, EndsCommand, EndsSet, filter_of, forcing_of, form_of, length_of, listing_of, rows_of}
 use Rattle.zed_tool.specs.Lines.{line_of}
 use Rattle.zed_tool.specs.Outcome.{Complained, Hosts, IsComplained, IsLineOf, Prints as PrintsText, Runs, RunsAs}
 use Rattle.zed_tool.proofs.Steps.{open_so, set_program_so, set_so, show_so, take_so, tell_so}
@@ -160,59 +165,90 @@ set_stopped p t file replica words (Ok wish) e left never is =
     told_stopped p (ComesToSet p t file replica wish) (ComesToSet ⊥ t file replica wish) t is.0 e left (λ x. set_so p ⊥ t file replica wish x never) never is.1 is.2
 set_stopped p t file replica words (Err bad) e left never is = (is.1, inr (ap (λ x. Err x) (failure_is e (wrong_word words bad) is.0)))
 
+-- ---- `play`
+
+play_done : (p : Type 0) (t : HostContents) (q : Request) (moved : Led) (r : Result ⊤ Refusal) (status : ℕ) (left : Option HostContents) → (p → ⊥) → EndsPlay p t q moved r left
+    → Ok status ≡ told_as r → IsDone (Leaves (play_left t q moved) (IsPlayed ⊥ t q moved)) status left
+play_done p t q moved (Ok u) status left never is same =
+    (told_after q moved is.0 t, (Ok is.0, played_so p ⊥ t q moved (Ok is.0) never is.1, ap (λ s. Ok (s, told_after q moved is.0 t)) (status_is status 0 same)), is.2)
+play_done p t q moved (Err e) status left never is same = absurd (cc)
+
+play_stopped : (p : Type 0) (t : HostContents) (q : Request) (moved : Led) (r : Result ⊤ Refusal) (e : Failure) (left : Option HostContents) → (p → ⊥) → EndsPlay p t q moved r left
+    → Err e ≡ told_as r → IsStopped t (Leaves (play_left t q moved) (IsPlayed ⊥ t q moved)) e left
+play_stopped p t q moved (Ok u) e left never is same = absurd (cc)
+play_stopped p t q moved (Err f) e left never is same =
+    let named : e ≡ Refused f = failure_is e (Refused f) same in
+    elim is.1 [
+      | inl before ↦ (
+        is.2 ∙ ap (λ u. Some u) before.0,
+        elim before.1 [
+          | inl lacks ↦ inl (named ∙ ap (λ x. Refused x) lacks)
+          | inr other ↦ elim other [
+            | inl lost ↦ absurd (never lost.1)
+            | inr played ↦ inr (Err f, played_so p ⊥ t q moved (Err f) never played, ap (λ x. Err x) named)
+          ]
+        ],
+      )
+      | inr failed ↦ elim failed [ inl unkept ↦ absurd (never unkept.0) | inr untold ↦ absurd (never untold.0) ]
+    ]
+
 -- ---- each command
 
-done : {H : Type 0} (called : H → Call → H → Type 0) (p : Type 0) (command : Command) (old new : H) (t : HostContents) (status : ℕ) (left : Option HostContents) → (p → ⊥)
-    → EndsCommand called p command old new t (Ok status) left → IsDone (ComesTo ⊥ t command) status left
-done called p (Open until forcing file world) old new t status left never is =
+done : {H : Type 0} (called : H → Call → H → Type 0) (p : Type 0) (moved : Led) (command : Command) (old new : H) (t : HostContents) (status : ℕ) (left : Option HostContents) → (p → ⊥)
+    → EndsCommand called p moved command old new t (Ok status) left → IsDone (ComesTo ⊥ t moved command) status left
+done called p moved (Open until forcing file world) old new t status left never is =
     drawn_done file p (ComesToOpen p t until (forcing_of forcing) file world) (ComesToOpen ⊥ t until (forcing_of forcing) file world) (Did called (OpenReads (forcing_of forcing) file world) old new) t is.0 status left
     (λ x. open_so p ⊥ t until (forcing_of forcing) file world x never) is.1 is.2
-done called p (Take base file replica world) old new t status left never is =
+done called p moved (Take base file replica world) old new t status left never is =
     drawn_done file p (ComesToTake p t base file replica world) (ComesToTake ⊥ t base file replica world) (Did called (TakeReads (presence_of base) (base_word base world) file world) old new) t is.0 status left
     (λ x. take_so p ⊥ t base file replica world x never) is.1 is.2
-done called p (Log length board cell replica since files) old new t status left never is =
+done called p moved (Log length board cell replica since files) old new t status left never is =
     let tell = log_of (length_of length) (filter_of board cell replica since) in
     told_done p (ComesToTell p t tell files) (ComesToTell ⊥ t tell files) t is.0 status left (λ x. tell_so p ⊥ t tell files x never) is.1 is.2
-done called p (Lists listing files) old new t status left never is =
+done called p moved (Lists listing files) old new t status left never is =
     let tell = list_of (listing_of listing) in
     told_done p (ComesToTell p t tell files) (ComesToTell ⊥ t tell files) t is.0 status left (λ x. tell_so p ⊥ t tell files x never) is.1 is.2
-done called p (Show form board files) old new t status left never is =
+done called p moved (Show form board files) old new t status left never is =
     told_done p (ComesToShow p t (form_of form) board files) (ComesToShow ⊥ t (form_of form) board files) t is.0 status left
     (λ x. show_so p ⊥ t (form_of form) board files x never) is.1 is.2
-done called p (Lint strictness files) old new t status left never is =
+done called p moved (Play rows words keys board files) old new t status left never is =
+    play_done p t (request words keys (rows_of rows) board files) moved is.0 status left never is.1 is.2
+done called p moved (Lint strictness files) old new t status left never is =
     lint_done strictness p (ComesToTell p t lint_of files) (ComesToTell ⊥ t lint_of files) t is.0 status left (λ x. tell_so p ⊥ t lint_of files x never) is.1 is.2
-done called p (Set file replica words) old new t status left never is = set_done p t file replica words (wish_of words) status left never is
-done called p (ProgramOf board stat files) old new t status left never is =
+done called p moved (Set file replica words) old new t status left never is = set_done p t file replica words (wish_of words) status left never is
+done called p moved (ProgramOf board stat files) old new t status left never is =
     let tell = printed board stat in
     told_done p (ComesToTell p t tell files) (ComesToTell ⊥ t tell files) t is.0 status left (λ x. tell_so p ⊥ t tell files x never) is.1 is.2
-done called p (SetProgram file replica board stat text) old new t status left never is =
+done called p moved (SetProgram file replica board stat text) old new t status left never is =
     drawn_done text p (ComesToSetProgram p t file replica board stat text) (ComesToSetProgram ⊥ t file replica board stat text) (Did called (SetReads file text) old new) t is.0 status left
     (λ x. set_program_so p ⊥ t file replica board stat text x never) is.1 is.2
 
-stopped : {H : Type 0} (called : H → Call → H → Type 0) (p : Type 0) (command : Command) (old new : H) (t : HostContents) (e : Failure) (left : Option HostContents) → (p → ⊥)
-    → EndsCommand called p command old new t (Err e) left → IsStopped t (ComesTo ⊥ t command) e left
-stopped called p (Open until forcing file world) old new t e left never is =
+stopped : {H : Type 0} (called : H → Call → H → Type 0) (p : Type 0) (moved : Led) (command : Command) (old new : H) (t : HostContents) (e : Failure) (left : Option HostContents) → (p → ⊥)
+    → EndsCommand called p moved command old new t (Err e) left → IsStopped t (ComesTo ⊥ t moved command) e left
+stopped called p moved (Open until forcing file world) old new t e left never is =
     drawn_stopped file p (ComesToOpen p t until (forcing_of forcing) file world) (ComesToOpen ⊥ t until (forcing_of forcing) file world) (Did called (OpenReads (forcing_of forcing) file world) old new) t is.0 e left
     (λ x. open_so p ⊥ t until (forcing_of forcing) file world x never) never is.1 is.2
-stopped called p (Take base file replica world) old new t e left never is =
+stopped called p moved (Take base file replica world) old new t e left never is =
     drawn_stopped file p (ComesToTake p t base file replica world) (ComesToTake ⊥ t base file replica world) (Did called (TakeReads (presence_of base) (base_word base world) file world) old new) t is.0 e left
     (λ x. take_so p ⊥ t base file replica world x never) never is.1 is.2
-stopped called p (Log length board cell replica since files) old new t e left never is =
+stopped called p moved (Log length board cell replica since files) old new t e left never is =
     let tell = log_of (length_of length) (filter_of board cell replica since) in
     told_stopped p (ComesToTell p t tell files) (ComesToTell ⊥ t tell files) t is.0 e left (λ x. tell_so p ⊥ t tell files x never) never is.1 is.2
-stopped called p (Lists listing files) old new t e left never is =
+stopped called p moved (Lists listing files) old new t e left never is =
     let tell = list_of (listing_of listing) in
     told_stopped p (ComesToTell p t tell files) (ComesToTell ⊥ t tell files) t is.0 e left (λ x. tell_so p ⊥ t tell files x never) never is.1 is.2
-stopped called p (Show form board files) old new t e left never is =
+stopped called p moved (Show form board files) old new t e left never is =
     told_stopped p (ComesToShow p t (form_of form) board files) (ComesToShow ⊥ t (form_of form) board files) t is.0 e left
     (λ x. show_so p ⊥ t (form_of form) board files x never) never is.1 is.2
-stopped called p (Lint strictness files) old new t e left never is =
+stopped called p moved (Play rows words keys board files) old new t e left never is =
+    play_stopped p t (request words keys (rows_of rows) board files) moved is.0 e left never is.1 is.2
+stopped called p moved (Lint strictness files) old new t e left never is =
     lint_stopped strictness p (ComesToTell p t lint_of files) (ComesToTell ⊥ t lint_of files) t is.0 e left (λ x. tell_so p ⊥ t lint_of files x never) never is.1 is.2
-stopped called p (Set file replica words) old new t e left never is = set_stopped p t file replica words (wish_of words) e left never is
-stopped called p (ProgramOf board stat files) old new t e left never is =
+stopped called p moved (Set file replica words) old new t e left never is = set_stopped p t file replica words (wish_of words) e left never is
+stopped called p moved (ProgramOf board stat files) old new t e left never is =
     let tell = printed board stat in
     told_stopped p (ComesToTell p t tell files) (ComesToTell ⊥ t tell files) t is.0 e left (λ x. tell_so p ⊥ t tell files x never) never is.1 is.2
-stopped called p (SetProgram file replica board stat text) old new t e left never is =
+stopped called p moved (SetProgram file replica board stat text) old new t e left never is =
     drawn_stopped text p (ComesToSetProgram p t file replica board stat text) (ComesToSetProgram ⊥ t file replica board stat text) (Did called (SetReads file text) old new) t is.0 e left
     (λ x. set_program_so p ⊥ t file replica board stat text x never) never is.1 is.2
 
@@ -224,9 +260,9 @@ told_calmly h text t old new calm at told = elim (told.told t at) [
 ]
 
 -- the line of a failure, or that of want of memory
-refused_calmly : (t : HostContents) (command : Command) (e : Failure) (line : List ℕ) (status : ℕ) (new : Option HostContents) → status ≡ 1
-    → IsLineOf e line → (e ≡ memory) ⊎ ComesTo ⊥ t command (Err e) → new ≡ Some (with_complaint line t) → EndsCalmly t command status new
-refused_calmly t command e line status new is tells why left = elim tells [
+refused_calmly : (t : HostContents) (moved : Led) (command : Command) (e : Failure) (line : List ℕ) (status : ℕ) (new : Option HostContents) → status ≡ 1
+    → IsLineOf e line → (e ≡ memory) ⊎ ComesTo ⊥ t moved command (Err e) → new ≡ Some (with_complaint line t) → EndsCalmly t moved command status new
+refused_calmly t moved command e line status new is tells why left = elim tells [
   | inr lacks ↦ inr (is, left ∙ ap (λ l. Some (with_complaint l t)) lacks.1)
   | inl own ↦ elim why [
     | inl lacks ↦ inr (is, left ∙ ap (λ l. Some (with_complaint l t)) (own ∙ ap line_of lacks))
@@ -234,11 +270,11 @@ refused_calmly t command e line status new is tells why left = elim tells [
   ]
 ]
 
-as_calmly : {H : Type 0} (h : Hosts H) (words : List Text) (command : Command) (t : HostContents) (status : ℕ) (old new : H)
-    → h.contents old ≡ Some t → NothingFailed (h.faults old) (h.faults new) → RunsAs h words (Some command) status old new → EndsCalmly t command status (h.contents new)
-as_calmly h words command t status old new at calm runs = elim runs [
+as_calmly : {H : Type 0} (h : Hosts H) (moved : Led) (words : List Text) (command : Command) (t : HostContents) (status : ℕ) (old new : H)
+    → h.contents old ≡ Some t → NothingFailed (h.faults old) (h.faults new) → RunsAs h moved words (Some command) status old new → EndsCalmly t moved command status (h.contents new)
+as_calmly h moved words command t status old new at calm runs = elim runs [
   | inl carried ↦ (
-      let ended = done h.called _ command old new t status (h.contents new) (no_rise (h.faults old) (h.faults new) (h.faults new) (omega arith) calm) (carried.ends t at) in
+      let ended = done h.called _ moved command old new t status (h.contents new) (no_rise (h.faults old) (h.faults new) (h.faults new) (omega arith) calm) (carried.ends t at) in
       inl (Ok (status, ended.0), ended.1, (refl, ended.2)))
   | inr refused ↦ (
       let rest = refused.1 in
@@ -251,14 +287,14 @@ as_calmly h words command t status old new at calm runs = elim runs [
       let same = calm.0 in
       let low = calm.1 in
       let later : NothingFailed (h.faults mid) (h.faults new) = (omega arith, omega arith) in
-      let before = stopped h.called _ command old mid t e (h.contents mid) (no_rise (h.faults old) (h.faults mid) (h.faults new) more calm) (acted.ends t at) in
-      refused_calmly t command e tells.0 status (h.contents new) refused.0 tells.1 before.1 (told_calmly h tells.0 t mid new later before.0 tells.2))
+      let before = stopped h.called _ moved command old mid t e (h.contents mid) (no_rise (h.faults old) (h.faults mid) (h.faults new) more calm) (acted.ends t at) in
+      refused_calmly t moved command e tells.0 status (h.contents new) refused.0 tells.1 before.1 (told_calmly h tells.0 t mid new later before.0 tells.2))
 ]
 
-pub run_calmly : {H : Type 0} (h : Hosts H) (words : List Text) (command : Command) (t : HostContents) (status : ℕ) (old new : H) → command_of words ≡ Some command
-    → h.contents old ≡ Some t → NothingFailed (h.faults old) (h.faults new) → Runs h words status old new → EndsCalmly t command status (h.contents new)
-run_calmly h words command t status old new asked at calm runs = elim runs [
-  | inl ran ↦ as_calmly h words command t status old new at calm (subst (λ c. RunsAs h words c status old new) asked ran)
+pub run_calmly : {H : Type 0} (h : Hosts H) (moved : Led) (words : List Text) (command : Command) (t : HostContents) (status : ℕ) (old new : H) → command_of words ≡ Some command
+    → h.contents old ≡ Some t → NothingFailed (h.faults old) (h.faults new) → Runs h moved words status old new → EndsCalmly t moved command status (h.contents new)
+run_calmly h moved words command t status old new asked at calm runs = elim runs [
+  | inl ran ↦ as_calmly h moved words command t status old new at calm (subst (λ c. RunsAs h moved words c status old new) asked ran)
   | inr lacks ↦ inr (lacks.0, told_calmly h (line_of memory) t old new calm at lacks.1)
 ]
 
@@ -302,22 +338,23 @@ command_status called (Take base file replica world) status old new asks = drawn
 command_status called (Log length board cell replica since files) status old new asks = told_status asks.0 status asks.2
 command_status called (Lists listing files) status old new asks = told_status asks.0 status asks.2
 command_status called (Show form board files) status old new asks = told_status asks.0 status asks.2
+command_status called (Play rows words keys board files) status old new asks = told_status asks.0 status asks.2
 command_status called (Lint strictness files) status old new asks = linted_status strictness asks.0 status asks.2
 command_status called (Set file replica words) status old new asks = set_status called file words (wish_of words) status old new asks
 command_status called (ProgramOf board stat files) status old new asks = told_status asks.0 status asks.2
 command_status called (SetProgram file replica board stat text) status old new asks = drawn_status text asks.0 status asks.2
 
-as_accepted : {H : Type 0} (h : Hosts H) (words : List Text) (command : Option Command) (status : ℕ) (old new : H) → IsSome command → RunsAs h words command status old new
+as_accepted : {H : Type 0} (h : Hosts H) (moved : Led) (words : List Text) (command : Option Command) (status : ℕ) (old new : H) → IsSome command → RunsAs h moved words command status old new
     → (status ≡ 0) ⊎ (status ≡ 1)
-as_accepted h words None status old new some ran = absurd (cc)
-as_accepted h words (Some command) status old new some ran = elim ran [
+as_accepted h moved words None status old new some ran = absurd (cc)
+as_accepted h moved words (Some command) status old new some ran = elim ran [
   | inl carried ↦ command_status h.called command status old new carried.asked
   | inr refused ↦ inr refused.0
 ]
 
-pub run_accepted : {H : Type 0} (h : Hosts H) (words : List Text) (status : ℕ) (old new : H) → IsSome (command_of words) → Runs h words status old new → (status ≡ 0) ⊎ (status ≡ 1)
-run_accepted h words status old new some runs = elim runs [
-  | inl ran ↦ as_accepted h words (command_of words) status old new some ran
+pub run_accepted : {H : Type 0} (h : Hosts H) (moved : Led) (words : List Text) (status : ℕ) (old new : H) → IsSome (command_of words) → Runs h moved words status old new → (status ≡ 0) ⊎ (status ≡ 1)
+run_accepted h moved words status old new some runs = elim runs [
+  | inl ran ↦ as_accepted h moved words (command_of words) status old new some ran
   | inr lacks ↦ inr lacks.0
 ]
 
@@ -328,9 +365,9 @@ no_command : (words : List Text) (k : ErrorKind) → fault_of tool_app words ≡
 unfolding command_of
 no_command words k is = ap (λ (ks : Kinds). unless_refused ks (option_and_then subcommand_asks (subcommand_of tool_app words))) is
 
-pub run_helped : {H : Type 0} (h : Hosts H) (words : List Text) (status : ℕ) (old new : H) → AsksHelp words → Runs h words status old new → (status ≡ 0) ⊎ (status ≡ 1)
-run_helped h words status old new help runs = elim runs [
-  | inl ran ↦ elim (subst (λ c. RunsAs h words c status old new) (no_command words kind.DisplayHelp help) ran) [
+pub run_helped : {H : Type 0} (h : Hosts H) (moved : Led) (words : List Text) (status : ℕ) (old new : H) → AsksHelp words → Runs h moved words status old new → (status ≡ 0) ⊎ (status ≡ 1)
+run_helped h moved words status old new help runs = elim runs [
+  | inl ran ↦ elim (subst (λ c. RunsAs h moved words c status old new) (no_command words kind.DisplayHelp help) ran) [
     | inl refused ↦ absurd (refused.1 help)
     | inr other ↦ elim other [
       | inl helped ↦ (let printed = helped.1 in printed_status h printed.0 status old new printed.1)
@@ -347,10 +384,10 @@ no_help kinds is among = elim (subst (λ ks. IsAmong kind.DisplayHelp ks) is amo
   | inr none ↦ none
 ]
 
-pub run_versioned : {H : Type 0} (h : Hosts H) (words : List Text) (status : ℕ) (old new : H) → AsksVersion words → Runs h words status old new
+pub run_versioned : {H : Type 0} (h : Hosts H) (moved : Led) (words : List Text) (status : ℕ) (old new : H) → AsksVersion words → Runs h moved words status old new
     → PrintsText h version_text status old new ⊎ ((status ≡ 1) × Complained h (line_of memory) old new)
-run_versioned h words status old new version runs = elim runs [
-  | inl ran ↦ elim (subst (λ c. RunsAs h words c status old new) (no_command words kind.DisplayVersion version) ran) [
+run_versioned h moved words status old new version runs = elim runs [
+  | inl ran ↦ elim (subst (λ c. RunsAs h moved words c status old new) (no_command words kind.DisplayVersion version) ran) [
     | inl refused ↦ absurd (refused.2 version)
     | inr other ↦ elim other [
       | inl helped ↦ absurd (no_help (fault_of tool_app words) version helped.0)

@@ -26,6 +26,7 @@ use Rattle.zed_drawing.specs.Files.{FileEdits, IsOpened, IsWorld, OfFile, OpensA
 use Rattle.zed_drawing.specs.Refusals.{take_refusal}
 use Rattle.zed_drawing.specs.Steps.{Steps, Then}
 use Rattle.zed_drawing.specs.Taking.{ComesToTake, Draws, Gathers, Given, IsJoined, IsTaken, TakesFrom, drawn, given}
+use Rattle.zed_playing.specs.Led.{Led}
 use Rattle.zed_tool_words.specs.Commands.{Take}
 use Rattle.zed_tool.specs.Calm.{EndsCalmly, HasStatus, left_by}
 use Rattle.zed_tool.specs.Taking.{AsksToTake, TakesSet}
@@ -198,10 +199,10 @@ draws_of law words t name file replica number own based shown x asks comes =
     draws_set name file replica number (set_of own) (set_of based) shown x (sets_agree own based asks.agree) (then_ok (Draws name file replica) at.0 _ x is at.2)
 
 -- and `run` ends so
-pub run_takes : WrittenIsRead → (words : List (List ℕ)) (t : HostContents) (name file : List ℕ) (replica number : ℕ) (own based : List Edit) (shown : Contents) (status : ℕ)
+pub run_takes : WrittenIsRead → (moved : Led) (words : List (List ℕ)) (t : HostContents) (name file : List ℕ) (replica number : ℕ) (own based : List Edit) (shown : Contents) (status : ℕ)
     (new : Option HostContents) → (asks : AsksToTake words t name file replica number own based shown)
-    → EndsCalmly t (Take asks.base file replica asks.world) status new → TakesSet name file t replica number (set_of own) (set_of based) shown status new
-run_takes law words t name file replica number own based shown status new asks ended = elim ended [
+    → EndsCalmly t moved (Take asks.base file replica asks.world) status new → TakesSet name file t replica number (set_of own) (set_of based) shown status new
+run_takes law moved words t name file replica number own based shown status new asks ended = elim ended [
   | inl done ↦ (
       let comes = done.1 in
       taken_set name file t replica number (set_of own) (set_of based) shown comes.0 status new

@@ -12,16 +12,12 @@ use Rattle.zed_tool_words.specs.declared.asked.Forcing.{Forcing as ForcingWord}
 use Rattle.zed_tool_words.specs.declared.asked.Forcing.TheVariants.{Careful, Forced}
 use Rattle.zed_tool_words.specs.declared.asked.Form.{Form as FormWord}
 use Rattle.zed_tool_words.specs.declared.asked.Form.TheVariants.{Coloured, Plain, Svg}
-use Rattle.zed_playing.specs.declared.opening.Going.{Going}
-use Rattle.zed_playing.specs.declared.opening.Going.TheVariants as playing
-use Rattle.zed_tool_words.specs.declared.asked.Going.{Going as GoingWord}
-use Rattle.zed_tool_words.specs.declared.asked.Going.TheVariants.{Stays, On}
 use Rattle.zed_tool_words.specs.declared.asked.Length.{Length as LengthWord}
 use Rattle.zed_tool_words.specs.declared.asked.Length.TheVariants.{Short, Full}
 use Rattle.zed_tool_words.specs.declared.asked.Listing.{Listing as ListingWords}
 use Rattle.zed_tool_words.specs.declared.asked.Listing.TheVariants.{Boards, Stats, Program}
 use Rattle.zed_tool_words.specs.Commands.{Command, Open, Take, Log, Lists, Show, Play, Lint, Set, ProgramOf, SetProgram}
-use Rattle.std.specs.Prelude.{◌≡◌, ℕ, List, [], ◌∷◌, Option, Some, Result, Ok, Err, IfOk}
+use Rattle.std.specs.Prelude.{◌≡◌, ℕ, Bool, true, false, List, [], ◌∷◌, ◌++◌, Option, Some, None, Result, Ok, Err}
 use Rattle.zed_host.specs.Calls.{Call, Printing}
 use Rattle.zed_host.specs.HostContents.{HostContents}
 use Rattle.zed_files.specs.declared.refusal.Refusal.{Refusal}
@@ -36,6 +32,9 @@ use Rattle.zed_set_words.specs.declared.bad.BadWord.{BadWord as WrongWord}
 use Rattle.zed_set_words.specs.declared.wishes.Wish.{Wish}
 use Rattle.zed_set_words.specs.Rows.{wish_of}
 use Rattle.zed_set.specs.Setting.{ComesToSet}
+use Rattle.zed_playing.specs.Asking.{AsksPlay, keeping}
+use Rattle.zed_playing.specs.Ending.{EndsPlay, request}
+use Rattle.zed_playing.specs.Led.{Led}
 use Rattle.zed_programs.specs.Printed.{printed}
 use Rattle.zed_programs.specs.Setting.{ComesToSet as ComesToSetProgram, SetReads, SetWrites}
 use Rattle.zed_drawing.specs.Asked.{Asks, Did}
@@ -44,7 +43,6 @@ use Rattle.zed_drawing.specs.Effects.{Ends}
 use Rattle.zed_drawing.specs.Opening.{ComesToOpen, OpenReads, OpenWrites}
 use Rattle.zed_drawing.specs.Taking.{ComesToTake, TakeReads, TakeWrites}
 use Rattle.zed_tool.specs.Answers.{Answer, Handed, drawn_as, linted_as, told_as, wrong_word}
-use Rattle.zed_tool.specs.Playing.{EndsPlay, Playtests, rows_of}
 
 -- ---- what words ask for, as the commands take it
 
@@ -59,11 +57,6 @@ listing_of Boards = telling.Boards
 listing_of (Stats b) = telling.Stats b
 listing_of (Program b s) = telling.Program b s
 
--- whether a playtest goes on over boards
-abbrev pub going_of : GoingWord → Going
-going_of Stays = playing.Stays
-going_of On = playing.On
-
 -- how much of the line of a world is printed
 abbrev pub length_of : LengthWord → Length
 length_of Short = log.Short
@@ -74,6 +67,21 @@ abbrev pub form_of : FormWord → Form
 form_of Coloured = look.Coloured
 form_of Plain = look.Plain
 form_of Svg = look.Svg
+
+-- how many rows a terminal has, 27 if that isn't told
+abbrev pub rows_of : Option ℕ → ℕ
+rows_of (Some rows) = rows
+rows_of None = 27
+
+-- whether a command plays a board
+abbrev pub is_playtest : Command → Bool
+is_playtest (Play rows words keys board files) = true
+is_playtest _ = false
+
+-- whether words ask for that
+abbrev pub plays : Option Command → Bool
+plays (Some command) = is_playtest command
+plays None = false
 
 -- the filter of these words
 abbrev pub filter_of : Option ℕ → Option (ℕ × ℕ × ℕ) → Option ℕ → Option ℕ → Filter
@@ -100,29 +108,29 @@ AsksSet called file words (Ok wish) answer old new =
     Handed told_as (λ r. AsksFiles called (reading (file ∷ [])) (writing file) (refusal_in r) old new) answer
 AsksSet called file words (Err bad) answer old new = (answer ≡ Err (wrong_word words bad)) × (new ≡ old)
 
--- so a command ends, with this in its host, where its devices lead to such playtests
-abbrev pub EndsCommand : {H : Type 0} → (H → Call → H → Type 0) → Playtests → Type 0 → Command → H → H → HostContents → Answer → Option HostContents → Type 0
-EndsCommand called played failed (Open until forcing file world) old new t answer left =
+-- so a command ends, with this in its host, where devices are led so
+abbrev pub EndsCommand : {H : Type 0} → (H → Call → H → Type 0) → Type 0 → Led → Command → H → H → HostContents → Answer → Option HostContents → Type 0
+EndsCommand called failed moved (Open until forcing file world) old new t answer left =
     Handed (drawn_as file) (λ r. Ends failed (ComesToOpen failed t until (forcing_of forcing) file world)
     (Did called (OpenReads (forcing_of forcing) file world) old new) t r left) answer
-EndsCommand called played failed (Take base file replica world) old new t answer left =
+EndsCommand called failed moved (Take base file replica world) old new t answer left =
     Handed (drawn_as file) (λ r. Ends failed (ComesToTake failed t base file replica world)
     (Did called (TakeReads (presence_of base) (base_word base world) file world) old new) t r left) answer
-EndsCommand called played failed (Log length board cell replica since files) old new t answer left =
+EndsCommand called failed moved (Log length board cell replica since files) old new t answer left =
     EndsTold failed (ComesToTell failed t (log_of (length_of length) (filter_of board cell replica since)) files) t answer left
-EndsCommand called played failed (Lists listing files) old new t answer left = EndsTold failed (ComesToTell failed t (list_of (listing_of listing)) files) t answer left
-EndsCommand called played failed (Show form board files) old new t answer left = EndsTold failed (ComesToShow failed t (form_of form) board files) t answer left
-EndsCommand called played failed (Play going rows words keys board files) old new t answer left =
-    EndsPlay failed (played failed t words keys (going_of going) (rows_of rows) board files) answer left
-EndsCommand called played failed (Lint strictness files) old new t answer left =
+EndsCommand called failed moved (Lists listing files) old new t answer left = EndsTold failed (ComesToTell failed t (list_of (listing_of listing)) files) t answer left
+EndsCommand called failed moved (Show form board files) old new t answer left = EndsTold failed (ComesToShow failed t (form_of form) board files) t answer left
+EndsCommand called failed moved (Play rows words keys board files) old new t answer left =
+    Handed told_as (λ r. EndsPlay failed t (request words keys (rows_of rows) board files) moved r left) answer
+EndsCommand called failed moved (Lint strictness files) old new t answer left =
     Handed (linted_as strictness) (λ r. EndsCounted failed (ComesToTell failed t lint_of files) t r left) answer
-EndsCommand called played failed (Set file replica words) old new t answer left = EndsSet failed t file replica words (wish_of words) answer left
-EndsCommand called played failed (ProgramOf board stat files) old new t answer left = EndsTold failed (ComesToTell failed t (printed board stat) files) t answer left
-EndsCommand called played failed (SetProgram file replica board stat text) old new t answer left =
+EndsCommand called failed moved (Set file replica words) old new t answer left = EndsSet failed t file replica words (wish_of words) answer left
+EndsCommand called failed moved (ProgramOf board stat files) old new t answer left = EndsTold failed (ComesToTell failed t (printed board stat) files) t answer left
+EndsCommand called failed moved (SetProgram file replica board stat text) old new t answer left =
     Handed (drawn_as text) (λ r. Ends failed (ComesToSetProgram failed t file replica board stat text)
     (Did called (SetReads file text) old new) t r left) answer
 
--- and this it asks of its host, call by call; of a playtest only its status is told here
+-- and this it asks of its host, call by call
 abbrev pub AsksCommand : {H : Type 0} → (H → Call → H → Type 0) → Command → Answer → H → H → Type 0
 AsksCommand called (Open until forcing file world) answer old new =
     Handed (drawn_as file) (λ r. Asks called (OpenReads (forcing_of forcing) file world) (OpenWrites world) r old new) answer
@@ -131,7 +139,8 @@ AsksCommand called (Take base file replica world) answer old new =
 AsksCommand called (Log length board cell replica since files) answer old new = AsksTold called files answer old new
 AsksCommand called (Lists listing files) answer old new = AsksTold called files answer old new
 AsksCommand called (Show form board files) answer old new = AsksTold called files answer old new
-AsksCommand called (Play going rows words keys board files) answer old new = IfOk answer (λ status. status ≡ 0)
+AsksCommand called (Play rows words keys board files) answer old new =
+    Handed told_as (λ r. AsksPlay called words keys files (keeping words keys ++ Printing ∷ []) (refusal_in r) old new) answer
 AsksCommand called (Lint strictness files) answer old new =
     Handed (linted_as strictness) (λ r. AsksFiles called (reading files) (Printing ∷ []) (refusal_in r) old new) answer
 AsksCommand called (Set file replica words) answer old new = AsksSet called file words (wish_of words) answer old new

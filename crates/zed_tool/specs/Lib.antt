@@ -3,5 +3,4 @@ pub mod Calm
 pub mod Commands
 pub mod Lines
 pub mod Outcome
-pub mod Playing
 pub mod Taking

@@ -4,12 +4,12 @@ use Rattle.clap.specs.Walk.{Text}
 use Rattle.zed_host.specs.Calls.{Call, Complaining, Printing, call}
 use Rattle.zed_host.specs.Counting.{Rose}
 use Rattle.zed_host.specs.HostContents.{HalfComplained, HalfPrinted, HostContents, StillTells, with_complaint, with_printed}
+use Rattle.zed_playing.specs.Led.{Led}
 use Rattle.zed_tool_words.specs.Commands.{AsksHelp, AsksVersion, Command, MayAskHelp, MayAskVersion, command_of}
 use Rattle.zed_tool_words.specs.Version.{version_text}
 use Rattle.zed_tool.specs.Answers.{Answer, Failure, file_failed, memory}
 use Rattle.zed_tool.specs.Commands.{AsksCommand, EndsCommand}
 use Rattle.zed_tool.specs.Lines.{line_of, tells_more}
-use Rattle.zed_tool.specs.Playing.{Playtests}
 
 -- what hosts tell: what they hold, their calls, how many of these failed, and how many by a fault
 pub record Hosts (H : Type 0) : Type 1 where
@@ -31,11 +31,11 @@ abbrev pub TellsFailures : {H : Type 0} → (H → ℕ) → (H → ℕ) → Answ
 TellsFailures faults failed answer old new =
     (faults old ≤ faults new) × (failed old ≤ failed new) × IfErr answer (λ e. e ≡ file_failed → Rose (failed old) (failed new))
 
--- a command that answered this led from the one state of a host to the other: what it left, what it asked for, call by call, and that it forgot
--- no failure
-pub record Acted {H : Type 0} (h : Hosts H) (played : Playtests) (command : Command) (answer : Answer) (old new : H) : Type 0 where
+-- a command that answered this led from the one state of a host to the other, and devices so: what it left, what it asked for, call by call,
+-- and that it forgot no failure
+pub record Acted {H : Type 0} (h : Hosts H) (moved : Led) (command : Command) (answer : Answer) (old new : H) : Type 0 where
   pub ends : (t : HostContents) → h.contents old ≡ Some t
-      → EndsCommand h.called played (Rose (h.faults old) (h.faults new)) command old new t answer (h.contents new)
+      → EndsCommand h.called (Rose (h.faults old) (h.faults new)) moved command old new t answer (h.contents new)
   pub asked : AsksCommand h.called command answer old new
   pub failures : TellsFailures h.faults h.failed answer old new
 
@@ -61,7 +61,7 @@ pub record FailedToPrint {H : Type 0} (h : Hosts H) (text : List ℕ) (old new :
   pub asked : h.called old (call Printing true) new
   pub failures : Rose (h.faults old) (h.faults new) × Rose (h.failed old) (h.failed new)
 
--- the line of a failure; where it tells a word or the name of a file memory may run out for it, and then its line says so
+-- the line of a failure; where it tells more than a name memory may run out for it, and then its line says so
 abbrev pub IsLineOf : Failure → List ℕ → Type 0
 IsLineOf e line = (line ≡ line_of e) ⊎ ((tells_more e ≡ true) × (line ≡ line_of memory))
 
@@ -70,10 +70,10 @@ abbrev pub TellsOf : {H : Type 0} → Hosts H → Failure → H → H → Type 0
 TellsOf h e old new = (line : List ℕ) × IsLineOf e line × Complained h line old new
 
 -- a command is carried out with its status; or it isn't, with status 1, and then the user is told why
-abbrev pub RunsCommand : {H : Type 0} → Hosts H → Playtests → Command → ℕ → H → H → Type 0
-RunsCommand h played command status old new =
-    Acted h played command (Ok status) old new
-    ⊎ ((status ≡ 1) × ((e : Failure) × (mid : _) × Acted h played command (Err e) old mid × TellsOf h e mid new))
+abbrev pub RunsCommand : {H : Type 0} → Hosts H → Led → Command → ℕ → H → H → Type 0
+RunsCommand h moved command status old new =
+    Acted h moved command (Ok status) old new
+    ⊎ ((status ≡ 1) × ((e : Failure) × (mid : _) × Acted h moved command (Err e) old mid × TellsOf h e mid new))
 
 -- a text is printed with status 0; where that failed the status is 1
 abbrev pub Prints : {H : Type 0} → Hosts H → List ℕ → ℕ → H → H → Type 0
@@ -89,11 +89,11 @@ RunsOther h words status old new =
     ⊎ (MayAskVersion words × Prints h version_text status old new)
 
 -- what words come to that ask for a command, or for none
-abbrev pub RunsAs : {H : Type 0} → Hosts H → Playtests → List Text → Option Command → ℕ → H → H → Type 0
-RunsAs h played words (Some command) status old new = RunsCommand h played command status old new
-RunsAs h played words None status old new = RunsOther h words status old new
+abbrev pub RunsAs : {H : Type 0} → Hosts H → Led → List Text → Option Command → ℕ → H → H → Type 0
+RunsAs h moved words (Some command) status old new = RunsCommand h moved command status old new
+RunsAs h moved words None status old new = RunsOther h words status old new
 
 -- the whole of a run; with status 1 memory may run out before anything is done
-abbrev pub Runs : {H : Type 0} → Hosts H → Playtests → List Text → ℕ → H → H → Type 0
-Runs h played words status old new =
-    RunsAs h played words (command_of words) status old new ⊎ ((status ≡ 1) × Complained h (line_of memory) old new)
+abbrev pub Runs : {H : Type 0} → Hosts H → Led → List Text → ℕ → H → H → Type 0
+Runs h moved words status old new =
+    RunsAs h moved words (command_of words) status old new ⊎ ((status ≡ 1) × Complained h (line_of memory) old new)

@@ -5,7 +5,6 @@ mod answers;
 mod asked;
 mod error;
 mod lines;
-mod playing;
 mod program;
 
 pub use program::run;

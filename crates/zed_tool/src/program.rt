@@ -1,31 +1,30 @@
 //! The program, over any host.
-ghost use Rattle.std.specs.Prelude.{◌≡◌, ◌≤◌, ◌⊎◌, ℕ, IsSome, List, None, Some, drop, false, map, string_bytes};
+ghost use Rattle.std.specs.Prelude.{◌≡◌, ◌≤◌, ◌⊎◌, ℕ, IsSome, List, Some, false, map, string_bytes};
 ghost use Rattle.zed_op.specs.declared.op.Edit.{Edit as TheEdit};
 ghost use Rattle.zed_op.specs.Set.{set_of};
 ghost use Rattle.zed_world.specs.Contents.{Contents};
 ghost use Rattle.zed_host.specs.Counting.{NothingFailed, Rose};
 ghost use Rattle.zed_host.specs.HostContents.{HostContents};
-ghost use Rattle.zed_turns.specs.Stage.{stage};
+ghost use Rattle.zed_playing.specs.Led.{devices, led};
 ghost use Rattle.zed_tool_words.specs.Commands.{AsksHelp, AsksVersion, Command as Asked, command_of, meaning_of};
 ghost use Rattle.zed_tool_words.specs.Version.{version_text};
 ghost use Rattle.zed_tool.specs.Answers.{answer_of, failure_of, memory};
 ghost use Rattle.zed_tool.specs.Calm.{EndsCalmly};
-ghost use Rattle.zed_tool.specs.Commands.{AsksCommand, EndsCommand};
+ghost use Rattle.zed_tool.specs.Commands.{AsksCommand, EndsCommand, is_playtest, plays};
 ghost use Rattle.zed_tool.specs.Lines.{line_of as line_for};
-ghost use Rattle.zed_tool.specs.Playing.{between, is_playtest, plays};
 ghost use Rattle.zed_tool.specs.Taking.{AsksToTake, TakesSet};
 ghost use Rattle.zed_tool.specs.Outcome.{Complained, Prints, Runs, TellsFailures, TellsOf, hosts};
 
 use crate::answers::{drawn, linted, set_told, told};
-use crate::asked::{forcing_of, form_of, going_of, length_of, listing_of};
+use crate::asked::{forcing_of, form_of, length_of, listing_of, rows_of};
 use crate::error::ToolError;
 use crate::lines::{line_of, plain_line};
-use crate::playing::{playtest, rows_of};
 use std::alloc::Global;
 use zed_drawing::{open, take};
 use zed_editfile::one_reading;
 use zed_files::Refusal;
 use zed_host::Host;
+use zed_playing::play;
 use zed_programs::set_program;
 use zed_set::set;
 use zed_showing::show;
@@ -66,12 +65,8 @@ fn act<'a, H: Host, T: Terminal, I: Inputs, C: Chance>(
     command: &Command<'a>,
 ) -> Result<u8, ToolError<'a>>
     ensures ends { (t : HostContents) → H.contents host.old ≡ Some t
-        → let before = stage (T.drawn console.old.terminal) (T.draws_foretell console.old.terminal)
-        (I.left console.old.inputs.source) None (C.to_come console.old.chance) in
-        let rest = drop console.new.inputs.taken console.new.inputs.kept.items in
-        let after = stage (T.drawn console.new.terminal) (T.draws_foretell console.new.terminal)
-        (I.left console.new.inputs.source) None (C.to_come console.new.chance) in
-        EndsCommand H.called (between before rest after) (Rose (H.faults host.old) (H.faults host.new))
+        → EndsCommand H.called (Rose (H.faults host.old) (H.faults host.new))
+        (led (devices T.drawn T.draws_foretell I.left C.to_come) console.old console.new)
         (meaning_of command.now) host.old host.new t (answer_of result) (H.contents host.new) }
     ensures asked { AsksCommand H.called (meaning_of command.now) (answer_of result)
         host.old host.new }
@@ -127,23 +122,21 @@ fn act<'a, H: Host, T: Terminal, I: Inputs, C: Chance>(
             files.as_slice(),
         )),
         Command::Play {
-            going,
             rows,
             words,
             keys,
             board,
             files,
-        } => playtest(
+        } => told(play(
             alloc,
             host,
-            console,
             *words,
             *keys,
-            going_of(*going),
             rows_of(*rows),
             *board,
             files.as_slice(),
-        ),
+            console,
+        )),
         Command::Lint { strictness, files } => {
             linted(*strictness, lint(alloc, host, files.as_slice()))
         }
@@ -192,12 +185,8 @@ fn run_words<H: Host, T: Terminal, I: Inputs, C: Chance>(
     host: &mut H,
     console: &mut Console<T, I, C>,
 ) -> u8
-    ensures runs { let before = stage (T.drawn console.old.terminal) (T.draws_foretell console.old.terminal)
-        (I.left console.old.inputs.source) None (C.to_come console.old.chance) in
-        let rest = drop console.new.inputs.taken console.new.inputs.kept.items in
-        let after = stage (T.drawn console.new.terminal) (T.draws_foretell console.new.terminal)
-        (I.left console.new.inputs.source) None (C.to_come console.new.chance) in
-        Runs (hosts H.contents H.called H.failed H.faults) (between before rest after)
+    ensures runs { Runs (hosts H.contents H.called H.failed H.faults)
+        (led (devices T.drawn T.draws_foretell I.left C.to_come) console.old console.new)
         (map string_bytes words.now) result host.old host.new }
     ensures idle { plays (command_of (map string_bytes words.now)) ≡ false
         → console.new ≡ console.old }
@@ -237,14 +226,10 @@ pub fn run<H: Host, T: Terminal, I: Inputs, C: Chance>(
     host: &mut H,
     console: &mut Console<T, I, C>,
 ) -> u8
-    // What is left in a host that tells what it holds, what was asked of it, call by call, and that no failure was forgotten; and where
-    // the devices of a playtest were led.
-    ensures runs { let before = stage (T.drawn console.old.terminal) (T.draws_foretell console.old.terminal)
-        (I.left console.old.inputs.source) None (C.to_come console.old.chance) in
-        let rest = drop console.new.inputs.taken console.new.inputs.kept.items in
-        let after = stage (T.drawn console.new.terminal) (T.draws_foretell console.new.terminal)
-        (I.left console.new.inputs.source) None (C.to_come console.new.chance) in
-        Runs (hosts H.contents H.called H.failed H.faults) (between before rest after)
+    // What is left in a host that tells what it holds, what was asked of it, call by call, and that no failure was forgotten; and where the
+    // devices of a playtest were led.
+    ensures runs { Runs (hosts H.contents H.called H.failed H.faults)
+        (led (devices T.drawn T.draws_foretell I.left C.to_come) console.old console.new)
         (map string_bytes words.now) result host.old host.new }
 
     // The devices are called only where words ask to play, and the terminal is left then.
@@ -253,17 +238,17 @@ pub fn run<H: Host, T: Terminal, I: Inputs, C: Chance>(
     ensures left { T.is_entered console.old.terminal ≡ false
         → T.is_entered console.new.terminal ≡ false }
 
-    // Where the `failures()` of the host stay as they were, nothing failed; of a playtest it isn't told which calls it makes.
-    ensures calm { plays (command_of (map string_bytes words.now)) ≡ false
-        → H.faults host.old ≤ H.failed host.old
+    // Where its `failures()` stay as they were, nothing failed.
+    ensures calm { H.faults host.old ≤ H.failed host.old
         → NothingFailed (H.failed host.old) (H.failed host.new)
         → NothingFailed (H.faults host.old) (H.faults host.new) }
 
     // Where nothing fails.
     ensures ends_calmly { (t : HostContents) (command : Asked)
-        → command_of (map string_bytes words.now) ≡ Some command → is_playtest command ≡ false
+        → command_of (map string_bytes words.now) ≡ Some command
         → H.contents host.old ≡ Some t → NothingFailed (H.faults host.old) (H.faults host.new)
-        → EndsCalmly t command result (H.contents host.new) }
+        → EndsCalmly t (led (devices T.drawn T.draws_foretell I.left C.to_come) console.old console.new)
+        command result (H.contents host.new) }
 
     // However the words ask to take: where FILE and its base spell lists of edits of one world that agree, what counts is the set of the one
     // and of the other; edits are added to both that lead from what the base shows to WORLD.

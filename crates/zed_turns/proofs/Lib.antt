@@ -1,4 +1,4 @@
-pub mod Again
+mod Again
 mod Coming
 mod Messages
 mod Queued

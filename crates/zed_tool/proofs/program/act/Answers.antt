@@ -63,6 +63,19 @@ returns-in-Show-clause-asked g c =
 pub returns-in-Show-clause-failures : goal.returns-in-Show-clause-failures
 returns-in-Show-clause-failures g c = told_tells g.H.Host.faults g.H.Host.failed c.show.result _ _ _ c.told-in-Show.ensures c.show.ensures.failures
 
+pub returns-in-Play-clause-ends : goal.returns-in-Play-clause-ends
+returns-in-Play-clause-ends g c = λ t at.
+    let ended = c.play.ensures.ends t at in
+    rw c.in-Play.is (c.play.result, rw (c.rows_of.ensures, c.as_slice-in-Play.ensures.value) at ended, c.told-in-Play.ensures)
+
+pub returns-in-Play-clause-asked : goal.returns-in-Play-clause-asked
+returns-in-Play-clause-asked g c =
+    let asked = c.play.ensures.asked in
+    rw c.in-Play.is (c.play.result, rw c.as_slice-in-Play.ensures.value at asked, c.told-in-Play.ensures)
+
+pub returns-in-Play-clause-failures : goal.returns-in-Play-clause-failures
+returns-in-Play-clause-failures g c = told_tells g.H.Host.faults g.H.Host.failed c.play.result _ _ _ c.told-in-Play.ensures c.play.ensures.failures
+
 pub returns-in-Lint-clause-ends : goal.returns-in-Lint-clause-ends
 returns-in-Lint-clause-ends g c = λ t at.
     let ended = c.lint.ensures.ends t at in

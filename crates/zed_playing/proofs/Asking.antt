@@ -1,0 +1,139 @@
+-- What a playtest that is kept asked of its host.
+use Rattle.zed_files.specs.declared.refusal.Refusal.{Refusal}
+use Rattle.zed_files.specs.declared.refusal.Refusal.TheVariants.{File, Memory}
+use Rattle.std.proofs.Common.{◌≡◌, ◌≢◌, ◌∙◌, ℕ, true, false, List, [], ◌∷◌, ◌++◌, Option, Some, None, ap, append_assoc, append-nil, map, refl, subst, sym, inl, inr}
+use Rattle.std.specs.Prelude.{◌⊎◌}
+use Rattle.std.proofs.lemmas.List.{map-append}
+use Rattle.zed_host.specs.Calls.{Ask, Call, Leads, Writing, call, failed_at, passed}
+use Rattle.zed_host.proofs.Calls.{leads_then, passed_then}
+use Rattle.zed_files.specs.Asked.{Asked, Asks, Begun, BrokenOff, FailedAtEnd, named, reading}
+use Rattle.zed_files.proofs.Asked.{asks_nothing}
+use Rattle.zed_files.proofs.Failures.{memory_is_other}
+use Rattle.zed_playing.specs.Asking.{AsksBehind, AsksKept, AsksNoMore, AsksPlay, IsLost, Sought, keeping}
+
+-- ---- what comes behind what is kept
+
+-- other calls in place of those that came last
+pub behind_same : {H : Type 0} (called : H → Call → H → Type 0) (words keys : Option (List ℕ)) (Later Next : Option Refusal → H → H → Type 0) (told : Option Refusal) (old new : H)
+    → AsksBehind called words keys Later told old new → ((mid : H) → Later told mid new → Next told mid new) → AsksBehind called words keys Next told old new
+behind_same called words keys Later Next told old new asks next = elim asks [
+  | inl lost ↦ inl lost
+  | inr first ↦ (
+      let second = first.2 in
+      inr (first.0, first.1, elim second [
+        | inl lost ↦ inl lost
+        | inr both ↦ inr (both.0, both.1, next both.0 both.2)
+      ]))
+]
+
+-- and more behind them, where they passed
+pub behind_more : {H : Type 0} (called : H → Call → H → Type 0) (words keys : Option (List ℕ)) (Later Next : Option Refusal → H → H → Type 0) (told : Option Refusal) (old mid new : H)
+    → AsksBehind called words keys Later None old mid → ((last : H) → Later None last mid → Next told last new) → AsksBehind called words keys Next told old new
+behind_more called words keys Later Next told old mid new asks next = elim asks [
+  | inl lost ↦ absurd (let no : None ≡ Some lost.0 = lost.1 in cc)
+  | inr first ↦ (
+      let second = first.2 in
+      inr (first.0, first.1, elim second [
+        | inl lost ↦ absurd (let no : None ≡ Some lost.0 = lost.1 in cc)
+        | inr both ↦ inr (both.0, both.1, next both.0 both.2)
+      ]))
+]
+
+-- the first couldn't be had
+pub first_lost : {H : Type 0} (called : H → Call → H → Type 0) (words keys : Option (List ℕ)) (Later : Option Refusal → H → H → Type 0) (e : Refusal) (old new : H)
+    → AsksKept called words (Some e) old new → AsksBehind called words keys Later (Some e) old new
+first_lost called words keys Later e old new lost = inl (e, refl, lost)
+
+-- or the second
+pub second_lost : {H : Type 0} (called : H → Call → H → Type 0) (words keys : Option (List ℕ)) (Later : Option Refusal → H → H → Type 0) (e : Refusal) (old mid new : H)
+    → AsksKept called words None old mid → AsksKept called keys (Some e) mid new → AsksBehind called words keys Later (Some e) old new
+second_lost called words keys Later e old mid new first lost = inr (mid, first, inl (e, refl, lost))
+
+-- both were had
+pub both_had : {H : Type 0} (called : H → Call → H → Type 0) (words keys : Option (List ℕ)) (told : Option Refusal) (old mid new : H)
+    → AsksKept called words None old mid → AsksKept called keys None mid new → (told ≡ None) ⊎ (told ≡ Some Memory) → AsksBehind called words keys AsksNoMore told old new
+both_had called words keys told old mid new first second why = inr (mid, first, inr (new, second, (refl, why)))
+
+-- ---- calls one after the other
+
+no_calls : (calls : List Call) → BrokenOff [] calls → ⊥
+no_calls calls broken = go broken.0 broken.1 broken.2 broken.3
+  where
+    go : (front : List Ask) (ask : Ask) (rest : List Ask) → [] ≡ front ++ ask ∷ rest → ⊥
+    go [] ask rest is = let no : [] ≡ ask ∷ rest = is in cc
+    go (first ∷ front) ask rest is = let no : [] ≡ first ∷ (front ++ ask ∷ rest) = is in cc
+
+-- last calls that failed are among those with others behind them
+broken_on : (last more : List Ask) (calls : List Call) → BrokenOff last calls → BrokenOff (last ++ more) calls
+broken_on last more calls broken =
+    (broken.0, broken.1, broken.2 ++ more, ap (λ asks. asks ++ more) broken.3 ∙ append_assoc broken.0 (broken.1 ∷ broken.2) more, broken.4)
+
+-- and with others in front of them
+broken_after : (last more : List Ask) (calls : List Call) → BrokenOff more calls → BrokenOff (last ++ more) (passed last ++ calls)
+broken_after last more calls broken =
+    let whole : last ++ more ≡ (last ++ broken.0) ++ broken.1 ∷ broken.2 = ap (λ asks. last ++ asks) broken.3 ∙ sym (append_assoc last broken.0 (broken.1 ∷ broken.2)) in
+    let made : passed last ++ calls ≡ failed_at (last ++ broken.0) broken.1 =
+    ap (λ c. passed last ++ c) broken.4 ∙ sym (append_assoc (passed last) (passed broken.0) (call broken.1 true ∷ []))
+    ∙ ap (λ c. c ++ call broken.1 true ∷ []) (sym (passed_then last broken.0)) in
+    (last ++ broken.0, broken.1, broken.2, whole, made)
+
+-- a refusal among other last calls
+pub refused_on : {H : Type 0} (called : H → Call → H → Type 0) (reads last more : List Ask) (e : Refusal) (old new : H)
+    → Asks called reads last (Some e) old new → Asks called reads (last ++ more) (Some e) old new
+refused_on called reads last more e old new asks = (
+  asks.0,
+  asks.1,
+  elim asks.2 [
+    | inl begun ↦ inl begun
+    | inr broken ↦ elim broken [
+      | inl read ↦ inr (inl read)
+      | inr ending ↦ inr (inr (ending.0, (ending.1.0, broken_on last more ending.1.0 ending.1.1, ending.1.2)))
+    ]
+  ],
+)
+
+-- last calls that all passed, and then more
+pub last_then : {H : Type 0} (called : H → Call → H → Type 0) (reads last more : List Ask) (told : Option Refusal) (old mid new : H) → ((e : Refusal) → told ≡ Some e → e ≡ File)
+    → Asks called reads last None old mid → Asks called [] more told mid new → Asks called reads (last ++ more) told old new
+last_then called reads last more None old mid new file first second =
+    let all : first.0 ++ second.0 ≡ passed (reads ++ (last ++ more)) =
+    ap (λ c. c ++ second.0) first.2 ∙ ap (λ c. passed (reads ++ last) ++ c) second.2 ∙ sym (passed_then (reads ++ last) more)
+    ∙ ap passed (append_assoc reads last more) in
+    (first.0 ++ second.0, leads_then called first.0 second.0 old mid new first.1 second.1, all)
+last_then called reads last more (Some e) old mid new file first second = (
+  first.0 ++ second.0,
+  leads_then called first.0 second.0 old mid new first.1 second.1,
+  elim second.2 [
+    | inl begun ↦ absurd (begun.0 (file e refl))
+    | inr broken ↦ elim broken [
+      | inl read ↦ absurd (no_calls second.0 read)
+      | inr ending ↦ (
+          let made : first.0 ++ second.0 ≡ passed reads ++ (passed last ++ ending.1.0) =
+          ap (λ c. c ++ second.0) (first.2 ∙ passed_then reads last) ∙ ap (λ c. (passed reads ++ passed last) ++ c) ending.1.2
+          ∙ append_assoc (passed reads) (passed last) ending.1.0 in
+          inr (inr (ending.0, (passed last ++ ending.1.0, broken_after last more ending.1.0 ending.1.1, made))))
+    ]
+  ],
+)
+
+-- nothing was asked for where memory ran out
+pub memory_asks : {H : Type 0} (called : H → Call → H → Type 0) (reads last : List Ask) (host : H) → Asks called reads last (Some Memory) host host
+memory_asks called reads last host = asks_nothing called reads last Memory host (memory_is_other Memory refl)
+
+-- ---- files that are written
+
+-- none is named
+pub none_written : {H : Type 0} (called : H → Call → H → Type 0) (host : H) → Asks called [] [] None host host
+none_written called host = ([], refl, refl)
+
+pub one_written : {H : Type 0} (called : H → Call → H → Type 0) (name : List ℕ) (old new : H) → called old (call (Writing name) false) new → Asks called [] (Writing name ∷ []) None old new
+one_written called name old new is = (call (Writing name) false ∷ [], (new, is, refl), refl)
+
+pub one_unwritten : {H : Type 0} (called : H → Call → H → Type 0) (name : List ℕ) (e : Refusal) (old new : H) → e ≡ File → called old (call (Writing name) true) new
+    → Asks called [] (Writing name ∷ []) (Some e) old new
+one_unwritten called name e old new file is =
+    (call (Writing name) true ∷ [], (new, is, refl), inr (inr (file, (call (Writing name) true ∷ [], ([], Writing name, [], refl, refl), refl))))
+
+-- the names of two files, one behind the other
+pub keeping_both : (words keys : Option (List ℕ)) → map (λ name. Writing name) (named words) ++ map (λ name. Writing name) (named keys) ≡ keeping words keys
+keeping_both words keys = sym (map-append (λ name. Writing name) (named words) (named keys))

@@ -1,0 +1,107 @@
+-- How a board that is played and kept ends.
+use Rattle.zed_files.specs.declared.refusal.Refusal.{Refusal}
+use Rattle.zed_files.specs.declared.refusal.Refusal.TheVariants.{File, Memory}
+use Rattle.std.proofs.Common.{◌≡◌, ◌≤◌, ◌∙◌, ℕ, Bool, List, Option, Some, None, Result, Ok, Err, OnErr, OnOk, IfErr, ap, is_err, refl, subst, sym, inl, inr}
+use Rattle.std.specs.Prelude.{⊤, ◌⊎◌, IfSome, IsErrAnd}
+use Rattle.zed_host.specs.Counting.{Counts, Rose}
+use Rattle.zed_host.specs.HostContents.{HalfPrinted, HalfWritten, HostContents, StillTells, with_printed}
+use Rattle.zed_host.proofs.Counts.{rose_before, rose_later}
+use Rattle.zed_files.specs.Refusals.{is_key_fault, is_of_keys, is_of_screen, is_screen_fault}
+use Rattle.zed_files.proofs.Endings.{collected_so}
+use Rattle.zed_turns.specs.Course.{Point}
+use Rattle.zed_turns.specs.Stage.{Stage, stage}
+use Rattle.zed_turns.specs.Report.{report_of}
+use Rattle.zed_playing.specs.Ending.{EndsKept, EndsPlay, FailedToKeep, IsPlayed, RefusedBefore, Request, kept_after}
+use Rattle.zed_playing.specs.Kept.{HalfKept, HalfRecorded, with_kept}
+use Rattle.zed_playing.specs.Led.{Led}
+
+-- ---- files that are written
+
+pub half_of : (name bytes : List ℕ) (t : HostContents) (old new : Option HostContents) → old ≡ Some t → IfSome old (λ t. StillTells (HalfWritten name bytes t) new)
+    → StillTells (HalfKept (Some name) bytes t) new
+half_of name bytes t old new at half = rw at at half
+
+-- the first of two
+pub half_first : (P Q : HostContents → Type 0) (new : Option HostContents) → StillTells P new → StillTells (λ u. P u ⊎ Q u) new
+half_first P Q new half = (half.0, inl half.1, half.2)
+
+-- or the second
+pub half_second : (P Q : HostContents → Type 0) (result : Result ⊤ Refusal) (new : Option HostContents) → OnErr result (StillTells Q new) → OnErr result (StillTells (λ u. P u ⊎ Q u) new)
+half_second P Q (Ok u) new half = tt
+half_second P Q (Err e) new half = (half.0, inr half.1, half.2)
+
+-- ---- what is so where nothing failed is so where something did
+
+pub played_so : (p q : Type 0) (t : HostContents) (r : Request) (l : Led) (x : Result Point Refusal) → (p → q) → IsPlayed p t r l x → IsPlayed q t r l x
+played_so p q t r l x so is = (is.0, collected_so p q t r.files is.0 so is.1, is.2)
+
+-- ---- a playtest that is kept
+
+-- what is kept can't be read
+pub lost_ends : (failed : Type 0) (t : HostContents) (q : Request) (l : Led) (e : Refusal) (new : Option HostContents) → l.behind ≡ l.before → new ≡ Some t
+    → (e ≡ Memory) ⊎ ((e ≡ File) × failed) → EndsKept failed t q l (Err e) new
+lost_ends failed t q l e new same at why = (t, inl (refl, elim why [ inl memory ↦ inl memory | inr file ↦ inr (inl (file.0, file.1, same)) ]), at)
+
+-- the playtest is refused
+pub unplayed_ends : {X : Type 0} (failed : Type 0) (t : HostContents) (q : Request) (l : Led) (e : Refusal) (new : Option HostContents) → new ≡ Some t
+    → ((e ≡ Memory) × X) ⊎ IsPlayed failed t q l (Err e) → EndsKept failed t q l (Err e) new
+unplayed_ends failed t q l e new at why = (t, inl (refl, elim why [ inl memory ↦ inl memory.0 | inr played ↦ inr (inr played) ]), at)
+
+-- memory runs out behind it
+pub memory_ends : (failed : Type 0) (t : HostContents) (q : Request) (l : Led) (e : Refusal) (new : Option HostContents) → new ≡ Some t → e ≡ Memory → EndsKept failed t q l (Err e) new
+memory_ends failed t q l e new at memory = (t, inl (refl, inl memory), at)
+
+-- it isn't kept
+pub unkept_ends : (failed : Type 0) (t : HostContents) (q : Request) (l : Led) (p : Point) (e : Refusal) (middle new : Option HostContents) → middle ≡ Some t → IsPlayed failed t q l (Ok p)
+    → ((e ≡ Memory) × (new ≡ middle)) ⊎ ((e ≡ File) × failed) → (e ≡ File → StillTells (HalfRecorded q.words q.keys p l.rest t) new) → EndsKept failed t q l (Err e) new
+unkept_ends failed t q l p e middle new at played why half = elim why [
+  | inl memory ↦ memory_ends failed t q l e new (memory.1 ∙ at) memory.0
+  | inr file ↦ (let h = half file.0 in (h.0, inr (file.1, file.0, (p, played, h.1)), h.2))
+]
+
+-- ---- what is told of it
+
+pub refused_ends : (failed : Type 0) (t : HostContents) (q : Request) (l : Led) (e : Refusal) (new : Option HostContents) → EndsKept failed t q l (Err e) new → EndsPlay failed t q l (Err e) new
+refused_ends failed t q l e new ends = (ends.0, elim ends.1 [ inl before ↦ inl before | inr unkept ↦ inr (inl unkept) ], ends.2)
+
+pub told_ends : (result : Result ⊤ Refusal) (old middle now : ℕ) (t : HostContents) (q : Request) (l : Led) (text : List ℕ) (mid new : Option HostContents) → old ≤ middle → middle ≤ now
+    → EndsKept (Rose old middle) t q l (Ok text) mid
+    → ((u : HostContents) → mid ≡ Some u → OnOk result (new ≡ Some (with_printed text u)))
+    → ((u : HostContents) → mid ≡ Some u → OnErr result (StillTells (HalfPrinted text u) new))
+    → IfErr result (λ e. e ≡ File) → Counts (is_err result) middle now → EndsPlay (Rose old now) t q l result new
+told_ends (Ok u) old middle now t q l text mid new up more kept done half file count =
+    let p = kept.0 in
+    let there = kept_after q l p t in
+    (p, played_so (Rose old middle) (Rose old now) t q l (Ok p) (rose_before old middle now more) kept.1, subst (λ s. new ≡ Some (with_printed s there)) kept.2 (done there kept.3))
+told_ends (Err e) old middle now t q l text mid new up more kept done half file count =
+    let p = kept.0 in
+    let there = kept_after q l p t in
+    let h = half there kept.3 in
+    let played = played_so (Rose old middle) (Rose old now) t q l (Ok p) (rose_before old middle now more) kept.1 in
+    (h.0, inr (inr (rose_later old middle now up count, file, (p, played, subst (λ s. HalfPrinted s there h.0) kept.2 h.1))), h.2)
+
+-- what was drawn stays as it is where the terminal is left
+pub left_stage : (drawn drawn_then : Option (List (List ℕ))) (foretold foretold_then : Option (List Bool)) (left : _) (chance : _) → drawn_then ≡ drawn → foretold_then ≡ foretold
+    → stage drawn foretold left None chance ≡ stage drawn_then foretold_then left None chance
+left_stage drawn drawn_then foretold foretold_then left chance same still =
+    ap (λ d. stage d foretold left None chance) (sym same) ∙ ap (λ f. stage drawn_then f left None chance) (sym still)
+
+-- ---- the failures of devices
+
+-- what `?` hands on tells of the same
+pub keys_on : {X : Type 0} (answer : Result X Refusal) (e : Refusal) (old new : ℕ) → IsErrAnd answer (λ told. told ≡ e) → Counts (is_of_keys e) old new → Counts (is_key_fault answer) old new
+keys_on (Ok x) e old new told counts = absurd told
+keys_on (Err x) e old new told counts = subst (λ f. Counts (is_of_keys f) old new) (sym told) counts
+
+pub screen_on : {X : Type 0} (answer : Result X Refusal) (e : Refusal) (old new : ℕ) → IsErrAnd answer (λ told. told ≡ e) → Counts (is_of_screen e) old new
+    → Counts (is_screen_fault answer) old new
+screen_on (Ok x) e old new told counts = absurd told
+screen_on (Err x) e old new told counts = subst (λ f. Counts (is_of_screen f) old new) (sym told) counts
+
+-- a count that stays, and then counts
+pub counts_later : (failing : Bool) (old middle new : ℕ) → middle ≡ old → Counts failing middle new → Counts failing old new
+counts_later failing old middle new same counts = subst (λ n. Counts failing n new) same counts
+
+-- or counts, and then stays
+pub counts_before : (failing : Bool) (old middle new : ℕ) → new ≡ middle → Counts failing old middle → Counts failing old new
+counts_before failing old middle new same counts = subst (λ n. Counts failing old n) (sym same) counts
