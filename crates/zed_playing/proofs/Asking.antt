@@ -20,10 +20,14 @@ behind_same called words keys Later Next told old new asks next = elim asks [
   | inl lost ↦ inl lost
   | inr first ↦ (
       let second = first.2 in
-      inr (first.0, first.1, elim second [
-        | inl lost ↦ inl lost
-        | inr both ↦ inr (both.0, both.1, next both.0 both.2)
-      ]))
+      inr (
+        first.0,
+        first.1,
+        elim second [
+          | inl lost ↦ inl lost
+          | inr both ↦ inr (both.0, both.1, next both.0 both.2)
+        ],
+      ))
 ]
 
 -- and more behind them, where they passed
@@ -33,10 +37,14 @@ behind_more called words keys Later Next told old mid new asks next = elim asks 
   | inl lost ↦ absurd (let no : None ≡ Some lost.0 = lost.1 in cc)
   | inr first ↦ (
       let second = first.2 in
-      inr (first.0, first.1, elim second [
-        | inl lost ↦ absurd (let no : None ≡ Some lost.0 = lost.1 in cc)
-        | inr both ↦ inr (both.0, both.1, next both.0 both.2)
-      ]))
+      inr (
+        first.0,
+        first.1,
+        elim second [
+          | inl lost ↦ absurd (let no : None ≡ Some lost.0 = lost.1 in cc)
+          | inr both ↦ inr (both.0, both.1, next both.0 both.2)
+        ],
+      ))
 ]
 
 -- the first couldn't be had
