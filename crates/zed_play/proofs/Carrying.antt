@@ -50,7 +50,7 @@ through (Some b) colour p q e =
     let g = with_scene (comes_through colour (scene_on b p.game.scene)) (game_on b p.game) in
     let is : goes_on (bounds_of b.properties) g p ≡ q = cc in
     let k = through_keeps colour (scene_on b p.game.scene) in
-    subst (λ x. HasTheSame x p) is (k.0, (k.1, (refl, (refl, refl))))
+    subst (λ x. HasTheSame x p) is (k.0, k.1, refl, refl, refl)
 
 pub passages_take_all : (w : Contents) (n colour : ℕ) (p q : Playtest) → entered w n (Passage colour) p ≡ Some q → HasTheSame q p
 passages_take_all w n colour p q e = through (slice_get w.boards n) colour p q e
@@ -74,7 +74,7 @@ over b side from p q nothing e =
     let there : Some (goes_on (bounds_of b.properties) h p) ≡ Some q = sym (ap (λ o. Some (arrives (bounds_of b.properties) o p)) comes) ∙ e in
     let is : goes_on (bounds_of b.properties) h p ≡ q = cc in
     let k = shifted_keeps (slice_get g.scene.stats 0) n g.scene in
-    subst (λ x. HasTheSame x p) is (k.0, (k.1, (refl, (refl, refl))))
+    subst (λ x. HasTheSame x p) is (k.0, k.1, refl, refl, refl)
 
 pub edges_take_all : (w : Contents) (n : ℕ) (b : BoardData) (side : Side) (from : Place) (p q : Playtest) → slice_get w.boards n ≡ Some b → (tile_at b.tiles (beyond side from)).element ≡ 0 → entered w n (Edge side from) p ≡ Some q → HasTheSame q p
 edges_take_all w n b side from p q there nothing e =

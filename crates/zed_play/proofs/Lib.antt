@@ -7,3 +7,4 @@ pub mod Uniqueness
 pub mod StepThere
 pub mod Refusing
 mod Carrying
+mod Passages

@@ -1,5 +1,5 @@
 -- Another board, where the player of a playtest comes to it.
-use Rattle.std.specs.Prelude.{ℕ, zero, suc, ◌+◌, ◌/◌, ◌%◌, Bool, ◌&&◌, ◌==◌, if◌then◌else◌, List, map, slice_get, Option, Some, None}
+use Rattle.std.specs.Prelude.{ℕ, pos, zero, suc, ◌+◌, ◌/◌, ◌%◌, Bool, ◌&&◌, ◌==◌, if◌then◌else◌, List, map, slice_get, Option, Some, None}
 use Rattle.zed_types.specs.declared.property.Side.{Side}
 use Rattle.zed_types.specs.declared.property.Side.TheVariants.{North, South, West, East}
 use Rattle.zed_types.specs.declared.tile.Place.{Place}
@@ -111,7 +111,7 @@ comes_by Other g = Some g
 
 -- the counters that a player has on the next board: the time there begins anew
 abbrev pub carried : Counters → Counters
-carried c = record c { time = 0 }
+carried c = record c { time = pos 0 }
 
 -- a board in play with the counters and flags of another one
 abbrev pub scene_on : BoardData → Scene → Scene
