@@ -2,7 +2,11 @@ pub mod Asked
 pub mod Deliveries
 pub mod Endings
 pub mod Failures
+pub mod Feeds
 pub mod FileEnds
+pub mod FilesRead
+pub mod Heads
 pub mod OffStage
+pub mod Opened
 pub mod Streams
 pub mod Settled

@@ -12,7 +12,9 @@ use Rattle.zed_host.specs.Calls.{Ask, Call}
 use Rattle.zed_host.specs.Counting.{Rose}
 use Rattle.zed_host.specs.HostContents.{HostContents}
 use Rattle.zed_files.specs.Asked.{Asks, refusal_in}
-use Rattle.zed_files.specs.Collected.{CameTo, Collects, IsStreamIn, first_refusal}
+use Rattle.zed_document.specs.Laws.{document_of}
+use Rattle.zed_link.specs.Feed.{FeedState}
+use Rattle.zed_files.specs.Collected.{CameInto, CameTo, Collects, HasTaken, IsOf, IsStreamIn, first_refusal}
 use Rattle.zed_files.specs.Faults.{NoneForgotten, TellsFailures}
 use Rattle.zed_files.specs.Files.{edits_then}
 use Rattle.zed_files.specs.Refusals.{IsOffStage}
@@ -21,10 +23,10 @@ use Rattle.zed_files.proofs.Deliveries.{came_agree}
 use Rattle.zed_files.proofs.OffStage.{is_off}
 use Rattle.zed_files.proofs.Streams.{all_collected, file_first}
 
-abbrev told : Refusal → Option Refusal
+abbrev pub told : Refusal → Option Refusal
 told e = Some e
 
-same_told : (e f : Refusal) → told e ≡ told f → e ≡ f
+pub same_told : (e f : Refusal) → told e ≡ told f → e ≡ f
 same_told e f is = cc
 
 pub settled_collects : DeliveriesComeToSets → (failed : Type 0) (t : HostContents) (names : List (List ℕ)) (es : List Edit) (d : Replica) (clash : Option Stamp) (refusal : Option Refusal) (result : Result Replica Refusal)
@@ -65,3 +67,13 @@ pub settled_tells : {H : Type 0} (faults failed : H → ℕ) (clash : Option Sta
 settled_tells faults failed clash refusal (Ok x) old new none file is = (none, tt)
 settled_tells faults failed (Some s) refusal (Err e) old new none file is = (none, λ lost. absurd (let same = same_told e (Clash s) is in cc))
 settled_tells faults failed None refusal (Err e) old new none file is = (none, λ lost. file (sym is ∙ ap (λ x. Some x) lost))
+
+-- the document of a feed, and what came to it
+pub came_into : (feed : Option FeedState) (es : List Edit) (clash : Option Stamp) (result : Result Replica Refusal) → CameInto es feed clash → IfOk result (IsOf feed)
+    → (d : Replica) × CameTo es d clash × IfOk result (λ x. x ≡ d)
+came_into (Some f) es clash (Ok x) came same = (f.document, came, sym (let it : Some f.document ≡ Some x = same in let one : f.document ≡ x = cc in one))
+came_into (Some f) es clash (Err e) came same = (f.document, came, tt)
+came_into None es clash (Ok x) came same = absurd (let no : None ≡ Some x = same in cc)
+came_into None es clash (Err e) came same =
+    let start = document_of 0 [] [] in
+    (start, subst (CameTo es start) (sym came.1) (subst (λ z. HasTaken z start) (sym came.0) (refl, (refl, refl))), tt)

@@ -11,7 +11,7 @@ use Rattle.zed_op.specs.declared.op.Edit.{Edit}
 use Rattle.zed_op.specs.Set.{Agrees, AllFit, set_of}
 use Rattle.zed_editfile.specs.declared.error.EditFileError.{EditFileError}
 use Rattle.zed_link.proofs.Readings.{records_fit}
-use Rattle.zed_files.specs.Files.{IsFile, IsStream, Stream, edits_then, end_of, stream_after}
+use Rattle.zed_files.specs.Files.{IsFile, IsStream, ReadsFile, Stream, edits_then, end_of, stream_after}
 use Rattle.zed_files.specs.Refusals.{file_refusal}
 
 -- one file more was read whole
@@ -31,10 +31,14 @@ last_file P asked bytes files all es more e first read file =
     let here : IsStream asked (Some bytes ∷ files) (edits_then more (Some (file_refusal e))) = inl (e, file, refl) in
     read (edits_then more (Some (file_refusal e))) (subst (λ files. IsStream asked files (edits_then more (Some (file_refusal e)))) (sym first) here)
 
--- the edits of a file that were put into an empty list
-pub file_alone : (asked : Option ℕ) (bytes : List ℕ) (old new es : List Edit) (end : Result ℕ EditFileError) → old ≡ [] → new ≡ old ++ es → IsFile asked bytes es end
-    → IsFile asked bytes new end
-file_alone asked bytes old new es end none made file = subst (λ es. IsFile asked bytes es end) (sym (made ∙ ap (λ old. old ++ es) none)) file
+-- a file that was read to its end, by what is wrong with it
+pub whole_file : (asked : Option ℕ) (bytes : List ℕ) (es : List Edit) (fault : Option EditFileError) (world : Option ℕ) → fault ≡ None → ReadsFile asked bytes es fault world
+    → (n : ℕ) × (world ≡ Some n) × IsFile asked bytes es (Ok n)
+whole_file asked bytes es fault world none file = subst (λ f. ReadsFile asked bytes es f world) none file
+
+pub faulty_file : (asked : Option ℕ) (bytes : List ℕ) (es : List Edit) (fault : Option EditFileError) (world : Option ℕ) (e : EditFileError) → fault ≡ Some e → ReadsFile asked bytes es fault world
+    → IsFile asked bytes es (Err e)
+faulty_file asked bytes es fault world e is file = subst (λ f. ReadsFile asked bytes es f world) is file
 
 -- the edits of a file fit
 pub file_fits : (asked : Option ℕ) (bytes : List ℕ) (es : List Edit) (end : Result ℕ EditFileError) → IsFile asked bytes es end → AllFit es

@@ -23,6 +23,11 @@ pub record IsFile (asked : Option ℕ) (bytes : List ℕ) (es : List Edit) (end 
   pub sound : progress.fault ≢ Some file.Memory
   pub ends : end ≡ end_by (ending progress) progress.world
 
+-- the same by what is wrong with the file, if something is, and the number of its world
+abbrev pub ReadsFile : Option ℕ → List ℕ → List Edit → Option EditFileError → Option ℕ → Type 0
+ReadsFile asked bytes es (Some e) world = IsFile asked bytes es (Err e)
+ReadsFile asked bytes es None world = (n : ℕ) × (world ≡ Some n) × IsFile asked bytes es (Ok n)
+
 -- edits in the order in which files spell them, up to the first refusal of a file
 pub record Stream : Type 0 where
   pub edits : List Edit

@@ -4,7 +4,7 @@ ghost use Rattle.zed_op.specs.declared.op.Edit.{Edit as TheEdit};
 ghost use Rattle.zed_op.specs.Set.{AllFit};
 ghost use Rattle.zed_files.specs.Asked.{Asks, reading, refusal_in};
 ghost use Rattle.zed_files.specs.Files.{IsFile, edits_then, end_of as no_world};
-ghost use Rattle.zed_files.specs.Collected.{CameTo, Collects, IsStreamIn, first_refusal};
+ghost use Rattle.zed_files.specs.Collected.{CameInto, Collects, IsStreamIn};
 ghost use Rattle.zed_files.specs.Texts.{texts_of};
 ghost use Rattle.zed_files.specs.Faults.{NoneForgotten, TellsFailures};
 ghost use Rattle.zed_files.specs.Refusals.{IsOffStage, is_file_refusal};
@@ -77,13 +77,14 @@ fn end_of(asked: Option<u64>) -> Option<Refusal>
     }
 }
 
-/// Reads edit files one after the other, and delivers the edits of each before it reads the next. The first one's world is that of all.
+/// Reads edit files one after the other, and delivers their edits as they are read. The first one's world is that of all.
 fn read_all<H: Host>(alloc: Global, host: &mut H, names: &[&str]) -> Result<Gathered, Refusal>
     ensures stream { IfOk result (λ g. (es : List TheEdit) × AllFit es
-        × CameTo es g.document g.clash
+        × CameInto es g.feed g.clash
         × ((t : HostContents) → H.contents host.old ≡ Some t
         → IsStreamIn (Rose (H.faults host.old) (H.faults host.new)) t (texts_of names.now)
         (edits_then es g.refusal))) }
+    ensures whole { IfOk result (λ g. g.refusal ≡ None → is_some g.feed ≡ true) }
     ensures kept { H.contents host.new ≡ H.contents host.old }
     ensures err { IfErr result (λ e. e ≡ Refusal.Memory) }
     ensures refusal { IfOk result (λ g. IfSome g.refusal IsOffStage) }
@@ -94,7 +95,7 @@ fn read_all<H: Host>(alloc: Global, host: &mut H, names: &[&str]) -> Result<Gath
     ensures file_only_when { IfOk result (λ g. g.refusal ≡ Some Refusal.File
         → Rose (H.failed host.old) (H.failed host.new)) }
 {
-    let mut gathered = Gathered::new(alloc);
+    let mut gathered = Gathered::new(alloc, None);
     for name in names {
         let bytes = match bytes_of_file(host, name) {
             Ok(bytes) => bytes,
@@ -104,38 +105,13 @@ fn read_all<H: Host>(alloc: Global, host: &mut H, names: &[&str]) -> Result<Gath
             }
             Err(_) => return Err(Refusal::Memory),
         };
-        let mut edits = Vec::new(alloc);
-        let end = append_edits(alloc, gathered.world, bytes.as_slice(), &mut edits);
-        drop(bytes);
-        match end {
-            Ok(world) => {
-                gathered.set_world(alloc, world);
-                gathered.take(edits)?;
-            }
-            Err(error) => match error {
-                EditFileError::Memory => return Err(Refusal::Memory),
-                _ => {
-                    gathered.take(edits)?;
-                    gathered.refusal = Some(Refusal::from(error));
-                    return Ok(gathered);
-                }
-            },
+        if let Some(error) = gathered.read(alloc, bytes.as_slice())? {
+            gathered.refusal = Some(Refusal::from(error));
+            return Ok(gathered);
         }
     }
-    gathered.refusal = end_of(gathered.world);
+    gathered.refusal = end_of(gathered.world());
     Ok(gathered)
-}
-
-// What gathered files come to. All that takes memory came before, so that a clash and the refusal of a file are told whatever is lacking.
-fn settled(gathered: Gathered) -> Result<Document, Refusal>
-    ensures refusal { refusal_in result ≡ first_refusal gathered.clash gathered.refusal }
-    ensures document { IfOk result (λ d. d ≡ gathered.document) }
-{
-    match (gathered.clash, gathered.refusal) {
-        (Some(stamp), _) => Err(Refusal::Clash(stamp)),
-        (None, Some(refusal)) => Err(refusal),
-        (None, None) => Ok(gathered.document),
-    }
 }
 
 /// The document of edit files.
@@ -156,5 +132,5 @@ pub fn load<H: Host>(alloc: Global, host: &mut H, names: &[&str]) -> Result<Docu
 {
     let gathered = read_all(alloc, host, names)?;
     deliveries_come_to_sets();
-    settled(gathered)
+    gathered.settle()
 }
