@@ -1,5 +1,4 @@
 -- What the edits of a file come to.
-use Rattle.zed_types.specs.declared.stamp.Stamp.{Stamp}
 use Rattle.zed_op.specs.declared.op.Edit.{Edit}
 use Rattle.zed_editfile.specs.declared.error.EditFileError.{EditFileError}
 use Rattle.zed_world.specs.declared.error.WorldError.{WorldError}
@@ -8,83 +7,39 @@ use Rattle.zed_drawing.specs.declared.error.DrawingError.{DrawingError}
 use Rattle.zed_drawing.specs.declared.error.DrawingError.TheVariants.{Refused}
 use Rattle.zed_files.specs.declared.refusal.Refusal.{Refusal}
 use Rattle.zed_files.specs.declared.refusal.Refusal.TheVariants as refusal
-use Rattle.std.proofs.Common.{◌≡◌, ◌∙◌, ℕ, Bool, true, false, not, eqb, List, Option, Some, None, Result, Ok, Err, MatchResult, IfOk, ap, refl, subst, sym, inl, inr}
+use Rattle.std.proofs.Common.{◌≡◌, ◌∙◌, ℕ, List, Option, Some, None, Result, Ok, Err, ap, refl, sym, inl, inr}
 use Rattle.std.specs.Prelude.{◌⊎◌}
-use Rattle.std.proofs.lemmas.Bool.{eqb-true}
-use Rattle.zed_op.specs.Set.{Agrees, set_of}
 use Rattle.zed_document.specs.Replica.{Replica}
-use Rattle.zed_document.specs.Delivery.{IsFirstClash}
-use Rattle.zed_editfile.specs.Stream.{ending, is_other}
 use Rattle.zed_host.specs.HostContents.{HostContents, IsRead, file_in}
 use Rattle.zed_world.specs.Contents.{Contents}
 use Rattle.zed_world.specs.Reading.{world_at}
-use Rattle.zed_files.specs.Files.{IsFile, end_by}
-use Rattle.zed_files.specs.Refusals.{file_refusal, world_refusal}
-use Rattle.zed_drawing.specs.Files.{FileEdits, IsOpened, IsTried, IsWorld, OfName, world_told}
+use Rattle.zed_files.specs.Opened as files
+use Rattle.zed_files.specs.Refusals.{world_refusal}
+use Rattle.zed_drawing.specs.Files.{FileEdits, IsOpened, edits_at, IsTried, IsWorld, OfName, world_told}
 use Rattle.zed_drawing.specs.Refusals.{memory}
 use Rattle.zed_drawing.specs.Steps.{Gives}
 
--- what a document of these edits comes to
-abbrev pub Came : List Edit → Result Replica DrawingError → Type 0
-Came es result = MatchResult result
-    (λ d. Agrees es × (d.edits ≡ set_of es))
-    (λ e. (e ≡ memory) ⊎ ((s : Stamp) × IsFirstClash es s × (e ≡ Refused (refusal.Clash s))))
+-- what was opened, with the refusals of a command
+abbrev drawn : Result FileEdits Refusal → Result FileEdits DrawingError
+drawn (Ok file) = Ok file
+drawn (Err e) = Err (Refused e)
 
--- the file was read to its end
-pub opened_whole : (asked : Option ℕ) (bytes : List ℕ) (es : List Edit) (world : ℕ) (result : Result Replica DrawingError) → IsFile asked bytes es (Ok world) → Came es result
-    → IfOk result (λ d. d.world ≡ world) → Gives (λ d. (d.world, d.edits)) (IsOpened asked bytes) result
-opened_whole asked bytes es world (Ok d) whole all is =
-    let answer : ℕ → List Edit → Result FileEdits DrawingError = λ w xs. Ok (w, xs) in
-    (es, Ok world, whole, inr (all.0, ap (λ w. answer w d.edits) is ∙ ap (answer world) all.1))
-opened_whole asked bytes es world (Err e) whole why is =
-    elim why [
-      | inl lack ↦ inl lack
-      | inr clash ↦ inr (es, Ok world, whole, inl (clash.0, clash.1, ap (λ x. Err x) clash.2))
-    ]
+drawn_at : (end : Result ℕ EditFileError) (es : List Edit) → drawn (files.edits_at end es) ≡ edits_at end es
+drawn_at (Ok world) es = refl
+drawn_at (Err e) es = refl
 
--- two edits of a file clash before its fault
-pub opened_clash : (asked : Option ℕ) (bytes : List ℕ) (es : List Edit) (error : EditFileError) (e : DrawingError) → IsFile asked bytes es (Err error)
-    → (e ≡ memory) ⊎ ((s : Stamp) × IsFirstClash es s × (e ≡ Refused (refusal.Clash s))) → (e ≡ memory) ⊎ IsOpened asked bytes (Err e)
-opened_clash asked bytes es error e part why =
-    elim why [
-      | inl lack ↦ inl lack
-      | inr clash ↦ inr (es, Err error, part, inl (clash.0, clash.1, ap (λ x. Err x) clash.2))
-    ]
+is_drawn : (asked : Option ℕ) (bytes : List ℕ) (r : Result FileEdits Refusal) → files.IsOpened asked bytes r → IsOpened asked bytes (drawn r)
+is_drawn asked bytes r (es, end, file, how) =
+    (es, end, file, elim how [ inl clash ↦ inl (clash.0, clash.1, ap drawn clash.2) | inr whole ↦ inr (whole.0, ap drawn whole.1 ∙ drawn_at end es) ])
 
--- the fault comes first
-pub opened_fault : (asked : Option ℕ) (bytes : List ℕ) (es : List Edit) (error : EditFileError) (e : DrawingError) → IsFile asked bytes es (Err error) → Agrees es
-    → e ≡ Refused (file_refusal error) → IsOpened asked bytes (Err e)
-opened_fault asked bytes es error e part agrees is = (es, Err error, part, inr (agrees, ap (λ x. Err x) is))
+-- what a file was refused for
+pub opened_refused : (asked : Option ℕ) (bytes : List ℕ) (e : Refusal) → (e ≡ refusal.Memory) ⊎ files.IsOpened asked bytes (Err e)
+    → (Refused e ≡ memory) ⊎ IsOpened asked bytes (Err (Refused e))
+opened_refused asked bytes e why = elim why [ inl lack ↦ inl (ap (λ x. Refused x) lack) | inr is ↦ inr (is_drawn asked bytes (Err e) is) ]
 
--- ---- the world of a file
-
-abbrev told : ℕ → Result ℕ EditFileError
-told n = Ok n
-
-ends_with : (o : Option EditFileError) (w : Option ℕ) (world : ℕ) → Ok world ≡ end_by o w → w ≡ Some world
-ends_with (Some e) w world is = absurd (let no : Ok world ≡ Err e = is in cc)
-ends_with None (Some v) world is = let same : told world ≡ told v = is in let one : world ≡ v = cc in ap (λ x. Some x) (sym one)
-ends_with None None world is = absurd (cc)
-
-is_the_one : (n m : ℕ) → is_other (Some n) m ≡ false → n ≡ m
-is_the_one n m is = go (eqb n m) refl is
-  where
-    go : (b : Bool) → eqb n m ≡ b → not b ≡ false → n ≡ m
-    go true same is = eqb-true n m same
-    go false same is = absurd (cc)
-
--- a file has the world that was asked for
-pub has_world : (asked : Option ℕ) (n : ℕ) (bytes : List ℕ) (es : List Edit) (world : ℕ) → asked ≡ Some n → IsFile asked bytes es (Ok world) → world ≡ n
-has_world asked n bytes es world asks whole =
-    let got = ends_with (ending whole.progress) whole.progress.world world whole.ends in
-    elim whole.reads [
-      | inl head ↦ absurd (let no = head.world in let none : None ≡ Some world = sym no ∙ got in cc)
-      | inr records ↦ (
-          let told : Some records.number ≡ Some world = sym records.world ∙ got in
-          let same : records.number ≡ world = cc in
-          let one = is_the_one n records.number (subst (λ o. is_other o records.number ≡ false) (whole.asks ∙ asks) records.asked) in
-          sym (one ∙ same))
-    ]
+-- the document of a file
+pub opened_document : (asked : Option ℕ) (bytes : List ℕ) (d : Replica) → files.IsOpened asked bytes (Ok (d.world, d.edits)) → IsOpened asked bytes (Ok (d.world, d.edits))
+opened_document asked bytes d is = is_drawn asked bytes (Ok (d.world, d.edits)) is
 
 -- ---- files by name
 

@@ -5,7 +5,8 @@ use Rattle.std.proofs.Common.{◌≡◌, ◌≤◌, ℕ, List, Option, Some, Non
 use Rattle.std.specs.Global.{Vec}
 use Rattle.std.specs.Prelude.{⊤}
 use mathlib.Core.Logic.{◌⊎◌}
-use Rattle.zed_making.specs.Edited.{FileEdits, IsEdited, ComesToEdit}
+use Rattle.zed_files.specs.Opened.{FileEdits}
+use Rattle.zed_making.specs.Edited.{IsEdited, ComesToEdit}
 use Rattle.zed_host.specs.HostContents.{HostContents, file_in}
 use Rattle.zed_making.specs.Fresh.{refused_as, rewritten, IsFirstWorld, ComesToNew}
 use Rattle.zed_world.specs.Reading.{world_at}

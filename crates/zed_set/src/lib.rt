@@ -3,7 +3,6 @@
 #![tactic(auto)]
 
 mod error;
-mod opening;
 mod setting;
 
 pub use error::SetError;

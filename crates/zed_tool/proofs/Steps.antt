@@ -15,7 +15,7 @@ use Rattle.zed_host.proofs.ReadFiles.{read_so}
 use Rattle.zed_files.specs.declared.refusal.Refusal.{Refusal}
 use Rattle.zed_files.specs.Effects.{Effect as Told}
 use Rattle.zed_files.proofs.Endings.{collected_so}
-use Rattle.zed_making.specs.Edited.{FileEdits as SetEdits, IsOpened as IsSetOpened, OpensAs as SetOpens}
+use Rattle.zed_files.specs.Opened.{FileEdits as SetEdits}
 use Rattle.zed_programs.specs.Setting.{ComesToSet as ComesToSetProgram, IsSpelled, Sets, SetsIn, SetsText}
 use Rattle.zed_set.specs.Setting.{ComesToSet, IsSet}
 use Rattle.zed_set_words.specs.declared.wishes.Wish.{Wish}
