@@ -114,7 +114,7 @@ clash_stays es more s h = record {
   stamp = h.stamp;
 }
 
-Told : Type 0
+abbrev pub Told : Type 0
 Told = Result (Option EditFileError) Refusal
 
 -- a file of which nothing is delivered, since two edits clashed before
@@ -149,7 +149,7 @@ came_sound None es clash came none = tt
 came_sound (Some f) es None came none = came.0
 came_sound (Some f) es (Some s) came none = absurd (let no : Some s ≡ None = none in cc)
 
-abbrev IsFresh : List ℕ → FeedState → Type 0
+abbrev pub IsFresh : List ℕ → FeedState → Type 0
 IsFresh bytes f = (12 ≤ length bytes) × (f.document.world ≡ little_number 8 (drop 4 bytes)) × (f.document.edits ≡ []) × (f.document.is_stale ≡ false)
 
 -- nor is the one that the next file goes into

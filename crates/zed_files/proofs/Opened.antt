@@ -55,7 +55,7 @@ own_world (Some f) d n own told =
     let world : f.document.world ≡ n = (let it : Some f.document.world ≡ Some n = told in cc) in
     ap (λ (r : Replica). r.world) (sym same) ∙ world
 
-answer : ℕ → List Edit → Result FileEdits Refusal
+abbrev answer : ℕ → List Edit → Result FileEdits Refusal
 answer w es = Ok (w, es)
 
 -- one file was read, and what came first is told, or the document
