@@ -117,6 +117,10 @@ clash_stays es more s h = record {
 abbrev pub Told : Type 0
 Told = Result (Option EditFileError) Refusal
 
+pub none_clash : (clash : Option Stamp) → is_some clash ≡ false → clash ≡ None
+none_clash None is = refl
+none_clash (Some s) is = absurd (let no : true ≡ false = is in cc)
+
 -- a file of which nothing is delivered, since two edits clashed before
 pub read_behind : (feed : Option FeedState) (clash : Option Stamp) (es : List Edit) (bytes : List ℕ) (r : Told) → is_some clash ≡ true → CameInto es feed clash
     → IfOk r (λ fault. (more : List Edit) × (world : Option ℕ) × ReadsFile (world_in feed) bytes more fault world)
@@ -167,14 +171,14 @@ pub read_next : DeliveriesGoOn → DeliveriesComeToSets → (old feed new : Opti
     → IfOk r (λ fault. (more : List Edit) × ReadsFile (world_in old) bytes more fault (world_in new) × CameInto (es ++ more) new clash)
 read_next law sets old feed new f was clash es bytes (Err e) fit none came is same first took = tt
 read_next law sets old feed None f was clash es bytes (Ok fault) fit none came is same first took = absurd took.2
-read_next law sets (Some o) feed (Some g) f was clash es bytes (Ok fault) fit none came is same first (more, file, world, sound, each) =
+read_next law sets (Some o) feed (Some g) f was clash es bytes (Ok fault) fit none came is same first (more, file, (world, sound, each)) =
     let one : f ≡ o = (let both : Some f ≡ Some o = sym is ∙ same in cc) in
     let here : CameTo es f.document None = subst (λ (x : FeedState). CameTo es x.document None) (sym one) (subst (CameTo es o.document) none came) in (
       more,
       subst (λ (x : FeedState). ReadsFile (Some x.document.world) bytes more fault (Some g.document.world)) one (subst (λ w. ReadsFile (Some f.document.world) bytes more fault (Some w)) (sym world) file),
       more_came law sets f.document g.document es more clash fit (read_fits f.document.world bytes more fault file) world sound each here,
     )
-read_next law sets None feed (Some g) f was clash es bytes (Ok fault) fit none came is same first (more, file, world, sound, each) =
+read_next law sets None feed (Some g) f was clash es bytes (Ok fault) fit none came is same first (more, file, (world, sound, each)) =
     let told = subst (λ x. IfSome x (IsFresh bytes)) is (first refl) in
     let from : CameTo es f.document None = subst (λ z. CameTo z f.document None) (sym came.0) (told.3, (refl, told.2)) in (
       more,

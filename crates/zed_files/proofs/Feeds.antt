@@ -1,18 +1,21 @@
 -- What a feed answers, as deliveries to its document.
-use Rattle.std.proofs.Common.{◌≡◌, List, Option, Some, None, Result, Ok, Err, ◌∙◌, subst, sym}
-use Rattle.std.specs.Prelude.{◌≢◌}
+use Rattle.std.proofs.Common.{◌≡◌, ◌∙◌, ℕ, Bool, false, List, [], Option, Some, None, Result, Ok, Err, MatchOption, MatchResult, subst, sym}
+use Rattle.std.specs.Prelude.{◌≢◌, IfOk, OnOk}
 use mathlib.Core.Logic.{inl, inr}
 use Rattle.zed_types.specs.declared.stamp.Stamp.{Stamp}
 use Rattle.zed_op.specs.declared.op.Edit.{Edit}
 use Rattle.zed_editfile.specs.declared.error.EditFileError.{EditFileError}
 use Rattle.zed_editfile.specs.declared.error.EditFileError.TheVariants as file
-use Rattle.zed_editfile.specs.Stream.{Progress}
+use Rattle.zed_editfile.specs.Stream.{Feeds, Progress}
 use Rattle.zed_document.specs.declared.error.DocumentError.TheVariants as document
-use Rattle.zed_document.specs.Delivery.{DeliversEach}
+use Rattle.zed_document.specs.Delivery.{DeliversEach, unless_clash}
 use Rattle.zed_document.specs.Replica.{Replica}
 use Rattle.zed_link.specs.declared.error.LinkError.{LinkError}
 use Rattle.zed_link.specs.declared.error.LinkError.TheVariants as link
+use Rattle.zed_link.specs.declared.pulled.Pulled.{Pulled}
 use Rattle.zed_link.specs.Pieces.{TakesPiece}
+use Rattle.zed_files.specs.declared.refusal.Refusal.{Refusal}
+use Rattle.zed_files.specs.declared.refusal.Refusal.TheVariants as refusal
 use Rattle.zed_link.specs.Refusals.{file_refusal}
 
 no_clash : (f : EditFileError) (s : Stamp) → link.Clash s ≡ file_refusal f → ⊥
@@ -40,3 +43,27 @@ pub put_fault : (d : Replica) (es : List Edit) (q : Progress) (e : LinkError) (l
 put_fault d es q e left memory clash (inl (inl lack)) = absurd (memory lack.0)
 put_fault d es q e left memory clash (inl (inr two)) = absurd (clash two.0 two.1)
 put_fault d es q e left memory clash (inr fault) = fault.3
+
+-- what a feed was refused for
+abbrev pub Tells : Result (Option Stamp) Refusal → LinkError → Type 0
+Tells r e = MatchResult r
+    (λ clash. MatchOption clash ((e ≢ link.Memory) × ((s : Stamp) → e ≢ link.Clash s)) (λ s. e ≡ link.Clash s))
+    (λ x. x ≡ refusal.Memory)
+
+pub put_refused : (d : Replica) (bytes : List ℕ) (p q : Progress) (e : LinkError) (left : List Edit) (r : Result (Option Stamp) Refusal) → Tells r e
+    → (es : List Edit) × Feeds bytes [] es p q × TakesPiece d es q (Err e) left
+    → IfOk r (λ clash. (es : List Edit) × Feeds bytes [] es p q × DeliversEach d es (unless_clash clash) left)
+put_refused d bytes p q e left (Err x) told k = tt
+put_refused d bytes p q e left (Ok None) told k = (k.0, k.1, put_fault d k.0 q e left told.0 told.1 k.2)
+put_refused d bytes p q e left (Ok (Some s)) told k = (k.0, k.1, put_clash d k.0 q e s left told k.2)
+
+abbrev answer : LinkError → Result Pulled LinkError
+answer e = Err e
+
+other_answer : (e f : LinkError) → e ≢ f → answer e ≢ answer f
+other_answer e f other same = other (let both : answer e ≡ answer f = same in cc)
+
+pub put_sound : (e : LinkError) (now was : Bool) (r : Result (Option Stamp) Refusal) → Tells r e → (answer e ≢ answer link.Memory → now ≡ was) → was ≡ false → OnOk r (now ≡ false)
+put_sound e now was (Err x) told stays sound = tt
+put_sound e now was (Ok None) told stays sound = stays (other_answer e link.Memory told.0) ∙ sound
+put_sound e now was (Ok (Some s)) told stays sound = stays (other_answer e link.Memory (λ lack. let no : link.Clash s ≡ link.Memory = sym told ∙ lack in cc)) ∙ sound

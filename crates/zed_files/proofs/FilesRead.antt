@@ -27,12 +27,12 @@ world_told q is = go q.fault q.world q.rest is
 
 ends_so : (asked : Option ℕ) (bytes : List ℕ) (es : List Edit) (q : Progress) (end : Option EditFileError) → Reads bytes es q → q.asked ≡ asked → q.fault ≢ Some Memory → ending q ≡ end
     → ReadsFile asked bytes es end q.world
-ends_so asked bytes es q (Some e) reads asks calm is = record { progress = q; asks = asks; reads = reads; sound = calm; ends = rw is refl }
+ends_so asked bytes es q (Some e) reads asks calm is = record { progress = q; asks = asks; reads = reads; sound = calm; ends = sym (ap (λ o. end_by o q.world) is) }
 ends_so asked bytes es q None reads asks calm is =
     let told = world_told q is in (
       told.0,
       told.1,
-      record { progress = q; asks = asks; reads = reads; sound = calm; ends = rw (is, told.1) refl },
+      record { progress = q; asks = asks; reads = reads; sound = calm; ends = sym (ap (λ o. end_by o q.world) is ∙ ap (end_by None) told.1) },
     )
 
 memory_last : (q : Progress) → q.fault ≡ Some Memory → ending q ≡ Some Memory

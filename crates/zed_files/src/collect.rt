@@ -105,9 +105,12 @@ fn read_all<H: Host>(alloc: Global, host: &mut H, names: &[&str]) -> Result<Gath
             }
             Err(_) => return Err(Refusal::Memory),
         };
-        if let Some(error) = gathered.read(alloc, bytes.as_slice())? {
-            gathered.refusal = Some(Refusal::from(error));
-            return Ok(gathered);
+        match gathered.read(alloc, bytes.as_slice())? {
+            None => {}
+            Some(error) => {
+                gathered.refusal = Some(Refusal::from(error));
+                return Ok(gathered);
+            }
         }
     }
     gathered.refusal = end_of(gathered.world());

@@ -1,5 +1,5 @@
 //! The document of edits that come file by file.
-ghost use Rattle.std.specs.Prelude.{◌≡◌, ◌≢◌, ◌≤◌, ◌<◌, ◌++◌, ◌⊎◌, ℕ, [], List, Option, Some, None, Ok, Err, IfErr, IfNone, IfOk, IfSome, IsSomeAnd, MatchResult, OnOk, drop, false, is_some, length, true};
+ghost use Rattle.std.specs.Prelude.{◌≡◌, ◌≢◌, ◌≤◌, ◌<◌, ◌++◌, ◌⊎◌, ℕ, [], List, Option, Some, None, Ok, Err, IfErr, IfNone, IfOk, IfSome, IsSomeAnd, MatchOption, MatchResult, OnOk, drop, false, is_some, length, true};
 ghost use Rattle.byteorder.specs.Endian.{little_number};
 ghost use Rattle.zed_types.specs.declared.stamp.Stamp.{Stamp as TheStamp};
 ghost use Rattle.zed_op.specs.declared.op.Edit.{Edit as TheEdit};
@@ -19,6 +19,21 @@ use zed_editfile::{EditFileError, EditReader, world_ahead};
 use zed_link::{Feed, LinkError, deliveries_go_on};
 use zed_types::Stamp;
 
+/// The clash that a feed was refused for, if it was one. A fault of the file is told at its end.
+fn clash_in(refusal: LinkError) -> Result<Option<Stamp>, Refusal>
+    ensures { MatchResult result
+        (λ clash. MatchOption clash
+        ((refusal ≢ LinkError.Memory) × ((s : TheStamp) → refusal ≢ LinkError.Clash s))
+        (λ s. refusal ≡ LinkError.Clash s))
+        (λ e. e ≡ Refusal.Memory) }
+{
+    match refusal {
+        LinkError::Memory => Err(Refusal::Memory),
+        LinkError::Clash(stamp) => Ok(Some(stamp)),
+        _ => Ok(None),
+    }
+}
+
 /// Delivers the edits of a file up to the first that clashes, whose stamp is told, and reads it to its end.
 fn deliver(feed: &mut Feed, bytes: &[u8]) -> Result<Option<Stamp>, Refusal>
     requires sound { feed.old.document.is_stale ≡ false }
@@ -34,10 +49,7 @@ fn deliver(feed: &mut Feed, bytes: &[u8]) -> Result<Option<Stamp>, Refusal>
 {
     match feed.put(bytes) {
         Ok(_) => Ok(None),
-        Err(LinkError::Memory) => Err(Refusal::Memory),
-        Err(LinkError::Clash(stamp)) => Ok(Some(stamp)),
-        // a fault of the file, which is told at its end
-        Err(_) => Ok(None),
+        Err(refusal) => clash_in(refusal),
     }
 }
 
@@ -90,11 +102,13 @@ fn feed_for(alloc: Global, feed: Option<Feed>, bytes: &[u8]) -> Option<Feed>
         × (f.document.edits ≡ []) × (f.document.is_stale ≡ false)) }
     ensures none { IfNone result ((feed ≡ None) × (length bytes.now < 12)) }
 {
-    if feed.is_some() {
-        return feed;
+    match feed {
+        Some(feed) => Some(feed),
+        None => {
+            let world = world_ahead(bytes)?;
+            Some(Feed::of(alloc, Document::new(alloc, world)))
+        }
     }
-    let world = world_ahead(bytes)?;
-    Some(Feed::of(alloc, Document::new(alloc, world)))
 }
 
 /// What edit files came to so far. The edits of a file are delivered as they are read.

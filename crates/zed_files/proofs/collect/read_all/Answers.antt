@@ -1,11 +1,11 @@
-use Rattle.std.proofs.Common.{◌≡◌, ◌∙◌, ◌+◌, ◌∷◌, ◌++◌, [], Some, None, sym, refl, subst, drop, map}
+use Rattle.std.proofs.Common.{◌≡◌, ◌∙◌, ◌+◌, ◌∷◌, ◌++◌, [], Some, None, sym, refl, subst, drop, map, ap}
 use Rattle.std.proofs.lemmas.Result.{err_from_is_err_and}
 use mathlib.Core.Logic.{inl, inr}
 use Rattle.zed_host.specs.Counting.{Rose}
 use Rattle.zed_host.specs.HostContents.{file_in}
 use Rattle.zed_files.specs.declared.refusal.Refusal.TheVariants.{File, Memory}
 use Rattle.zed_files.specs.Collected.{IsStreamIn, world_in}
-use Rattle.zed_files.specs.Files.{IsStream}
+use Rattle.zed_files.specs.Files.{IsStream, end_of}
 use Rattle.zed_files.specs.Texts.{texts_of}
 use Rattle.zed_host.proofs.ReadFiles.{as_held, read_so}
 use Rattle.zed_host.proofs.Counts.{rose_later}
@@ -13,6 +13,7 @@ use Rattle.zed_files.proofs.Asked.{next_lost, next_refused, read_enough, read_ne
 use Rattle.zed_files.proofs.Failures.{file_is_other, memory_is_other, none_later, unfailed}
 use Rattle.zed_files.specs.Refusals.{file_refusal}
 use Rattle.zed_files.proofs.OffStage.{end_off, file_off, is_off}
+use Rattle.zed_files.proofs.Deliveries.{came_sound}
 use Rattle.zed_files.proofs.Streams.{all_read, faulty_file, file_fits, fit_append, last_file, next_file, next_read, none_left, unread_file, whole_file}
 use Rattle.zed_files.proofs.collect.read_all.Goals as goal
 
@@ -20,7 +21,7 @@ pub loop-name-preserved : goal.loop-name-preserved
 loop-name-preserved g c =
     let old = c.loop-name.invariant in
     let held = c.as_slice.ensures.value in
-    let took = c.in_ok-error.ensures.took old.done old.fit old.came in
+    let took = c.in_ok-read.ensures.took old.done old.fit old.came in
     let file = whole_file _ _ _ _ _ c.in-None.is took.1 in
     record {
       same = c.in-Ok.ensures.kept ∙ old.same;
@@ -45,7 +46,7 @@ returns-clause-stream g c =
       old.fit,
       old.came,
       λ t at. all_read (IsStreamIn _ t (texts_of c.args.names.now)) (world_in c.loop-name.gathered.feed) [] old.done c.end_of-gathered.result
-          refl (λ s is. old.read t _ [] at (none_left _ t c.args.names.now c.loop-name.name-index c.loop-name-test.false) s is) c.end_of-gathered.ensures,
+          refl (λ s is. old.read t _ [] at (none_left _ t c.args.names.now c.loop-name.name-index c.loop-name-test.false) s is) (c.end_of-gathered.ensures ∙ ap end_of c.world.ensures),
     )
 
 -- which refusals may be told
@@ -79,10 +80,10 @@ pub returns-in-Err-clause-asked : goal.returns-in-Err-clause-asked
 returns-in-Err-clause-asked g c =
     next_refused g.H.Host.called c.args.names.now c.loop-name.name-index _ _ _ _ c.in-Err.field-0 Memory c.loop-name-test.true (memory_is_other Memory refl) c.loop-name.invariant.asked c.in-Err.ensures.asked c.in-Err.ensures.err
 
-pub returns-in_err-error-clause-asked : goal.returns-in_err-error-clause-asked
-returns-in_err-error-clause-asked g c =
+pub returns-in_err-read-clause-asked : goal.returns-in_err-read-clause-asked
+returns-in_err-read-clause-asked g c =
     let p = err_from_is_err_and c.from_residual.result c.from_residual.ensures.1 in
-    let lack : p.0 ≡ Memory = p.2 ∙ c.in_err-error.ensures.err in
+    let lack : p.0 ≡ Memory = p.2 ∙ c.in_err-read.ensures.err in
     rw p.1 (read_enough g.H.Host.called c.args.names.now (c.loop-name.name-index + 1) _ _ p.0 (memory_is_other p.0 lack)
     (read_next g.H.Host.called c.args.names.now c.loop-name.name-index _ _ _ _ c.loop-name-test.true c.loop-name.invariant.asked c.in-Ok.ensures.asked))
 
@@ -90,7 +91,7 @@ pub returns-in-Some : goal.returns-in-Some
 returns-in-Some g c =
     let old = c.loop-name.invariant in
     let held = c.as_slice.ensures.value in
-    let took = c.in_ok-error.ensures.took old.done old.fit old.came in
+    let took = c.in_ok-read.ensures.took old.done old.fit old.came in
     let file = faulty_file _ _ _ _ _ c.in-Some.error c.in-Some.is took.1 in
     record {
       stream = (
@@ -114,3 +115,6 @@ returns-in-Some g c =
       failures = none_later g.H.Host.faults g.H.Host.failed _ c.loop-name.host _ (unfailed g.H.Host.faults g.H.Host.failed _ _ old.calm old.uncounted) c.in-Ok.ensures.failures.0;
       file_only_when = λ is. absurd (file_is_other c.in-Some.error (let same = c.from.ensures in cc));
     }
+
+pub read-requires : goal.read-requires
+read-requires g c = came_sound c.loop-name.gathered.feed c.loop-name.invariant.done c.loop-name.gathered.clash c.loop-name.invariant.came
