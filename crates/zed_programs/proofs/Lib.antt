@@ -1,3 +1,3 @@
 mod Plain
-mod SetSteps
+pub mod SetSteps
 mod Nothing

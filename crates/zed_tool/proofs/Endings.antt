@@ -41,7 +41,11 @@ use Rattle.zed_tool.specs.Calm.{ComesTo, ComesToSetting, Ending, EndsCalmly, Lea
 use Rattle.zed_tool.specs.Commands.{AsksCommand, AsksSet, EndsCommand, EndsSet, filter_of, forcing_of, form_of, length_of, listing_of}
 use Rattle.zed_tool.specs.Lines.{line_of}
 use Rattle.zed_tool.specs.Outcome.{Complained, Hosts, IsComplained, IsLineOf, Prints as PrintsText, Runs, RunsAs}
-use Rattle.zed_tool.proofs.Steps.{open_so, set_program_so, set_so, show_so, take_so, tell_so}
+use Rattle.zed_drawing.proofs.So.{open_so, take_so}
+use Rattle.zed_telling.proofs.Endings.{tell_so}
+use Rattle.zed_showing.proofs.Endings.{show_so}
+use Rattle.zed_set.proofs.Granted.{set_so}
+use Rattle.zed_programs.proofs.SetSteps.{set_so as set_program_so}
 
 -- a text was written to the standard error, or the host failed at it
 pub complained : (result : Result ⊤ WriteError) (old new : ℕ) (text : List ℕ) (t : HostContents) (before after : Option HostContents) → before ≡ Some t
@@ -151,13 +155,13 @@ lint_stopped strictness p P Q t (Err f) e left so never is same = as_lint strict
 set_done : (p : Type 0) (t : HostContents) (file : List ℕ) (replica : ℕ) (words : List (List ℕ)) (wished : Result Wish WrongWord) (status : ℕ) (left : Option HostContents) → (p → ⊥)
     → EndsSet p t file replica words wished (Ok status) left → IsDone (ComesToSetting ⊥ t file replica words wished) status left
 set_done p t file replica words (Ok wish) status left never is =
-    told_done p (ComesToSet p t file replica wish) (ComesToSet ⊥ t file replica wish) t is.0 status left (λ x. set_so p ⊥ t file replica wish x never) is.1 is.2
+    told_done p (ComesToSet p t file replica wish) (ComesToSet ⊥ t file replica wish) t is.0 status left (λ x. set_so t file replica wish p ⊥ x never) is.1 is.2
 set_done p t file replica words (Err bad) status left never is = let wrong = is.0 in absurd (cc)
 
 set_stopped : (p : Type 0) (t : HostContents) (file : List ℕ) (replica : ℕ) (words : List (List ℕ)) (wished : Result Wish WrongWord) (e : Failure) (left : Option HostContents) → (p → ⊥)
     → EndsSet p t file replica words wished (Err e) left → IsStopped t (ComesToSetting ⊥ t file replica words wished) e left
 set_stopped p t file replica words (Ok wish) e left never is =
-    told_stopped p (ComesToSet p t file replica wish) (ComesToSet ⊥ t file replica wish) t is.0 e left (λ x. set_so p ⊥ t file replica wish x never) never is.1 is.2
+    told_stopped p (ComesToSet p t file replica wish) (ComesToSet ⊥ t file replica wish) t is.0 e left (λ x. set_so t file replica wish p ⊥ x never) never is.1 is.2
 set_stopped p t file replica words (Err bad) e left never is = (is.1, inr (ap (λ x. Err x) (failure_is e (wrong_word words bad) is.0)))
 
 -- ---- each command
@@ -166,55 +170,55 @@ done : {H : Type 0} (called : H → Call → H → Type 0) (p : Type 0) (command
     → EndsCommand called p command old new t (Ok status) left → IsDone (ComesTo ⊥ t command) status left
 done called p (Open until forcing file world) old new t status left never is =
     drawn_done file p (ComesToOpen p t until (forcing_of forcing) file world) (ComesToOpen ⊥ t until (forcing_of forcing) file world) (Did called (OpenReads (forcing_of forcing) file world) old new) t is.0 status left
-    (λ x. open_so p ⊥ t until (forcing_of forcing) file world x never) is.1 is.2
+    (λ x. open_so t until (forcing_of forcing) file world p ⊥ x never) is.1 is.2
 done called p (Take base file replica world) old new t status left never is =
     drawn_done file p (ComesToTake p t base file replica world) (ComesToTake ⊥ t base file replica world) (Did called (TakeReads (presence_of base) (base_word base world) file world) old new) t is.0 status left
-    (λ x. take_so p ⊥ t base file replica world x never) is.1 is.2
+    (λ x. take_so t (presence_of base) (base_word base world) file replica world p ⊥ x never) is.1 is.2
 done called p (Log length board cell replica since files) old new t status left never is =
     let tell = log_of (length_of length) (filter_of board cell replica since) in
-    told_done p (ComesToTell p t tell files) (ComesToTell ⊥ t tell files) t is.0 status left (λ x. tell_so p ⊥ t tell files x never) is.1 is.2
+    told_done p (ComesToTell p t tell files) (ComesToTell ⊥ t tell files) t is.0 status left (λ x. tell_so t tell files p ⊥ x never) is.1 is.2
 done called p (Lists listing files) old new t status left never is =
     let tell = list_of (listing_of listing) in
-    told_done p (ComesToTell p t tell files) (ComesToTell ⊥ t tell files) t is.0 status left (λ x. tell_so p ⊥ t tell files x never) is.1 is.2
+    told_done p (ComesToTell p t tell files) (ComesToTell ⊥ t tell files) t is.0 status left (λ x. tell_so t tell files p ⊥ x never) is.1 is.2
 done called p (Show form board files) old new t status left never is =
     told_done p (ComesToShow p t (form_of form) board files) (ComesToShow ⊥ t (form_of form) board files) t is.0 status left
-    (λ x. show_so p ⊥ t (form_of form) board files x never) is.1 is.2
+    (λ x. show_so t (form_of form) board files p ⊥ x never) is.1 is.2
 done called p (Lint strictness files) old new t status left never is =
-    lint_done strictness p (ComesToTell p t lint_of files) (ComesToTell ⊥ t lint_of files) t is.0 status left (λ x. tell_so p ⊥ t lint_of files x never) is.1 is.2
+    lint_done strictness p (ComesToTell p t lint_of files) (ComesToTell ⊥ t lint_of files) t is.0 status left (λ x. tell_so t lint_of files p ⊥ x never) is.1 is.2
 done called p (Set file replica words) old new t status left never is = set_done p t file replica words (wish_of words) status left never is
 done called p (ProgramOf board stat files) old new t status left never is =
     let tell = printed board stat in
-    told_done p (ComesToTell p t tell files) (ComesToTell ⊥ t tell files) t is.0 status left (λ x. tell_so p ⊥ t tell files x never) is.1 is.2
+    told_done p (ComesToTell p t tell files) (ComesToTell ⊥ t tell files) t is.0 status left (λ x. tell_so t tell files p ⊥ x never) is.1 is.2
 done called p (SetProgram file replica board stat text) old new t status left never is =
     drawn_done text p (ComesToSetProgram p t file replica board stat text) (ComesToSetProgram ⊥ t file replica board stat text) (Did called (SetReads file text) old new) t is.0 status left
-    (λ x. set_program_so p ⊥ t file replica board stat text x never) is.1 is.2
+    (λ x. set_program_so t file replica board stat text p ⊥ x never) is.1 is.2
 
 stopped : {H : Type 0} (called : H → Call → H → Type 0) (p : Type 0) (command : Command) (old new : H) (t : HostContents) (e : Failure) (left : Option HostContents) → (p → ⊥)
     → EndsCommand called p command old new t (Err e) left → IsStopped t (ComesTo ⊥ t command) e left
 stopped called p (Open until forcing file world) old new t e left never is =
     drawn_stopped file p (ComesToOpen p t until (forcing_of forcing) file world) (ComesToOpen ⊥ t until (forcing_of forcing) file world) (Did called (OpenReads (forcing_of forcing) file world) old new) t is.0 e left
-    (λ x. open_so p ⊥ t until (forcing_of forcing) file world x never) never is.1 is.2
+    (λ x. open_so t until (forcing_of forcing) file world p ⊥ x never) never is.1 is.2
 stopped called p (Take base file replica world) old new t e left never is =
     drawn_stopped file p (ComesToTake p t base file replica world) (ComesToTake ⊥ t base file replica world) (Did called (TakeReads (presence_of base) (base_word base world) file world) old new) t is.0 e left
-    (λ x. take_so p ⊥ t base file replica world x never) never is.1 is.2
+    (λ x. take_so t (presence_of base) (base_word base world) file replica world p ⊥ x never) never is.1 is.2
 stopped called p (Log length board cell replica since files) old new t e left never is =
     let tell = log_of (length_of length) (filter_of board cell replica since) in
-    told_stopped p (ComesToTell p t tell files) (ComesToTell ⊥ t tell files) t is.0 e left (λ x. tell_so p ⊥ t tell files x never) never is.1 is.2
+    told_stopped p (ComesToTell p t tell files) (ComesToTell ⊥ t tell files) t is.0 e left (λ x. tell_so t tell files p ⊥ x never) never is.1 is.2
 stopped called p (Lists listing files) old new t e left never is =
     let tell = list_of (listing_of listing) in
-    told_stopped p (ComesToTell p t tell files) (ComesToTell ⊥ t tell files) t is.0 e left (λ x. tell_so p ⊥ t tell files x never) never is.1 is.2
+    told_stopped p (ComesToTell p t tell files) (ComesToTell ⊥ t tell files) t is.0 e left (λ x. tell_so t tell files p ⊥ x never) never is.1 is.2
 stopped called p (Show form board files) old new t e left never is =
     told_stopped p (ComesToShow p t (form_of form) board files) (ComesToShow ⊥ t (form_of form) board files) t is.0 e left
-    (λ x. show_so p ⊥ t (form_of form) board files x never) never is.1 is.2
+    (λ x. show_so t (form_of form) board files p ⊥ x never) never is.1 is.2
 stopped called p (Lint strictness files) old new t e left never is =
-    lint_stopped strictness p (ComesToTell p t lint_of files) (ComesToTell ⊥ t lint_of files) t is.0 e left (λ x. tell_so p ⊥ t lint_of files x never) never is.1 is.2
+    lint_stopped strictness p (ComesToTell p t lint_of files) (ComesToTell ⊥ t lint_of files) t is.0 e left (λ x. tell_so t lint_of files p ⊥ x never) never is.1 is.2
 stopped called p (Set file replica words) old new t e left never is = set_stopped p t file replica words (wish_of words) e left never is
 stopped called p (ProgramOf board stat files) old new t e left never is =
     let tell = printed board stat in
-    told_stopped p (ComesToTell p t tell files) (ComesToTell ⊥ t tell files) t is.0 e left (λ x. tell_so p ⊥ t tell files x never) never is.1 is.2
+    told_stopped p (ComesToTell p t tell files) (ComesToTell ⊥ t tell files) t is.0 e left (λ x. tell_so t tell files p ⊥ x never) never is.1 is.2
 stopped called p (SetProgram file replica board stat text) old new t e left never is =
     drawn_stopped text p (ComesToSetProgram p t file replica board stat text) (ComesToSetProgram ⊥ t file replica board stat text) (Did called (SetReads file text) old new) t is.0 e left
-    (λ x. set_program_so p ⊥ t file replica board stat text x never) never is.1 is.2
+    (λ x. set_program_so t file replica board stat text p ⊥ x never) never is.1 is.2
 
 told_calmly : {H : Type 0} (h : Hosts H) (text : List ℕ) (t : HostContents) (old new : H) → NothingFailed (h.faults old) (h.faults new) → h.contents old ≡ Some t → Complained h text old new
     → h.contents new ≡ Some (with_complaint text t)

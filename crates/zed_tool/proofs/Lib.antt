@@ -1,5 +1,4 @@
 pub mod Handing
 pub mod Made
-pub mod Steps
 pub mod Endings
 pub mod Taken
