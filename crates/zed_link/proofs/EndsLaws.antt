@@ -1,11 +1,7 @@
 -- What several calls of a link do together.
-use Rattle.std.proofs.Common.{◌≡◌, ◌∙◌, ◌++◌, ◌+◌, ◌<◌, ◌≤◌, ℕ, false, List, [], Option, Some, None, refl, sym, ap, subst, append_assoc, arith}
+use Rattle.std.proofs.Common.{◌≡◌, ◌∙◌, ◌++◌, ◌+◌, ◌<◌, ◌≤◌, ℕ, false, List, [], Option, Some, None, sym, ap, subst, append_assoc, arith}
 use Rattle.zed_link.specs.Counting.{Counted}
 use Rattle.zed_link.specs.Ends.{AtItsEnd, Changed, FailedBehind, HandedAll, HandedOver, LinkEnds, Promise, Took, TookFront}
-
--- none was counted yet
-pub none_counted : (a : ℕ) → Counted 0 a a
-none_counted a = (omega arith, λ room. omega arith)
 
 -- so many were counted, and then one more
 pub one_more : (n a b c : ℕ) → Counted n a b → Counted 1 b c → Counted (n + 1) a c
@@ -61,11 +57,6 @@ fails_behind xs None b c h k = tt
 fails_behind xs (Some t) b c h k =
     let l = subst (λ b. Changed (FailedBehind []) b c) h.2 k in
     (l.0, ((h.1.0 ∙ ap (λ z. xs ++ z) l.1.0.0, l.1.0.1 ∙ h.1.1, l.1.0.2 ∙ h.1.2), ap (λ (p : Promise). p.unfailing) (sym h.1.2) ∙ l.1.1), l.2)
-
--- nothing was handed over yet
-pub none_handed : (a : Option LinkEnds) → Changed (HandedOver []) a a
-none_handed None = tt
-none_handed (Some t) = (t, (refl, refl, refl), refl)
 
 -- a read of nothing is the end
 pub end_comes : (a b : Option LinkEnds) → Changed (HandedOver []) a b → AtItsEnd a → Changed (HandedAll []) a b

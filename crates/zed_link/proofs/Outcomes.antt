@@ -1,5 +1,5 @@
 -- A pull that goes on, and how it ends.
-use Rattle.std.proofs.Common.{◌≡◌, ◌∙◌, ◌++◌, ◌+◌, ◌<◌, ◌≤◌, ℕ, List, [], Option, Some, None, Result, Ok, Err, refl, ap, sym, subst, arith, length}
+use Rattle.std.proofs.Common.{◌≡◌, ◌∙◌, ◌++◌, ◌+◌, ◌<◌, ◌≤◌, ℕ, List, [], Option, Some, None, Result, Ok, Err, refl, sym, subst, arith, length}
 use mathlib.Core.Logic.{inl, inr}
 use Rattle.std.proofs.lemmas.List.{length-append}
 use Rattle.zed_op.specs.declared.op.Edit.{Edit}
@@ -19,8 +19,8 @@ use Rattle.zed_link.specs.Pull.{AllDelivered, FromReads, LeavesDocument, LeavesL
 use Rattle.zed_link.specs.Refusals.{file_refusal}
 use Rattle.zed_link.specs.Tally.{plus, states, tally}
 use Rattle.zed_link.proofs.Deliveries.{counted_more, delivered_more, stops_more}
-use Rattle.zed_link.proofs.EndsLaws.{handed_all, handed_more, none_counted, none_handed, fails_behind, one_more}
-use Rattle.zed_link.proofs.Paces.{AtPace, at_pace_first, at_pace_more, from_no_reads, more_reads}
+use Rattle.zed_link.proofs.EndsLaws.{handed_all, handed_more, fails_behind, one_more}
+use Rattle.zed_link.proofs.Paces.{AtPace, at_pace_more, more_reads}
 use Rattle.zed_link.proofs.Readings.{asked_world, cut_short, fault_ends, few_edits}
 use Rattle.zed_link.proofs.Tallies.{tally_below}
 
@@ -48,25 +48,6 @@ pub record Going (d : Replica) (old now : Option LinkEnds) (a b n : ℕ) (p : Pr
   pub counted : counts ≡ tally (states d.edits found)
   pub world : m.world ≡ d.world
   pub sound : m.is_stale ≡ d.is_stale
-
--- it begins with nothing
-pub start : (d : Replica) (old : Option LinkEnds) (a : ℕ) (p : Progress) (w : Option ℕ) (counts : Pulled) → w ≡ Some d.world
-    → p ≡ record { asked = w; world = None; version = 0; rest = []; fault = None } → Reads [] [] p → counts ≡ tally [] → Going d old old a a 0 p d counts
-start d old a p w counts asks is reads none = record {
-  handed = [];
-  found = [];
-  asks = ap (λ (q : Progress). q.asked) is ∙ asks;
-  calm = ap (λ (q : Progress). q.fault) is;
-  spells = reads;
-  size = from_no_reads old;
-  pace = at_pace_first old;
-  made = none_counted a;
-  link = none_handed old;
-  all = (refl, refl);
-  counted = none;
-  world = refl;
-  sound = refl;
-}
 
 -- the piece of one read was taken
 pub goes_on : (d : Replica) (old mid now : Option LinkEnds) (a b c n : ℕ) (p q : Progress) (m l : Replica) (counts got sum : Pulled) (piece read : List ℕ) (es : List Edit)
@@ -226,11 +207,6 @@ piece_refused late d old mid now a b c n p q m counts piece read es e left withi
     by_fault file.RecordLength is all = pull RecordLength refl (leaves, up) (fault_ends q file.RecordLength is, all)
     by_fault (file.BadEdit cause) is all = pull (BadEdit cause) refl (leaves, up) (fault_ends q (file.BadEdit cause) is, all)
     by_fault file.CutShort is all = absurd (late (going.handed ++ piece) (going.found ++ es) q spelled is)
-
--- what was taken of a piece, from a list that was empty
-pub took : (d : Replica) (piece : List ℕ) (before es : List Edit) (p q : Progress) (r : Answer) (left : List Edit) → before ≡ [] → Feeds piece before es p q → TakesPiece d es q r left
-    → (es : List Edit) × Feeds piece [] es p q × TakesPiece d es q r left
-took d piece before es p q r left none feeds takes = (es, subst (λ b. Feeds piece b es p q) none feeds, takes)
 
 -- as many reads were made as may be
 pub turns_over : (d : Replica) (old now : Option LinkEnds) (a b n : ℕ) (p : Progress) (m : Replica) (counts : Pulled) → n ≡ most_reads

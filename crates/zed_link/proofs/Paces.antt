@@ -1,8 +1,8 @@
 -- How many bytes reads hand over, by the pace of their link.
-use Rattle.std.proofs.Common.{◌≡◌, ◌∙◌, ◌++◌, ◌+◌, ◌-◌, ◌*◌, ◌<◌, ◌≤◌, ◌⊎◌, min, max, ℕ, List, [], Option, Some, None, refl, ap, sym, subst, arith, length, suc}
+use Rattle.std.proofs.Common.{◌≡◌, ◌∙◌, ◌++◌, ◌+◌, ◌-◌, ◌*◌, ◌<◌, ◌≤◌, ◌⊎◌, min, max, ℕ, List, [], Option, Some, None, ap, sym, subst, arith, length, suc}
 use mathlib.Core.Logic.{inl, inr}
 use Rattle.std.proofs.lemmas.List.{length-append}
-use Rattle.std.proofs.Math.Nat.{le-max_left, max-le, min-le_left, min-le_right, suc-mul}
+use Rattle.std.proofs.Math.Nat.{max-le, min-le_left, min-le_right, suc-mul}
 use Rattle.zed_link.specs.Ends.{Changed, HandedOver, KeepsPace, LinkEnds, Promise}
 use Rattle.zed_link.specs.Pull.{FromReads, least_read, most_reads}
 
@@ -10,18 +10,6 @@ use Rattle.zed_link.specs.Pull.{FromReads, least_read, most_reads}
 abbrev pub AtPace : Option LinkEnds → ℕ → List ℕ → Type 0
 AtPace None n bytes = n ≤ length bytes
 AtPace (Some t) n bytes = (length t.left ≤ length bytes) ⊎ (n * least_read (Some t) ≤ length bytes)
-
-some_read : (link : Option LinkEnds) → 1 ≤ least_read link
-some_read None = omega arith
-some_read (Some t) = le-max_left 1 (min 4096 t.promise.pace)
-
--- no reads yet
-pub at_pace_first : (link : Option LinkEnds) → AtPace link 0 []
-at_pace_first None = omega arith
-at_pace_first (Some t) = inr (omega arith)
-
-pub from_no_reads : (link : Option LinkEnds) → FromReads (least_read link) 0 []
-from_no_reads link = let some = some_read link in (omega arith, omega arith)
 
 -- what the link handed over is of what was left
 handed_length : (t : LinkEnds) (bytes : List ℕ) (now : Option LinkEnds) → (h : Changed (HandedOver bytes) (Some t) now) → length t.left ≡ length bytes + length h.0.left
