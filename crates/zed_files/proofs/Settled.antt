@@ -57,7 +57,7 @@ settled_off None None (Err e) off is = absurd (cc)
 pub settled_asks : {H : Type 0} (called : H → Call → H → Type 0) (reads : List Ask) (clash : Option Stamp) (refusal : Option Refusal) (result : Result Replica Refusal) (old new : H) → Asks called reads [] refusal old new
     → refusal_in result ≡ first_refusal clash refusal → Asks called reads [] (refusal_in result) old new
 settled_asks called reads (Some s) refusal result old new asks is =
-    subst (λ r. Asks called reads [] r old new) (sym is) (refused_instead called reads refusal (Clash s) old new (λ file. cc) asks)
+    subst (λ r. Asks called reads [] r old new) (sym is) (refused_instead called reads refusal (Clash s) old new (λ file. cc) (λ lack. cc) asks)
 settled_asks called reads None refusal result old new asks is = subst (λ r. Asks called reads [] r old new) (sym is) asks
 
 pub settled_tells : {H : Type 0} (faults failed : H → ℕ) (clash : Option Stamp) (refusal : Option Refusal) (result : Result Replica Refusal) (old new : H) → NoneForgotten faults failed old new

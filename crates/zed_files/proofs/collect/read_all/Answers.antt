@@ -74,7 +74,7 @@ returns-in-Err-File-clause-stream g c =
 
 pub returns-in-Err-File-clause-asked : goal.returns-in-Err-File-clause-asked
 returns-in-Err-File-clause-asked g c =
-    next_lost g.H.Host.called c.args.names.now c.loop-name.name-index _ _ _ _ c.in-Err-File.field-0 File c.loop-name-test.true c.loop-name.invariant.asked c.in-Err-File.ensures.asked c.in-Err-File.field-0-is
+    next_lost g.H.Host.called c.args.names.now c.loop-name.name-index _ _ _ _ c.in-Err-File.field-0 File c.loop-name-test.true (λ lack. cc) c.loop-name.invariant.asked c.in-Err-File.ensures.asked c.in-Err-File.field-0-is
 
 pub returns-in-Err-clause-failures : goal.returns-in-Err-clause-failures
 returns-in-Err-clause-failures g c =
@@ -83,7 +83,7 @@ returns-in-Err-clause-failures g c =
 
 pub returns-in-Err-clause-asked : goal.returns-in-Err-clause-asked
 returns-in-Err-clause-asked g c =
-    next_refused g.H.Host.called c.args.names.now c.loop-name.name-index _ _ _ _ c.in-Err.field-0 Memory c.loop-name-test.true (memory_is_other Memory refl) c.loop-name.invariant.asked c.in-Err.ensures.asked c.in-Err.ensures.err
+    next_refused g.H.Host.called c.args.names.now c.loop-name.name-index _ _ _ _ c.in-Err.field-0 Memory c.loop-name-test.true (memory_is_other Memory refl) c.loop-name.invariant.asked c.in-Err.ensures.asked c.in-Err.ensures.err c.in-Err.not-File
 
 pub returns-in_err-take-in-Ok-end-clause-asked : goal.returns-in_err-take-in-Ok-end-clause-asked
 returns-in_err-take-in-Ok-end-clause-asked g c =
