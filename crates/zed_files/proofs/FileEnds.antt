@@ -1,12 +1,12 @@
 -- What a reader answers at the end of a file.
-use Rattle.std.proofs.Common.{◌≡◌, ◌∙◌, ℕ, List, [], ◌++◌, Option, Some, None, Result, Ok, Err, MatchResult, refl, ap}
+use Rattle.std.proofs.Common.{◌≡◌, ◌∙◌, ℕ, List, [], ◌∷◌, ◌++◌, Option, Some, None, Result, Ok, Err, MatchResult, refl, ap, subst}
 use Rattle.std.specs.Prelude.{◌≢◌}
 use mathlib.Core.Logic.{◌⊎◌, inl, inr}
 use Rattle.zed_op.specs.declared.op.Edit.{Edit}
 use Rattle.zed_editfile.specs.declared.error.EditFileError.{EditFileError}
 use Rattle.zed_editfile.specs.declared.error.EditFileError.TheVariants.{Memory, Magic, NewVersion, OtherWorld, RecordLength, BadEdit, CutShort}
-use Rattle.zed_editfile.specs.Stream.{Feeds, Progress, Reads, ending, verdict_of}
-use Rattle.zed_files.specs.Files.{IsFile, end_by}
+use Rattle.zed_editfile.specs.Stream.{Feeds, Progress, Reads, ending, ending_by, verdict_of}
+use Rattle.zed_files.specs.Files.{IsFile, RunsOut, end_by}
 
 memory_or : (e : EditFileError) → (e ≡ Memory) ⊎ (e ≢ Memory)
 memory_or Memory = inl refl
@@ -24,10 +24,11 @@ memory_ends q f = rw f refl
 -- the answer of a reader that was fed a whole file
 pub file_answer : (asked : Option ℕ) (bytes : List ℕ) (old new : List Edit) (p q : Progress) (r : Result ℕ EditFileError)
     → Reads [] [] p → Feeds bytes old new p q → q.asked ≡ asked → r ≡ end_by (ending q) q.world
+    → (r ≡ Err Memory → RunsOut asked bytes)
     → MatchResult r
     (λ world. (es : List Edit) × IsFile asked bytes es (Ok world) × (new ≡ old ++ es))
-    (λ e. (e ≡ Memory) ⊎ ((es : List Edit) × IsFile asked bytes es (Err e) × (new ≡ old ++ es)))
-file_answer asked bytes old new p q (Ok world) start feeds asks ends = (
+    (λ e. ((e ≡ Memory) × RunsOut asked bytes) ⊎ ((es : List Edit) × IsFile asked bytes es (Err e) × (new ≡ old ++ es)))
+file_answer asked bytes old new p q (Ok world) start feeds asks ends out = (
   feeds.edits,
   record {
     progress = q;
@@ -38,9 +39,9 @@ file_answer asked bytes old new p q (Ok world) start feeds asks ends = (
   },
   feeds.gained,
 )
-file_answer asked bytes old new p q (Err e) start feeds asks ends =
+file_answer asked bytes old new p q (Err e) start feeds asks ends out =
     elim (memory_or e) [
-      | inl memory ↦ inl memory
+      | inl memory ↦ inl (memory, out (ap (λ x. Err x) memory))
       | inr other ↦ inr (
         feeds.edits,
         record {
@@ -70,3 +71,12 @@ whole_ends q world r is same made = go (ending q) is
     go : (o : Option EditFileError) → Ok tt ≡ verdict_of o → r ≡ end_by o q.world
     go None good = made ∙ ap (end_by None) same
     go (Some f) bad = let no : Ok tt ≡ Err f = bad in cc
+
+-- a reader without a fault doesn't end for want of memory
+pub calm_ends : (q : Progress) → q.fault ≡ None → Err Memory ≡ verdict_of (ending q) → ⊥
+calm_ends q calm is = go q.world q.rest (subst (λ f. Err Memory ≡ verdict_of (ending_by f q.world q.rest)) calm is)
+  where
+    go : (w : Option ℕ) (rest : List ℕ) → Err Memory ≡ verdict_of (ending_by None w rest) → ⊥
+    go None rest is = let no : Err Memory ≡ Err CutShort = is in cc
+    go (Some n) [] is = let no : Err Memory ≡ Ok tt = is in cc
+    go (Some n) (b ∷ rest) is = let no : Err Memory ≡ Err CutShort = is in cc

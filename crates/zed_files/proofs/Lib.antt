@@ -4,5 +4,6 @@ pub mod Endings
 pub mod Failures
 pub mod FileEnds
 pub mod OffStage
+pub mod RunningOut
 pub mod Streams
 pub mod Settled

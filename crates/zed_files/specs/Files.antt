@@ -6,7 +6,7 @@ use Rattle.zed_files.specs.declared.refusal.Refusal.{Refusal}
 use Rattle.zed_files.specs.declared.refusal.Refusal.TheVariants.{NoWorld, File}
 use Rattle.std.specs.Prelude.{◌≡◌, ◌≢◌, ◌⊎◌, ℕ, List, [], ◌∷◌, ◌++◌, Option, Some, None, Result, Ok, Err}
 use Rattle.std.specs.List.{flat_map}
-use Rattle.zed_editfile.specs.Stream.{IsTextOf, Progress, Reads, ending}
+use Rattle.zed_editfile.specs.Stream.{Enters, IsTextOf, Progress, Reads, Stop, ending}
 use Rattle.zed_files.specs.Refusals.{file_refusal}
 
 -- what a reader answers at the end of a file: the number of its world, or what is wrong
@@ -22,6 +22,12 @@ pub record IsFile (asked : Option ℕ) (bytes : List ℕ) (es : List Edit) (end 
   pub reads : Reads bytes es progress
   pub sound : progress.fault ≢ Some file.Memory
   pub ends : end ≡ end_by (ending progress) progress.world
+
+-- memory ran out while the bytes of a file were read: behind a good head of the world asked for, at a record that may want some
+abbrev pub RunsOut : Option ℕ → List ℕ → Type 0
+RunsOut asked bytes =
+    (version : ℕ) × (world : ℕ) × (before : List Edit) × (after : List Edit) × (s : Stop)
+    × (s.fault ≡ Some file.Memory) × Enters asked version world bytes before after s
 
 -- edits in the order in which files spell them, up to the first refusal of a file
 pub record Stream : Type 0 where

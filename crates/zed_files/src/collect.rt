@@ -3,7 +3,7 @@ ghost use Rattle.std.specs.Prelude.{◌≡◌, ◌⊎◌, IfErr, IfOk, IfSome, M
 ghost use Rattle.zed_op.specs.declared.op.Edit.{Edit as TheEdit};
 ghost use Rattle.zed_op.specs.Set.{AllFit};
 ghost use Rattle.zed_files.specs.Asked.{Asks, reading, refusal_in};
-ghost use Rattle.zed_files.specs.Files.{IsFile, edits_then, end_of as no_world};
+ghost use Rattle.zed_files.specs.Files.{IsFile, RunsOut, edits_then, end_of as no_world};
 ghost use Rattle.zed_files.specs.Collected.{CameTo, Collects, IsStreamIn, first_refusal};
 ghost use Rattle.zed_files.specs.Texts.{texts_of};
 ghost use Rattle.zed_files.specs.Faults.{NoneForgotten, TellsFailures};
@@ -45,7 +45,7 @@ pub fn bytes_of_file<H: Host>(host: &mut H, name: &str) -> Result<Vec<u8>, Refus
 }
 
 /// Appends the edits that the bytes of a file spell, and tells the number of its world, which is the one asked for or any. Refused is what
-/// the reader of edit files refuses; the edits before that are appended.
+/// the reader of edit files refuses; the edits before that are appended. Memory only behind a good head, at a record that may want some.
 pub fn append_edits(
     alloc: Global,
     asked: Option<u64>,
@@ -55,7 +55,8 @@ pub fn append_edits(
     ensures { MatchResult result
         (λ world. (es : List TheEdit) × IsFile asked bytes.now es (Ok world)
         × (edits.new.items ≡ edits.old.items ++ es))
-        (λ e. (e ≡ EditFileError.Memory) ⊎ ((es : List TheEdit) × IsFile asked bytes.now es (Err e)
+        (λ e. ((e ≡ EditFileError.Memory) × RunsOut asked bytes.now)
+        ⊎ ((es : List TheEdit) × IsFile asked bytes.now es (Err e)
         × (edits.new.items ≡ edits.old.items ++ es))) }
 {
     let mut reader = EditReader::new(alloc, asked);

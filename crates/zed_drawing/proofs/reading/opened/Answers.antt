@@ -13,7 +13,7 @@ returns-in-Ok-clause-opened c =
 pub returns-in_ok-collected-in-Err : goal.returns-in_ok-collected-in-Err
 returns-in_ok-collected-in-Err c = record {
   opened = elim c.in-Err.ensures [
-    | inl lack ↦ inl (c.from.ensures ∙ ap (λ x. Refused (file_refusal x)) lack)
+    | inl lack ↦ inl (c.from.ensures ∙ ap (λ x. Refused (file_refusal x)) lack.0)
     | inr read ↦ inr (opened_fault c.args.asked c.args.bytes.now read.0 c.in-Err.error c.from.result read.1
         (rw (read.2 ∙ ap (λ es. es ++ read.0) c.new-edits.ensures.items) at c.in_ok-collected-in-Err.ensures.collected.0) c.from.ensures)
   ];

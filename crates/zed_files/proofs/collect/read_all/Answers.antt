@@ -100,7 +100,7 @@ returns-in-Memory-clause-asked g c =
 pub take-requires-in_default : goal.take-requires-in_default
 take-requires-in_default g c =
     elim c.in-Err-end.ensures [
-      | inl memory ↦ absurd (c.in_default.not-Memory memory)
+      | inl memory ↦ absurd (c.in_default.not-Memory memory.0)
       | inr file ↦ file_fits _ _ _ _ (file_alone _ _ _ _ file.0 _ c.new-edits.ensures.items file.2 file.1)
     ]
 
@@ -115,7 +115,7 @@ pub returns-in_default : goal.returns-in_default
 returns-in_default g c =
     let old = c.loop-name.invariant in
     elim c.in-Err-end.ensures [
-      | inl memory ↦ absurd (c.in_default.not-Memory memory)
+      | inl memory ↦ absurd (c.in_default.not-Memory memory.0)
       | inr came ↦ (
           let held = c.as_slice.ensures.value in
           let file = file_alone _ _ _ _ came.0 _ c.new-edits.ensures.items came.2 came.1 in

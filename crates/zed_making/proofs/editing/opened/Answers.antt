@@ -12,7 +12,7 @@ returns-in-Ok-clause-opened c =
 pub returns-in_ok-collected-in-Err : goal.returns-in_ok-collected-in-Err
 returns-in_ok-collected-in-Err c = record {
   opened = elim c.in-Err.ensures [
-    | inl memory ↦ inl (c.from.ensures ∙ ap file_refusal memory)
+    | inl memory ↦ inl (c.from.ensures ∙ ap file_refusal memory.0)
     | inr read ↦ inr (opened_fault c.args.bytes.now read.0 c.in-Err.error c.from.result read.1
         (rw (read.2 ∙ ap (λ es. es ++ read.0) c.new-edits.ensures.items) at c.in_ok-collected-in-Err.ensures.0) c.from.ensures)
   ];
