@@ -6,7 +6,7 @@ use Rattle.zed_action.specs.declared.error.ActionError.{ActionError}
 use Rattle.zed_files.specs.declared.refusal.Refusal.{Refusal}
 use Rattle.zed_files.specs.declared.refusal.Refusal.TheVariants.{Memory, Clash, File}
 use Rattle.std.proofs.Common.{◌≡◌, ◌∙◌, ◌≢◌, ℕ, zero, suc, false, List, Some, None, Result, Ok, Err, refl, ap, sym, subst, MatchResult, inl, inr}
-use Rattle.std.specs.Prelude.{◌⊎◌}
+use Rattle.std.specs.Prelude.{◌⊎◌, ⊤}
 use Rattle.zed_op.specs.Set.{Agrees, set_of}
 use Rattle.zed_document.specs.Replica.{Replica}
 use Rattle.zed_action.specs.Refusals.{memory as no_memory}
@@ -128,3 +128,22 @@ edited_not_opened failed t file replica words e some why =
 pub not_edited : (failed : Type 0) (t : HostContents) (file : List ℕ) (replica : ℕ) (words : List (List ℕ)) (e : Refusal) → (e ≡ Memory) ⊎ IsEdited failed t file replica words (Err e)
     → (e ≡ Memory) ⊎ ComesToEdit failed t file replica words (Err e)
 not_edited failed t file replica words e why = elim why [ inl memory ↦ inl memory | inr is ↦ inr (Err e, is, refl) ]
+
+-- ---- author 0
+
+abbrev has_opened : Replica → Result Replica Refusal
+has_opened d = Ok d
+
+abbrev has_refused : Refusal → Result Replica Refusal
+has_refused e = Err e
+
+-- what was opened wasn't refused
+pub never_opened : {X : Type 0} (d : Replica) (e : Refusal) → has_opened d ≡ has_refused e → X
+never_opened d e is = absurd cc
+
+refusal_is : (x e : Refusal) → has_refused x ≡ has_refused e → x ≡ e
+refusal_is x e is = cc
+
+-- a refusal is passed on
+pub passed_on : (r : Result ⊤ Refusal) (told x e : Refusal) → r ≡ Err told → told ≡ x → has_refused x ≡ has_refused e → r ≡ Err e
+passed_on r told x e at same is = at ∙ ap (λ y. Err y) (same ∙ refusal_is x e is)

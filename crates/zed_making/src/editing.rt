@@ -107,6 +107,8 @@ fn edited<H: Host>(
         (λ d. IsEdited failed t file.now replica (texts_of words.now) (Ok (d.world, d.edits)))
         (λ e. (e ≡ Refusal.Memory)
         ⊎ IsEdited failed t file.now replica (texts_of words.now) (Err e)) }
+    ensures no_author { replica ≡ 0
+        → (result ≡ Err (Refusal.BadEdit Cause.Stamp)) × (host.new ≡ host.old) }
     ensures err { IfErr result IsOffStage }
     ensures kept { H.contents host.new ≡ H.contents host.old }
     ensures asked { Asks H.called (reading (file.now ∷ [])) []
@@ -120,7 +122,7 @@ fn edited<H: Host>(
     acted(alloc, document, replica, words)
 }
 
-/// Does an action as a replica, and rewrites the file.
+/// Does an action as a replica, and rewrites the file. Author 0 is refused before anything is asked of the host, whatever is lacking.
 pub fn edit<H: Host>(
     alloc: Global,
     host: &mut H,
@@ -132,6 +134,8 @@ pub fn edit<H: Host>(
         → let failed = Rose (H.faults host.old) (H.faults host.new) in
         Ends failed (ComesToEdit failed t file.now replica (texts_of words.now)) t
         result (H.contents host.new) }
+    ensures no_author { replica ≡ 0
+        → (result ≡ Err (Refusal.BadEdit Cause.Stamp)) × (host.new ≡ host.old) }
     ensures err { IfErr result IsOffStage }
     ensures asked { Asks H.called (reading (file.now ∷ [])) (writing file.now)
         (refusal_in result) host.old host.new }
