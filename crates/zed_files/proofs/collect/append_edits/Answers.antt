@@ -1,4 +1,4 @@
-use Rattle.std.proofs.Common.{◌≡◌, ◌∙◌, ap, refl, Some, None, Ok, Err}
+use Rattle.std.proofs.Common.{◌≡◌, ◌∙◌, ap, refl, sym, Some, None, Ok, Err}
 use Rattle.std.proofs.lemmas.Result.{err_from_is_err_and}
 use Rattle.zed_editfile.specs.declared.error.EditFileError.{EditFileError}
 use Rattle.zed_editfile.specs.declared.error.EditFileError.TheVariants.{Memory}
@@ -28,18 +28,19 @@ returns-in_err-finish c =
     rw (p.1, same) (file_answer c.args.asked c.args.bytes.now c.args.edits.now.items c.feed.new.out.items c.new-reader.result c.feed.new.self (Err e)
     c.new-reader.ensures.reads c.feed.ensures.feeds (c.feed.ensures.asked ∙ ap (λ (q : Progress). q.asked) c.new-reader.ensures.new)
     (verdict_ends c.feed.new.self e c.in_err-finish.ensures.result)
-    (λ lack. absurd (calm_ends c.feed.new.self c.in_ok-feed.ensures.ok (let is = c.in_err-finish.ensures.result in cc))))
+    (λ lack. let is : e ≡ Memory = cc in
+    absurd (calm_ends c.feed.new.self c.in_ok-feed.ensures.ok (ap (λ x. Err x) (sym is) ∙ c.in_err-finish.ensures.result))))
 
 pub returns-in-Some : goal.returns-in-Some
 returns-in-Some c =
     file_answer c.args.asked c.args.bytes.now c.args.edits.now.items c.feed.new.out.items c.new-reader.result c.feed.new.self (Ok c.in-Some.world)
     c.new-reader.ensures.reads c.feed.ensures.feeds (c.feed.ensures.asked ∙ ap (λ (q : Progress). q.asked) c.new-reader.ensures.new)
     (whole_ends c.feed.new.self (Some c.in-Some.world) (Ok c.in-Some.world) c.in_ok-finish.ensures.result c.in-Some.ensures refl)
-    (λ lack. cc)
+    (λ lack. absurd (cc))
 
 pub returns : goal.returns
 returns c =
     file_answer c.args.asked c.args.bytes.now c.args.edits.now.items c.feed.new.out.items c.new-reader.result c.feed.new.self _
     c.new-reader.ensures.reads c.feed.ensures.feeds (c.feed.ensures.asked ∙ ap (λ (q : Progress). q.asked) c.new-reader.ensures.new)
     (whole_ends c.feed.new.self None _ c.in_ok-finish.ensures.result c.in-None.ensures refl)
-    (λ lack. cc)
+    (λ lack. absurd (cc))
