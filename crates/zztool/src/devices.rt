@@ -157,7 +157,7 @@ impl SystemChance {
         self.fill(&mut bytes)?;
         let mut words = [0; 32];
         for place in 0..32_usize {
-            words[place] = u16::from(bytes[2 * place]) + 256 * u16::from(bytes[2 * place + 1]);
+            words[place] = u16::from_le_bytes([bytes[2 * place], bytes[2 * place + 1]]);
         }
         Ok(words)
     }
