@@ -1,10 +1,10 @@
 -- A log to which edits come in any order.
-use Rattle.std.proofs.Common.{◌≡◌, ◌∙◌, ◌-◌, ◌<◌, ◌≤◌, ℕ, zero, suc, length, Bool, true, false, List, [], ◌∷◌, ◌++◌, Some, None, refl, ap, sym, subst, append_assoc, arith}
-use Rattle.std.specs.Prelude.{reverse, slice_get, IfSome}
+use Rattle.std.proofs.Common.{◌≡◌, ◌∙◌, ◌-◌, ◌<◌, ◌≤◌, ◌+◌, ℕ, zero, suc, length, take, drop, set, get_or, Bool, true, false, List, [], ◌∷◌, ◌++◌, Some, None, refl, ap, sym, subst, append_assoc, arith}
+use Rattle.std.specs.Prelude.{min, slice_get, swap, IfSome}
 use Rattle.std.specs.List.{AllByRecursion}
-use Rattle.std.proofs.lemmas.List.{reverse-append, reverse-reverse, take_all}
+use Rattle.std.proofs.lemmas.List.{drop-set, drop-set-lt, drop_all, length-append, length-set, length-take, take-append-drop, take-set-le, take-take, take_all}
+use Rattle.std.proofs.lemmas.List.Edits.{length-swap}
 use Rattle.std.specs.Bool.{OnTrue}
-use mathlib.Core.Logic.{inl, inr}
 use Rattle.zed_types.specs.declared.stamp.Stamp.{Stamp}
 use Rattle.zed_types.specs.Stamp.{before, same_stamp}
 use Rattle.zed_types.proofs.StampOrder.{same_stamp-itself, same_stamp-true}
@@ -14,7 +14,6 @@ use Rattle.zed_op.specs.SetLaws.{EditKeepsRising, RisingIsItsEdits, UnionKeepsRi
 use Rattle.zed_op.proofs.SetLaws.{each-with_edit}
 use Rattle.zed_history.specs.Batch.{AreNew, first_of}
 use Rattle.zed_history.specs.Finding.{AllAbove, AllBelow, edit_with}
-use Rattle.zed_history.specs.Runs.{HasRoom, MovesLater}
 use Rattle.zed_history.proofs.Lookups.{found-with_edit}
 use Rattle.zed_history.proofs.Spots.{above-later, with_edit-between}
 use Rattle.zed_history.proofs.Walks.{below-take}
@@ -82,78 +81,6 @@ new-front : (low high fs : List Edit) → AreNew (low ++ high) fs → AreNew low
 new-front low high [] n = tt
 new-front low high (f ∷ fs) n = (none-front f.stamp low high n.0, new-front low high fs n.1)
 
--- ---- edits moved from the end of a log
-
-reverse-cons : (e : Edit) (es : List Edit) → reverse (e ∷ es) ≡ reverse es ++ e ∷ []
-reverse-cons e es = reverse-append (e ∷ []) es
-
-reverse-last : (es : List Edit) (e : Edit) → reverse (es ++ e ∷ []) ≡ e ∷ reverse es
-reverse-last es e = reverse-append es (e ∷ [])
-
-pub moves-more : (s : Stamp) (log list low moved low' moved' : List Edit) (e : Edit) → MovesLater s log list low moved
-    → low ≡ low' ++ e ∷ [] → before s e.stamp ≡ true → moved' ≡ moved ++ e ∷ [] → MovesLater s log list low' moved'
-moves-more s log list low moved low' moved' e (later, whole, back, above) is after more = (
-  e ∷ later,
-  whole ∙ ap (λ es. es ++ later) is ∙ append_assoc low' (e ∷ []) later,
-  more ∙ ap (λ es. es ++ e ∷ []) back ∙ append_assoc list (reverse later) (e ∷ []) ∙ ap (λ es. list ++ es) (sym (reverse-cons e later)),
-  (after, above),
-)
-
--- ---- edits of new stamps that go in, from the last one on
-
-below-last : (e : Edit) (es : List Edit) → IsRising (es ++ e ∷ []) → AllBelow e.stamp es
-below-last e [] r = tt
-below-last e (x ∷ es) r = (last x es r.0, below-last e es r.1)
-  where
-    last : (y : Edit) (ys : List Edit) → AllAbove y.stamp (ys ++ e ∷ []) → before y.stamp e.stamp ≡ true
-    last y [] a = a.0
-    last y (z ∷ ys) a = last y ys a.1
-
-new-last : (log fs : List Edit) (e : Edit) → AreNew log (fs ++ e ∷ []) → AreNew log fs × (edit_with e.stamp log ≡ None)
-new-last log [] e n = (tt, n.0)
-new-last log (f ∷ fs) e n = let more = new-last log fs e n.1 in ((n.0, more.0), more.1)
-
-pub last_is_new : (log fs edits : List Edit) (e : Edit) → AreNew log edits → edits ≡ fs ++ e ∷ [] → edit_with e.stamp log ≡ None
-last_is_new log fs edits e n is = (new-last log fs e (subst (AreNew log) is n)).1
-
--- what is left of a log and of the edits that go in, with what was moved behind them, is the whole
-pub record IsMoving (whole log edits moved : List Edit) : Type 0 where
-  pub rising : IsRising log
-  pub edits_rising : IsRising edits
-  pub apart : AreNew log edits
-  pub joins : union log edits ++ reverse moved ≡ whole
-
-pub moving-on : (whole log low moved moved' moved'' edits fs : List Edit) (e : Edit) → IsMoving whole log edits moved → edits ≡ fs ++ e ∷ []
-    → MovesLater e.stamp log moved low moved' → AllBelow e.stamp low → moved'' ≡ moved' ++ e ∷ [] → IsMoving whole low fs moved''
-moving-on whole log low moved moved' moved'' edits fs e was is (later, cut, back, above) below more = record {
-  rising = rising-front low later (subst IsRising cut was.rising);
-  edits_rising = rising-front fs (e ∷ []) rising;
-  apart = new-front low later fs (subst (λ es. AreNew es fs) cut (new-last log fs e (subst (AreNew log) is was.apart)).0);
-  joins = joined;
-}
-  where
-    rising : IsRising (fs ++ e ∷ [])
-    rising = subst IsRising is was.edits_rising
-
-    step : union log edits ≡ union low fs ++ e ∷ later
-    step =
-        ap (λ es. union es edits) cut
-        ∙ ap (union (low ++ later)) is
-        ∙ last-joins e low later fs below above (below-last e fs rising)
-
-    turned : reverse moved'' ≡ e ∷ (later ++ reverse moved)
-    turned =
-        ap reverse more
-        ∙ reverse-last moved' e
-        ∙ ap (λ es. e ∷ es) (ap reverse back ∙ reverse-append moved (reverse later) ∙ ap (λ es. es ++ reverse moved) (reverse-reverse later))
-
-    joined : union low fs ++ reverse moved'' ≡ whole
-    joined =
-        ap (λ es. union low fs ++ es) turned
-        ∙ sym (append_assoc (union low fs) (e ∷ later) (reverse moved))
-        ∙ ap (λ es. es ++ reverse moved) (sym step)
-        ∙ was.joins
-
 -- ---- the end of a log
 
 all-below : (s : Stamp) (es : List Edit) → IsRising es → IfSome (slice_get es (length es - 1)) (λ f. before f.stamp s ≡ true) → AllBelow s es
@@ -176,20 +103,225 @@ differs s (x ∷ es) k e none at = go (same_stamp x.stamp s) refl k at (λ j n h
 other_before : (s t : Stamp) → before s t ≡ false → same_stamp t s ≡ false → before t s ≡ true
 other_before s t h d = grind (arith)
 
-pub below-new : (s : Stamp) (es : List Edit) (e : Edit) → IsRising es → edit_with s es ≡ None → slice_get es (length es - 1) ≡ Some e → before s e.stamp ≡ false → AllBelow s es
-below-new s es e r none at after = all-below s es r (rw at (other_before s e.stamp after (differs s es (length es - 1) e none at)))
+-- ---- edits of a log moved up, to make room for others
 
-pub below-empty : (s : Stamp) (es : List Edit) → slice_get es (length es - 1) ≡ None → AllBelow s es
-below-empty s [] at = tt
-below-empty s (e ∷ es) at = absurd (some (e ∷ es) (length es) (omega arith) (rw one at at))
+get-is : (es : List Edit) (i : ℕ) (d e : Edit) → slice_get es i ≡ Some e → get_or es i d ≡ e
+get-is [] i d e h = absurd (let bad : None ≡ Some e = h in cc)
+get-is (x ∷ es) zero d e h = let is : x ≡ e = cc in is
+get-is (x ∷ es) (suc i) d e h = get-is es i d e h
+
+get-take : (n : ℕ) (es : List Edit) (i : ℕ) → i < n → slice_get (take n es) i ≡ slice_get es i
+get-take zero es i l = absurd (omega arith)
+get-take (suc n) [] i l = refl
+get-take (suc n) (x ∷ es) zero l = refl
+get-take (suc n) (x ∷ es) (suc i) l = get-take n es i (omega arith)
+
+drop-get : (es : List Edit) (i : ℕ) (e : Edit) → slice_get es i ≡ Some e → drop i es ≡ e ∷ drop (suc i) es
+drop-get [] i e h = absurd (let bad : None ≡ Some e = h in cc)
+drop-get (x ∷ es) zero e h = let is : x ≡ e = cc in ap (λ y. y ∷ es) is
+drop-get (x ∷ es) (suc i) e h = drop-get es i e h
+
+item-at : (es : List Edit) (i : ℕ) → i < length es → (e : Edit) × (slice_get es i ≡ Some e)
+item-at [] i l = absurd (omega arith)
+item-at (x ∷ es) zero l = (x, refl)
+item-at (x ∷ es) (suc i) l = item-at es i (omega arith)
+
+take-swap : (n i j : ℕ) (es : List Edit) → n ≤ i → n ≤ j → take n (swap es i j) ≡ take n es
+take-swap n i j [] l m = refl
+take-swap n i j (x ∷ es) l m =
+    take-set-le n (set (x ∷ es) i (get_or (x ∷ es) j x)) j (get_or (x ∷ es) i x) m
+    ∙ take-set-le n (x ∷ es) i (get_or (x ∷ es) j x) l
+
+drop-swap : (i j : ℕ) (es : List Edit) (e : Edit) → i ≤ j → j < length es → slice_get es i ≡ Some e
+    → drop j (swap es i j) ≡ e ∷ drop (j + 1) es
+drop-swap i j [] e l m h = absurd (omega arith)
+drop-swap i j (x ∷ es) e l m h =
+    let one = length-set (x ∷ es) i (get_or (x ∷ es) j x) in
+    drop-set (set (x ∷ es) i (get_or (x ∷ es) j x)) j (get_or (x ∷ es) i x) (omega (arith, one))
+    ∙ ap (λ y. y ∷ drop (j + 1) (set (x ∷ es) i (get_or (x ∷ es) j x))) (get-is (x ∷ es) i x e h)
+    ∙ ap (λ ys. e ∷ ys) (drop-set-lt (j + 1) (x ∷ es) i (get_or (x ∷ es) j x) (omega arith))
+
+-- the edits of a log from one place up to another stand so many places further up, and all of them come after a stamp
+pub record IsUp (s : Stamp) (old log : List Edit) (at place by : ℕ) : Type 0 where
+  pub within : at ≤ place
+  pub front : take at log ≡ take at old
+  pub moved : drop (at + by) log ≡ drop at (take place old) ++ drop (place + by) old
+  pub above : AllAbove s (drop at (take place old))
+  pub long : length log ≡ length old
+
+pub up-begins : (s : Stamp) (old : List Edit) (place by : ℕ) → IsUp s old old place place by
+up-begins s old place by =
+    let len = length-take place old in
+    let none : drop place (take place old) ≡ [] = drop_all place (take place old) (omega (arith, len)) in
+    record { within = omega arith; front = refl; moved = rw none refl; above = rw none tt; long = refl }
+
+pub up-more : (s : Stamp) (old log log' : List Edit) (at next place by : ℕ) → place + by ≤ length old → IsUp s old log at place by
+    → at ≡ suc next → IfSome (slice_get log next) (λ e. before s e.stamp ≡ true) → log' ≡ swap log next (next + by)
+    → IsUp s old log' next place by
+up-more s old log log' at next place by l up is h more = record {
+  within = omega (arith, up.within, is);
+  front =
+      ap (take next) more
+      ∙ take-swap next next (next + by) log (omega arith) (omega arith)
+      ∙ sym (take-take next (suc next) log (omega arith))
+      ∙ ap (take next) front
+      ∙ take-take next (suc next) old (omega arith);
+  moved = moved;
+  above = subst (AllAbove s) (sym tail) (after, subst (λ n. AllAbove s (drop n (take place old))) is up.above);
+  long = ap length more ∙ length-swap log next (next + by) ∙ up.long;
+}
   where
-    one : length (e ∷ es) - 1 ≡ length es
-    one = omega arith
+    item : (e : Edit) × (slice_get log next ≡ Some e)
+    item = item-at log next (omega (arith, up.within, up.long, is))
 
-    some : (xs : List Edit) (k : ℕ) → k < length xs → slice_get xs k ≡ None → ⊥
-    some [] k l h = omega arith
-    some (x ∷ xs) zero l h = let bad : Some x ≡ None = h in cc
-    some (x ∷ xs) (suc k) l h = some xs k (omega arith) h
+    e : Edit
+    e = item.0
+
+    after : before s e.stamp ≡ true
+    after = rw item.1 at h
+
+    front : take (suc next) log ≡ take (suc next) old
+    front = subst (λ n. take n log ≡ take n old) is up.front
+
+    here : slice_get (take place old) next ≡ Some e
+    here =
+        get-take place old next (omega (arith, up.within, is))
+        ∙ sym (get-take (suc next) old next (omega arith))
+        ∙ ap (λ es. slice_get es next) (sym front)
+        ∙ get-take (suc next) log next (omega arith)
+        ∙ item.1
+
+    tail : drop next (take place old) ≡ e ∷ drop (suc next) (take place old)
+    tail = drop-get (take place old) next e here
+
+    on : next + by + 1 ≡ at + by
+    on = omega (arith, is)
+
+    moved : drop (next + by) log' ≡ drop next (take place old) ++ drop (place + by) old
+    moved =
+        ap (drop (next + by)) more
+        ∙ drop-swap next (next + by) log e (omega arith) (omega (arith, up.within, up.long, is)) item.1
+        ∙ ap (λ n. e ∷ drop n log) on
+        ∙ ap (λ es. e ∷ es) up.moved
+        ∙ ap (λ n. e ∷ (drop n (take place old) ++ drop (place + by) old)) is
+        ∙ ap (λ es. es ++ drop (place + by) old) (sym tail)
+
+pub up-below : (s : Stamp) (old log : List Edit) (at place by : ℕ) → place + by ≤ length old → IsUp s old log at place by
+    → IsRising (take place old) → edit_with s (take place old) ≡ None
+    → (0 < at → IfSome (slice_get log (at - 1)) (λ e. before s e.stamp ≡ false)) → AllBelow s (take at old)
+up-below s old log zero place by l up r none h = tt
+up-below s old log (suc k) place by l up r none h =
+    subst (AllBelow s) (take-take (suc k) place old up.within)
+    (below-take s (take place old) (suc k) r (λ _. rw here below) (omega (arith, up.within, len)))
+  where
+    len : length (take place old) ≡ min place (length old)
+    len = length-take place old
+
+    item : (e : Edit) × (slice_get log k ≡ Some e)
+    item = item-at log k (omega (arith, up.within, up.long))
+
+    back : suc k - 1 ≡ k
+    back = omega arith
+
+    here : slice_get (take place old) (suc k - 1) ≡ Some item.0
+    here =
+        ap (slice_get (take place old)) back
+        ∙ get-take place old k (omega (arith, up.within))
+        ∙ sym (get-take (suc k) old k (omega arith))
+        ∙ ap (λ es. slice_get es k) (sym up.front)
+        ∙ get-take (suc k) log k (omega arith)
+        ∙ item.1
+
+    after : before s item.0.stamp ≡ false
+    after = let k = h (omega arith) in rw (back, item.1) at k
+
+    below : before item.0.stamp s ≡ true
+    below = other_before s item.0.stamp after (differs s (take place old) (suc k - 1) item.0 none here)
+
+-- ---- edits of new stamps that go in, from the last one on
+
+below-last : (e : Edit) (es : List Edit) → IsRising (es ++ e ∷ []) → AllBelow e.stamp es
+below-last e [] r = tt
+below-last e (x ∷ es) r = (last x es r.0, below-last e es r.1)
+  where
+    last : (y : Edit) (ys : List Edit) → AllAbove y.stamp (ys ++ e ∷ []) → before y.stamp e.stamp ≡ true
+    last y [] a = a.0
+    last y (z ∷ ys) a = last y ys a.1
+
+new-last : (log fs : List Edit) (e : Edit) → AreNew log (fs ++ e ∷ []) → AreNew log fs × (edit_with e.stamp log ≡ None)
+new-last log [] e n = (tt, n.0)
+new-last log (f ∷ fs) e n = let more = new-last log fs e n.1 in ((n.0, more.0), more.1)
+
+-- what is left in front of a gap in a log and of the edits that go in, with what stands behind the gap, is the whole
+pub record IsMoving (whole log edits : List Edit) (place : ℕ) : Type 0 where
+  pub within : place + length edits ≤ length log
+  pub rising : IsRising (take place log)
+  pub edits_rising : IsRising edits
+  pub apart : AreNew (take place log) edits
+  pub joins : union (take place log) edits ++ drop (place + length edits) log ≡ whole
+
+pub moving-on : (whole log log' log'' edits fs : List Edit) (e : Edit) (place next : ℕ) → IsMoving whole log edits place
+    → edits ≡ fs ++ e ∷ [] → IsUp e.stamp log log' next place (length fs + 1)
+    → AllBelow e.stamp (take next log) → log'' ≡ set log' (next + length fs) e → IsMoving whole log'' fs next
+moving-on whole log log' log'' edits fs e place next was is up below more = record {
+  within = omega (arith, was.within, count, up.within, up.long, long);
+  rising = subst IsRising (sym front) (rising-front low later (subst IsRising cut was.rising));
+  edits_rising = rising-front fs (e ∷ []) rising;
+  apart = subst (λ es. AreNew es fs) (sym front) (new-front low later fs (subst (λ es. AreNew es fs) cut still));
+  joins = joined;
+}
+  where
+    low : List Edit
+    low = take next log
+
+    later : List Edit
+    later = drop next (take place log)
+
+    high : List Edit
+    high = drop (place + length edits) log
+
+    cut : take place log ≡ low ++ later
+    cut = sym (take-append-drop next (take place log)) ∙ ap (λ es. es ++ later) (take-take next place log up.within)
+
+    rising : IsRising (fs ++ e ∷ [])
+    rising = subst IsRising is was.edits_rising
+
+    still : AreNew (take place log) fs
+    still = (new-last (take place log) fs e (subst (AreNew (take place log)) is was.apart)).0
+
+    count : length edits ≡ length fs + 1
+    count = ap length is ∙ length-append fs (e ∷ [])
+
+    long : length log'' ≡ length log'
+    long = ap length more ∙ length-set log' (next + length fs) e
+
+    front : take next log'' ≡ low
+    front = ap (take next) more ∙ take-set-le next log' (next + length fs) e (omega arith) ∙ up.front
+
+    on : next + length fs + 1 ≡ next + (length fs + 1)
+    on = omega arith
+
+    back : drop (next + length fs) log'' ≡ e ∷ (later ++ high)
+    back =
+        ap (drop (next + length fs)) more
+        ∙ drop-set log' (next + length fs) e (omega (arith, was.within, count, up.within, up.long))
+        ∙ ap (λ n. e ∷ drop n log') on
+        ∙ ap (λ es. e ∷ es) up.moved
+        ∙ ap (λ n. e ∷ (later ++ drop (place + n) log)) (sym count)
+
+    step : union (take place log) edits ≡ union low fs ++ e ∷ later
+    step =
+        ap (λ es. union es edits) cut
+        ∙ ap (union (low ++ later)) is
+        ∙ last-joins e low later fs below up.above (below-last e fs rising)
+
+    joined : union (take next log'') fs ++ drop (next + length fs) log'' ≡ whole
+    joined =
+        ap (λ es. union es fs ++ drop (next + length fs) log'') front
+        ∙ ap (λ es. union low fs ++ es) back
+        ∙ sym (append_assoc (union low fs) (e ∷ later) high)
+        ∙ ap (λ es. es ++ high) (sym step)
+        ∙ was.joins
 
 -- ---- one more edit
 
@@ -218,8 +350,3 @@ still-new e log (f ∷ fs) r n none = go (same_stamp f.stamp e.stamp) refl (λ k
       found-with_edit f.stamp e log r ∙ ap (λ o. first_of o (edit_with f.stamp (e ∷ []))) n.0 ∙ another-stamp e f q,
       more (rw q at none),
     )
-
--- ---- room
-
-pub room-is : (log late log' late' room spare room' : ℕ) → HasRoom log late room spare → log' ≡ log → late' ≤ late → room' ≡ room → HasRoom log' late' room' spare
-room-is log late log' late' room spare room' h l m r = (omega (arith, h.0), elim h.1 [ inl none ↦ inl (omega arith) | inr all ↦ inr (omega arith) ])

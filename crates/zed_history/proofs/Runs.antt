@@ -305,10 +305,6 @@ pub count-merge : (front : Runs) (a b : List Edit) → count_in (front ++ union 
 count-merge [] a b = let most = length-union a b in omega arith
 count-merge (f ∷ front) a b = let most = count-merge front a b in omega arith
 
-pub count-two : (front : Runs) (a b : List Edit) → length a + length b ≤ count_in (front ++ a ∷ b ∷ [])
-count-two [] a b = omega arith
-count-two (f ∷ front) a b = let most = count-two front a b in omega arith
-
 pub count-last : (front : Runs) (a : List Edit) → count_in (front ++ a ∷ []) ≡ count_in front + length a
 count-last [] a = omega arith
 count-last (f ∷ front) a = let most = count-last front a in omega arith

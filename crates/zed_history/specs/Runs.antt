@@ -1,20 +1,11 @@
 -- A history as runs: how it stands while edits come in any order.
-use Rattle.std.specs.Prelude.{◌≡◌, ◌+◌, ◌++◌, ◌≤◌, ◌⊎◌, ℕ, List, [], ◌∷◌, Option, None, length, reverse}
+use Rattle.std.specs.Prelude.{◌≡◌, ◌+◌, ◌++◌, ◌≤◌, ℕ, List, [], ◌∷◌, Option, None, length}
 use Rattle.std.specs.List.{AllByRecursion}
 use Rattle.zed_types.specs.declared.stamp.Stamp.{Stamp}
 use Rattle.zed_op.specs.declared.op.Edit.{Edit}
 use Rattle.zed_op.specs.Set.{IsRising, union}
 use Rattle.zed_history.specs.Batch.{AreNew, first_of}
-use Rattle.zed_history.specs.Finding.{AllAbove, edit_with}
-
--- so many late edits can be joined to a log without memory: behind it there is room for them, and elsewhere for all, unless none is late
-abbrev pub HasRoom : ℕ → ℕ → ℕ → ℕ → Type 0
-HasRoom log late room spare = (log + late ≤ room) × ((late ≡ 0) ⊎ (log + late ≤ spare))
-
--- the edits of a log that come after a stamp were moved behind a list, the last one first
-abbrev pub MovesLater : Stamp → List Edit → List Edit → List Edit → List Edit → Type 0
-MovesLater s log list log' list' =
-    (later : List Edit) × (log ≡ log' ++ later) × (list' ≡ list ++ reverse later) × AllAbove s later
+use Rattle.zed_history.specs.Finding.{edit_with}
 
 -- the edits of runs together; where more than one has a stamp, the first has its own
 abbrev pub joined : List (List Edit) → List Edit

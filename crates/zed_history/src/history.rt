@@ -5,7 +5,7 @@ ghost use Rattle.zed_op.specs.declared.op.Edit.{Edit as TheEdit};
 ghost use Rattle.zed_op.specs.Set.{IsRising, with_edit};
 ghost use Rattle.zed_history.specs.Batch.{first_of};
 ghost use Rattle.zed_history.specs.Finding.{AllBelow, edit_with};
-ghost use Rattle.zed_history.specs.Runs.{AreRuns, HasRoom, SettleTo, count_in, found_in, joined};
+ghost use Rattle.zed_history.specs.Runs.{AreRuns, SettleTo, count_in, found_in, joined};
 
 use crate::moving::move_in;
 use crate::place::{ends_with, is_latest, place_of, spot_of};
@@ -32,76 +32,50 @@ pub struct History {
     settled: Vec<Run>,
     /// The late edits that came last, in stamp order.
     run: Vec<Edit>,
-    /// So many are late, or fewer.
+    /// So many are late, or fewer. The log has room for them, so that closing takes no memory.
     late: usize,
-    /// Room for all, so that closing takes no memory.
-    spare: Vec<Edit>,
 }
 
 impl Model for History {
-    ghost use Rattle.std.specs.Prelude.{◌≡◌, ◌≤◌, ◌++◌, ◌∷◌, [], List, length, vec_capacity};
+    ghost use Rattle.std.specs.Prelude.{◌≤◌, ◌+◌, ◌++◌, ◌∷◌, [], List, length, vec_capacity};
     ghost use Rattle.zed_op.specs.declared.op.Edit.{Edit as TheEdit};
-    ghost use Rattle.zed_history.specs.Runs.{AreRuns, HasRoom, count_in, joined};
+    ghost use Rattle.zed_history.specs.Runs.{AreRuns, count_in, joined};
 
     ghost Value = { List TheEdit };
 
     ghost view = { λ l. joined (l.log.items ∷ (l.settled.items ++ l.run.items ∷ [])) };
 
     ghost invariant = { λ l. AreRuns (l.log.items ∷ (l.settled.items ++ l.run.items ∷ []))
-        × (l.spare.items ≡ [])
-        × HasRoom (length l.log.items) l.late (vec_capacity l.log) (vec_capacity l.spare)
+        × (length l.log.items + l.late ≤ vec_capacity l.log)
         × (count_in (l.settled.items ++ l.run.items ∷ []) ≤ l.late) };
 }
 
-/// Makes room at the end of a log for so many late edits and one more, and elsewhere for all of
-/// them, unless none is late.
-fn make_room(
-    log: &mut Vec<Edit>,
-    late: usize,
-    is_latest: bool,
-    spare: &mut Vec<Edit>,
-) -> Result<(), AllocError>
-    requires empty { spare.old.items ≡ [] }
-    requires few { length log.old.items + late ≤ vec_capacity log.old }
-    ensures latest { OnOk result (is_latest ≡ true → HasRoom (length log.new.items + 1) late
-        (vec_capacity log.new) (vec_capacity spare.new)) }
-    ensures late { OnOk result (is_latest ≡ false → HasRoom (length log.new.items) (late + 1)
-        (vec_capacity log.new) (vec_capacity spare.new)) }
-    ensures kept { (log.new.items ≡ log.old.items) × (spare.new.items ≡ []) }
-    ensures room { (vec_capacity log.old ≤ vec_capacity log.new)
-        × (vec_capacity spare.old ≤ vec_capacity spare.new) }
+/// Makes room at the end of a log for so many late edits and one more.
+fn make_room(log: &mut Vec<Edit>, late: usize) -> Result<(), AllocError>
+    requires { length log.old.items + late ≤ vec_capacity log.old }
+    ensures room { OnOk result (length log.new.items + (late + 1) ≤ vec_capacity log.new) }
+    ensures kept { log.new.items ≡ log.old.items }
+    ensures capacity { vec_capacity log.old ≤ vec_capacity log.new }
     ensures free { OnOk result (vec_len log.new < vec_capacity log.new) }
 {
     log.reserve(late + 1)?;
-    if late == 0 && is_latest {
-        return Ok(());
-    }
-    spare.reserve(log.len() + late + 1)?;
     Ok(())
 }
 
 /// Ends a run, and begins one that has room for an edit. Memory leaves all as it was.
-fn start_run(
-    alloc: Global,
-    settled: &mut Vec<Run>,
-    run: &mut Vec<Edit>,
-    spare: &mut Vec<Edit>,
-) -> Result<(), AllocError>
+fn start_run(alloc: Global, settled: &mut Vec<Run>, run: &mut Vec<Edit>) -> Result<(), AllocError>
     requires runs { AreRuns (settled.old.items ++ run.old.items ∷ []) }
-    requires empty { spare.old.items ≡ [] }
-    requires room { count_in (settled.old.items ++ run.old.items ∷ []) ≤ vec_capacity spare.old }
     ensures empty { OnOk result (run.new.items ≡ []) }
     ensures free { OnOk result (vec_len run.new < vec_capacity run.new) }
     ensures settles { OnOk result
         (SettleTo (settled.old.items ++ run.old.items ∷ []) settled.new.items) }
     ensures kept { OnErr result ((settled.new.items ≡ settled.old.items)
         × (run.new.items ≡ run.old.items)) }
-    ensures spare { (spare.new.items ≡ []) × (vec_capacity spare.new ≡ vec_capacity spare.old) }
 {
     let mut next = Vec::new(alloc);
     next.reserve(1)?;
     settled.reserve(1)?;
-    settle(settled, replace(run, next), spare);
+    settle(settled, replace(run, next));
     Ok(())
 }
 
@@ -136,12 +110,9 @@ fn put_late(
     alloc: Global,
     settled: &mut Vec<Run>,
     run: &mut Vec<Edit>,
-    spare: &mut Vec<Edit>,
     edit: Edit,
 ) -> Result<(), AllocError>
     requires runs { AreRuns (settled.old.items ++ run.old.items ∷ []) }
-    requires empty { spare.old.items ≡ [] }
-    requires room { count_in (settled.old.items ++ run.old.items ∷ []) ≤ vec_capacity spare.old }
     requires new { found_in edit.stamp (settled.old.items ++ run.old.items ∷ []) ≡ None }
     ensures runs { OnOk result ((log : List TheEdit)
         → AreRuns (log ∷ (settled.old.items ++ run.old.items ∷ []))
@@ -155,7 +126,6 @@ fn put_late(
         ≤ count_in (settled.old.items ++ run.old.items ∷ []) + 1) }
     ensures kept { OnErr result ((settled.new.items ≡ settled.old.items)
         × (run.new.items ≡ run.old.items)) }
-    ensures spare { (spare.new.items ≡ []) × (vec_capacity spare.new ≡ vec_capacity spare.old) }
 {
     sets_rise();
     rising_lists_are_sets();
@@ -168,7 +138,7 @@ fn put_late(
         put_at(run, place, edit)?;
         return Ok(());
     }
-    start_run(alloc, settled, run, spare)?;
+    start_run(alloc, settled, run)?;
     run.push_reserved(edit);
     Ok(())
 }
@@ -198,7 +168,6 @@ impl History {
             settled: Vec::new(alloc),
             run: Vec::new(alloc),
             late: 0,
-            spare: Vec::new(alloc),
         }
     }
 
@@ -243,18 +212,12 @@ impl History {
         rising_lists_are_sets();
         let alloc = *self.log.allocator();
         let is_latest = is_latest(&self.log, edit.stamp);
-        make_room(&mut self.log, self.late, is_latest, &mut self.spare)?;
+        make_room(&mut self.log, self.late)?;
         if is_latest {
             self.log.push_reserved(edit);
             return Ok(());
         }
-        put_late(
-            alloc,
-            &mut self.settled,
-            &mut self.run,
-            &mut self.spare,
-            edit,
-        )?;
+        put_late(alloc, &mut self.settled, &mut self.run, edit)?;
         self.late += 1;
         Ok(())
     }
@@ -271,14 +234,13 @@ impl History {
             mut settled,
             run,
             late,
-            mut spare,
         } = self;
         if late == 0 {
             return log;
         }
-        move_in(&mut log, run, &mut spare);
+        move_in(&mut log, run);
         while let Some(ended) = settled.pop() {
-            move_in(&mut log, ended.into_edits(), &mut spare);
+            move_in(&mut log, ended.into_edits());
         }
         log
     }

@@ -1,76 +1,78 @@
-//! Edits moved between lists. This takes no memory if there is room for them.
-ghost use Rattle.std.specs.Prelude.{◌≡◌, ◌≢◌, ◌≤◌, ◌+◌, ◌++◌, ◌∷◌, [], true, None, length, reverse, vec_capacity, IfSome, IfNone, OnOk, OnErr};
-ghost use Rattle.zed_types.specs.Stamp.{before};
+//! Edits moved to their places in a log. This takes no memory if there is room for them.
+ghost use Rattle.std.specs.Prelude.{◌≡◌, ◌≢◌, ◌≤◌, ◌<◌, ◌+◌, ◌++◌, [], None, length, take, drop, slice_set, vec_capacity, OnOk, OnErr};
 ghost use Rattle.zed_op.specs.Set.{IsRising, union};
 ghost use Rattle.zed_history.specs.Batch.{AreNew};
-ghost use Rattle.zed_history.specs.Finding.{AllBelow, edit_with};
-ghost use Rattle.zed_history.specs.Runs.{MovesLater};
+ghost use Rattle.zed_history.specs.Finding.{AllAbove, AllBelow, edit_with};
 
+use crate::place::is_below;
 use std::alloc::AllocError;
-use zed_op::{Edit, rising_lists_are_sets};
+use zed_op::{Edit, Op, rising_lists_are_sets};
 use zed_types::Stamp;
 
-/// The last edit of a log, if it comes after a stamp.
-fn pop_later(log: &mut Vec<Edit>, stamp: Stamp) -> Option<Edit>
-    requires rising { IsRising log.old.items }
-    requires new { edit_with stamp log.old.items ≡ None }
-    ensures some { IfSome result (λ e. (log.old.items ≡ log.new.items ++ e ∷ [])
-        × (before stamp e.stamp ≡ true)) }
-    ensures none { IfNone result ((log.new.items ≡ log.old.items) × AllBelow stamp log.old.items) }
+/// Puts so many edits that say nothing behind a log: they keep room for others.
+fn open_gap(log: &mut Vec<Edit>, count: usize)
+    requires { length log.old.items + count ≤ vec_capacity log.old }
+    ensures front { take (length log.old.items) log.new.items ≡ log.old.items }
+    ensures length { length log.new.items ≡ length log.old.items + count }
     ensures capacity { vec_capacity log.new ≡ vec_capacity log.old }
 {
-    match log.last() {
-        Some(last) if stamp.is_before(last.stamp) => log.pop(),
-        _ => None,
+    for _ in 0..count {
+        log.push_reserved(Edit {
+            stamp: Stamp::GENESIS,
+            op: Op::TextAdd,
+        });
     }
 }
 
-/// Moves the edits of a log that come after a stamp behind a list, the last one first.
-pub(crate) fn move_later(log: &mut Vec<Edit>, stamp: Stamp, into: &mut Vec<Edit>)
-    requires rising { IsRising log.old.items }
-    requires new { edit_with stamp log.old.items ≡ None }
-    requires room { length log.old.items + length into.old.items ≤ vec_capacity into.old }
-    ensures moved { MovesLater stamp log.old.items into.old.items log.new.items into.new.items }
-    ensures below { AllBelow stamp log.new.items }
-    ensures log_room { vec_capacity log.new ≡ vec_capacity log.old }
-    ensures room { vec_capacity into.new ≡ vec_capacity into.old }
+/// Moves the last edits before a place of a log up by so many places: those that come after a stamp.
+/// It answers where they stood.
+fn move_up(log: &mut Vec<Edit>, place: usize, by: usize, stamp: Stamp) -> usize
+    requires some { 0 < by }
+    requires within { place + by ≤ length log.old.items }
+    requires rising { IsRising (take place log.old.items) }
+    requires new { edit_with stamp (take place log.old.items) ≡ None }
+    ensures within { result ≤ place }
+    ensures front { take result log.new.items ≡ take result log.old.items }
+    ensures moved { drop (result + by) log.new.items
+        ≡ drop result (take place log.old.items) ++ drop (place + by) log.old.items }
+    ensures above { AllAbove stamp (drop result (take place log.old.items)) }
+    ensures below { AllBelow stamp (take result log.old.items) }
+    ensures length { length log.new.items ≡ length log.old.items }
+    ensures capacity { vec_capacity log.new ≡ vec_capacity log.old }
 {
-    while let Some(edit) = pop_later(log, stamp) {
-        into.push_reserved(edit);
+    let mut at = place;
+    while !is_below(log, at, stamp) {
+        at -= 1;
+        log.swap(at, at + by);
     }
+    at
 }
 
-/// Moves edits behind a log, the last one first.
-fn move_back(log: &mut Vec<Edit>, from: &mut Vec<Edit>)
-    requires { length log.old.items + length from.old.items ≤ vec_capacity log.old }
-    ensures moved { log.new.items ≡ log.old.items ++ reverse from.old.items }
-    ensures empty { from.new.items ≡ [] }
-    ensures log_room { vec_capacity log.new ≡ vec_capacity log.old }
-    ensures room { vec_capacity from.new ≡ vec_capacity from.old }
+/// Puts an edit over the one at a place of a log.
+fn put_over(log: &mut Vec<Edit>, place: usize, edit: Edit)
+    requires { place < length log.old.items }
+    ensures items { log.new.items ≡ slice_set log.old.items place edit }
+    ensures capacity { vec_capacity log.new ≡ vec_capacity log.old }
 {
-    while let Some(edit) = from.pop() {
-        log.push_reserved(edit);
-    }
+    log[place] = edit;
 }
 
-/// Moves edits of new stamps to their places in a log, by an empty list that has room for all.
-pub(crate) fn move_in(log: &mut Vec<Edit>, mut edits: Vec<Edit>, by: &mut Vec<Edit>)
+/// Moves edits of new stamps to their places in a log that has room for them, from the last one on.
+pub(crate) fn move_in(log: &mut Vec<Edit>, mut edits: Vec<Edit>)
     requires log_rising { IsRising log.old.items }
     requires rising { IsRising edits.items }
     requires new { AreNew log.old.items edits.items }
-    requires empty { by.old.items ≡ [] }
-    requires log_room { length log.old.items + length edits.items ≤ vec_capacity log.old }
-    requires room { length log.old.items + length edits.items ≤ vec_capacity by.old }
+    requires room { length log.old.items + length edits.items ≤ vec_capacity log.old }
     ensures joined { log.new.items ≡ union log.old.items edits.items }
-    ensures empty { by.new.items ≡ [] }
-    ensures log_room { vec_capacity log.new ≡ vec_capacity log.old }
-    ensures by_room { vec_capacity by.new ≡ vec_capacity by.old }
+    ensures room { vec_capacity log.new ≡ vec_capacity log.old }
 {
+    let mut place = log.len();
+    open_gap(log, edits.len());
     while let Some(edit) = edits.pop() {
-        move_later(log, edit.stamp, by);
-        by.push_reserved(edit);
+        let left = edits.len();
+        place = move_up(log, place, left + 1, edit.stamp);
+        put_over(log, place + left, edit);
     }
-    move_back(log, by);
 }
 
 /// Joins edits with new stamps to a log. None is copied. Memory leaves the log as it was, and comes
@@ -92,8 +94,6 @@ pub fn join(log: &mut Vec<Edit>, edits: Vec<Edit>) -> Result<(), AllocError>
         return Ok(());
     }
     log.reserve(edits.len())?;
-    let mut by = Vec::new(*log.allocator());
-    by.reserve(log.len() + edits.len())?;
-    move_in(log, edits, &mut by);
+    move_in(log, edits);
     Ok(())
 }

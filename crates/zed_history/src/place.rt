@@ -57,10 +57,12 @@ fn is_above(edits: &[Edit], place: usize, stamp: Stamp) -> bool
 }
 
 /// Whether the edit before a place of a log, if there is one, doesn't come after a stamp.
-fn is_below(edits: &[Edit], place: usize, stamp: Stamp) -> bool
+pub(crate) fn is_below(edits: &[Edit], place: usize, stamp: Stamp) -> bool
     requires { place ≤ length edits.now }
-    ensures { OnTrue result (0 < place
+    ensures below { OnTrue result (0 < place
         → IfSome (slice_get edits.now (place - 1)) (λ e. before stamp e.stamp ≡ false)) }
+    ensures later { OnFalse result ((0 < place)
+        × IfSome (slice_get edits.now (place - 1)) (λ e. before stamp e.stamp ≡ true)) }
 {
     place == 0 || is_up_to(&edits[place - 1], stamp)
 }

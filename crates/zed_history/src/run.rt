@@ -103,19 +103,16 @@ fn take_short(settled: &mut Vec<Run>, more: usize) -> Option<Vec<Edit>>
 }
 
 /// Puts a run that ended behind others, joined with those that are not twice as long.
-pub(crate) fn settle(settled: &mut Vec<Run>, ended: Vec<Edit>, spare: &mut Vec<Edit>)
+pub(crate) fn settle(settled: &mut Vec<Run>, ended: Vec<Edit>)
     requires runs { AreRuns (settled.old.items ++ ended.items ∷ []) }
     requires free { length settled.old.items < vec_capacity settled.old }
-    requires empty { spare.old.items ≡ [] }
-    requires room { count_in (settled.old.items ++ ended.items ∷ []) ≤ vec_capacity spare.old }
     ensures settles { SettleTo (settled.old.items ++ ended.items ∷ []) settled.new.items }
-    ensures spare { (spare.new.items ≡ []) × (vec_capacity spare.new ≡ vec_capacity spare.old) }
 {
     sets_rise();
     rising_lists_are_sets();
     let mut edits = ended;
     while let Some(mut below) = take_short(settled, edits.len()) {
-        move_in(&mut below, edits, spare);
+        move_in(&mut below, edits);
         edits = below;
     }
     settled.push_reserved(Run::of(edits));

@@ -1,16 +1,12 @@
-use Rattle.std.proofs.Common.{◌≡◌, ◌≤◌, ◌+◌, length, vec_capacity}
+use Rattle.std.proofs.Common.{◌≡◌, length, vec_capacity}
 use Rattle.zed_op.specs.Set.{union}
 use Rattle.zed_history.proofs.Opened.{IsMoving}
 use Rattle.zed_history.proofs.moving.move_in.Given as goal
 
 abbrev pub invariant-loop-edit : goal.invariant-loop-edit
 invariant-loop-edit l = record {
-  moving : IsMoving (union l.fn.log.items l.fn.edits.items) l.log.items l.edits.items l.by.items;
-  count : length l.log.items + (length l.edits.items + length l.by.items) ≡ length l.fn.log.items + length l.fn.edits.items;
-  few : length l.fn.log.items + length l.fn.edits.items ≤ vec_capacity l.by;
-  log_room : vec_capacity l.log ≡ vec_capacity l.fn.log;
-  by_room : vec_capacity l.by ≡ vec_capacity l.fn.by;
-  room : length l.fn.log.items + length l.fn.edits.items ≤ vec_capacity l.log;
+  moving : IsMoving (union l.fn.log.items l.fn.edits.items) l.log.items l.edits.items l.place;
+  room : vec_capacity l.log ≡ vec_capacity l.fn.log;
 }
 
 abbrev pub decreases-loop-edit : goal.decreases-loop-edit

@@ -4,7 +4,7 @@ use Rattle.zed_op.specs.declared.op.Edit.{Edit}
 use Rattle.zed_op.specs.Set.{union}
 use Rattle.zed_history.specs.Runs.{AreRuns, count_in, found_in}
 use Rattle.zed_history.proofs.Opened.{SetsHold}
-use Rattle.zed_history.proofs.Runs.{count-merge, count-two, found-merge, last-pair, last-rises, last-two, runs-merge}
+use Rattle.zed_history.proofs.Runs.{count-merge, found-merge, last-pair, last-rises, last-two, runs-merge}
 use Rattle.zed_history.proofs.run.settle.Goals as goal
 
 pub move_in-requires-clause-log_rising : goal.move_in-requires-clause-log_rising
@@ -17,13 +17,6 @@ move_in-requires-clause-rising c = last-rises c.loop-below.settled.items c.loop-
 pub move_in-requires-clause-new : goal.move_in-requires-clause-new
 move_in-requires-clause-new c =
     (last-pair c.loop-below.settled.items c.take_short.new.settled.items c.in-Some.below.items c.loop-below.edits.items c.in-Some.ensures.some.0 (c.loop-below.invariant.settles.runs [] c.requires.runs)).apart
-
-pub move_in-requires-clause-room : goal.move_in-requires-clause-room
-move_in-requires-clause-room c =
-    let left = c.take_short.new.settled.items in
-    let same = ap count_in (last-two c.loop-below.settled.items left c.in-Some.below.items c.loop-below.edits.items c.in-Some.ensures.some.0) in
-    let most = count-two left c.in-Some.below.items c.loop-below.edits.items in
-    omega (arith, most, same, c.loop-below.invariant.settles.count, c.loop-below.invariant.spare, c.requires.room)
 
 pub loop-below-preserved : goal.loop-below-preserved
 loop-below-preserved c =
@@ -51,8 +44,6 @@ loop-below-preserved c =
         found = λ s. ap (λ (es : List Edit). found_in s (left ++ es ∷ [])) joins ∙ found-merge laws s left below edits pair.first ∙ sym (ap (found_in s) path) ∙ old.settles.found s;
         count = omega (arith, merged, count_is, same, old.settles.count);
       };
-      empty = c.move_in.ensures.empty;
-      spare = c.move_in.ensures.by_room ∙ old.spare;
       free = omega (arith, front_length, cut_length, old.free, c.take_short.ensures.capacity);
     }
 

@@ -1,12 +1,10 @@
-use Rattle.std.proofs.Common.{◌≡◌, ◌<◌, ◌++◌, ◌∷◌, [], length, vec_capacity}
+use Rattle.std.proofs.Common.{◌<◌, ◌++◌, ◌∷◌, [], length, vec_capacity}
 use Rattle.zed_history.specs.Runs.{SettleTo}
 use Rattle.zed_history.proofs.run.settle.Given as goal
 
 abbrev pub invariant-loop-below : goal.invariant-loop-below
 invariant-loop-below l = record {
   settles : SettleTo (l.fn.settled.items ++ l.fn.ended.items ∷ []) (l.settled.items ++ l.edits.items ∷ []);
-  empty : l.spare.items ≡ [];
-  spare : vec_capacity l.spare ≡ vec_capacity l.fn.spare;
   free : length l.settled.items < vec_capacity l.settled;
 }
 

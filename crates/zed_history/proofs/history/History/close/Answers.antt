@@ -1,5 +1,4 @@
 use Rattle.std.proofs.Common.{◌≡◌, ◌∙◌, ◌++◌, ◌∷◌, ◌≤◌, [], ap, sym, subst, rules, List, arith, length}
-use mathlib.Core.Logic.{inl, inr}
 use Rattle.zed_op.specs.declared.op.Edit.{Edit}
 use Rattle.zed_op.specs.Set.{union}
 use Rattle.zed_history.specs.Runs.{AreRuns, count_in, joined}
@@ -10,7 +9,7 @@ use Rattle.zed_history.proofs.history.History.close.Goals as goal
 pub returns-then-late-eq0 : goal.returns-then-late-eq0
 returns-then-late-eq0 c =
     let late = c.self.inside.settled.items ++ c.self.inside.run.items ∷ [] in
-    let few : count_in late ≤ 0 = let most = c.self.invariant.3 in omega (arith, most) in
+    let few : count_in late ≤ 0 = let most = c.self.invariant.2 in omega (arith, most) in
     sym (none-more c.self.inside.log.items late few) ∙ c.self.view_is
 
 pub move_in-requires-clause-rising : goal.move_in-requires-clause-rising
@@ -19,15 +18,10 @@ move_in-requires-clause-rising c = last-rises c.self.inside.settled.items c.self
 pub move_in-requires-clause-new : goal.move_in-requires-clause-new
 move_in-requires-clause-new c = close-apart c.self.inside.log.items c.self.inside.run.items c.self.inside.settled.items c.self.invariant.0
 
-pub move_in-requires-clause-log_room : goal.move_in-requires-clause-log_room
-move_in-requires-clause-log_room c =
-    let last = count-last c.self.inside.settled.items c.self.inside.run.items in
-    omega (arith, last, c.self.invariant.2.0, c.self.invariant.3)
-
 pub move_in-requires-clause-room : goal.move_in-requires-clause-room
 move_in-requires-clause-room c =
     let last = count-last c.self.inside.settled.items c.self.inside.run.items in
-    elim c.self.invariant.2.1 [ inl none ↦ absurd (omega (arith, none)) | inr all ↦ omega (arith, last, all, c.self.invariant.3) ]
+    omega (arith, last, c.self.invariant.1, c.self.invariant.2)
 
 pub loop-ended-init : goal.loop-ended-init
 loop-ended-init c =
@@ -43,9 +37,7 @@ loop-ended-init c =
     record {
       runs = subst (λ (es : List Edit). AreRuns (es ∷ settled)) (sym joins) (runs-close laws log run settled runs);
       whole = ap (λ (es : List Edit). joined (es ∷ settled)) joins ∙ joined-close laws log run settled runs ∙ c.self.view_is;
-      empty = c.move_in.ensures.empty;
-      room = omega (arith, most, len, last, c.self.invariant.2.0, c.self.invariant.3, c.move_in.ensures.log_room);
-      spare = elim c.self.invariant.2.1 [ inl none ↦ absurd (omega (arith, none)) | inr all ↦ omega (arith, most, len, last, all, c.self.invariant.3, c.move_in.ensures.by_room) ];
+      room = omega (arith, most, len, last, c.self.invariant.1, c.self.invariant.2, c.move_in.ensures.room);
     }
 
 pub move_in-requires-in-Some-clause-new : goal.move_in-requires-in-Some-clause-new
@@ -55,15 +47,6 @@ move_in-requires-in-Some-clause-new c =
     let cut : c.loop-ended.settled.items ≡ left ++ q ∷ [] = search rules in
     close-apart c.loop-ended.log.items q left (subst (λ (rs : List (List Edit)). AreRuns (c.loop-ended.log.items ∷ rs)) cut c.loop-ended.invariant.runs)
 
-pub move_in-requires-in-Some-clause-log_room : goal.move_in-requires-in-Some-clause-log_room
-move_in-requires-in-Some-clause-log_room c =
-    let left = c.pop.new.self.items in
-    let q = c.into_edits.result.items in
-    let cut : c.loop-ended.settled.items ≡ left ++ q ∷ [] = search rules in
-    let count : count_in c.loop-ended.settled.items ≡ count_in (left ++ q ∷ []) = ap count_in cut in
-    let last = count-last left q in
-    omega (arith, last, count, c.loop-ended.invariant.room)
-
 pub move_in-requires-in-Some-clause-room : goal.move_in-requires-in-Some-clause-room
 move_in-requires-in-Some-clause-room c =
     let left = c.pop.new.self.items in
@@ -71,7 +54,7 @@ move_in-requires-in-Some-clause-room c =
     let cut : c.loop-ended.settled.items ≡ left ++ q ∷ [] = search rules in
     let count : count_in c.loop-ended.settled.items ≡ count_in (left ++ q ∷ []) = ap count_in cut in
     let last = count-last left q in
-    omega (arith, last, count, c.loop-ended.invariant.spare)
+    omega (arith, last, count, c.loop-ended.invariant.room)
 
 pub loop-ended-preserved : goal.loop-ended-preserved
 loop-ended-preserved c =
@@ -89,7 +72,5 @@ loop-ended-preserved c =
     record {
       runs = subst (λ (es : List Edit). AreRuns (es ∷ left)) (sym joins) (runs-close laws log q left runs);
       whole = ap (λ (es : List Edit). joined (es ∷ left)) joins ∙ joined-close laws log q left runs ∙ ap (λ (rs : List (List Edit)). joined (log ∷ rs)) (sym cut) ∙ c.loop-ended.invariant.whole;
-      empty = c.move_in-in-Some.ensures.empty;
-      room = omega (arith, most, len, last, count, c.loop-ended.invariant.room, c.move_in-in-Some.ensures.log_room);
-      spare = omega (arith, most, len, last, count, c.loop-ended.invariant.spare, c.move_in-in-Some.ensures.by_room);
+      room = omega (arith, most, len, last, count, c.loop-ended.invariant.room, c.move_in-in-Some.ensures.room);
     }
