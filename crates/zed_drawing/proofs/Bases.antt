@@ -3,7 +3,8 @@ use Rattle.zed_drawing.specs.declared.error.DrawingError.{DrawingError}
 use Rattle.std.proofs.Common.{◌≡◌, ℕ, List, Option, Some, None, Result, Ok, Err, IfOk, IfSome}
 use Rattle.std.specs.Prelude.{Bool, false}
 use Rattle.zed_drawing.specs.Base.{HasEdits, OfBase}
-use Rattle.zed_drawing.specs.Files.{FileEdits, IsOpened}
+use Rattle.zed_files.specs.Opened.{FileEdits}
+use Rattle.zed_drawing.specs.Files.{IsOpened}
 use Rattle.zed_drawing.specs.Refusals.{file}
 use Rattle.zed_drawing.proofs.Others.{opened_other, steps_other}
 

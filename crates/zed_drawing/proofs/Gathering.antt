@@ -6,7 +6,7 @@ use Rattle.zed_drawing.specs.declared.base.Presence.{Presence}
 use Rattle.zed_drawing.specs.declared.error.DrawingError.{DrawingError}
 use Rattle.zed_drawing.specs.declared.error.DrawingError.TheVariants.{Refused}
 use Rattle.std.proofs.Common.{◌≡◌, ◌∙◌, ◌≢◌, ◌≤◌, ℕ, arith, Bool, true, false, eqb, List, [], ◌∷◌, ◌++◌, Option, Some, None, Result, Ok, Err, IfSome, option_map, ap, refl, subst, sym, inl, inr}
-use Rattle.std.specs.Prelude.{◌⊎◌, MatchBool}
+use Rattle.std.specs.Prelude.{◌⊎◌, MatchBool, ⊤}
 use Rattle.std.specs.Str.{bytes_eq}
 use Rattle.std.proofs.lemmas.Bool.{eq-eqb, eqb-true}
 use Rattle.zed_world.specs.Contents.{Contents}
@@ -17,7 +17,8 @@ use Rattle.zed_host.specs.HostContents.{HostContents}
 use Rattle.zed_host.proofs.Counts.{rose_before, rose_later}
 use Rattle.zed_drawing.specs.Base.{BaseReads, FindsBase}
 use Rattle.zed_drawing.specs.Effects.{Effect}
-use Rattle.zed_drawing.specs.Files.{FileEdits, IsOpened, IsWorld, OpensAs, ReadsAs}
+use Rattle.zed_files.specs.Opened.{FileEdits}
+use Rattle.zed_drawing.specs.Files.{IsOpened, IsWorld, OpensAs, ReadsAs}
 use Rattle.zed_drawing.specs.Refusals.{file, memory}
 use Rattle.zed_drawing.specs.Steps.{Gives, Steps}
 use Rattle.zed_drawing.specs.Taking.{Draws, Gathers, Given, TakeReads, TakesFrom, given}
@@ -125,6 +126,11 @@ pub takes_no_replica : (failed : Type 0) (t : HostContents) (presence : Presence
     → (replica ≡ 0) × (e ≡ Refused (refusal.BadEdit cause.Stamp)) → (e ≡ memory) ⊎ TakesFrom failed t presence base file replica world (Err e)
 takes_no_replica failed t presence base file replica world e why =
     inr (subst (λ x. TakesFrom failed t presence base file replica world (Err x)) (sym why.1) (takes_none failed t presence base file replica world why.0))
+
+-- the refusal is handed on
+pub told_no_replica : (r : Result ⊤ DrawingError) (told e : DrawingError) (replica : ℕ) → r ≡ Err told → told ≡ e → (replica ≡ 0) × (e ≡ Refused (refusal.BadEdit cause.Stamp))
+    → r ≡ Err (Refused (refusal.BadEdit cause.Stamp))
+told_no_replica r told e replica at same why = at ∙ ap (λ x. Err x) (same ∙ why.1)
 
 pub no_replica_other : (replica : ℕ) (e : DrawingError) → (replica ≡ 0) × (e ≡ Refused (refusal.BadEdit cause.Stamp)) → e ≢ file
 no_replica_other replica e why = λ is. let told : e ≡ Refused (refusal.BadEdit cause.Stamp) = why.1 in cc

@@ -14,7 +14,8 @@ use Rattle.zed_take.specs.Taken.{Shows}
 use Rattle.zed_drawing.specs.Asked.{Reads, TellsFailures}
 use Rattle.zed_drawing.specs.Base.{beside}
 use Rattle.zed_drawing.specs.Effects.{Effect, names_of}
-use Rattle.zed_drawing.specs.Files.{FileEdits, IsOpened, IsTried, OpensAs}
+use Rattle.zed_files.specs.Opened.{FileEdits}
+use Rattle.zed_drawing.specs.Files.{IsOpened, IsTried, OpensAs}
 use Rattle.zed_drawing.specs.Opening.{ComesToOpen, IsFree, IsOfBase, IsUndrawn, LookReads, MayReadBase, MayReplace, OpenReads, OpenWrites, Replaces, Shown, opened_as}
 use Rattle.zed_drawing.specs.Refusals.{memory}
 use Rattle.zed_drawing.specs.Steps.{Gives}

@@ -1,6 +1,5 @@
 -- Refusals other than `File`.
 use Rattle.zed_op.specs.declared.op.Edit.{Edit}
-use Rattle.zed_editfile.specs.declared.error.EditFileError.{EditFileError}
 use Rattle.zed_export.specs.declared.error.ExportError.{ExportError}
 use Rattle.zed_take.specs.declared.error.TakeError.{TakeError}
 use Rattle.zed_take.specs.declared.error.TakeError.TheVariants as taking
@@ -16,10 +15,13 @@ use Rattle.zed_world.specs.Contents.{Contents}
 use Rattle.zed_world.specs.Reading.{world_at}
 use Rattle.zed_edit.specs.Replay.{replay}
 use Rattle.zed_export.specs.Limits.{saved}
-use Rattle.zed_files.specs.Refusals.{export_refusal, file_refusal, world_refusal}
-use Rattle.zed_files.proofs.Failures.{file_is_other, session_is_other, world_is_other}
+use Rattle.zed_files.specs.Opened as files
+use Rattle.zed_files.specs.Opened.{FileEdits}
+use Rattle.zed_files.specs.Refusals.{export_refusal, world_refusal}
+use Rattle.zed_files.proofs.Failures.{session_is_other, world_is_other}
+use Rattle.zed_files.proofs.Opened.{opened_is_other}
 use Rattle.zed_drawing.specs.Base.{edits_of_base}
-use Rattle.zed_drawing.specs.Files.{IsOpened, IsSettled, IsWorld, world_told}
+use Rattle.zed_drawing.specs.Files.{IsOpened, IsWorld, opened_told, world_told}
 use Rattle.zed_drawing.specs.Opening.{IsExported, IsSame, export_told}
 use Rattle.zed_drawing.specs.Refusals.{file, memory, take_refusal}
 use Rattle.zed_drawing.specs.Steps.{Steps, Then}
@@ -57,17 +59,11 @@ steps_other First Next e first next steps fault = go steps.0 steps.1 steps.2
 
 -- an edit file that was read
 pub opened_other : (asked : Option ℕ) (bytes : List ℕ) (e : DrawingError) → IsOpened asked bytes (Err e) → e ≡ file → ⊥
-opened_other asked bytes e opened fault = settled opened.0 opened.1 opened.3
+opened_other asked bytes e opened fault = go opened.0 opened.1 opened.2
   where
-    settled : (es : List Edit) (end : Result ℕ EditFileError) → IsSettled es end (Err e) → ⊥
-    settled es (Ok world) how = elim how [
-      | inl clash ↦ refused_is_other (refusal.Clash clash.0) e (λ no. cc) (let why = clash.2 in cc) fault
-      | inr whole ↦ (let no = whole.1 in cc)
-    ]
-    settled es (Err x) how = elim how [
-      | inl clash ↦ refused_is_other (refusal.Clash clash.0) e (λ no. cc) (let why = clash.2 in cc) fault
-      | inr part ↦ refused_is_other (file_refusal x) e (file_is_other x) (let why = part.1 in cc) fault
-    ]
+    go : (m : Result FileEdits Refusal) → files.IsOpened asked bytes m → Err e ≡ opened_told m → ⊥
+    go (Ok x) is nothing = cc
+    go (Err r) is why = refused_is_other r e (opened_is_other asked bytes r is) (cc) fault
 
 -- a world file
 pub world_other : (bytes : List ℕ) (e : DrawingError) → IsWorld bytes (Err e) → e ≡ file → ⊥

@@ -18,7 +18,8 @@ use Rattle.zed_host.specs.HostContents.{HostContents}
 use Rattle.zed_host.proofs.ReadFiles.{read_so}
 use Rattle.zed_drawing.specs.Base.{FindsBase, HasEdits, OfBase, ReadsBase, beside, edits_of_base}
 use Rattle.zed_drawing.specs.Effects.{Effect}
-use Rattle.zed_drawing.specs.Files.{FileEdits, IsOpened, IsTried, IsWorld, OfName, OpensAs, ReadsAs}
+use Rattle.zed_files.specs.Opened.{FileEdits}
+use Rattle.zed_drawing.specs.Files.{IsOpened, IsTried, IsWorld, OfName, OpensAs, ReadsAs}
 use Rattle.zed_drawing.specs.Opening.{ComesToOpen, IsExported, IsFree, IsSame, IsUndrawn, MayReplace, Replaces, Shown, opened_as, up_to}
 use Rattle.zed_drawing.specs.Steps.{Steps}
 use Rattle.zed_drawing.specs.Taking.{Draws, Gathers, Given, TakesFrom, given}

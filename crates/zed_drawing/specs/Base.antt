@@ -7,7 +7,8 @@ use Rattle.std.specs.Prelude.{◌≡◌, ℕ, Bool, false, List, [], ◌∷◌, 
 use Rattle.std.specs.Str.{bytes_eq}
 use Rattle.zed_host.specs.Calls.{Call, Reading, call}
 use Rattle.zed_host.specs.HostContents.{HostContents}
-use Rattle.zed_drawing.specs.Files.{FileEdits, IsOpened, IsTried, OpensAs}
+use Rattle.zed_files.specs.Opened.{FileEdits}
+use Rattle.zed_drawing.specs.Files.{IsOpened, IsTried, OpensAs}
 use Rattle.zed_drawing.specs.Steps.{Steps}
 
 -- the name of the base that lies beside a world file

@@ -1,19 +1,15 @@
 -- What the files come to that a command reads.
-use Rattle.zed_types.specs.declared.stamp.Stamp.{Stamp}
-use Rattle.zed_op.specs.declared.op.Edit.{Edit}
-use Rattle.zed_editfile.specs.declared.error.EditFileError.{EditFileError}
 use Rattle.zed_world.specs.declared.error.WorldError.{WorldError}
-use Rattle.zed_files.specs.declared.refusal.Refusal.TheVariants as refusal
+use Rattle.zed_files.specs.declared.refusal.Refusal.{Refusal}
 use Rattle.zed_drawing.specs.declared.error.DrawingError.{DrawingError}
 use Rattle.zed_drawing.specs.declared.error.DrawingError.TheVariants.{Refused}
 use Rattle.std.specs.Prelude.{◌≡◌, ◌⊎◌, ℕ, List, Option, Some, None, Result, Ok, Err}
-use Rattle.zed_op.specs.Set.{Agrees, set_of}
-use Rattle.zed_document.specs.Delivery.{IsFirstClash}
 use Rattle.zed_world.specs.Contents.{Contents}
 use Rattle.zed_world.specs.Reading.{world_at}
 use Rattle.zed_host.specs.HostContents.{HostContents, IsRead, file_in}
-use Rattle.zed_files.specs.Files.{IsFile}
-use Rattle.zed_files.specs.Refusals.{file_refusal, world_refusal}
+use Rattle.zed_files.specs.Opened as files
+use Rattle.zed_files.specs.Opened.{FileEdits}
+use Rattle.zed_files.specs.Refusals.{world_refusal}
 use Rattle.zed_drawing.specs.Refusals.{file}
 
 -- what is made of the bytes of a file, which has to be there
@@ -29,22 +25,14 @@ OfName failed t name Made r = (read : Option (List ℕ)) × IsRead failed t name
 abbrev pub IsTried : Type 0 → HostContents → List ℕ → Result (Option (List ℕ)) DrawingError → Type 0
 IsTried failed t name r = (r ≡ Ok (file_in t name)) ⊎ (failed × (r ≡ Err file))
 
--- the number of a world, and edits of it
-abbrev pub FileEdits : Type 0
-FileEdits = ℕ × List Edit
-
--- the world and the set of edits of a file that was read to its end
-abbrev pub edits_at : Result ℕ EditFileError → List Edit → Result FileEdits DrawingError
-edits_at (Ok world) es = Ok (world, set_of es)
-edits_at (Err e) es = Err (Refused (file_refusal e))
-
--- what comes first: a clash of two edits, or what is wrong with the file; else the set of its edits
-abbrev pub IsSettled : List Edit → Result ℕ EditFileError → Result FileEdits DrawingError → Type 0
-IsSettled es end r = ((c : Stamp) × IsFirstClash es c × (r ≡ Err (Refused (refusal.Clash c)))) ⊎ (Agrees es × (r ≡ edits_at end es))
+-- what an edit file came to, with the refusals of a command that draws
+abbrev pub opened_told : Result FileEdits Refusal → Result FileEdits DrawingError
+opened_told (Ok file) = Ok file
+opened_told (Err e) = Err (Refused e)
 
 -- what the bytes of an edit file, of the world asked for or of any, come to
 abbrev pub IsOpened : Option ℕ → List ℕ → Result FileEdits DrawingError → Type 0
-IsOpened asked bytes r = (es : List Edit) × (end : Result ℕ EditFileError) × IsFile asked bytes es end × IsSettled es end r
+IsOpened asked bytes r = (m : Result FileEdits Refusal) × files.IsOpened asked bytes m × (r ≡ opened_told m)
 
 -- what the edit file of a name comes to
 abbrev pub OpensAs : Type 0 → HostContents → Option ℕ → List ℕ → Result FileEdits DrawingError → Type 0

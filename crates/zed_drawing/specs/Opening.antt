@@ -20,7 +20,8 @@ use Rattle.zed_files.specs.Lines.{bytes_line}
 use Rattle.zed_files.specs.Refusals.{export_refusal}
 use Rattle.zed_drawing.specs.Base.{BaseReads, FindsBase, beside, edits_of_base}
 use Rattle.zed_drawing.specs.Effects.{Effect, output}
-use Rattle.zed_drawing.specs.Files.{FileEdits, IsTried, IsWorld, OpensAs}
+use Rattle.zed_files.specs.Opened.{FileEdits}
+use Rattle.zed_drawing.specs.Files.{IsTried, IsWorld, OpensAs}
 use Rattle.zed_drawing.specs.Steps.{Steps}
 
 -- the edits up to a time, it among them; all of them where none is given

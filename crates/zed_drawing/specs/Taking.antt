@@ -23,7 +23,8 @@ use Rattle.zed_host.specs.HostContents.{HostContents}
 use Rattle.zed_files.specs.Lines.{edits_line}
 use Rattle.zed_drawing.specs.Base.{BaseReads, FindsBase, base_word, edits_of_base, presence_of}
 use Rattle.zed_drawing.specs.Effects.{Effect, Output, output}
-use Rattle.zed_drawing.specs.Files.{FileEdits, OpensAs, ReadsAs}
+use Rattle.zed_files.specs.Opened.{FileEdits}
+use Rattle.zed_drawing.specs.Files.{OpensAs, ReadsAs}
 use Rattle.zed_drawing.specs.Refusals.{take_refusal}
 use Rattle.zed_drawing.specs.Steps.{Steps}
 

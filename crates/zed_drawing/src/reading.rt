@@ -1,8 +1,5 @@
 //! The files that a command reads.
 ghost use Rattle.std.specs.Prelude.{◌≡◌, ◌∷◌, [], ◌⊎◌, ℕ, IfErr, IfOk, MatchResult, Some, None, false, option_map};
-ghost use Rattle.zed_op.specs.Set.{Agrees, AllFit, set_of};
-ghost use Rattle.zed_types.specs.declared.stamp.Stamp.{Stamp as TheStamp};
-ghost use Rattle.zed_document.specs.Delivery.{IsFirstClash};
 ghost use Rattle.zed_drawing.specs.Asked.{Reads, TellsFailures};
 ghost use Rattle.zed_drawing.specs.Files.{IsOpened, IsTried, OpensAs, ReadsAs};
 ghost use Rattle.zed_drawing.specs.Refusals.{is_fault, is_missed, memory};
@@ -14,9 +11,7 @@ ghost use Rattle.zed_host.specs.HostContents.{HostContents};
 use crate::error::DrawingError;
 use std::alloc::Global;
 use zed_document::Document;
-use zed_edit::Edit;
-use zed_editfile::EditFileError;
-use zed_files::{Refusal, append_edits, bytes_of_file, deliver_all};
+use zed_files::{Refusal, bytes_of_file, open_bytes};
 use zed_host::{Host, ReadError};
 use zed_world::{World, read_world};
 
@@ -39,21 +34,6 @@ pub(crate) fn try_file<H: Host>(host: &mut H, name: &str) -> Result<Option<Vec<u
     }
 }
 
-// The document of a world with these edits.
-fn collected(alloc: Global, world: u64, edits: Vec<Edit>) -> Result<Document, DrawingError>
-    requires { AllFit edits.items }
-    ensures collected { MatchResult result
-        (λ d. Agrees edits.items × (d.edits ≡ set_of edits.items))
-        (λ e. (e ≡ memory) ⊎ ((s : TheStamp) × IsFirstClash edits.items s
-        × (e ≡ DrawingError.Refused (Refusal.Clash s)))) }
-    ensures world { IfOk result (λ d. d.world ≡ world) }
-    ensures sound { IfOk result (λ d. d.is_stale ≡ false) }
-{
-    let mut document = Document::new(alloc, world);
-    deliver_all(&mut document, edits)?;
-    Ok(document)
-}
-
 /// The document of the bytes of an edit file, of the world asked for or of any.
 pub(crate) fn opened(
     alloc: Global,
@@ -64,15 +44,7 @@ pub(crate) fn opened(
     ensures world { IfOk result (λ d. (n : ℕ) → asked ≡ Some n → d.world ≡ n) }
     ensures sound { IfOk result (λ d. d.is_stale ≡ false) }
 {
-    let mut edits = Vec::new(alloc);
-    match append_edits(alloc, asked, bytes, &mut edits) {
-        Ok(world) => collected(alloc, world, edits),
-        Err(EditFileError::Memory) => Err(DrawingError::Refused(Refusal::Memory)),
-        Err(error) => {
-            collected(alloc, 0, edits)?;
-            Err(DrawingError::from(error))
-        }
-    }
+    Ok(open_bytes(alloc, asked, bytes)?)
 }
 
 /// The document of the edit file of a name, of the world asked for or of any. Its refusals are

@@ -286,19 +286,7 @@ fn draw(
     }
 }
 
-/// Refuses 0, which is no author's number.
-pub fn check_replica(replica: u16) -> Result<(), DrawingError>
-    ensures ok { OnOk result (replica ≢ 0) }
-    ensures err { IfErr result (λ e.
-        (replica ≡ 0) × (e ≡ DrawingError.Refused (Refusal.BadEdit Cause.Stamp))) }
-{
-    if replica == 0 {
-        return Err(DrawingError::Refused(Refusal::BadEdit(Cause::Stamp)));
-    }
-    Ok(())
-}
-
-// What `take` comes to with the base of this word.
+// What `take` comes to for an author, with the base of this word.
 #[tactic(none)]
 fn take_to<H: Host>(
     alloc: Global,
@@ -309,7 +297,7 @@ fn take_to<H: Host>(
     replica: u16,
     world: &str,
 ) -> Result<Effect, DrawingError>
-    ensures comes { (t : HostContents) → H.contents host.old ≡ Some t
+    ensures comes { replica ≢ 0 → (t : HostContents) → H.contents host.old ≡ Some t
         → let failed = Rose (H.faults host.old) (H.faults host.new) in
         Gives (λ x. x)
         (TakesFrom failed t presence base.now file.now replica world.now) result }
@@ -319,12 +307,11 @@ fn take_to<H: Host>(
         result host.old host.new }
     ensures failures { TellsFailures H.faults H.failed result host.old host.new }
 {
-    check_replica(replica)?;
     let gathered = gather(alloc, host, presence, base, file, world)?;
     draw(alloc, base, file, gathered, replica)
 }
 
-// Takes a world with the base of this word.
+// Takes a world for an author, with the base of this word.
 #[tactic(none)]
 fn take_from<H: Host>(
     alloc: Global,
@@ -335,7 +322,7 @@ fn take_from<H: Host>(
     replica: u16,
     world: &str,
 ) -> Result<(), DrawingError>
-    ensures ends { (t : HostContents) → H.contents host.old ≡ Some t
+    ensures ends { replica ≢ 0 → (t : HostContents) → H.contents host.old ≡ Some t
         → let failed = Rose (H.faults host.old) (H.faults host.new) in
         Ends failed (TakesFrom failed t presence base.now file.now replica world.now)
         (Did H.called (TakeReads presence base.now file.now world.now) host.old host.new) t
@@ -348,7 +335,7 @@ fn take_from<H: Host>(
     carry_out(host, &effect)
 }
 
-// Takes a world with the base that lies beside it, if that is there.
+// Takes a world for an author, with the base that lies beside it, if that is there.
 fn take_beside<H: Host>(
     alloc: Global,
     host: &mut H,
@@ -356,7 +343,7 @@ fn take_beside<H: Host>(
     replica: u16,
     world: &str,
 ) -> Result<(), DrawingError>
-    ensures ends { (t : HostContents) → H.contents host.old ≡ Some t
+    ensures ends { replica ≢ 0 → (t : HostContents) → H.contents host.old ≡ Some t
         → let failed = Rose (H.faults host.old) (H.faults host.new) in
         Ends failed
         (TakesFrom failed t Presence.Optional (beside world.now) file.now replica world.now)
@@ -371,7 +358,20 @@ fn take_beside<H: Host>(
     take_from(alloc, host, Presence::Optional, &name, file, replica, world)
 }
 
-/// Takes what another editor drew in a world file.
+/// Refuses 0, which is no author's number.
+pub fn check_replica(replica: u16) -> Result<(), DrawingError>
+    ensures ok { OnOk result (replica ≢ 0) }
+    ensures err { IfErr result (λ e.
+        (replica ≡ 0) × (e ≡ DrawingError.Refused (Refusal.BadEdit Cause.Stamp))) }
+{
+    if replica == 0 {
+        return Err(DrawingError::Refused(Refusal::BadEdit(Cause::Stamp)));
+    }
+    Ok(())
+}
+
+/// Takes what another editor drew in a world file, as the author with this number. 0 is no
+/// author's number: it is refused before memory is asked for, and before any file is read.
 pub fn take<H: Host>(
     alloc: Global,
     host: &mut H,
@@ -386,12 +386,16 @@ pub fn take<H: Host>(
         Ends failed (ComesToTake failed t given file.now replica world.now)
         (Did H.called (TakeReads (presence_of given) (base_word given world.now) file.now world.now)
         host.old host.new) t result (H.contents host.new) }
+    ensures no_author { replica ≡ 0
+        → (result ≡ Err (DrawingError.Refused (Refusal.BadEdit Cause.Stamp)))
+        × (host.new ≡ host.old) }
     ensures asked { let given = text_in base.entry in
         Asks H.called
         (TakeReads (presence_of given) (base_word given world.now) file.now world.now)
         (TakeWrites (base_word given world.now) file.now) result host.old host.new }
     ensures failures { TellsFailures H.faults H.failed result host.old host.new }
 {
+    check_replica(replica)?;
     match base {
         Some(name) => take_from(alloc, host, Presence::Needed, name, file, replica, world),
         None => take_beside(alloc, host, file, replica, world),

@@ -50,16 +50,16 @@ refused_at called reads last e old new asks = (
 )
 
 -- another refusal in place of one, or of none
-pub refused_instead : {H : Type 0} (called : H → Call → H → Type 0) (reads : List Ask) (told : Option Refusal) (e : Refusal) (old new : H) → (e ≡ File → ⊥)
+pub refused_instead : {H : Type 0} (called : H → Call → H → Type 0) (reads : List Ask) (told : Option Refusal) (e : Refusal) (old new : H) → (e ≡ File → ⊥) → (e ≡ Memory → ⊥)
     → Asks called reads [] told old new → Asks called reads [] (Some e) old new
-refused_instead called reads None e old new other asks = refused_after called reads [] e old new other asks
-refused_instead called reads (Some f) e old new other asks = (
+refused_instead called reads None e old new other ample asks = refused_after called reads [] e old new other asks
+refused_instead called reads (Some f) e old new other ample asks = (
   asks.0,
   asks.1,
   elim asks.2 [
     | inl begun ↦ inl (other, begun.1)
     | inr broken ↦ elim broken [
-      | inl read ↦ inr (inl read)
+      | inl read ↦ inr (inl (ample, read.1))
       | inr ending ↦ absurd (none_broken ending.1.0 ending.1.1)
     ]
   ],
@@ -86,7 +86,7 @@ then_last called reads last (Some e) old mid new first second =
             let all : first.0 ++ second.0 ≡ passed reads = ap (λ calls. first.0 ++ calls) behind ∙ append-nil first.0 ∙ before in
             inl (begun.0, (reads, [], sym (append-nil reads), all)))
         | inr broken ↦ elim broken [
-          | inl read ↦ absurd (none_broken second.0 read)
+          | inl read ↦ absurd (none_broken second.0 read.1)
           | inr ending ↦ inr (inr (ending.0, (ending.1.0, ending.1.1, ap (λ calls. calls ++ second.0) before ∙ ap (λ calls. passed reads ++ calls) ending.1.2)))
         ]
       ],
@@ -103,11 +103,16 @@ read_before called ask reads (Some e) old mid new first later = (
   elim later.2 [
     | inl begun ↦ inl (begun.0, (ask ∷ begun.1.0, begun.1.1, ap (λ asks. ask ∷ asks) begun.1.2, ap (λ calls. call ask false ∷ calls) begun.1.3))
     | inr broken ↦ elim broken [
-      | inl read ↦ inr (inl (ask ∷ read.0, read.1, read.2, ap (λ asks. ask ∷ asks) read.3, ap (λ calls. call ask false ∷ calls) read.4))
+      | inl read ↦ (
+          let lost = read.1 in
+          inr (inl (read.0, (ask ∷ lost.0, lost.1, lost.2, ap (λ asks. ask ∷ asks) lost.3, ap (λ calls. call ask false ∷ calls) lost.4))))
       | inr ending ↦ absurd (none_broken ending.1.0 ending.1.1)
     ]
   ],
 )
+
+file_lacks_nothing : File ≡ Memory → ⊥
+file_lacks_nothing is = cc
 
 -- the first of some reads, if it was refused
 pub read_refused : {H : Type 0} (called : H → Call → H → Type 0) (name : List ℕ) (reads : List Ask) (e : Refusal) (old new : H)
@@ -117,7 +122,7 @@ read_refused called name reads e old new is why =
       | inl memory ↦ subst (λ e. called old (call (Reading name) (is_file_refusal {X = Vec ℕ} (Err e))) new → Asks called (Reading name ∷ reads) [] (Some e) old new) (sym memory)
           (λ is. (call (Reading name) false ∷ [], (new, is, refl), inl (memory_is_other Memory refl, (Reading name ∷ [], reads, refl, refl)))) is
       | inr file ↦ subst (λ e. called old (call (Reading name) (is_file_refusal {X = Vec ℕ} (Err e))) new → Asks called (Reading name ∷ reads) [] (Some e) old new) (sym file)
-          (λ is. (call (Reading name) true ∷ [], (new, is, refl), inr (inl ([], Reading name, reads, refl, refl)))) is
+          (λ is. (call (Reading name) true ∷ [], (new, is, refl), inr (inl (file_lacks_nothing, ([], Reading name, reads, refl, refl))))) is
     ]
 
 -- it was read
@@ -151,14 +156,14 @@ read_next called names i d old mid new lt so is =
     )
 
 -- the next one couldn't be read
-read_lost : {H : Type 0} (called : H → Call → H → Type 0) (names : List (Bor (List ℕ))) (i : ℕ) (d : Bor (List ℕ)) (old mid new : H) (e : Refusal) → i < length names
+read_lost : {H : Type 0} (called : H → Call → H → Type 0) (names : List (Bor (List ℕ))) (i : ℕ) (d : Bor (List ℕ)) (old mid new : H) (e : Refusal) → i < length names → (e ≡ Memory → ⊥)
     → ReadSoFar called names i old mid → called mid (call (Reading (get_or names i d).now) true) new → Asks called (reading (texts_of names)) [] (Some e) old new
-read_lost called names i d old mid new e lt so is =
+read_lost called names i d old mid new e lt ample so is =
     let ask = Reading (get_or names i d).now in
     let left : reading (texts_of (drop i names)) ≡ ask ∷ reading (texts_of (drop (i + 1) names)) = rw add-one (ap (λ ns. reading (texts_of ns)) (drop-cons names i d lt)) in (
       failed_at so.0 ask,
       leads_then called (passed so.0) (call ask true ∷ []) old mid new so.2 (new, is, refl),
-      inr (inl (so.0, ask, reading (texts_of (drop (i + 1) names)), so.1 ∙ ap (λ asks. so.0 ++ asks) left, refl)),
+      inr (inl (ample, (so.0, ask, reading (texts_of (drop (i + 1) names)), so.1 ∙ ap (λ asks. so.0 ++ asks) left, refl))),
     )
 
 -- no more were read
@@ -166,22 +171,22 @@ pub read_enough : {H : Type 0} (called : H → Call → H → Type 0) (names : L
     → ReadSoFar called names i old new → Asks called (reading (texts_of names)) [] (Some e) old new
 read_enough called names i old new e other so = (passed so.0, so.2, inl (other, (so.0, reading (texts_of (drop i names)), so.1, refl)))
 
-pub next_lost : {H : Type 0} (called : H → Call → H → Type 0) (names : List (Bor (List ℕ))) (i : ℕ) (d : Bor (List ℕ)) (old mid new : H) (e told : Refusal) → i < length names
+pub next_lost : {H : Type 0} (called : H → Call → H → Type 0) (names : List (Bor (List ℕ))) (i : ℕ) (d : Bor (List ℕ)) (old mid new : H) (e told : Refusal) → i < length names → (told ≡ Memory → ⊥)
     → ReadSoFar called names i old mid → called mid (call (Reading (get_or names i d).now) (is_file_refusal {X = Vec ℕ} (Err e))) new → e ≡ File
     → Asks called (reading (texts_of names)) [] (Some told) old new
-next_lost called names i d old mid new e told lt so is file =
+next_lost called names i d old mid new e told lt ample so is file =
     let P : Refusal → Type 0 = λ e. called mid (call (Reading (get_or names i d).now) (is_file_refusal {X = Vec ℕ} (Err e))) new → Asks called (reading (texts_of names)) [] (Some told) old new in
-    subst P (sym file) (λ is. read_lost called names i d old mid new told lt so is) is
+    subst P (sym file) (λ is. read_lost called names i d old mid new told lt ample so is) is
 
--- or was refused
+-- or was refused, for want of memory
 pub next_refused : {H : Type 0} (called : H → Call → H → Type 0) (names : List (Bor (List ℕ))) (i : ℕ) (d : Bor (List ℕ)) (old mid new : H) (e told : Refusal) → i < length names → (told ≡ File → ⊥)
-    → ReadSoFar called names i old mid → called mid (call (Reading (get_or names i d).now) (is_file_refusal {X = Vec ℕ} (Err e))) new → (e ≡ Memory) ⊎ (e ≡ File)
+    → ReadSoFar called names i old mid → called mid (call (Reading (get_or names i d).now) (is_file_refusal {X = Vec ℕ} (Err e))) new → (e ≡ Memory) ⊎ (e ≡ File) → (e ≡ File → ⊥)
     → Asks called (reading (texts_of names)) [] (Some told) old new
-next_refused called names i d old mid new e told lt other so is why =
+next_refused called names i d old mid new e told lt other so is why read =
     let P : Refusal → Type 0 = λ e. called mid (call (Reading (get_or names i d).now) (is_file_refusal {X = Vec ℕ} (Err e))) new → Asks called (reading (texts_of names)) [] (Some told) old new in
     elim why [
       | inl memory ↦ subst P (sym memory) (λ is. read_enough called names (i + 1) old new told other (read_next called names i d old mid new lt so is)) is
-      | inr file ↦ next_lost called names i d old mid new e told lt so is file
+      | inr file ↦ absurd (read file)
     ]
 
 -- the file wasn't written

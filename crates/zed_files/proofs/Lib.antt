@@ -2,7 +2,11 @@ pub mod Asked
 pub mod Deliveries
 pub mod Endings
 pub mod Failures
-pub mod FileEnds
+pub mod Feeds
+pub mod FilesRead
+pub mod Heads
 pub mod OffStage
+pub mod Opened
 pub mod Streams
 pub mod Settled
+pub mod Wanting

@@ -12,7 +12,7 @@ use Rattle.zed_export.specs.declared.error.ExportError.{ExportError}
 use Rattle.zed_link.specs.declared.error.LinkError.{LinkError}
 use Rattle.zed_world.specs.declared.error.WorldError.{WorldError}
 use Rattle.zed_files.specs.declared.refusal.Refusal.{Refusal}
-use Rattle.zed_files.specs.declared.refusal.Refusal.TheVariants.{Clash, File, Memory}
+use Rattle.zed_files.specs.declared.refusal.Refusal.TheVariants.{File, Memory}
 use Rattle.std.proofs.Common.{◌≡◌, ℕ, Bool, false, Option, Some, None, Result, Ok, Err, MatchResult, refl, subst, sym, inl, inr}
 use Rattle.std.specs.Prelude.{IfErr, IfSome, IsErrAnd}
 use mathlib.Core.Logic.{◌⊎◌}

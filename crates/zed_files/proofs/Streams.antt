@@ -1,17 +1,17 @@
 -- How files come to a stream of edits.
-use Rattle.std.proofs.Common.{◌≡◌, ◌∙◌, ℕ, List, [], ◌∷◌, ◌++◌, Option, Some, None, Result, Ok, Err, refl, ap, sym, subst, append_assoc, append-nil, add-one, drop, drop-cons, drop_of_length-le, get_or, length, ◌+◌, ◌<◌, ◌≤◌}
+use Rattle.std.proofs.Common.{◌≡◌, ◌∙◌, ℕ, zero, suc, true, is_some, arith, List, [], ◌∷◌, ◌++◌, Option, Some, None, Result, Ok, Err, refl, ap, sym, subst, append_assoc, append-nil, add-one, drop, drop-cons, drop_of_length-le, get_or, length, ◌+◌, ◌<◌, ◌≤◌}
 use Rattle.std.specs.Borrow.{Bor}
 use Rattle.zed_files.specs.declared.refusal.Refusal.{Refusal}
-use Rattle.zed_files.specs.Collected.{Collects, IsStreamIn, set_unless}
+use Rattle.zed_files.specs.Collected.{Collects, FirstIsThere, IsStreamIn, set_unless}
 use Rattle.zed_files.specs.Texts.{texts_of}
-use Rattle.zed_host.specs.HostContents.{AreRead, HostContents, IsRead}
+use Rattle.zed_host.specs.HostContents.{AreRead, HostContents, IsRead, file_in}
 use Rattle.zed_files.specs.declared.refusal.Refusal.TheVariants.{File}
 use mathlib.Core.Logic.{inl, inr}
 use Rattle.zed_op.specs.declared.op.Edit.{Edit}
 use Rattle.zed_op.specs.Set.{Agrees, AllFit, set_of}
 use Rattle.zed_editfile.specs.declared.error.EditFileError.{EditFileError}
 use Rattle.zed_link.proofs.Readings.{records_fit}
-use Rattle.zed_files.specs.Files.{IsFile, IsStream, Stream, edits_then, end_of, stream_after}
+use Rattle.zed_files.specs.Files.{IsFile, IsStream, ReadsFile, Stream, edits_then, end_of, stream_after}
 use Rattle.zed_files.specs.Refusals.{file_refusal}
 
 -- one file more was read whole
@@ -31,10 +31,14 @@ last_file P asked bytes files all es more e first read file =
     let here : IsStream asked (Some bytes ∷ files) (edits_then more (Some (file_refusal e))) = inl (e, file, refl) in
     read (edits_then more (Some (file_refusal e))) (subst (λ files. IsStream asked files (edits_then more (Some (file_refusal e)))) (sym first) here)
 
--- the edits of a file that were put into an empty list
-pub file_alone : (asked : Option ℕ) (bytes : List ℕ) (old new es : List Edit) (end : Result ℕ EditFileError) → old ≡ [] → new ≡ old ++ es → IsFile asked bytes es end
-    → IsFile asked bytes new end
-file_alone asked bytes old new es end none made file = subst (λ es. IsFile asked bytes es end) (sym (made ∙ ap (λ old. old ++ es) none)) file
+-- a file that was read to its end, by what is wrong with it
+pub whole_file : (asked : Option ℕ) (bytes : List ℕ) (es : List Edit) (fault : Option EditFileError) (world : Option ℕ) → fault ≡ None → ReadsFile asked bytes es fault world
+    → (n : ℕ) × (world ≡ Some n) × IsFile asked bytes es (Ok n)
+whole_file asked bytes es fault world none file = subst (λ f. ReadsFile asked bytes es f world) none file
+
+pub faulty_file : (asked : Option ℕ) (bytes : List ℕ) (es : List Edit) (fault : Option EditFileError) (world : Option ℕ) (e : EditFileError) → fault ≡ Some e → ReadsFile asked bytes es fault world
+    → IsFile asked bytes es (Err e)
+faulty_file asked bytes es fault world e is file = subst (λ f. ReadsFile asked bytes es f world) is file
 
 -- the edits of a file fit
 pub file_fits : (asked : Option ℕ) (bytes : List ℕ) (es : List Edit) (end : Result ℕ EditFileError) → IsFile asked bytes es end → AllFit es
@@ -55,6 +59,13 @@ pub next_read : (failed : Type 0) (t : HostContents) (names : List (Bor (List �
 next_read failed t names i d read rest lt one others =
     subst (λ ns. AreRead failed t (texts_of ns) (read ∷ rest)) (sym (drop-cons names i d lt))
     (read, rest, one, subst (λ n. AreRead failed t (texts_of (drop n names)) rest) (add-one i) others, refl)
+
+-- the first file is there, if the next one is, and the first where that isn't the next one
+pub first_there : (t : HostContents) (names : List (Bor (List ℕ))) (i : ℕ) (d : Bor (List ℕ)) → i < length names → is_some (file_in t (get_or names i d).now) ≡ true
+    → (0 < i → FirstIsThere t (texts_of names)) → FirstIsThere t (texts_of names)
+first_there t [] i d lt there before = absurd (omega (arith, lt))
+first_there t (name ∷ names) zero d lt there before = there
+first_there t (name ∷ names) (suc i) d lt there before = before (omega arith)
 
 -- no file is left
 pub none_left : (failed : Type 0) (t : HostContents) (names : List (Bor (List ℕ))) (i : ℕ) → length names ≤ i → AreRead failed t (texts_of (drop i names)) []

@@ -1,6 +1,6 @@
 -- What a command asks of its host.
 use Rattle.zed_files.specs.declared.refusal.Refusal.{Refusal}
-use Rattle.zed_files.specs.declared.refusal.Refusal.TheVariants.{File}
+use Rattle.zed_files.specs.declared.refusal.Refusal.TheVariants.{File, Memory}
 use Rattle.std.specs.Prelude.{◌≡◌, ◌≢◌, ◌⊎◌, ℕ, List, [], ◌∷◌, ◌++◌, Option, Some, None, Result, Ok, Err, codes, map, if◌then◌else◌}
 use Rattle.std.specs.Str.{bytes_eq}
 use Rattle.zed_host.specs.Calls.{Ask, Call, Printing, Reading, Writing, Leads, failed_at, passed}
@@ -33,11 +33,11 @@ FailedAtEnd reads last calls = (ending : List Call) × BrokenOff last ending × 
 
 -- the calls of a command that makes these reads, and at its end these last calls: all of them, each once and in this order, where it is not
 -- refused; else the reads up to the first that failed, or to where it needed no more; or those up to a failure at its end. `File` is told
--- only where the last of them failed
+-- only where the last of them failed, and `Memory` only where none did
 abbrev pub Asked : List Ask → List Ask → Option Refusal → List Call → Type 0
 Asked reads last None calls = calls ≡ passed (reads ++ last)
 Asked reads last (Some e) calls =
-    ((e ≢ File) × Begun reads calls) ⊎ BrokenOff reads calls ⊎ ((e ≡ File) × FailedAtEnd reads last calls)
+    ((e ≢ File) × Begun reads calls) ⊎ ((e ≢ Memory) × BrokenOff reads calls) ⊎ ((e ≡ File) × FailedAtEnd reads last calls)
 
 -- such calls and no others lead from the one state of a host to the other
 abbrev pub Asks : {H : Type 0} → (H → Call → H → Type 0) → List Ask → List Ask → Option Refusal → H → H → Type 0

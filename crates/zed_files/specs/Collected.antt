@@ -3,13 +3,14 @@ use Rattle.zed_types.specs.declared.stamp.Stamp.{Stamp}
 use Rattle.zed_op.specs.declared.op.Edit.{Edit}
 use Rattle.zed_files.specs.declared.refusal.Refusal.{Refusal}
 use Rattle.zed_files.specs.declared.refusal.Refusal.TheVariants.{Clash}
-use Rattle.std.specs.Prelude.{◌≡◌, ◌⊎◌, false, List, [], Option, Some, None, Result, Ok, Err, ℕ}
+use Rattle.std.specs.Prelude.{◌≡◌, ◌⊎◌, false, true, List, [], ◌∷◌, Option, Some, None, Result, Ok, Err, ℕ, is_some, option_map}
 use Rattle.zed_op.specs.Set.{Agrees, set_of}
-use Rattle.zed_document.specs.Delivery.{DeliversEach, IsFirstClash}
+use Rattle.zed_document.specs.Delivery.{DeliversEach, IsFirstClash, unless_clash}
 use Rattle.zed_document.specs.Laws.{document_of}
 use Rattle.zed_document.specs.Replica.{Replica}
 use Rattle.zed_files.specs.Files.{Stream, IsStream}
-use Rattle.zed_host.specs.HostContents.{AreRead, HostContents}
+use Rattle.zed_link.specs.Feed.{FeedState}
+use Rattle.zed_host.specs.HostContents.{AreRead, HostContents, file_in}
 
 -- the set of edits, unless a file was refused
 abbrev pub set_unless : Option Refusal → List Edit → Result (List Edit) Refusal
@@ -36,6 +37,11 @@ IsStreamIn failed t names s =
 abbrev pub Collects : Type 0 → HostContents → List (List ℕ) → Result (List Edit) Refusal → Type 0
 Collects failed t names set = (s : Stream) × IsStreamIn failed t names s × IsCollected s set
 
+-- the first of these files is there
+abbrev pub FirstIsThere : HostContents → List (List ℕ) → Type 0
+FirstIsThere t [] = ⊥
+FirstIsThere t (name ∷ names) = is_some (file_in t name) ≡ true
+
 -- a document without edits took these, one after the other, and is this one now
 abbrev pub HasTaken : List Edit → Replica → Type 0
 HasTaken es d = (d.is_stale ≡ false) × DeliversEach (document_of d.world [] []) es (Ok tt) d.edits
@@ -44,3 +50,21 @@ HasTaken es d = (d.is_stale ≡ false) × DeliversEach (document_of d.world [] [
 abbrev pub CameTo : List Edit → Replica → Option Stamp → Type 0
 CameTo es d None = HasTaken es d
 CameTo es d (Some s) = IsFirstClash es s
+
+-- the world of the files, where one was read
+abbrev pub world_in : Option FeedState → Option ℕ
+world_in feed = option_map (λ f. f.document.world) feed
+
+-- what the edits of some files came to, which went into one feed from the first file on
+abbrev pub CameInto : List Edit → Option FeedState → Option Stamp → Type 0
+CameInto es None clash = (es ≡ []) × (clash ≡ None)
+CameInto es (Some feed) clash = CameTo es feed.document clash
+
+-- a document took edits up to the first that clashes, if one does, and is that of a feed now
+abbrev pub TookInto : Replica → List Edit → Option Stamp → FeedState → Type 0
+TookInto d es clash feed =
+    (feed.document.world ≡ d.world) × (feed.document.is_stale ≡ false) × DeliversEach d es (unless_clash clash) feed.document.edits
+
+-- a document is that of the feed
+abbrev pub IsOf : Option FeedState → Replica → Type 0
+IsOf feed d = option_map (λ f. f.document) feed ≡ Some d

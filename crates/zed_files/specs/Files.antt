@@ -4,9 +4,10 @@ use Rattle.zed_op.specs.declared.op.Edit.{Edit}
 use Rattle.zed_editfile.specs.declared.error.EditFileError.{EditFileError}
 use Rattle.zed_files.specs.declared.refusal.Refusal.{Refusal}
 use Rattle.zed_files.specs.declared.refusal.Refusal.TheVariants.{NoWorld, File}
-use Rattle.std.specs.Prelude.{◌≡◌, ◌≢◌, ◌⊎◌, ℕ, List, [], ◌∷◌, ◌++◌, Option, Some, None, Result, Ok, Err}
+use Rattle.std.specs.Prelude.{◌≡◌, ◌≢◌, ◌⊎◌, ℕ, false, true, List, [], ◌∷◌, ◌++◌, Option, Some, None, Result, Ok, Err}
 use Rattle.std.specs.List.{flat_map}
-use Rattle.zed_editfile.specs.Stream.{IsTextOf, Progress, Reads, ending}
+use Rattle.zed_editfile.specs.Spelling.{AreOf, text_of}
+use Rattle.zed_editfile.specs.Stream.{AreRecords, HasLength, IsTextOf, Progress, Reads, ending, is_other, is_version}
 use Rattle.zed_files.specs.Refusals.{file_refusal}
 
 -- what a reader answers at the end of a file: the number of its world, or what is wrong
@@ -22,6 +23,24 @@ pub record IsFile (asked : Option ℕ) (bytes : List ℕ) (es : List Edit) (end 
   pub reads : Reads bytes es progress
   pub sound : progress.fault ≢ Some file.Memory
   pub ends : end ≡ end_by (ending progress) progress.world
+
+-- the same by what is wrong with the file, if something is, and the number of its world
+abbrev pub ReadsFile : Option ℕ → List ℕ → List Edit → Option EditFileError → Option ℕ → Type 0
+ReadsFile asked bytes es (Some e) world = IsFile asked bytes es (Err e)
+ReadsFile asked bytes es None world = (n : ℕ) × (world ≡ Some n) × IsFile asked bytes es (Ok n)
+
+-- where reading a file may want memory: behind a good head of the world asked for, and the records of some edits, is the good length of one more
+pub record WantsMemory (asked : Option ℕ) (bytes : List ℕ) : Type 0 where
+  pub version : ℕ
+  pub world : ℕ
+  pub before : List Edit
+  pub tail : List ℕ
+  pub known : is_version version ≡ true
+  pub asked_for : is_other asked world ≡ false
+  pub good : AreRecords before
+  pub spelled : AreOf version before
+  pub whole : bytes ≡ text_of version world before ++ tail
+  pub long : HasLength tail
 
 -- edits in the order in which files spell them, up to the first refusal of a file
 pub record Stream : Type 0 where

@@ -4,5 +4,6 @@ pub mod Effects
 pub mod Faults
 pub mod Files
 pub mod Lines
+pub mod Opened
 pub mod Refusals
 pub mod Texts

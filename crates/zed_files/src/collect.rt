@@ -1,10 +1,10 @@
 //! Edit files, read into a document.
-ghost use Rattle.std.specs.Prelude.{◌≡◌, ◌⊎◌, IfErr, IfOk, IfSome, MatchResult, OnOk, Some, None, Ok, Err, [], ◌++◌, false, true, is_some, List};
+ghost use Rattle.std.specs.Prelude.{◌≡◌, ◌≢◌, ◌⊎◌, IfErr, IfOk, IfSome, MatchResult, OnOk, Some, None, Ok, Err, [], false, true, is_some, List};
 ghost use Rattle.zed_op.specs.declared.op.Edit.{Edit as TheEdit};
 ghost use Rattle.zed_op.specs.Set.{AllFit};
 ghost use Rattle.zed_files.specs.Asked.{Asks, reading, refusal_in};
-ghost use Rattle.zed_files.specs.Files.{IsFile, edits_then, end_of as no_world};
-ghost use Rattle.zed_files.specs.Collected.{CameTo, Collects, IsStreamIn, first_refusal};
+ghost use Rattle.zed_files.specs.Files.{edits_then, end_of as no_world};
+ghost use Rattle.zed_files.specs.Collected.{CameInto, Collects, FirstIsThere, IsStreamIn};
 ghost use Rattle.zed_files.specs.Texts.{texts_of};
 ghost use Rattle.zed_files.specs.Faults.{NoneForgotten, TellsFailures};
 ghost use Rattle.zed_files.specs.Refusals.{IsOffStage, is_file_refusal};
@@ -16,8 +16,6 @@ use crate::gathering::Gathered;
 use crate::refusal::Refusal;
 use std::alloc::Global;
 use zed_document::{Document, deliveries_come_to_sets};
-use zed_edit::Edit;
-use zed_editfile::{EditFileError, EditReader};
 use zed_host::{Host, ReadError};
 
 /// The bytes of the file of a name. File where there is none or it can't be read; Memory.
@@ -44,29 +42,6 @@ pub fn bytes_of_file<H: Host>(host: &mut H, name: &str) -> Result<Vec<u8>, Refus
     }
 }
 
-/// Appends the edits that the bytes of a file spell, and tells the number of its world, which is the one asked for or any. Refused is what
-/// the reader of edit files refuses; the edits before that are appended.
-pub fn append_edits(
-    alloc: Global,
-    asked: Option<u64>,
-    bytes: &[u8],
-    edits: &mut Vec<Edit>,
-) -> Result<u64, EditFileError>
-    ensures { MatchResult result
-        (λ world. (es : List TheEdit) × IsFile asked bytes.now es (Ok world)
-        × (edits.new.items ≡ edits.old.items ++ es))
-        (λ e. (e ≡ EditFileError.Memory) ⊎ ((es : List TheEdit) × IsFile asked bytes.now es (Err e)
-        × (edits.new.items ≡ edits.old.items ++ es))) }
-{
-    let mut reader = EditReader::new(alloc, asked);
-    reader.feed(bytes, edits)?;
-    reader.finish()?;
-    match reader.world() {
-        Some(world) => Ok(world),
-        None => Err(EditFileError::CutShort),
-    }
-}
-
 // Without a file there is no world.
 fn end_of(asked: Option<u64>) -> Option<Refusal>
     ensures { result ≡ no_world asked }
@@ -77,16 +52,20 @@ fn end_of(asked: Option<u64>) -> Option<Refusal>
     }
 }
 
-/// Reads edit files one after the other, and delivers the edits of each before it reads the next. The first one's world is that of all.
+/// Reads edit files one after the other, and delivers their edits as they are read. The first one's world is that of all.
 fn read_all<H: Host>(alloc: Global, host: &mut H, names: &[&str]) -> Result<Gathered, Refusal>
     ensures stream { IfOk result (λ g. (es : List TheEdit) × AllFit es
-        × CameTo es g.document g.clash
+        × CameInto es g.feed g.clash
         × ((t : HostContents) → H.contents host.old ≡ Some t
         → IsStreamIn (Rose (H.faults host.old) (H.faults host.new)) t (texts_of names.now)
         (edits_then es g.refusal))) }
+    ensures whole { IfOk result (λ g. g.refusal ≡ None → is_some g.feed ≡ true) }
     ensures kept { H.contents host.new ≡ H.contents host.old }
     ensures err { IfErr result (λ e. e ≡ Refusal.Memory) }
     ensures refusal { IfOk result (λ g. IfSome g.refusal IsOffStage) }
+    ensures ample { IfOk result (λ g. g.refusal ≢ Some Refusal.Memory) }
+    ensures memory_only_when { (t : HostContents) → H.contents host.old ≡ Some t
+        → IfErr result (λ e. FirstIsThere t (texts_of names.now)) }
     ensures asked { MatchResult result
         (λ g. Asks H.called (reading (texts_of names.now)) [] g.refusal host.old host.new)
         (λ e. Asks H.called (reading (texts_of names.now)) [] (Some e) host.old host.new) }
@@ -94,60 +73,42 @@ fn read_all<H: Host>(alloc: Global, host: &mut H, names: &[&str]) -> Result<Gath
     ensures file_only_when { IfOk result (λ g. g.refusal ≡ Some Refusal.File
         → Rose (H.failed host.old) (H.failed host.new)) }
 {
-    let mut gathered = Gathered::new(alloc);
+    let mut gathered = Gathered::new(alloc, None);
     for name in names {
         let bytes = match bytes_of_file(host, name) {
             Ok(bytes) => bytes,
-            Err(Refusal::File) => {
-                gathered.refusal = Some(Refusal::File);
-                return Ok(gathered);
-            }
-            Err(_) => return Err(Refusal::Memory),
-        };
-        let mut edits = Vec::new(alloc);
-        let end = append_edits(alloc, gathered.world, bytes.as_slice(), &mut edits);
-        drop(bytes);
-        match end {
-            Ok(world) => {
-                gathered.set_world(alloc, world);
-                gathered.take(edits)?;
-            }
-            Err(error) => match error {
-                EditFileError::Memory => return Err(Refusal::Memory),
-                _ => {
-                    gathered.take(edits)?;
-                    gathered.refusal = Some(Refusal::from(error));
+            Err(refusal) => match refusal {
+                Refusal::File => {
+                    gathered.refusal = Some(Refusal::File);
                     return Ok(gathered);
                 }
+                _ => return Err(Refusal::Memory),
             },
+        };
+        match gathered.read(alloc, bytes.as_slice())? {
+            None => {}
+            Some(error) => {
+                gathered.refusal = Some(Refusal::from(error));
+                return Ok(gathered);
+            }
         }
     }
-    gathered.refusal = end_of(gathered.world);
+    gathered.refusal = end_of(gathered.world());
     Ok(gathered)
-}
-
-// What gathered files come to. All that takes memory came before, so that a clash and the refusal of a file are told whatever is lacking.
-fn settled(gathered: Gathered) -> Result<Document, Refusal>
-    ensures refusal { refusal_in result ≡ first_refusal gathered.clash gathered.refusal }
-    ensures document { IfOk result (λ d. d ≡ gathered.document) }
-{
-    match (gathered.clash, gathered.refusal) {
-        (Some(stamp), _) => Err(Refusal::Clash(stamp)),
-        (None, Some(refusal)) => Err(refusal),
-        (None, None) => Ok(gathered.document),
-    }
 }
 
 /// The document of edit files.
 ///
 /// # Errors
-/// What comes first: a clash of two edits, or the refusal of a file.
+/// What comes first: a clash of two edits, or the refusal of a file. Memory, only where the first file is there.
 pub fn load<H: Host>(alloc: Global, host: &mut H, names: &[&str]) -> Result<Document, Refusal>
     ensures collected { (t : HostContents) → H.contents host.old ≡ Some t
         → let failed = Rose (H.faults host.old) (H.faults host.new) in MatchResult result
         (λ d. Collects failed t (texts_of names.now) (Ok d.edits))
         (λ e. (e ≡ Refusal.Memory) ⊎ Collects failed t (texts_of names.now) (Err e)) }
     ensures sound { IfOk result (λ d. d.is_stale ≡ false) }
+    ensures memory_only_when { (t : HostContents) → H.contents host.old ≡ Some t
+        → IfErr result (λ e. e ≡ Refusal.Memory → FirstIsThere t (texts_of names.now)) }
     ensures err { IfErr result IsOffStage }
     ensures kept { H.contents host.new ≡ H.contents host.old }
     ensures asked { Asks H.called (reading (texts_of names.now)) []
@@ -156,5 +117,5 @@ pub fn load<H: Host>(alloc: Global, host: &mut H, names: &[&str]) -> Result<Docu
 {
     let gathered = read_all(alloc, host, names)?;
     deliveries_come_to_sets();
-    settled(gathered)
+    gathered.settle()
 }

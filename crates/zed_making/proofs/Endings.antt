@@ -1,11 +1,13 @@
 -- How `new` and `edit` end, and what is written by a command after its reads.
 use Rattle.zed_files.specs.declared.refusal.Refusal.{Refusal}
 use Rattle.zed_files.specs.declared.refusal.Refusal.TheVariants.{Memory}
-use Rattle.std.proofs.Common.{◌≡◌, ◌≤◌, ℕ, List, Option, Some, None, Result, Ok, Err, MatchResult, refl, subst, sym, zero, suc, inl, inr}
+use Rattle.std.proofs.Common.{◌≡◌, ◌≤◌, ◌∙◌, ℕ, List, Option, Some, None, Result, Ok, Err, MatchResult, ap, refl, subst, sym, zero, suc, inl, inr}
 use Rattle.std.specs.Global.{Vec}
 use Rattle.std.specs.Prelude.{⊤}
 use mathlib.Core.Logic.{◌⊎◌}
-use Rattle.zed_making.specs.Edited.{FileEdits, IsEdited, ComesToEdit}
+use Rattle.zed_document.specs.Replica.{Replica}
+use Rattle.zed_files.specs.Opened.{FileEdits}
+use Rattle.zed_making.specs.Edited.{IsEdited, ComesToEdit}
 use Rattle.zed_host.specs.HostContents.{HostContents, file_in}
 use Rattle.zed_making.specs.Fresh.{refused_as, rewritten, IsFirstWorld, ComesToNew}
 use Rattle.zed_world.specs.Reading.{world_at}
@@ -68,3 +70,22 @@ pub written_tells : {H X : Type 0} (faults failed : H → ℕ) (answer : Result 
 written_tells faults failed (Ok x) old middle new before tells = (none_later faults failed old middle new before tells.0, tt)
 written_tells faults failed (Err e) old middle new before tells =
     (none_later faults failed old middle new before tells.0, λ is. rose_later (failed old) (failed middle) (failed new) before.1 (tells.1 is))
+
+-- ---- a document that was had, or refused
+
+abbrev has_opened : Replica → Result Replica Refusal
+has_opened d = Ok d
+
+abbrev has_refused : Refusal → Result Replica Refusal
+has_refused e = Err e
+
+-- what was opened wasn't refused
+pub never_opened : {X : Type 0} (d : Replica) (e : Refusal) → has_opened d ≡ has_refused e → X
+never_opened d e is = absurd cc
+
+refusal_is : (x e : Refusal) → has_refused x ≡ has_refused e → x ≡ e
+refusal_is x e is = cc
+
+-- a refusal is passed on
+pub passed_on : (r : Result ⊤ Refusal) (told x e : Refusal) → r ≡ Err told → told ≡ x → has_refused x ≡ has_refused e → r ≡ Err e
+passed_on r told x e at same is = at ∙ ap (λ y. Err y) (same ∙ refusal_is x e is)

@@ -1,33 +1,17 @@
 -- Refusals that are neither of a screen nor of a source of keys.
-use Rattle.zed_editfile.specs.declared.error.EditFileError.{EditFileError}
 use Rattle.zed_op.specs.declared.op.Edit.{Edit}
 use Rattle.zed_world.specs.declared.error.WorldError.{WorldError}
 use Rattle.zed_files.specs.declared.refusal.Refusal.{Refusal}
-use Rattle.zed_files.specs.declared.refusal.Refusal.TheVariants.{Clash, NoLink}
+use Rattle.zed_files.specs.declared.refusal.Refusal.TheVariants.{NoLink}
 use Rattle.std.proofs.Common.{◌≡◌, ◌∷◌, [], ℕ, zero, suc, Bool, true, false, List, Some, Result, Ok, Err, length, refl, subst, nat_lt, inl, inr}
 use Rattle.std.specs.Prelude.{MatchBool}
 use Rattle.zed_action.specs.Deeds.{with_edits}
 use Rattle.zed_document.specs.Replica.{Replica}
 use Rattle.zed_session.specs.Links.{LinkSeen}
-use Rattle.zed_making.specs.Edited.{IsOpened, IsSettled}
 use Rattle.zed_making.specs.Fresh.{refused_as}
 use Rattle.zed_making.specs.Merged.{IsMerged, PullsEach, empty_document}
-use Rattle.zed_files.specs.Refusals.{IsOffStage, file_refusal, link_refusal, world_refusal}
-use Rattle.zed_files.proofs.OffStage.{file_off, is_off, link_off, world_off}
-
--- the document of a file that was read
-pub opened_off : (bytes : List ℕ) (e : Refusal) → IsOpened (Some bytes) (Err e) → IsOffStage e
-opened_off bytes e opened = settled opened.0 opened.1 opened.3
-  where
-    settled : (es : List Edit) (end : Result ℕ EditFileError) → IsSettled es end (Err e) → IsOffStage e
-    settled es (Ok world) how = elim how [
-      | inl clash ↦ is_off e (Clash clash.0) (let why = clash.2 in cc) (refl, refl)
-      | inr whole ↦ absurd (let no = whole.1 in cc)
-    ]
-    settled es (Err x) how = elim how [
-      | inl clash ↦ is_off e (Clash clash.0) (let why = clash.2 in cc) (refl, refl)
-      | inr fault ↦ is_off e (file_refusal x) (let why = fault.1 in cc) (file_off x)
-    ]
+use Rattle.zed_files.specs.Refusals.{IsOffStage, link_refusal, world_refusal}
+use Rattle.zed_files.proofs.OffStage.{is_off, link_off, world_off}
 
 -- a world file as it is written again
 pub world_taken_off : (written : Result (List ℕ) WorldError) (e : Refusal) → refused_as written ≡ Err e → IsOffStage e

@@ -1,5 +1,4 @@
 -- Refusals other than `File`.
-use Rattle.zed_editfile.specs.declared.error.EditFileError.{EditFileError}
 use Rattle.zed_op.specs.declared.op.Edit.{Edit}
 use Rattle.zed_world.specs.declared.error.WorldError.{WorldError}
 use Rattle.zed_files.specs.declared.refusal.Refusal.{Refusal}
@@ -14,22 +13,10 @@ use Rattle.std.specs.Prelude.{MatchBool}
 use Rattle.zed_action.specs.Deeds.{with_edits}
 use Rattle.zed_document.specs.Replica.{Replica}
 use Rattle.zed_session.specs.Links.{LinkSeen, PullsOver}
-use Rattle.zed_making.specs.Edited.{IsOpened, IsSettled}
 use Rattle.zed_making.specs.Fresh.{refused_as}
 use Rattle.zed_making.specs.Merged.{IsMerged, MadeMostReads, PullsEach, empty_document}
-use Rattle.zed_files.specs.Refusals.{file_refusal, link_refusal, world_refusal}
-use Rattle.zed_files.proofs.Failures.{file_is_other, session_is_other, world_is_other}
-
--- the document of a file that was read
-pub opened_is_other : (bytes : List ℕ) (e : Refusal) → IsOpened (Some bytes) (Err e) → e ≡ File → ⊥
-opened_is_other bytes e opened is = settled opened.0 opened.1 opened.3
-  where
-    settled : (es : List Edit) (end : Result ℕ EditFileError) → IsSettled es end (Err e) → ⊥
-    settled es (Ok world) how = elim how [ inl clash ↦ (let no = clash.2 in cc) | inr whole ↦ (let no = whole.1 in cc) ]
-    settled es (Err x) how = elim how [
-      | inl clash ↦ (let no = clash.2 in cc)
-      | inr fault ↦ file_is_other x (let is-so = fault.1 in let same : file_refusal x ≡ e = cc in same ∙ is)
-    ]
+use Rattle.zed_files.specs.Refusals.{link_refusal, world_refusal}
+use Rattle.zed_files.proofs.Failures.{session_is_other, world_is_other}
 
 -- a world file as it is written again
 pub world_taken_is_other : (written : Result (List ℕ) WorldError) (e : Refusal) → refused_as written ≡ Err e → e ≡ File → ⊥

@@ -1,10 +1,7 @@
 //! An action of an author on an edit file.
-ghost use Rattle.std.specs.Prelude.{[], ◌∷◌, ◌≡◌, ◌≤◌, ◌⊎◌, Err, IfErr, IfOk, MatchResult, Ok, Some, false};
-ghost use Rattle.zed_op.specs.Set.{Agrees, AllFit, set_of};
-ghost use Rattle.zed_types.specs.declared.stamp.Stamp.{Stamp as TheStamp};
-ghost use Rattle.zed_document.specs.Delivery.{IsFirstClash};
+ghost use Rattle.std.specs.Prelude.{[], ◌∷◌, ◌≡◌, ◌≤◌, ◌⊎◌, Err, IfErr, MatchResult, Ok, Some, false};
 ghost use Rattle.zed_action.specs.Deeds.{WordsMayTake};
-ghost use Rattle.zed_making.specs.Edited.{ComesToEdit, HasEdits, IsActed, IsEdited, IsOpened, OpensAs};
+ghost use Rattle.zed_making.specs.Edited.{ComesToEdit, IsActed, IsEdited};
 ghost use Rattle.zed_files.specs.Asked.{Asks, reading, refusal_in, writing};
 ghost use Rattle.zed_files.specs.Effects.{Ends};
 ghost use Rattle.zed_files.specs.Texts.{texts_of};
@@ -17,62 +14,9 @@ use crate::writing::write_document;
 use std::alloc::Global;
 use zed_action::act;
 use zed_document::Document;
-use zed_edit::{Cause, Edit};
-use zed_editfile::EditFileError;
-use zed_files::{Refusal, append_edits, bytes_of_file, deliver_all, edits_told};
+use zed_edit::Cause;
+use zed_files::{Refusal, edits_told, open_file};
 use zed_host::Host;
-
-// The document of a world with these edits.
-fn collected(alloc: Global, world: u64, edits: Vec<Edit>) -> Result<Document, Refusal>
-    requires { AllFit edits.items }
-    ensures { MatchResult result
-        (λ d. Agrees edits.items × HasEdits d world (set_of edits.items))
-        (λ e. (e ≡ Refusal.Memory)
-        ⊎ ((s : TheStamp) × IsFirstClash edits.items s × (e ≡ Refusal.Clash s))) }
-{
-    let mut document = Document::new(alloc, world);
-    deliver_all(&mut document, edits)?;
-    Ok(document)
-}
-
-// The document of a file.
-fn opened(alloc: Global, bytes: &[u8]) -> Result<Document, Refusal>
-    ensures opened { MatchResult result
-        (λ d. IsOpened (Some bytes.now) (Ok (d.world, d.edits)))
-        (λ e. (e ≡ Refusal.Memory) ⊎ IsOpened (Some bytes.now) (Err e)) }
-    ensures sound { IfOk result (λ d. d.is_stale ≡ false) }
-{
-    let mut edits = Vec::new(alloc);
-    match append_edits(alloc, None, bytes, &mut edits) {
-        Ok(world) => collected(alloc, world, edits),
-        Err(EditFileError::Memory) => Err(Refusal::Memory),
-        Err(error) => {
-            collected(alloc, 0, edits)?;
-            Err(Refusal::from(error))
-        }
-    }
-}
-
-/// The document of the edits of a file.
-///
-/// # Errors
-/// `Memory` or `File` where it isn't read; `Clash` for two edits of one stamp; else what an edit
-/// file is refused for.
-pub fn open<H: Host>(alloc: Global, host: &mut H, file: &str) -> Result<Document, Refusal>
-    ensures opened { (t : HostContents) → H.contents host.old ≡ Some t
-        → let failed = Rose (H.faults host.old) (H.faults host.new) in MatchResult result
-        (λ d. OpensAs failed t file.now (Ok (d.world, d.edits)))
-        (λ e. (e ≡ Refusal.Memory) ⊎ OpensAs failed t file.now (Err e)) }
-    ensures sound { IfOk result (λ d. d.is_stale ≡ false) }
-    ensures err { IfErr result IsOffStage }
-    ensures kept { H.contents host.new ≡ H.contents host.old }
-    ensures asked { Asks H.called (reading (file.now ∷ [])) []
-        (refusal_in result) host.old host.new }
-    ensures failures { TellsFailures H.faults H.failed result host.old host.new }
-{
-    let bytes = bytes_of_file(host, file)?;
-    opened(alloc, bytes.as_slice())
-}
 
 // A document after an action of a replica. Memory is lacking only where the words, and what they do, may take some.
 fn acted(
@@ -107,6 +51,8 @@ fn edited<H: Host>(
         (λ d. IsEdited failed t file.now replica (texts_of words.now) (Ok (d.world, d.edits)))
         (λ e. (e ≡ Refusal.Memory)
         ⊎ IsEdited failed t file.now replica (texts_of words.now) (Err e)) }
+    ensures no_author { replica ≡ 0
+        → (result ≡ Err (Refusal.BadEdit Cause.Stamp)) × (host.new ≡ host.old) }
     ensures err { IfErr result IsOffStage }
     ensures kept { H.contents host.new ≡ H.contents host.old }
     ensures asked { Asks H.called (reading (file.now ∷ [])) []
@@ -116,11 +62,11 @@ fn edited<H: Host>(
     if replica == 0 {
         return Err(Refusal::BadEdit(Cause::Stamp));
     }
-    let document = open(alloc, host, file)?;
+    let document = open_file(alloc, host, None, file)?;
     acted(alloc, document, replica, words)
 }
 
-/// Does an action as a replica, and rewrites the file.
+/// Does an action as a replica, and rewrites the file. Author 0 is refused before anything is asked of the host, whatever is lacking.
 pub fn edit<H: Host>(
     alloc: Global,
     host: &mut H,
@@ -132,6 +78,8 @@ pub fn edit<H: Host>(
         → let failed = Rose (H.faults host.old) (H.faults host.new) in
         Ends failed (ComesToEdit failed t file.now replica (texts_of words.now)) t
         result (H.contents host.new) }
+    ensures no_author { replica ≡ 0
+        → (result ≡ Err (Refusal.BadEdit Cause.Stamp)) × (host.new ≡ host.old) }
     ensures err { IfErr result IsOffStage }
     ensures asked { Asks H.called (reading (file.now ∷ [])) (writing file.now)
         (refusal_in result) host.old host.new }

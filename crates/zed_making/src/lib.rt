@@ -5,6 +5,6 @@ mod editing;
 mod new;
 mod writing;
 
-pub use editing::{edit, open};
+pub use editing::edit;
 pub use new::make_new;
 pub use writing::write_document;

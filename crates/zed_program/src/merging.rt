@@ -12,27 +12,27 @@ ghost use Rattle.zed_files.specs.Effects.{Ends};
 ghost use Rattle.zed_files.specs.Refusals.{IsOffStage};
 
 use std::alloc::Global;
-use zed_document::Document;
+use zed_document::{Document, Intake};
 use zed_files::{Refusal, joined_told};
 use zed_host::Host;
-use zed_link::{Link, LinkError, Pulled, receive};
+use zed_link::{Link, LinkError, Pulled, receive_into};
 use zed_making::write_document;
 
 // Pulls the edits of a link into a document.
 fn pull_over(
     alloc: Global,
     link: &mut Box<dyn Link>,
-    document: &mut Document,
+    intake: &mut Intake,
 ) -> Result<Pulled, LinkError>
-    requires { document.old.is_stale ≡ false }
-    ensures pull { PullsOver document.old (seen (ends link.old) (reads link.old))
-        (seen (ends link.new) (reads link.new)) result document.new.edits }
+    requires { intake.old.is_stale ≡ false }
+    ensures pull { PullsOver intake.old (seen (ends link.old) (reads link.old))
+        (seen (ends link.new) (reads link.new)) result intake.new.edits }
     ensures writes { writes link.new ≡ writes link.old }
-    ensures world { document.new.world ≡ document.old.world }
-    ensures sound { OnOk result (document.new.is_stale ≡ false) }
-    ensures visits { OnOk result (NoCountFalls document.old.counts document.new.counts) }
+    ensures world { intake.new.world ≡ intake.old.world }
+    ensures sound { OnOk result (intake.new.is_stale ≡ false) }
+    ensures visits { OnOk result (NoCountFalls intake.old.counts intake.new.counts) }
 {
-    receive(alloc, link.as_mut(), document)
+    receive_into(alloc, link.as_mut(), intake)
 }
 
 // The document of a world, with the edits of the first so many links.
@@ -56,11 +56,11 @@ fn pulled_from(
     if links.len() < count {
         return Err(Refusal::NoLink);
     }
-    let mut document = Document::new(alloc, world);
+    let mut intake = Intake::of(Document::new(alloc, world));
     for i in 0..count {
-        pull_over(alloc, &mut links[i], &mut document)?;
+        pull_over(alloc, &mut links[i], &mut intake)?;
     }
-    Ok(document)
+    Ok(intake.close())
 }
 
 /// Merges the edits of links, one for each name of a file, into one edit file of a world. If there

@@ -33,7 +33,8 @@ use Rattle.zed_telling.proofs.Exported.{exported_so, refused_so}
 use Rattle.zed_drawing.specs.declared.error.DrawingError.{DrawingError}
 use Rattle.zed_drawing.specs.declared.error.DrawingError.TheVariants.{BadText, Refused}
 use Rattle.zed_drawing.specs.Effects.{Effect, names_of}
-use Rattle.zed_drawing.specs.Files.{FileEdits, IsOpened, OfFile, OfName, OpensAs}
+use Rattle.zed_files.specs.Opened.{FileEdits}
+use Rattle.zed_drawing.specs.Files.{IsOpened, OfFile, OfName, OpensAs}
 use Rattle.zed_drawing.specs.Opening.{export_told}
 use Rattle.zed_drawing.specs.Refusals.{file, memory, text_refusal}
 use Rattle.zed_drawing.specs.Steps.{Gives}

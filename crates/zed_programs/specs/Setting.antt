@@ -16,7 +16,8 @@ use Rattle.zed_files.specs.declared.refusal.Refusal.TheVariants as refusal
 use Rattle.zed_drawing.specs.declared.error.DrawingError.{DrawingError}
 use Rattle.zed_drawing.specs.declared.error.DrawingError.TheVariants.{BadText, Refused}
 use Rattle.zed_drawing.specs.Effects.{Effect}
-use Rattle.zed_drawing.specs.Files.{FileEdits, OfName, OpensAs}
+use Rattle.zed_files.specs.Opened.{FileEdits}
+use Rattle.zed_drawing.specs.Files.{OfName, OpensAs}
 use Rattle.zed_drawing.specs.Opening.{export_told}
 use Rattle.zed_drawing.specs.Refusals.{memory}
 use Rattle.zed_drawing.specs.Steps.{Steps}

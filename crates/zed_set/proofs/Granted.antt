@@ -2,12 +2,13 @@
 use Rattle.zed_action.specs.declared.error.ActionError.{ActionError}
 use Rattle.zed_files.specs.declared.refusal.Refusal.{Refusal}
 use Rattle.zed_files.specs.declared.refusal.Refusal.TheVariants.{Memory}
-use Rattle.std.proofs.Common.{◌≡◌, ◌∙◌, ◌≢◌, ℕ, zero, suc, false, List, Result, Ok, Err, refl, ap, sym, subst, MatchResult, inl, inr}
-use Rattle.std.specs.Prelude.{◌⊎◌, ⊤}
+use Rattle.std.proofs.Common.{◌≡◌, ◌∙◌, ◌≢◌, ℕ, zero, suc, false, List, None, Result, Ok, Err, refl, ap, sym, subst, MatchResult, inl, inr}
+use Rattle.std.specs.Prelude.{◌⊎◌}
 use Rattle.zed_document.specs.Replica.{Replica}
 use Rattle.zed_action.specs.Deeds.{Made}
 use Rattle.zed_action.specs.Refusals.{memory as no_memory}
-use Rattle.zed_making.specs.Edited.{FileEdits, HasEdits, OpensAs, acted}
+use Rattle.zed_files.specs.Opened.{FileEdits, OpensAs}
+use Rattle.zed_making.specs.Edited.{HasEdits, acted}
 use Rattle.zed_files.specs.Effects.{Effect}
 use Rattle.zed_files.specs.Refusals.{action_refusal}
 use Rattle.zed_host.specs.HostContents.{HostContents}
@@ -21,7 +22,7 @@ has_own d sound = record { world_is = refl; edits_are = refl; sound = sound }
 
 -- a replica's number that isn't 0
 granted_by : (failed : Type 0) (t : HostContents) (file : List ℕ) (replica : ℕ) (w : Wish) (r opened : Result FileEdits Refusal)
-    → replica ≢ 0 → OpensAs failed t file opened → IsDone replica w opened r → IsSet failed t file replica w r
+    → replica ≢ 0 → OpensAs failed t None file opened → IsDone replica w opened r → IsSet failed t file replica w r
 granted_by failed t file zero w r opened some is acts = absurd (some refl)
 granted_by failed t file (suc n) w r opened some is acts = (opened, is, acts)
 
@@ -46,7 +47,7 @@ IsDoneOn replica w d result = MatchResult result
     (λ x. IsDone replica w (Ok (d.world, d.edits)) (Ok (x.world, x.edits)))
     (λ e. ((e ≡ Memory) × WishMayTake d replica w) ⊎ IsDone replica w (Ok (d.world, d.edits)) (Err e))
 
-pub granted_so : (failed : Type 0) (t : HostContents) (file : List ℕ) (replica : ℕ) (w : Wish) (d : Replica) (result : Result Replica Refusal) → replica ≢ 0 → OpensAs failed t file (Ok (d.world, d.edits))
+pub granted_so : (failed : Type 0) (t : HostContents) (file : List ℕ) (replica : ℕ) (w : Wish) (d : Replica) (result : Result Replica Refusal) → replica ≢ 0 → OpensAs failed t None file (Ok (d.world, d.edits))
     → IsDoneOn replica w d result
     → MatchResult result (λ x. IsSet failed t file replica w (Ok (x.world, x.edits))) (λ e. (e ≡ Memory) ⊎ IsSet failed t file replica w (Err e))
 granted_so failed t file replica w d (Ok x) some is acts = granted_by failed t file replica w (Ok (x.world, x.edits)) (Ok (d.world, d.edits)) some is acts
@@ -74,7 +75,7 @@ done_such P replica w d e all is = made_so P d.world is.2.0 e all is.2.2
 
 -- the file was refused
 pub not_opened : (failed : Type 0) (t : HostContents) (file : List ℕ) (replica : ℕ) (w : Wish) (e : Refusal) → replica ≢ 0
-    → (e ≡ Memory) ⊎ OpensAs failed t file (Err e) → (e ≡ Memory) ⊎ IsSet failed t file replica w (Err e)
+    → (e ≡ Memory) ⊎ OpensAs failed t None file (Err e) → (e ≡ Memory) ⊎ IsSet failed t file replica w (Err e)
 not_opened failed t file replica w e some why =
     elim why [ inl memory ↦ inl memory | inr is ↦ inr (granted_by failed t file replica w (Err e) (Err e) some is refl) ]
 
@@ -89,22 +90,3 @@ opened_so p q t file (suc n) w r so is = let opens = is.1 in (is.0, (opens.0, re
 
 pub set_so : (t : HostContents) (file : List ℕ) (replica : ℕ) (w : Wish) (p q : Type 0) (r : Result Effect Refusal) → (p → q) → ComesToSet p t file replica w r → ComesToSet q t file replica w r
 set_so t file replica w p q r so is = (is.0, opened_so p q t file replica w is.0 so is.1, is.2)
-
--- ---- what was opened, or refused
-
-abbrev has_opened : Replica → Result Replica Refusal
-has_opened d = Ok d
-
-abbrev has_refused : Refusal → Result Replica Refusal
-has_refused e = Err e
-
--- what was opened wasn't refused
-pub never_opened : {X : Type 0} (d : Replica) (e : Refusal) → has_opened d ≡ has_refused e → X
-never_opened d e is = absurd cc
-
-refusal_is : (x e : Refusal) → has_refused x ≡ has_refused e → x ≡ e
-refusal_is x e is = cc
-
--- a refusal is passed on
-pub passed_on : (r : Result ⊤ Refusal) (told x e : Refusal) → r ≡ Err told → told ≡ x → has_refused x ≡ has_refused e → r ≡ Err e
-passed_on r told x e at same is = at ∙ ap (λ y. Err y) (same ∙ refusal_is x e is)

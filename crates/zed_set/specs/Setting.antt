@@ -1,5 +1,5 @@
 -- What a wish makes of an edit file.
-use Rattle.std.specs.Prelude.{◌≡◌, ⊤, ℕ, zero, suc, List, Result, Ok, Err}
+use Rattle.std.specs.Prelude.{◌≡◌, ⊤, ℕ, zero, suc, List, None, Result, Ok, Err}
 use Rattle.zed_op.specs.declared.cause.Cause.TheVariants as cause
 use Rattle.zed_document.specs.Replica.{Replica}
 use Rattle.zed_action.specs.Deeds.{Made}
@@ -7,7 +7,8 @@ use Rattle.zed_files.specs.declared.refusal.Refusal.{Refusal}
 use Rattle.zed_files.specs.declared.refusal.Refusal.TheVariants.{BadEdit}
 use Rattle.zed_files.specs.Effects.{Effect}
 use Rattle.zed_host.specs.HostContents.{HostContents}
-use Rattle.zed_making.specs.Edited.{FileEdits, HasEdits, OpensAs, acted, writes_edits}
+use Rattle.zed_files.specs.Opened.{FileEdits, OpensAs}
+use Rattle.zed_making.specs.Edited.{HasEdits, acted, writes_edits}
 use Rattle.zed_set_words.specs.declared.wishes.Wish.{Wish}
 use Rattle.zed_wishes.specs.Granting.{Sets}
 use Rattle.zed_set.specs.declared.error.SetError.{SetError}
@@ -23,7 +24,7 @@ IsDone replica w (Ok (world, es)) r =
 abbrev pub IsSet : Type 0 → HostContents → List ℕ → ℕ → Wish → Result FileEdits Refusal → Type 0
 IsSet failed t file zero w r = r ≡ Err (BadEdit cause.Stamp)
 IsSet failed t file (suc n) w r =
-    (opened : Result FileEdits Refusal) × OpensAs failed t file opened × IsDone (suc n) w opened r
+    (opened : Result FileEdits Refusal) × OpensAs failed t None file opened × IsDone (suc n) w opened r
 
 -- what `set` comes to: its effect, or the first refusal
 abbrev pub ComesToSet : Type 0 → HostContents → List ℕ → ℕ → Wish → Result Effect Refusal → Type 0

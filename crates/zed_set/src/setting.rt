@@ -18,9 +18,9 @@ use crate::error::{SetError, answer};
 use std::alloc::Global;
 use zed_document::Document;
 use zed_edit::Cause;
-use zed_files::{Refusal, edits_told};
+use zed_files::{Refusal, edits_told, open_file};
 use zed_host::Host;
-use zed_making::{open, write_document};
+use zed_making::write_document;
 use zed_set_words::{Wish, wish};
 use zed_wishes::grant;
 
@@ -68,7 +68,7 @@ fn granted<H: Host>(
     if replica == 0 {
         return Err(Refusal::BadEdit(Cause::Stamp));
     }
-    let document = open(alloc, host, file)?;
+    let document = open_file(alloc, host, None, file)?;
     granted_on(alloc, document, replica, wish)
 }
 

@@ -64,7 +64,7 @@ unprinted called old new (Ok x) kept file asks = tt
 unprinted called old new (Err e) kept file (calls, leads, how) = elim how [
   | inl begun ↦ absurd (begun.0 file)
   | inr broken ↦ elim broken [
-    | inl read ↦ absurd (no_more read.0 read.1 read.2 read.3)
+    | inl read ↦ absurd (let lost = read.1 in no_more lost.0 lost.1 lost.2 lost.3)
     | inr ending ↦ inl (inr (file, print_lost called calls old new leads (subst (λ c. BrokenOff (Printing ∷ []) c) (sym ending.1.2) ending.1.1)))
   ]
 ]

@@ -12,7 +12,7 @@ use Rattle.zed_drawing.proofs.Others.{memory_other}
 use Rattle.zed_drawing.proofs.taking.take_beside.Goals as goal
 
 pub returns-in_err-name-clause-ends : goal.returns-in_err-name-clause-ends
-returns-in_err-name-clause-ends g c = λ t at.
+returns-in_err-name-clause-ends g c = λ some t at.
     let p = err_from_is_err_and c.from_residual.result c.from_residual.ensures.1 in
     rw p.1 (refused_ends _ (TakesFrom _ t Optional (beside c.args.world.now) c.args.file.now c.args.replica c.args.world.now)
     (Did g.H.Host.called (TakeReads Optional (beside c.args.world.now) c.args.file.now c.args.world.now) c.args.host.now c.args.host.now) t p.0 _ at (inl p.2))

@@ -10,12 +10,12 @@ use Rattle.zed_drawing.proofs.So.{take_so}
 use Rattle.zed_drawing.proofs.taking.take_from.Goals as goal
 
 pub returns-in_err-effect-clause-ends : goal.returns-in_err-effect-clause-ends
-returns-in_err-effect-clause-ends g c = λ t at.
+returns-in_err-effect-clause-ends g c = λ some t at.
     let p = err_from_is_err_and c.from_residual.result c.from_residual.ensures.1 in
     let same : p.0 ≡ c.in_err-effect.field-0.0 = p.2 in
     rw (p.1, same) (refused_ends _ (TakesFrom _ t c.args.presence c.args.base.now c.args.file.now c.args.replica c.args.world.now)
     (Did g.H.Host.called (TakeReads c.args.presence c.args.base.now c.args.file.now c.args.world.now) c.args.host.now c.take_to.new.host) t c.in_err-effect.field-0.0 _
-    (c.in_err-effect.ensures.kept ∙ at) (c.in_err-effect.ensures.comes t at))
+    (c.in_err-effect.ensures.kept ∙ at) (c.in_err-effect.ensures.comes some t at))
 
 pub returns-in_err-effect-clause-asked : goal.returns-in_err-effect-clause-asked
 returns-in_err-effect-clause-asked g c =
@@ -30,13 +30,13 @@ returns-in_err-effect-clause-failures g c =
     rw (p.1, same) c.in_err-effect.ensures.failures
 
 pub returns-clause-ends : goal.returns-clause-ends
-returns-clause-ends g c = λ t at.
+returns-clause-ends g c = λ some t at.
     let here = c.in_ok-effect.ensures.kept ∙ at in
     let x = c.in_ok-effect.effect in
     let reads = TakeReads c.args.presence c.args.base.now c.args.file.now c.args.world.now in
     effect_ends (λ f. TakesFrom f t c.args.presence c.args.base.now c.args.file.now c.args.replica c.args.world.now) (Did g.H.Host.called reads c.args.host.now c.carry_out.new.host)
     c.carry_out.result _ _ _ t x _ (take_so t c.args.presence c.args.base.now c.args.file.now c.args.replica c.args.world.now)
-    c.in_ok-effect.ensures.failures.0 (counted_up _ _ _ c.carry_out.ensures.faults) (c.in_ok-effect.ensures.comes t at)
+    c.in_ok-effect.ensures.failures.0 (counted_up _ _ _ c.carry_out.ensures.faults) (c.in_ok-effect.ensures.comes some t at)
     (did_ok g.H.Host.called reads (names_of x.files) c.carry_out.result _ _ _ c.in_ok-effect.ensures.asked c.carry_out.ensures.asked)
     (c.carry_out.ensures.ok t here) (c.carry_out.ensures.half t here) c.carry_out.ensures.err c.carry_out.ensures.faults
 

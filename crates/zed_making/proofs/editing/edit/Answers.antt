@@ -5,11 +5,12 @@ use Rattle.zed_making.specs.Edited.{ComesToEdit}
 use Rattle.zed_files.specs.Effects.{Effect, Writes}
 use Rattle.zed_files.specs.Texts.{texts_of}
 use Rattle.zed_files.proofs.Endings.{refused_ends}
-use Rattle.zed_making.proofs.Endings.{edit_so, written_ends, written_tells}
+use Rattle.zed_making.proofs.Endings.{edit_so, never_opened, passed_on, written_ends, written_tells}
+use Rattle.zed_op.specs.declared.cause.Cause.TheVariants as cause
 use Rattle.zed_making.proofs.Opened.{not_edited}
 use Rattle.std.proofs.lemmas.Result.{err_from_is_err_and}
 use Rattle.zed_files.proofs.Failures.{handed_on, memory_is_other, memory_on}
-use Rattle.zed_files.specs.declared.refusal.Refusal.TheVariants.{Memory}
+use Rattle.zed_files.specs.declared.refusal.Refusal.TheVariants.{BadEdit, Memory}
 use Rattle.zed_files.proofs.OffStage.{off_on}
 use Rattle.std.proofs.Common.{[], ◌∷◌}
 use Rattle.zed_files.specs.Asked.{reading, refusal_in, writing}
@@ -72,3 +73,17 @@ returns-in_err-document-clause-err g c =
 pub returns-in_err-line-clause-err : goal.returns-in_err-line-clause-err
 returns-in_err-line-clause-err g c =
     off_on c.from_residual-in_err-line.result Memory c.from_residual-in_err-line.ensures.1 (refl, refl)
+
+-- author 0
+pub returns-clause-no_author : goal.returns-clause-no_author
+returns-clause-no_author g c = λ none. never_opened c.in_ok-document.document _ (c.in_ok-document.ensures.no_author none).0
+
+pub returns-in_err-line-clause-no_author : goal.returns-in_err-line-clause-no_author
+returns-in_err-line-clause-no_author g c = λ none. never_opened c.in_ok-document.document _ (c.in_ok-document.ensures.no_author none).0
+
+pub returns-in_err-document-clause-no_author : goal.returns-in_err-document-clause-no_author
+returns-in_err-document-clause-no_author g c = λ none.
+    let p = err_from_is_err_and c.from_residual.result c.from_residual.ensures.1 in
+    let same : p.0 ≡ c.in_err-document.field-0.0 = p.2 in
+    let not = c.in_err-document.ensures.no_author none in
+    (passed_on c.from_residual.result p.0 c.in_err-document.field-0.0 (BadEdit cause.Stamp) p.1 same not.0, not.1)

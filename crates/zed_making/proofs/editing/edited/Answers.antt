@@ -54,3 +54,10 @@ pub returns-clause-err : goal.returns-clause-err
 returns-clause-err g c =
     made_off _ _ c.acted.result (acted_or_lacks c.args.replica (texts_of c.args.words.now) c.in_ok-document.document c.acted.result c.acted.ensures)
     (λ e is. acted_such IsOffStage c.args.replica (texts_of c.args.words.now) c.in_ok-document.document e action_off is)
+
+-- author 0 was refused before
+pub returns-in_err-document-clause-no_author : goal.returns-in_err-document-clause-no_author
+returns-in_err-document-clause-no_author g c = λ none. absurd (c.if-replica-eq0.false none)
+
+pub returns-clause-no_author : goal.returns-clause-no_author
+returns-clause-no_author g c = λ none. absurd (c.if-replica-eq0.false none)

@@ -4,8 +4,8 @@ use Rattle.zed_files.specs.Lines.{edits_line}
 use Rattle.zed_set.specs.Setting.{ComesToSet}
 use Rattle.zed_files.specs.Effects.{Effect, Writes}
 use Rattle.zed_files.proofs.Endings.{refused_ends}
-use Rattle.zed_making.proofs.Endings.{written_ends, written_tells}
-use Rattle.zed_set.proofs.Granted.{never_opened, not_granted, passed_on, set_so}
+use Rattle.zed_making.proofs.Endings.{never_opened, passed_on, written_ends, written_tells}
+use Rattle.zed_set.proofs.Granted.{not_granted, set_so}
 use Rattle.std.proofs.lemmas.Result.{err_from_is_err_and}
 use Rattle.zed_files.proofs.Failures.{handed_on, memory_is_other, memory_on}
 use Rattle.zed_files.specs.declared.refusal.Refusal.TheVariants.{BadEdit, Memory}
