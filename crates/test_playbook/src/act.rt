@@ -7,19 +7,34 @@ use zed_play::Key;
 #[derive(Drop)]
 pub enum Act {
     /// A turn of a stat's program on a copy of the board, with these words of chance.
-    Turn { stat: usize, words: Vec<u16> },
+    Turn {
+        stat: usize,
+        words: Vec<u16>,
+    },
     /// A playtest of the board begins at this tick.
     Opened(u16),
     /// A playtest of the board of this number begins and is let go.
     Begun(usize),
     /// A step of the playtest, with these words of chance.
-    Pressed { key: Key, words: Vec<u16> },
+    Pressed {
+        key: Key,
+        words: Vec<u16>,
+    },
+    /// The same, and on on the board of this number if the player leaves.
+    Gone {
+        board: usize,
+        key: Key,
+        words: Vec<u16>,
+    },
     /// The messages that the playtest keeps.
     Messages,
     /// The playtest's picture as text.
     Picture,
     /// One place of that picture.
-    Cell { column: u8, row: u8 },
+    Cell {
+        column: u8,
+        row: u8,
+    },
     /// The picture of a board of the world as text.
     Drawn(usize),
 }
@@ -68,6 +83,11 @@ pub fn act_of(alloc: Global, name: &str, line: &mut Line) -> Result<Act, Trouble
         "opened" => Ok(Act::Opened(tick_of(line)?)),
         "begun" => Ok(Act::Begun(usize::from(line.short()?))),
         "key" => Ok(Act::Pressed {
+            key: key_of(line.word()?)?,
+            words: line.chances(alloc)?,
+        }),
+        "goes" => Ok(Act::Gone {
+            board: usize::from(line.short()?),
             key: key_of(line.word()?)?,
             words: line.chances(alloc)?,
         }),

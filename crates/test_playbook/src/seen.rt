@@ -8,7 +8,7 @@ use std::alloc::{AllocError, Global};
 use std::fmt::Write;
 use test_rows::{Trouble, put_trimmed};
 use zed_oop::{Effects, Scene, SceneError, turn};
-use zed_play::{Ending, Key, Messages, Play, PlayError};
+use zed_play::{Ending, Key, Messages, Play, PlayError, Way};
 use zed_screen::{Frame, ScreenError, ascii, draw_board, draw_play};
 use zed_types::Bytes;
 
@@ -194,6 +194,41 @@ pub fn put_step(
     before.put_stepped(play, stepped, out)
 }
 
+/// Goes on on a board of a case, if the player has left; appends where there is no such board.
+fn enter(
+    alloc: Global,
+    case: &Case,
+    play: &mut Play,
+    board: usize,
+    way: Way,
+    out: &mut String,
+) -> Result<(), Trouble> {
+    if let Some(Ending::Left(_)) = play.ending() {
+        match play.enter(alloc, &world_of(alloc, case)?, board, way)? {
+            Some(next) => *play = next,
+            None => out.push_str("noboard\n")?,
+        }
+    }
+    Ok(())
+}
+
+/// Appends what is seen of a step, and of the board that comes behind it.
+fn put_gone(
+    alloc: Global,
+    case: &Case,
+    play: &mut Play,
+    board: usize,
+    key: Key,
+    words: &[u16],
+    out: &mut String,
+) -> Result<(), Trouble> {
+    let before = Before::of(alloc, play)?;
+    let way = play.way(key);
+    let stepped = play.step(key, words);
+    enter(alloc, case, play, board, way, out)?;
+    before.put_stepped(play, stepped, out)
+}
+
 fn put_frame(frame: &Frame, out: &mut String) -> Result<(), AllocError> {
     let rows = ascii(frame);
     for row in rows.iter() {
@@ -278,6 +313,18 @@ impl<'a> Stage<'a> {
         put_step(alloc, self.play()?, key, words, out)
     }
 
+    fn go(
+        &mut self,
+        alloc: Global,
+        board: usize,
+        key: Key,
+        words: &[u16],
+        out: &mut String,
+    ) -> Result<(), Trouble> {
+        let case = self.case;
+        put_gone(alloc, case, self.play()?, board, key, words, out)
+    }
+
     fn put_kept(&mut self, out: &mut String) -> Result<(), Trouble> {
         let play = self.play()?;
         put_messages(play.messages(), 0, out)?;
@@ -302,6 +349,9 @@ impl<'a> Stage<'a> {
             Act::Opened(tick) => self.open(alloc, *tick),
             Act::Begun(board) => put_begun(alloc, self.case, *board, out),
             Act::Pressed { key, words } => self.press(alloc, *key, words.as_slice(), out),
+            Act::Gone { board, key, words } => {
+                self.go(alloc, *board, *key, words.as_slice(), out)
+            }
             Act::Messages => self.put_kept(out),
             Act::Picture => self.put_picture(out),
             Act::Cell { column, row } => self.put_place(*column, *row, out),

@@ -114,7 +114,7 @@ last_then called reads last more (Some e) old mid new file first second = (
   elim second.2 [
     | inl begun ↦ absurd (begun.0 (file e refl))
     | inr broken ↦ elim broken [
-      | inl read ↦ absurd (no_calls second.0 read)
+      | inl read ↦ absurd (no_calls second.0 read.1)
       | inr ending ↦ (
           let made : first.0 ++ second.0 ≡ passed reads ++ (passed last ++ ending.1.0) =
           ap (λ c. c ++ second.0) (first.2 ∙ passed_then reads last) ∙ ap (λ c. (passed reads ++ passed last) ++ c) ending.1.2

@@ -1,3 +1,4 @@
 mod Asking
 mod Boarding
+mod Exported
 pub mod Kept

@@ -1,6 +1,7 @@
 -- What comes of a board of edit files that is played in place.
-use Rattle.std.specs.Prelude.{◌≡◌, ℕ, List, Result, Ok, Err}
+use Rattle.std.specs.Prelude.{◌≡◌, ℕ, List, Option, None, Result, Ok, Err}
 use Rattle.zed_op.specs.declared.op.Edit.{Edit}
+use Rattle.zed_world.specs.Contents.{Contents}
 use Rattle.zed_play.specs.Playtest.{Playtest}
 use Rattle.zed_files.specs.declared.refusal.Refusal.{Refusal}
 use Rattle.zed_files.specs.Collected.{Collects}
@@ -9,19 +10,25 @@ use Rattle.zed_turns.specs.declared.error.TurnError.{TurnError}
 use Rattle.zed_turns.specs.Course.{Point}
 use Rattle.zed_turns.specs.Performing.{Performs, at_start}
 use Rattle.zed_turns.specs.Stage.{Stage}
-use Rattle.zed_playing.specs.Opening.{opened_in}
+use Rattle.zed_playing.specs.declared.opening.Going.{Going}
+use Rattle.zed_playing.specs.Opening.{opened_in, over_edits}
 use Rattle.zed_playing.specs.Refusing.{told_of}
 
 -- what comes of a playtest that is begun with words of chance
-abbrev pub PlaysFrom : ℕ → Playtest → List ℕ → Stage → Stage → Result Point Refusal → Type 0
-PlaysFrom rows p words old new r = (answer : Result Point TurnError) × Performs (at_start rows p words) old new answer × (r ≡ told_of answer)
+abbrev pub PlaysFrom : Option Contents → ℕ → Playtest → List ℕ → Stage → Stage → Result Point Refusal → Type 0
+PlaysFrom w rows p words old new r = (answer : Result Point TurnError) × Performs w (at_start rows p words) old new answer × (r ≡ told_of answer)
 
 -- the same where it could be begun; or why it couldn't
-abbrev pub PerformsAny : ℕ → Result Playtest Refusal → List ℕ → Stage → Stage → Result Point Refusal → Type 0
-PerformsAny rows (Ok p) words old new r = PlaysFrom rows p words old new r
-PerformsAny rows (Err e) words old new r = (r ≡ Err e) × (new ≡ old)
+abbrev pub PerformsAny : Option Contents → ℕ → Result Playtest Refusal → List ℕ → Stage → Stage → Result Point Refusal → Type 0
+PerformsAny w rows (Ok p) words old new r = PlaysFrom w rows p words old new r
+PerformsAny w rows (Err e) words old new r = (r ≡ Err e) × (new ≡ old)
+
+-- the world over whose boards a playtest goes on, if a set of edits could be read
+abbrev pub over_set : Going → Result (List Edit) Refusal → Option Contents
+over_set going (Ok es) = over_edits going es
+over_set going (Err e) = None
 
 -- the same of a board of the edits that the files of these names come to
-abbrev pub IsPerformed : Type 0 → HostContents → ℕ → ℕ → List ℕ → List (List ℕ) → Stage → Stage → Result Point Refusal → Type 0
-IsPerformed failed t board rows words files old new r =
-    (set : Result (List Edit) Refusal) × Collects failed t files set × PerformsAny rows (opened_in board set) words old new r
+abbrev pub IsPerformed : Type 0 → HostContents → Going → ℕ → ℕ → List ℕ → List (List ℕ) → Stage → Stage → Result Point Refusal → Type 0
+IsPerformed failed t going board rows words files old new r =
+    (set : Result (List Edit) Refusal) × Collects failed t files set × PerformsAny (over_set going set) rows (opened_in board set) words old new r

@@ -13,6 +13,8 @@ use Rattle.zed_play.specs.Playtest.{Playtest}
 use Rattle.zed_files.specs.declared.refusal.Refusal.{Refusal}
 use Rattle.zed_files.specs.declared.refusal.Refusal.TheVariants.{NoBoard}
 use Rattle.zed_files.specs.Refusals.{export_refusal}
+use Rattle.zed_playing.specs.declared.opening.Going.{Going}
+use Rattle.zed_playing.specs.declared.opening.Going.TheVariants.{On, Stays}
 
 -- the playtest of a board, from tick 1 on, if there is such a board
 abbrev pub on_board : Header → Option BoardData → Result Playtest Refusal
@@ -32,3 +34,19 @@ opened n es = in_world n (exported READ_BODY_LIMIT (replay es))
 abbrev pub opened_in : ℕ → Result (List Edit) Refusal → Result Playtest Refusal
 opened_in n (Ok es) = opened n es
 opened_in n (Err e) = Err e
+
+-- ---- the boards over which a playtest goes on
+
+-- the world over whose boards a playtest goes on, if it does
+abbrev pub over_boards : Going → Contents → Option Contents
+over_boards Stays world = None
+over_boards On world = Some world
+
+-- the same of one that was exported, if it could be
+abbrev pub over_world : Going → Result Contents ExportError → Option Contents
+over_world going (Ok world) = over_boards going world
+over_world going (Err e) = None
+
+-- the same of the world of a set of edits
+abbrev pub over_edits : Going → List Edit → Option Contents
+over_edits going es = over_world going (exported READ_BODY_LIMIT (replay es))

@@ -8,10 +8,10 @@ ghost use Rattle.zed_files.specs.Refusals.{is_key_fault, is_screen_fault};
 ghost use Rattle.zed_files.specs.Texts.{texts_of};
 ghost use Rattle.zed_playing.specs.Boards.{IsPerformed, PerformsAny, PlaysFrom};
 ghost use Rattle.zed_turns.specs.Course.{point};
-ghost use Rattle.zed_playing.specs.Opening.{opened};
+ghost use Rattle.zed_playing.specs.Opening.{opened, over_edits};
 ghost use Rattle.zed_turns.specs.Stage.{stage};
 
-use crate::opening::opened;
+use crate::opening::{Begun, Going, opened};
 use crate::refusing::turn_refusal;
 use std::alloc::Global;
 use zed_document::Document;
@@ -19,11 +19,12 @@ use zed_files::{Refusal, load};
 use zed_host::Host;
 use zed_play::Play;
 use zed_staging::Inputs;
-use zed_turns::{Chance, Tape, Terminal, play_from};
+use zed_turns::{Atlas, Chance, Tape, Terminal, play_from};
 
 /// Plays a playtest from its beginning.
-fn play_whole<T: Terminal, I: Inputs, C: Chance>(
+fn play_whole<A: Atlas, T: Terminal, I: Inputs, C: Chance>(
     alloc: Global,
+    atlas: &A,
     play: Play,
     words: Vec<u16>,
     rows: usize,
@@ -36,15 +37,15 @@ fn play_whole<T: Terminal, I: Inputs, C: Chance>(
         let after = stage (T.drawn terminal.new) (T.draws_foretell terminal.new)
         (I.left inputs.new) (I.inputs_foretell inputs.new) (C.to_come chance.new) in
         MatchResult result
-        (λ tape. PlaysFrom rows play words.items before after (Ok (point tape)))
-        (λ e. PlaysFrom rows play words.items before after (Err e)) }
+        (λ tape. PlaysFrom (A.world atlas.now) rows play words.items before after (Ok (point tape)))
+        (λ e. PlaysFrom (A.world atlas.now) rows play words.items before after (Err e)) }
     ensures key_faults { Counts (is_key_fault result)
         (I.input_failures inputs.old) (I.input_failures inputs.new) }
     ensures screen_faults { Counts (is_screen_fault result)
         (T.draw_failures terminal.old) (T.draw_failures terminal.new) }
     ensures other { IfErr result (λ e. e ≢ Refusal.File) }
 {
-    match play_from(alloc, play, words, rows, terminal, inputs, chance) {
+    match play_from(alloc, atlas, play, words, rows, terminal, inputs, chance) {
         Ok(tape) => Ok(tape),
         Err(error) => Err(turn_refusal(error)),
     }
@@ -54,6 +55,7 @@ fn play_whole<T: Terminal, I: Inputs, C: Chance>(
 pub(crate) fn play_board<T: Terminal, I: Inputs, C: Chance>(
     alloc: Global,
     document: &Document,
+    going: Going,
     board: usize,
     words: Vec<u16>,
     rows: usize,
@@ -67,24 +69,26 @@ pub(crate) fn play_board<T: Terminal, I: Inputs, C: Chance>(
         let after = stage (T.drawn terminal.new) (T.draws_foretell terminal.new)
         (I.left inputs.new) (I.inputs_foretell inputs.new) (C.to_come chance.new) in
         MatchResult result
-        (λ tape. PerformsAny rows (opened board document.now.edits) words.items before after
-        (Ok (point tape)))
+        (λ tape. PerformsAny (over_edits going document.now.edits) rows
+        (opened board document.now.edits) words.items before after (Ok (point tape)))
         (λ e. ((e ≡ Refusal.Memory) × (after ≡ before))
-        ⊎ PerformsAny rows (opened board document.now.edits) words.items before after (Err e)) }
+        ⊎ PerformsAny (over_edits going document.now.edits) rows
+        (opened board document.now.edits) words.items before after (Err e)) }
     ensures key_faults { Counts (is_key_fault result)
         (I.input_failures inputs.old) (I.input_failures inputs.new) }
     ensures screen_faults { Counts (is_screen_fault result)
         (T.draw_failures terminal.old) (T.draw_failures terminal.new) }
     ensures other { IfErr result (λ e. e ≢ Refusal.File) }
 {
-    let play = opened(alloc, document, board)?;
-    play_whole(alloc, play, words, rows, terminal, inputs, chance)
+    let begun = opened(alloc, document, going, board)?;
+    let Begun { play, boards } = begun;
+    play_whole(alloc, &boards, play, words, rows, terminal, inputs, chance)
 }
 
 /// Plays a board of the world of edit files in place: draws it on a terminal of so many rows, and
 /// then plays turn by turn, with words of chance that came already before those of a source, and
-/// draws each, to the end of the playtest or of what is typed. Bodies of a board may have 32,767
-/// bytes.
+/// draws each, to the end of the playtest or of what is typed. One that goes on over boards goes on
+/// on each for which the player leaves. Bodies of a board may have 32,767 bytes.
 ///
 /// # Errors
 /// The first of these: a file that can't be read, a clash or a fault of the files; what the world
@@ -93,6 +97,7 @@ pub(crate) fn play_board<T: Terminal, I: Inputs, C: Chance>(
 pub fn perform<H: Host, T: Terminal, I: Inputs, C: Chance>(
     alloc: Global,
     host: &mut H,
+    going: Going,
     board: u16,
     words: Vec<u16>,
     files: &[&str],
@@ -108,10 +113,10 @@ pub fn perform<H: Host, T: Terminal, I: Inputs, C: Chance>(
         let after = stage (T.drawn terminal.new) (T.draws_foretell terminal.new)
         (I.left inputs.new) (I.inputs_foretell inputs.new) (C.to_come chance.new) in
         MatchResult result
-        (λ tape. IsPerformed failed t board rows words.items (texts_of files.now) before after
+        (λ tape. IsPerformed failed t going board rows words.items (texts_of files.now) before after
         (Ok (point tape)))
         (λ e. ((e ≡ Refusal.Memory) × (after ≡ before))
-        ⊎ IsPerformed failed t board rows words.items (texts_of files.now) before after (Err e)) }
+        ⊎ IsPerformed failed t going board rows words.items (texts_of files.now) before after (Err e)) }
     ensures kept { H.contents host.new ≡ H.contents host.old }
     ensures key_faults { Counts (is_key_fault result)
         (I.input_failures inputs.old) (I.input_failures inputs.new) }
@@ -124,6 +129,7 @@ pub fn perform<H: Host, T: Terminal, I: Inputs, C: Chance>(
     play_board(
         alloc,
         &document,
+        going,
         usize::from(board),
         words,
         rows,

@@ -1,5 +1,5 @@
-//! The command that plays a board of the world of edit files in place, and keeps the playtest, so that it
-//! can be played again.
+//! The command `zztool play`: it plays a board at a terminal, and keeps the playtest, so that it can be
+//! played again.
 #![tactic(auto)]
 
 mod boards;
@@ -9,4 +9,5 @@ mod program;
 mod refusing;
 
 pub use boards::perform;
+pub use opening::Going;
 pub use program::play;

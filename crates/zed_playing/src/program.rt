@@ -13,6 +13,7 @@ ghost use Rattle.zed_playing.specs.Led.{devices, led};
 
 use crate::boards::perform;
 use crate::keeping::{Kept, keep_all, read_kept};
+use crate::opening::Going;
 use std::alloc::Global;
 use zed_files::{Refusal, print_out};
 use zed_host::Host;
@@ -25,6 +26,7 @@ fn play_and_keep<H: Host, T: Terminal, I: Inputs, C: Chance>(
     host: &mut H,
     words: Option<&str>,
     keys: Option<&str>,
+    going: Going,
     rows: usize,
     board: u16,
     files: &[&str],
@@ -32,7 +34,7 @@ fn play_and_keep<H: Host, T: Terminal, I: Inputs, C: Chance>(
 ) -> Result<Vec<u8>, Refusal>
     ensures ends { (t : HostContents) → H.contents host.old ≡ Some t
         → let failed = Rose (H.faults host.old) (H.faults host.new) in
-        let asked = request (text_in words.entry) (text_in keys.entry) rows board (texts_of files.now) in
+        let asked = request (text_in words.entry) (text_in keys.entry) going rows board (texts_of files.now) in
         let moved = led (devices T.drawn T.draws_foretell I.left C.to_come) console.old console.new in
         MatchResult result
         (λ text. EndsKept failed t asked moved (Ok text.items) (H.contents host.new))
@@ -54,6 +56,7 @@ fn play_and_keep<H: Host, T: Terminal, I: Inputs, C: Chance>(
     let tape = perform(
         alloc,
         host,
+        going,
         board,
         came,
         files,
@@ -82,6 +85,7 @@ pub fn play<H: Host, T: Terminal, I: Inputs, C: Chance>(
     host: &mut H,
     words: Option<&str>,
     keys: Option<&str>,
+    going: Going,
     rows: usize,
     board: u16,
     files: &[&str],
@@ -89,7 +93,7 @@ pub fn play<H: Host, T: Terminal, I: Inputs, C: Chance>(
 ) -> Result<(), Refusal>
     ensures ends { (t : HostContents) → H.contents host.old ≡ Some t
         → EndsPlay (Rose (H.faults host.old) (H.faults host.new)) t
-        (request (text_in words.entry) (text_in keys.entry) rows board (texts_of files.now))
+        (request (text_in words.entry) (text_in keys.entry) going rows board (texts_of files.now))
         (led (devices T.drawn T.draws_foretell I.left C.to_come) console.old console.new)
         result (H.contents host.new) }
     ensures asked { AsksPlay H.called (text_in words.entry) (text_in keys.entry) (texts_of files.now)
@@ -102,7 +106,7 @@ pub fn play<H: Host, T: Terminal, I: Inputs, C: Chance>(
         (T.draw_failures console.old.terminal) (T.draw_failures console.new.terminal) }
     ensures failures { TellsFailures H.faults H.failed result host.old host.new }
 {
-    let told = play_and_keep(alloc, host, words, keys, rows, board, files, console);
+    let told = play_and_keep(alloc, host, words, keys, going, rows, board, files, console);
     console.terminal.leave();
     let text = told?;
     print_out(host, text.as_slice())

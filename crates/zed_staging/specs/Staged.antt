@@ -26,13 +26,13 @@ spot_beside p row column = spot_of (play_cell p (80 * row + column))
 unfoldable pub beside : Playtest → ℕ → List Spot
 beside p row = map (spot_beside p row) (range_with_len 60 20)
 
--- the 80 columns of a row: the board as ZZT shows it, and what is told beside it
-unfoldable pub stage_row : Playtest → ℕ → List Spot
-stage_row p row = row_of (played_at p) row ++ beside p row
+-- the 80 columns of a row: the board as ZZT shows it, and what is told beside it, which begins in the first row that is shown
+unfoldable pub stage_row : ℕ → Playtest → ℕ → List Spot
+stage_row first p row = row_of (played_at p) row ++ beside p (row - first)
 
 -- so many rows from this one on
 unfoldable pub stage_rows : ℕ → ℕ → Playtest → List ℕ
-stage_rows first count p = flat_map (λ row. coloured_row None (stage_row p row)) (range_with_len first count)
+stage_rows first count p = flat_map (λ row. coloured_row None (stage_row first p row)) (range_with_len first count)
 
 -- how many rows of the board a terminal of so many rows shows: all 25, or what leaves room for a message and the keys, and at least one
 abbrev pub rows_shown : ℕ → ℕ

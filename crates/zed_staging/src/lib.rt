@@ -1,4 +1,4 @@
-//! A playtest in place at a terminal: what its bytes come to, and what it is told of a playtest.
+//! A terminal on which a board is played: which keys its bytes mean, and the text that draws a playtest.
 #![tactic(auto)]
 
 mod input;

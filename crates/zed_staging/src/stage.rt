@@ -45,15 +45,21 @@ fn put_beside(out: &mut Vec<Spot>, frame: &Frame, row: usize) -> Result<(), Allo
     Ok(())
 }
 
-/// A row of the board, and what stands beside it.
+/// A row of the board, and what stands beside it if this row is the first that is shown.
 #[tactic(auto, unfolding(crate::specs::Staged::stage_row))]
-fn stage_row(alloc: Global, play: &Play, frame: &Frame, row: usize) -> Result<Vec<Spot>, AllocError>
+fn stage_row(
+    alloc: Global,
+    play: &Play,
+    frame: &Frame,
+    first: usize,
+    row: usize,
+) -> Result<Vec<Spot>, AllocError>
     requires frame { Shows frame.now (play_cell play.now) }
     requires row { row < 25 }
-    ensures { IfOk result (λ spots. spots.items ≡ stage_row play.now row) }
+    ensures { IfOk result (λ spots. spots.items ≡ stage_row first play.now row) }
 {
     let mut spots = Vec::from_slice(alloc, &draw_play_row(play, row))?;
-    put_beside(&mut spots, frame, row)?;
+    put_beside(&mut spots, frame, row.saturating_sub(first))?;
     Ok(spots)
 }
 
@@ -62,13 +68,15 @@ fn put_row(
     alloc: Global,
     play: &Play,
     frame: &Frame,
+    first: usize,
     row: usize,
 ) -> Result<(), AllocError>
     requires frame { Shows frame.now (play_cell play.now) }
     requires row { row < 25 }
-    ensures { OnOk result (out.new.items ≡ out.old.items ++ coloured_row None (stage_row play.now row)) }
+    ensures { OnOk result
+        (out.new.items ≡ out.old.items ++ coloured_row None (stage_row first play.now row)) }
 {
-    let spots = stage_row(alloc, play, frame, row)?;
+    let spots = stage_row(alloc, play, frame, first, row)?;
     put_coloured_row(spots.as_slice(), out)
 }
 
@@ -86,7 +94,7 @@ fn put_rows(
 {
     let frame = draw_play(play);
     for row in first..first + count {
-        put_row(out, alloc, play, &frame, row)?;
+        put_row(out, alloc, play, &frame, first, row)?;
     }
     Ok(())
 }

@@ -76,7 +76,7 @@ command_made called (Take base file replica world) answer old new asks = drawn_m
 command_made called (Log length board cell replica since files) answer old new asks = telling_made called files answer old new asks
 command_made called (Lists listing files) answer old new asks = telling_made called files answer old new asks
 command_made called (Show form board files) answer old new asks = telling_made called files answer old new asks
-command_made called (Play rows words keys board files) answer old new handed = play_made called words keys files _ _ old new handed.1
+command_made called (Play going rows words keys board files) answer old new handed = play_made called words keys files _ _ old new handed.1
 command_made called (Lint strictness files) answer old new handed = let asks = handed.1 in (asks.0, asks.1)
 command_made called (Set file replica words) answer old new asks = set_made called file words (wish_of words) answer old new asks
 command_made called (ProgramOf board stat files) answer old new asks = telling_made called files answer old new asks

@@ -15,7 +15,6 @@ use Rattle.zed_host.proofs.ReadFiles.{read_so}
 use Rattle.zed_files.specs.declared.refusal.Refusal.{Refusal}
 use Rattle.zed_files.specs.Effects.{Effect as Told}
 use Rattle.zed_files.proofs.Endings.{collected_so}
-use Rattle.zed_making.specs.Edited.{FileEdits as SetEdits, IsOpened as IsSetOpened, OpensAs as SetOpens}
 use Rattle.zed_programs.specs.Setting.{ComesToSet as ComesToSetProgram, IsSpelled, Sets, SetsIn, SetsText}
 use Rattle.zed_set.specs.Setting.{ComesToSet, IsSet}
 use Rattle.zed_set_words.specs.declared.wishes.Wish.{Wish}
@@ -24,7 +23,8 @@ use Rattle.zed_showing.specs.Shown.{ComesToShow}
 use Rattle.zed_telling.specs.Told.{ComesToTell}
 use Rattle.zed_drawing.specs.Base.{FindsBase, HasEdits, OfBase, ReadsBase, base_word, beside, presence_of}
 use Rattle.zed_drawing.specs.Effects.{Effect}
-use Rattle.zed_drawing.specs.Files.{FileEdits, IsOpened, IsTried, IsWorld, OfName, OpensAs}
+use Rattle.zed_files.specs.Opened.{FileEdits}
+use Rattle.zed_drawing.specs.Files.{IsOpened, IsTried, IsWorld, OfName, OpensAs}
 use Rattle.zed_drawing.specs.Opening.{ComesToOpen, IsFree, IsUndrawn, MayReplace}
 use Rattle.zed_drawing.specs.Steps.{Steps, Then}
 use Rattle.zed_drawing.specs.Taking.{ComesToTake, Draws, Gathers, Given, TakesFrom}
@@ -121,7 +121,7 @@ pub show_so : (p q : Type 0) (t : HostContents) (form : Form) (board : ℕ) (fil
     → ComesToShow p t form board files r → ComesToShow q t form board files r
 show_so p q t form board files r so is = let shown = is.1 in (is.0, (shown.0, collected_so p q t files shown.0 so shown.1, shown.2), is.2)
 
-is_set_so : (p q : Type 0) (t : HostContents) (file : List ℕ) (replica : ℕ) (wish : Wish) (r : Result SetEdits Refusal) → (p → q) → IsSet p t file replica wish r → IsSet q t file replica wish r
+is_set_so : (p q : Type 0) (t : HostContents) (file : List ℕ) (replica : ℕ) (wish : Wish) (r : Result FileEdits Refusal) → (p → q) → IsSet p t file replica wish r → IsSet q t file replica wish r
 is_set_so p q t file zero wish r so is = is
 is_set_so p q t file (suc n) wish r so is = let opened = is.1 in (is.0, (opened.0, read_so p q t file opened.0 so opened.1, opened.2), is.2)
 

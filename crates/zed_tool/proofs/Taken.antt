@@ -22,7 +22,8 @@ use Rattle.zed_files.specs.Files.{IsFile, IsTextIn, end_by}
 use Rattle.zed_host.specs.HostContents.{HostContents, IsRead, file_in}
 use Rattle.zed_drawing.specs.Base.{HasEdits, OfBase, ReadsBase, presence_of}
 use Rattle.zed_drawing.specs.Effects.{Effect}
-use Rattle.zed_drawing.specs.Files.{FileEdits, IsOpened, IsWorld, OfFile, OpensAs, ReadsAs, edits_at, world_told}
+use Rattle.zed_files.specs.Opened.{FileEdits, edits_at}
+use Rattle.zed_drawing.specs.Files.{IsOpened, IsWorld, OfFile, OpensAs, ReadsAs, opened_told, world_told}
 use Rattle.zed_drawing.specs.Refusals.{take_refusal}
 use Rattle.zed_drawing.specs.Steps.{Steps, Then}
 use Rattle.zed_drawing.specs.Taking.{ComesToTake, Draws, Gathers, Given, IsJoined, IsTaken, TakesFrom, drawn, given}
@@ -97,13 +98,14 @@ then_err N m e r is after = subst (λ m. Then m N r) is after
 bytes_opened : WrittenIsRead → (asked : Option ℕ) (n : ℕ) (es : List Edit) (bytes : List ℕ) (m : Result FileEdits DrawingError) → n < 2 ^ 64 → AreRecords es → Agrees es
     → is_other asked n ≡ false → IsTextOf n es bytes → IsOpened asked bytes m → m ≡ Ok (n, set_of es)
 bytes_opened law asked n es bytes m small good agrees own text opened =
-    let found = opened.0 in
-    let end = opened.1 in
-    let is = file_is law asked n es found bytes end small good text own opened.2 in
-    elim opened.3 [
+    let file = opened.1 in
+    let found = file.0 in
+    let is = file_is law asked n es found bytes file.1 small good text own file.2 in
+    let told : opened_told opened.0 ≡ Ok (n, set_of es) = elim file.3 [
       | inl clash ↦ absurd (no_clash found clash.0 (subst Agrees (sym is.0) agrees) clash.1)
-      | inr whole ↦ whole.1 ∙ ap₂ edits_at is.1 is.0
-    ]
+      | inr whole ↦ ap opened_told (whole.1 ∙ ap₂ edits_at is.1 is.0)
+    ] in
+    opened.2 ∙ told
 
 file_opened : WrittenIsRead → (asked : Option ℕ) (n : ℕ) (es : List Edit) (read : Option (List ℕ)) (m : Result FileEdits DrawingError) → n < 2 ^ 64 → AreRecords es → Agrees es
     → is_other asked n ≡ false → IsTextIn n es read → OfFile (IsOpened asked) read m → m ≡ Ok (n, set_of es)

@@ -12,6 +12,10 @@ use Rattle.zed_tool_words.specs.declared.asked.Forcing.{Forcing as ForcingWord}
 use Rattle.zed_tool_words.specs.declared.asked.Forcing.TheVariants.{Careful, Forced}
 use Rattle.zed_tool_words.specs.declared.asked.Form.{Form as FormWord}
 use Rattle.zed_tool_words.specs.declared.asked.Form.TheVariants.{Coloured, Plain, Svg}
+use Rattle.zed_playing.specs.declared.opening.Going.{Going}
+use Rattle.zed_playing.specs.declared.opening.Going.TheVariants as playing
+use Rattle.zed_tool_words.specs.declared.asked.Going.{Going as GoingWord}
+use Rattle.zed_tool_words.specs.declared.asked.Going.TheVariants.{Stays, On}
 use Rattle.zed_tool_words.specs.declared.asked.Length.{Length as LengthWord}
 use Rattle.zed_tool_words.specs.declared.asked.Length.TheVariants.{Short, Full}
 use Rattle.zed_tool_words.specs.declared.asked.Listing.{Listing as ListingWords}
@@ -57,6 +61,11 @@ listing_of Boards = telling.Boards
 listing_of (Stats b) = telling.Stats b
 listing_of (Program b s) = telling.Program b s
 
+-- whether a playtest goes on over boards
+abbrev pub going_of : GoingWord → Going
+going_of Stays = playing.Stays
+going_of On = playing.On
+
 -- how much of the line of a world is printed
 abbrev pub length_of : LengthWord → Length
 length_of Short = log.Short
@@ -75,7 +84,7 @@ rows_of None = 27
 
 -- whether a command plays a board
 abbrev pub is_playtest : Command → Bool
-is_playtest (Play rows words keys board files) = true
+is_playtest (Play going rows words keys board files) = true
 is_playtest _ = false
 
 -- whether words ask for that
@@ -120,8 +129,8 @@ EndsCommand called failed moved (Log length board cell replica since files) old 
     EndsTold failed (ComesToTell failed t (log_of (length_of length) (filter_of board cell replica since)) files) t answer left
 EndsCommand called failed moved (Lists listing files) old new t answer left = EndsTold failed (ComesToTell failed t (list_of (listing_of listing)) files) t answer left
 EndsCommand called failed moved (Show form board files) old new t answer left = EndsTold failed (ComesToShow failed t (form_of form) board files) t answer left
-EndsCommand called failed moved (Play rows words keys board files) old new t answer left =
-    Handed told_as (λ r. EndsPlay failed t (request words keys (rows_of rows) board files) moved r left) answer
+EndsCommand called failed moved (Play going rows words keys board files) old new t answer left =
+    Handed told_as (λ r. EndsPlay failed t (request words keys (going_of going) (rows_of rows) board files) moved r left) answer
 EndsCommand called failed moved (Lint strictness files) old new t answer left =
     Handed (linted_as strictness) (λ r. EndsCounted failed (ComesToTell failed t lint_of files) t r left) answer
 EndsCommand called failed moved (Set file replica words) old new t answer left = EndsSet failed t file replica words (wish_of words) answer left
@@ -139,7 +148,7 @@ AsksCommand called (Take base file replica world) answer old new =
 AsksCommand called (Log length board cell replica since files) answer old new = AsksTold called files answer old new
 AsksCommand called (Lists listing files) answer old new = AsksTold called files answer old new
 AsksCommand called (Show form board files) answer old new = AsksTold called files answer old new
-AsksCommand called (Play rows words keys board files) answer old new =
+AsksCommand called (Play going rows words keys board files) answer old new =
     Handed told_as (λ r. AsksPlay called words keys files (keeping words keys ++ Printing ∷ []) (refusal_in r) old new) answer
 AsksCommand called (Lint strictness files) answer old new =
     Handed (linted_as strictness) (λ r. AsksFiles called (reading files) (Printing ∷ []) (refusal_in r) old new) answer

@@ -1,9 +1,10 @@
 //! What words ask for, as the commands take it.
 ghost use Rattle.std.specs.Prelude.{◌≡◌};
-ghost use Rattle.zed_tool.specs.Commands.{forcing_of as forcing_for, form_of as form_for, length_of as length_for, listing_of as listing_for, rows_of as rows_for};
+ghost use Rattle.zed_tool.specs.Commands.{forcing_of as forcing_for, form_of as form_for, going_of as going_for, length_of as length_for, listing_of as listing_for, rows_of as rows_for};
 
 use zed_drawing::Forcing;
 use zed_look::Form;
+use zed_playing::Going;
 use zed_telling::{Length, Listing};
 
 /// What is done to a world file that was drawn in.
@@ -44,6 +45,16 @@ pub(crate) fn rows_of(rows: Option<u16>) -> usize
     match rows {
         Some(rows) => usize::from(rows),
         None => 27,
+    }
+}
+
+/// Whether a playtest goes on over boards.
+pub(crate) fn going_of(going: zed_tool_words::Going) -> Going
+    ensures { result ≡ going_for going }
+{
+    match going {
+        zed_tool_words::Going::Stays => Going::Stays,
+        zed_tool_words::Going::On => Going::On,
     }
 }
 

@@ -16,7 +16,7 @@ ghost use Rattle.zed_tool.specs.Taking.{AsksToTake, TakesSet};
 ghost use Rattle.zed_tool.specs.Outcome.{Complained, Prints, Runs, TellsFailures, TellsOf, hosts};
 
 use crate::answers::{drawn, linted, set_told, told};
-use crate::asked::{forcing_of, form_of, length_of, listing_of, rows_of};
+use crate::asked::{forcing_of, form_of, going_of, length_of, listing_of, rows_of};
 use crate::error::ToolError;
 use crate::lines::{line_of, plain_line};
 use std::alloc::Global;
@@ -122,6 +122,7 @@ fn act<'a, H: Host, T: Terminal, I: Inputs, C: Chance>(
             files.as_slice(),
         )),
         Command::Play {
+            going,
             rows,
             words,
             keys,
@@ -132,6 +133,7 @@ fn act<'a, H: Host, T: Terminal, I: Inputs, C: Chance>(
             host,
             *words,
             *keys,
+            going_of(*going),
             rows_of(*rows),
             *board,
             files.as_slice(),

@@ -13,6 +13,8 @@ use Rattle.zed_tool_words.specs.declared.asked.Forcing.{Forcing}
 use Rattle.zed_tool_words.specs.declared.asked.Forcing.TheVariants.{Careful, Forced}
 use Rattle.zed_tool_words.specs.declared.asked.Form.{Form}
 use Rattle.zed_tool_words.specs.declared.asked.Form.TheVariants.{Coloured, Plain, Svg}
+use Rattle.zed_tool_words.specs.declared.asked.Going.{Going}
+use Rattle.zed_tool_words.specs.declared.asked.Going.TheVariants.{Stays, On}
 use Rattle.zed_tool_words.specs.declared.asked.Length.{Length}
 use Rattle.zed_tool_words.specs.declared.asked.Length.TheVariants.{Short, Full}
 use Rattle.zed_tool_words.specs.declared.asked.Listing.{Listing}
@@ -32,7 +34,7 @@ pub data Command : Type 0 where
   Log : (length : Length) → (board : Option ℕ) → (cell : Option (ℕ × ℕ × ℕ)) → (replica : Option ℕ) → (since : Option ℕ) → (files : List Text) → Command
   Lists : (listing : Listing) → (files : List Text) → Command
   Show : (form : Form) → (board : ℕ) → (files : List Text) → Command
-  Play : (rows : Option ℕ) → (words : Option Text) → (keys : Option Text) → (board : ℕ) → (files : List Text) → Command
+  Play : (going : Going) → (rows : Option ℕ) → (words : Option Text) → (keys : Option Text) → (board : ℕ) → (files : List Text) → Command
   Lint : (strictness : Strictness) → (files : List Text) → Command
   Set : (file : Text) → (replica : ℕ) → (words : List Text) → Command
   ProgramOf : (board : ℕ) → (stat : ℕ) → (files : List Text) → Command
@@ -45,8 +47,8 @@ meaning_of (spoken.Take base file replica world) = Take (option_map (λ s. s.now
 meaning_of (spoken.Log length board cell replica since files) = Log length board cell replica since (map (λ s. s.now) files.items)
 meaning_of (spoken.List listing files) = Lists listing (map (λ s. s.now) files.items)
 meaning_of (spoken.Show form board files) = Show form board (map (λ s. s.now) files.items)
-meaning_of (spoken.Play rows words keys board files) =
-    Play rows (option_map (λ s. s.now) words) (option_map (λ s. s.now) keys) board (map (λ s. s.now) files.items)
+meaning_of (spoken.Play going rows words keys board files) =
+    Play going rows (option_map (λ s. s.now) words) (option_map (λ s. s.now) keys) board (map (λ s. s.now) files.items)
 meaning_of (spoken.Lint strictness files) = Lint strictness (map (λ s. s.now) files.items)
 meaning_of (spoken.Set file replica words) = Set file.now replica (map (λ s. s.now) words.items)
 meaning_of (spoken.Program board stat files) = ProgramOf board stat (map (λ s. s.now) files.items)
@@ -68,6 +70,10 @@ forcing_of rows = if has_flag (codes "force") rows then Forced else Careful
 -- what `--full` says
 abbrev pub length_of : List Row → Length
 length_of rows = if has_flag (codes "full") rows then Full else Short
+
+-- what `--boards` says
+abbrev pub going_of : List Row → Going
+going_of rows = if has_flag (codes "boards") rows then On else Stays
 
 -- what `--strict` says
 abbrev pub strictness_of : List Row → Strictness
@@ -157,7 +163,7 @@ show_of rows = option_and_then (λ form. option_and_then (λ board. option_map (
 -- for `play`
 abbrev pub play_of : List Row → Option Command
 play_of rows = option_and_then (λ board. option_map (λ files.
-    Play (option_number 16 (codes "rows") rows) (first_of (codes "words") rows) (first_of (codes "keys") rows) board files)
+    Play (going_of rows) (option_number 16 (codes "rows") rows) (first_of (codes "words") rows) (first_of (codes "keys") rows) board files)
     (all_of (codes "FILES") rows)) (option_number 16 (codes "BOARD") rows)
 
 -- for `lint`

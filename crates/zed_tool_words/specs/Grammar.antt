@@ -73,10 +73,11 @@ abbrev pub show_shape : Shape
 show_shape = shape_with (codes "show")
     (number_rule (codes "BOARD") ∷ several_rule (codes "FILES") ∷ flag_rule (codes "plain") ∷ flag_rule (codes "svg") ∷ [])
 
--- `play [--rows ROWS] [--words WORDS] [--keys KEYS] BOARD FILES...`
+-- `play [--boards] [--rows ROWS] [--words WORDS] [--keys KEYS] BOARD FILES...`
 abbrev pub play_shape : Shape
 play_shape = shape_with (codes "play")
-    (number_rule (codes "BOARD") ∷ several_rule (codes "FILES") ∷ number_option (codes "rows") ∷ option_rule (codes "words") ∷ option_rule (codes "keys") ∷ [])
+    (number_rule (codes "BOARD") ∷ several_rule (codes "FILES") ∷ flag_rule (codes "boards")
+    ∷ number_option (codes "rows") ∷ option_rule (codes "words") ∷ option_rule (codes "keys") ∷ [])
 
 -- `lint [--strict] FILES...`
 abbrev pub lint_shape : Shape

@@ -8,6 +8,8 @@ use Rattle.zed_tool_words.specs.declared.asked.Forcing.{Forcing}
 use Rattle.zed_tool_words.specs.declared.asked.Forcing.TheVariants.{Careful, Forced}
 use Rattle.zed_tool_words.specs.declared.asked.Form.{Form}
 use Rattle.zed_tool_words.specs.declared.asked.Form.TheVariants.{Coloured, Plain, Svg}
+use Rattle.zed_tool_words.specs.declared.asked.Going.{Going}
+use Rattle.zed_tool_words.specs.declared.asked.Going.TheVariants.{Stays, On}
 use Rattle.zed_tool_words.specs.declared.asked.Length.{Length}
 use Rattle.zed_tool_words.specs.declared.asked.Length.TheVariants.{Short, Full}
 use Rattle.zed_tool_words.specs.declared.asked.Listing.TheVariants.{Boards, Stats, Program}
@@ -117,36 +119,46 @@ PlainWordsShow =
     → command_of (codes "show" ∷ form_words form ++ number ∷ file ∷ files) ≡ Some (Show form board (file ∷ files))
 
 -- words in front of the board of `play`, and what it is asked for with them
-abbrev pub Playtests : List Text → Option ℕ → Option Text → Option Text → Type 0
-Playtests front rows words keys =
+abbrev pub Playtests : List Text → Going → Option ℕ → Option Text → Option Text → Type 0
+Playtests front going rows words keys =
     (number file : Text) (files : List Text) (board : ℕ)
     → number_of 16 number ≡ Some board
     → list_all is_plain (file ∷ files) ≡ true
     → length (file ∷ files) ≤ 18446744073709551615
-    → command_of (codes "play" ∷ front ++ number ∷ file ∷ files) ≡ Some (Play rows words keys board (file ∷ files))
+    → command_of (codes "play" ∷ front ++ number ∷ file ∷ files) ≡ Some (Play going rows words keys board (file ∷ files))
 
 -- `play BOARD FILES...` asks to play the board of this number, and to keep nothing of it
 abbrev pub PlainWordsPlay : Type 0
-PlainWordsPlay = Playtests [] None None None
+PlainWordsPlay = Playtests [] Stays None None None
+
+-- with `--boards` in front to go on over boards
+abbrev pub PlaysOverBoards : Type 0
+PlaysOverBoards = Playtests (codes "--boards" ∷ []) On None None None
+
+-- the words that ask for that, if it is asked for
+abbrev pub going_words : Going → List Text
+going_words Stays = []
+going_words On = codes "--boards" ∷ []
 
 -- with `--rows ROWS` in front at a terminal of so many rows
 abbrev pub PlaysInRows : Type 0
-PlaysInRows = (word : Text) (rows : ℕ) → number_of 16 word ≡ Some rows → Playtests (codes "--rows" ∷ word ∷ []) (Some rows) None None
+PlaysInRows = (word : Text) (rows : ℕ) → number_of 16 word ≡ Some rows → Playtests (codes "--rows" ∷ word ∷ []) Stays (Some rows) None None
 
 -- with `--words WORDS` with chance that is kept in a file
 abbrev pub PlaysByWords : Type 0
-PlaysByWords = (words : Text) → is_plain words ≡ true → Playtests (codes "--words" ∷ words ∷ []) None (Some words) None
+PlaysByWords = (words : Text) → is_plain words ≡ true → Playtests (codes "--words" ∷ words ∷ []) Stays None (Some words) None
 
 -- with `--keys KEYS` by keys that are
 abbrev pub PlaysByKeys : Type 0
-PlaysByKeys = (keys : Text) → is_plain keys ≡ true → Playtests (codes "--keys" ∷ keys ∷ []) None None (Some keys)
+PlaysByKeys = (keys : Text) → is_plain keys ≡ true → Playtests (codes "--keys" ∷ keys ∷ []) Stays None None (Some keys)
 
--- and so with all three
+-- and so with all three, and with `--boards` before them or without it
 abbrev pub PlaysKept : Type 0
 PlaysKept =
-    (word words keys : Text) (rows : ℕ)
+    (going : Going) (word words keys : Text) (rows : ℕ)
     → number_of 16 word ≡ Some rows → is_plain words ≡ true → is_plain keys ≡ true
-    → Playtests (codes "--rows" ∷ word ∷ codes "--words" ∷ words ∷ codes "--keys" ∷ keys ∷ []) (Some rows) (Some words) (Some keys)
+    → Playtests (going_words going ++ codes "--rows" ∷ word ∷ codes "--words" ∷ words ∷ codes "--keys" ∷ keys ∷ []) going
+    (Some rows) (Some words) (Some keys)
 
 -- the words that ask to be strict, if it is asked for
 abbrev pub strict_words : Strictness → List Text

@@ -1,6 +1,6 @@
 -- What the version says.
 use Rattle.std.specs.Prelude.{ℕ, List, [], ◌∷◌, ◌++◌, codes}
 
--- the number of the release, and how its program was made, a line each, which ends with a line feed (10)
+-- the number of the release, and the kit that its functions are proved with, a line each, which ends with a line feed (10)
 abbrev pub version_text : List ℕ
-version_text = codes "zztool 4" ++ 10 ∷ codes "each function is proved to do what its contract says" ++ 10 ∷ []
+version_text = codes "zztool 4" ++ 10 ∷ codes "proved with rattle-kit-13f logic dac8208d650f15bf" ++ 10 ∷ []

@@ -29,6 +29,15 @@ pub enum Length {
     Full,
 }
 
+/// Whether a playtest goes on over boards.
+#[derive(Clone, Copy)]
+pub enum Going {
+    /// It is of one board.
+    Stays,
+    /// It goes on on the board for which the player leaves: `--boards`.
+    On,
+}
+
 /// Whether `lint` fails if it finds something.
 #[derive(Clone, Copy)]
 pub enum Strictness {
@@ -91,6 +100,7 @@ pub enum Command<'a> {
     },
     /// Play a board of the world of edit files at a terminal.
     Play {
+        going: Going,
         /// How many rows the terminal has.
         rows: Option<u16>,
         /// The file that keeps words of chance; its words are used first.

@@ -277,7 +277,7 @@ fn show_command<'a>(alloc: Global) -> Result<Command<'a>, AllocError>
     )
 }
 
-/// `play [--rows ROWS] [--words WORDS] [--keys KEYS] BOARD FILES...`
+/// `play [--boards] [--rows ROWS] [--words WORDS] [--keys KEYS] BOARD FILES...`
 fn play_command<'a>(alloc: Global) -> Result<Command<'a>, AllocError>
     ensures shape { IfOk result (λ c. shape_of c ≡ play_shape) }
     ensures local { IfOk result (λ c. (out-Command c).has_globals ≡ false) }
@@ -298,11 +298,19 @@ fn play_command<'a>(alloc: Global) -> Result<Command<'a>, AllocError>
     let command = with_argument(command, files_argument(alloc))?;
     let command = with_argument(
         command,
+        flag_argument(
+            alloc,
+            "boards",
+            "Go on on the next board if the player leaves one, over an edge or through a passage",
+        ),
+    )?;
+    let command = with_argument(
+        command,
         number_argument(
             alloc,
             "rows",
             "ROWS",
-            "The number of rows of the terminal, 27 without it",
+            "The number of rows of the terminal, 27 by default",
         ),
     )?;
     let command = with_argument(
@@ -311,7 +319,7 @@ fn play_command<'a>(alloc: Global) -> Result<Command<'a>, AllocError>
             alloc,
             "words",
             "WORDS",
-            "A file of numbers for chance: they are used first, and at the end it gets all that came",
+            "A file of random numbers: they are used first, and at the end it gets all that came",
         ),
     )?;
     with_argument(
@@ -397,7 +405,7 @@ fn top_command<'a>(alloc: Global) -> Result<Command<'a>, AllocError>
 {
     Command::new(alloc, "zztool")
         .about(
-            "Connects zzted to other editors of ZZT worlds: opens and takes drawings, shows, plays, lists and checks worlds, and sets what no drawing sets",
+            "Connects zzted to other editors of ZZT worlds: opens and takes drawings, shows, plays, lists and checks worlds, and sets what can't be drawn",
         )
         .version(VERSION)
         .no_binary_name(true)

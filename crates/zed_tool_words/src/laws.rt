@@ -1,6 +1,6 @@
 //! What plain words ask for. A number is written in decimal digits, with or without a plus in
 //! front, so its word begins with no hyphen.
-ghost use Rattle.zed_tool_words.specs.Laws.{HelpAsksHelp, HelpOfCommands, ListsBoards, ListsProgram, ListsStats, LogInFull, LogOfBoard, LogOfCell, LogOfReplica, LogSince, PlainWordsLint, PlainWordsLog, PlainWordsOpen, PlainWordsPlay, PlainWordsProgram, PlainWordsSet, PlainWordsShow, PlainWordsTake, PlaysByKeys, PlaysByWords, PlaysInRows, PlaysKept, SetsProgram, VersionAsksVersion};
+ghost use Rattle.zed_tool_words.specs.Laws.{HelpAsksHelp, HelpOfCommands, ListsBoards, ListsProgram, ListsStats, LogInFull, LogOfBoard, LogOfCell, LogOfReplica, LogSince, PlainWordsLint, PlainWordsLog, PlainWordsOpen, PlainWordsPlay, PlainWordsProgram, PlainWordsSet, PlainWordsShow, PlainWordsTake, PlaysByKeys, PlaysByWords, PlaysInRows, PlaysKept, PlaysOverBoards, SetsProgram, VersionAsksVersion};
 
 /// `open FILE WORLD`, where no word begins with a hyphen, asks to open. `--until TIME`, where
 /// `TIME` is a number below 2^64, and then `--force`, may come first.
@@ -42,10 +42,12 @@ pub fn plain_words_show()
 {}
 
 /// `play BOARD FILES...`, where `BOARD` is a number below 2^16 and no other word begins with a
-/// hyphen, asks to play a board. `--rows ROWS`, such a number, `--words WORDS` or `--keys KEYS`, or
-/// all three, may come first.
+/// hyphen, asks to play a board. `--boards`, `--rows ROWS`, such a number, `--words WORDS` or
+/// `--keys KEYS` may come first; or the last three in this order, with `--boards` before them or
+/// without it.
 pub fn plain_words_play()
     ensures plays { PlainWordsPlay }
+    ensures boards { PlaysOverBoards }
     ensures rows { PlaysInRows }
     ensures words { PlaysByWords }
     ensures keys { PlaysByKeys }

@@ -9,7 +9,7 @@ mod programs;
 mod release;
 mod words;
 
-pub use asked::{Command, Forcing, Form, Length, Listing, Strictness};
+pub use asked::{Command, Forcing, Form, Going, Length, Listing, Strictness};
 pub use laws::{
     help_words, plain_words_lint, plain_words_list, plain_words_log, plain_words_open,
     plain_words_play, plain_words_program, plain_words_set, plain_words_show, plain_words_take,

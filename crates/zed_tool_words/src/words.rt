@@ -4,9 +4,9 @@ ghost use Rattle.clap.specs.Walk.{all_of, first_of, one_of};
 ghost use Rattle.clap.specs.Words.{FailsBy, fault_of, found_of, rows_of, subcommand_of, subcommand_rows_of};
 ghost use Rattle.zed_tool_words.specs.declared.words.ParseError.TheVariants.{Memory};
 ghost use Rattle.zed_tool_words.specs.Grammar.{tool_app};
-ghost use Rattle.zed_tool_words.specs.Commands.{AsksNothing, command_of, forcing_of, form_of, has_flag as has_that_flag, length_of, lint_of, list_of, log_of, meaning_of, open_of, option_number, play_of, program_of, set_of, show_of, strictness_of, subcommand_asks, take_of};
+ghost use Rattle.zed_tool_words.specs.Commands.{AsksNothing, command_of, forcing_of, form_of, going_of, has_flag as has_that_flag, length_of, lint_of, list_of, log_of, meaning_of, open_of, option_number, play_of, program_of, set_of, show_of, strictness_of, subcommand_asks, take_of};
 
-use crate::asked::{Command, Forcing, Form, Length, Strictness};
+use crate::asked::{Command, Forcing, Form, Going, Length, Strictness};
 use crate::grammar::tool_command;
 use crate::listed::{cell_in, listed};
 use crate::programs::{program, program_to_set};
@@ -82,6 +82,17 @@ fn length_in(matches: &ArgMatches<'_>) -> Length
         Length::Full
     } else {
         Length::Short
+    }
+}
+
+// Whether a playtest goes on over boards.
+fn going_in(matches: &ArgMatches<'_>) -> Going
+    ensures { result ≡ going_of (rows_of (found_of matches.now)) }
+{
+    if has_flag(matches, "boards") {
+        Going::On
+    } else {
+        Going::Stays
     }
 }
 
@@ -219,6 +230,7 @@ fn play_in<'a>(alloc: Global, matches: &ArgMatches<'a>) -> Result<Option<Command
     ensures { IfOk result (λ a.
         option_map meaning_of a ≡ play_of (rows_of (found_of matches.now))) }
 {
+    let going = going_in(matches);
     let rows = number_in(matches, "rows");
     let words = word_in(matches, "words");
     let keys = word_in(matches, "keys");
@@ -227,6 +239,7 @@ fn play_in<'a>(alloc: Global, matches: &ArgMatches<'a>) -> Result<Option<Command
     if let (Some(board), Some(files)) = (board, files) {
         let files = Vec::from_slice(alloc, files)?;
         Ok(Some(Command::Play {
+            going,
             rows,
             words,
             keys,

@@ -1,6 +1,7 @@
 -- What was played is played again by the keys and words that were kept.
 use Rattle.std.proofs.Common.{◌≡◌, ◌∙◌, ◌+◌, ◌-◌, ◌++◌, ℕ, zero, suc, List, [], ◌∷◌, Option, Some, Ok, ap, append-nil, append_assoc, arith, drop, length, length-append, refl, subst, sym}
 use Rattle.std.proofs.Math.Seq.{drop-append_seam}
+use Rattle.zed_world.specs.Contents.{Contents}
 use Rattle.zed_play.proofs.Front.{front_step}
 use Rattle.zed_play.specs.declared.key.Key.{Key}
 use Rattle.zed_play.specs.Playtest.{Playtest}
@@ -8,7 +9,7 @@ use Rattle.zed_play.specs.Step.{Step, Steps}
 use Rattle.zed_staging.specs.declared.input.Input.{Input}
 use Rattle.zed_staging.specs.declared.input.Input.TheVariants.{Pressed, Resized}
 use Rattle.zed_turns.specs.Again.{Comes, PlaysAgain}
-use Rattle.zed_turns.specs.Course.{Answers, Course, Plays, Point}
+use Rattle.zed_turns.specs.Course.{Answers, Course, Plays, Point, led_on}
 
 -- a step isn't changed by words behind those that it had, and leaves them too
 steps_more : (used : ℕ) (key : Key) (p q : Playtest) (words more : List ℕ) → Steps (Ok used) key p words q
@@ -28,34 +29,36 @@ steps_more used key p q words more (going, (left, (step, is))) =
     ((going, (left ++ more, (again, same))), behind ∙ ap (λ l. l ++ more) (sym before))
 
 -- a course that starts with these words left, and has others come later
-comes_on : (used : ℕ) (key : Key) (p next q : Playtest) (keys : List Key) (left came more rest behind : List ℕ)
-    → Steps (Ok used) key p (left ++ came) next → behind ≡ drop used (left ++ came) → Comes next keys (behind ++ more) q rest
-    → Comes p (key ∷ keys) (left ++ (came ++ more)) q rest
-comes_on used key p next q keys left came more rest behind step is later =
-    let on = steps_more used key p next (left ++ came) more step in
+comes_on : (w : Option Contents) (used : ℕ) (key : Key) (p stepped q : Playtest) (keys : List Key) (left came more rest behind : List ℕ)
+    → Steps (Ok used) key p (left ++ came) stepped → behind ≡ drop used (left ++ came) → Comes w (led_on w key p stepped) keys (behind ++ more) q rest
+    → Comes w p (key ∷ keys) (left ++ (came ++ more)) q rest
+comes_on w used key p stepped q keys left came more rest behind step is later =
+    let on = steps_more used key p stepped (left ++ came) more step in
+    let next = led_on w key p stepped in
     let same : (left ++ came) ++ more ≡ left ++ (came ++ more) = append_assoc left came more in
-    let now : Comes p (key ∷ keys) ((left ++ came) ++ more) q rest =
-    (next, used, on.0, subst (λ l. Comes next keys l q rest) (ap (λ l. l ++ more) is ∙ sym on.1) later) in
-    subst (λ l. Comes p (key ∷ keys) l q rest) same now
+    let now : Comes w p (key ∷ keys) ((left ++ came) ++ more) q rest =
+    (stepped, used, on.0, subst (λ l. Comes w next keys l q rest) (ap (λ l. l ++ more) is ∙ sym on.1) later) in
+    subst (λ l. Comes w p (key ∷ keys) l q rest) same now
 
 -- keys and words that come from one place to another
-abbrev pub Kept : Point → Point → Type 0
-Kept a b =
+abbrev pub Kept : Option Contents → Point → Point → Type 0
+Kept w a b =
     (keys : List Key) × (came : List ℕ) × (b.keys ≡ a.keys ++ keys) × (b.words ≡ a.words ++ came)
-    × Comes a.play keys (a.left ++ came) b.play b.left
+    × Comes w a.play keys (a.left ++ came) b.play b.left
 
 -- what is answered in front of others
-kept_on : (input : Input) (a next b : Point) (chance chance_then : Option (List ℕ)) → Answers input a chance next chance_then → Kept next b → Kept a b
-kept_on (Pressed key) a next b chance chance_then (supplied, kept, same) (keys, more, put, words, comes) =
+kept_on : (w : Option Contents) (input : Input) (a next b : Point) (chance chance_then : Option (List ℕ)) → Answers w input a chance next chance_then → Kept w next b → Kept w a b
+kept_on w (Pressed key) a next b chance chance_then (mid, supplied, play, left, words, kept, same) (keys, more, put, all, comes) =
     let came = supplied.0 in
     let makes = supplied.3 in
     let all_keys : b.keys ≡ a.keys ++ (key ∷ keys) = put ∙ ap (λ l. l ++ keys) kept ∙ append_assoc a.keys (key ∷ []) keys in
-    let all_words : b.words ≡ a.words ++ (came ++ more) = words ∙ ap (λ l. l ++ more) makes.3 ∙ append_assoc a.words came more in
-    (key ∷ keys, came ++ more, all_keys, all_words, comes_on makes.0 key a.play next.play b.play keys a.left came more b.left next.left makes.1 makes.2 comes)
-kept_on (Resized rows) a next b chance chance_then (same, still) kept = subst (λ p. Kept p b) same kept
+    let all_words : b.words ≡ a.words ++ (came ++ more) = all ∙ ap (λ l. l ++ more) (words ∙ makes.3) ∙ append_assoc a.words came more in
+    let later : Comes w (led_on w key a.play mid.play) keys (next.left ++ more) b.play b.left = subst (λ p. Comes w p keys (next.left ++ more) b.play b.left) play comes in
+    (key ∷ keys, came ++ more, all_keys, all_words, comes_on w makes.0 key a.play mid.play b.play keys a.left came more b.left next.left makes.1 (left ∙ makes.2) later)
+kept_on w (Resized rows) a next b chance chance_then (same, still) kept = subst (λ p. Kept w p b) same kept
 
 pub plays_again : PlaysAgain
-plays_again zero c d is =
+plays_again w zero c d is =
     let at : d.at ≡ c.at = ap (λ (x : Course). x.at) is in (
       [],
       [],
@@ -63,5 +66,5 @@ plays_again zero c d is =
       ap (λ (a : Point). a.words) at ∙ sym (append-nil c.at.words),
       (ap (λ (a : Point). a.play) at, ap (λ (a : Point). a.left) at ∙ sym (append-nil c.at.left)),
     )
-plays_again (suc n) c d (next, going, (input, takes, answers, draws), on) =
-    kept_on input c.at next.at d.at c.stage.chance next.stage.chance answers (plays_again n next d on)
+plays_again w (suc n) c d (next, going, (input, takes, answers, draws), on) =
+    kept_on w input c.at next.at d.at c.stage.chance next.stage.chance answers (plays_again w n next d on)

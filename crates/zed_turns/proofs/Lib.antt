@@ -3,5 +3,6 @@ mod Coming
 mod Messages
 mod Queued
 mod ReadBack
+mod Staying
 mod Supply
 mod Turning

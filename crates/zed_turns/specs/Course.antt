@@ -1,7 +1,12 @@
 -- How a playtest goes on, turn by turn.
 use Rattle.std.specs.Prelude.{◌≡◌, ◌⊎◌, ◌≤◌, ◌<◌, ℕ, zero, suc, Bool, true, false, List, [], ◌∷◌, ◌++◌, drop, Option, Some, None, is_some, Result, Ok, Err, ⊤}
+use Rattle.zed_world.specs.Contents.{Contents}
+use Rattle.zed_play.specs.declared.ending.Ending.{Ending}
+use Rattle.zed_play.specs.declared.ending.Ending.TheVariants.{Left}
+use Rattle.zed_play.specs.declared.entering.Way.{Way}
 use Rattle.zed_play.specs.declared.error.PlayError.TheVariants as step
 use Rattle.zed_play.specs.declared.key.Key.{Key}
+use Rattle.zed_play.specs.Entering.{entered, way_of}
 use Rattle.zed_play.specs.Playtest.{Playtest}
 use Rattle.zed_play.specs.Step.{Steps}
 use Rattle.zed_staging.specs.declared.input.Input.{Input}
@@ -45,6 +50,29 @@ IsBehind key a came = (before : List ℕ) × (last : List ℕ) × (came ≡ befo
 abbrev pub IsNeeded : Key → Point → List ℕ → Type 0
 IsNeeded key a came = (came ≡ []) ⊎ IsBehind key a came
 
+-- ---- on over boards
+
+-- a playtest, or the one that goes on in place of it
+abbrev pub or_on : Option Playtest → Playtest → Playtest
+or_on None p = p
+or_on (Some next) p = next
+
+-- the playtest of the board to which a player comes by a way: of a world, if there is one to go on in, and it has that board
+abbrev pub reached : Option Contents → ℕ → Way → Playtest → Option Playtest
+reached None board way p = None
+reached (Some w) board way p = entered w board way p
+
+-- a playtest that ended so; or where its player left for a board, the one that goes on there
+abbrev pub on_by : Option Contents → Way → Option Ending → Playtest → Playtest
+on_by w way (Some (Left board)) p = or_on (reached w board way p) p
+on_by w way _ p = p
+
+-- where a key leads: to the playtest that its step came to, or on to the next board; from the one before the step
+abbrev pub led_on : Option Contents → Key → Playtest → Playtest → Playtest
+led_on w key p q = on_by w (way_of key p) q.ending q
+
+-- ---- turns
+
 -- a step is made by a key, with the words that were left and those that came for it
 abbrev pub Makes : Key → List ℕ → Point → Point → Type 0
 Makes key came a b =
@@ -60,14 +88,17 @@ abbrev pub LacksSupply : Key → Point → Option (List ℕ) → Point → Optio
 LacksSupply key a chance b chance_then =
     (came : List ℕ) × Brings came chance chance_then × IsBehind key a came × (b.play ≡ a.play) × (b.keys ≡ a.keys)
 
--- a key is played, and kept
-abbrev pub PlaysKey : Key → Point → Option (List ℕ) → Point → Option (List ℕ) → Type 0
-PlaysKey key a chance b chance_then = IsSupplied key a chance b chance_then × (b.keys ≡ a.keys ++ key ∷ []) × (b.rows ≡ a.rows)
+-- a key is played, and kept; where the player left for a board, the playtest goes on there, if there is a world to go on in
+abbrev pub PlaysKey : Option Contents → Key → Point → Option (List ℕ) → Point → Option (List ℕ) → Type 0
+PlaysKey w key a chance b chance_then =
+    (mid : Point)
+    × IsSupplied key a chance mid chance_then × (b.play ≡ led_on w key a.play mid.play) × (b.left ≡ mid.left) × (b.words ≡ mid.words)
+    × (b.keys ≡ a.keys ++ key ∷ []) × (b.rows ≡ a.rows)
 
 -- what is done is answered: a key is played, and a size is taken over
-abbrev pub Answers : Input → Point → Option (List ℕ) → Point → Option (List ℕ) → Type 0
-Answers (Pressed key) a chance b chance_then = PlaysKey key a chance b chance_then
-Answers (Resized rows) a chance b chance_then = (b ≡ record a { rows = rows }) × (chance_then ≡ chance)
+abbrev pub Answers : Option Contents → Input → Point → Option (List ℕ) → Point → Option (List ℕ) → Type 0
+Answers w (Pressed key) a chance b chance_then = PlaysKey w key a chance b chance_then
+Answers w (Resized rows) a chance b chance_then = (b ≡ record a { rows = rows }) × (chance_then ≡ chance)
 
 -- it isn't for want of chance: a key
 abbrev pub LacksInput : Input → Point → Option (List ℕ) → Point → Option (List ℕ) → Type 0
@@ -75,10 +106,10 @@ LacksInput (Pressed key) a chance b chance_then = LacksSupply key a chance b cha
 LacksInput (Resized rows) a chance b chance_then = ⊥
 
 -- the next of what is typed is answered, and what comes of it is drawn, or the terminal fails
-abbrev pub Advances : Bool → Course → Course → Type 0
-Advances failing c d =
+abbrev pub Advances : Option Contents → Bool → Course → Course → Type 0
+Advances w failing c d =
     (input : Input)
-    × TakesInput (Some input) c.stage d.stage × Answers input c.at c.stage.chance d.at d.stage.chance
+    × TakesInput (Some input) c.stage d.stage × Answers w input c.at c.stage.chance d.at d.stage.chance
     × Draws failing (stage_text d.at.rows d.at.play) c.stage.drawn c.stage.terminal d.stage.drawn d.stage.terminal
 
 -- the next key isn't played for want of words, and nothing is drawn
@@ -88,34 +119,34 @@ LacksChance c d =
     × TakesInput (Some input) c.stage d.stage × LacksInput input c.at c.stage.chance d.at d.stage.chance × DrawsNothing c.stage d.stage
 
 -- a turn: a key is played, or a size taken over, and drawn; or nothing is left; or why not
-abbrev pub Turns : Result Bool TurnError → Course → Course → Type 0
-Turns (Ok true) c d = Advances false c d
-Turns (Ok false) c d =
+abbrev pub Turns : Option Contents → Result Bool TurnError → Course → Course → Type 0
+Turns w (Ok true) c d = Advances w false c d
+Turns w (Ok false) c d =
     TakesInput None c.stage d.stage × (d.stage.chance ≡ c.stage.chance) × DrawsNothing c.stage d.stage × (d.at ≡ c.at)
-Turns (Err KeyFault) c d =
+Turns w (Err KeyFault) c d =
     LacksKey c.stage d.stage × (d.stage.chance ≡ c.stage.chance) × DrawsNothing c.stage d.stage × (d.at ≡ c.at)
-Turns (Err NoWords) c d = LacksChance c d
-Turns (Err ScreenFault) c d = Advances true c d
-Turns (Err Memory) c d = DrawsNothing c.stage d.stage
-Turns (Err TooManyTurns) c d = ⊥
+Turns w (Err NoWords) c d = LacksChance c d
+Turns w (Err ScreenFault) c d = Advances w true c d
+Turns w (Err Memory) c d = DrawsNothing c.stage d.stage
+Turns w (Err TooManyTurns) c d = ⊥
 
 -- how many turns there are at most
 abbrev pub most_turns : ℕ
 most_turns = 1048576
 
 -- so many turns are made, and each is drawn
-abbrev pub Plays : ℕ → Course → Course → Type 0
-Plays zero c d = d ≡ c
-Plays (suc n) c d = (next : Course) × (c.at.play.ending ≡ None) × Advances false c next × Plays n next d
+abbrev pub Plays : Option Contents → ℕ → Course → Course → Type 0
+Plays w zero c d = d ≡ c
+Plays w (suc n) c d = (next : Course) × (c.at.play.ending ≡ None) × Advances w false c next × Plays w n next d
 
 -- how it ends after so many turns: the playtest is over; nothing is left, or a turn is refused; or no more may be made
-abbrev pub Ends : ℕ → Course → Course → Result ⊤ TurnError → Type 0
-Ends n c last r =
+abbrev pub Ends : Option Contents → ℕ → Course → Course → Result ⊤ TurnError → Type 0
+Ends w n c last r =
     ((r ≡ Ok tt) × (is_some c.at.play.ending ≡ true) × (last ≡ c))
-    ⊎ ((r ≡ Ok tt) × (c.at.play.ending ≡ None) × Turns (Ok false) c last)
-    ⊎ ((e : TurnError) × (r ≡ Err e) × (c.at.play.ending ≡ None) × Turns (Err e) c last)
+    ⊎ ((r ≡ Ok tt) × (c.at.play.ending ≡ None) × Turns w (Ok false) c last)
+    ⊎ ((e : TurnError) × (r ≡ Err e) × (c.at.play.ending ≡ None) × Turns w (Err e) c last)
     ⊎ ((r ≡ Err TooManyTurns) × (n ≡ most_turns) × (last ≡ c))
 
 -- a playtest is played on to its end
-abbrev pub PlaysOn : Course → Course → Result ⊤ TurnError → Type 0
-PlaysOn first last r = (n : ℕ) × (c : Course) × (n ≤ most_turns) × Plays n first c × Ends n c last r
+abbrev pub PlaysOn : Option Contents → Course → Course → Result ⊤ TurnError → Type 0
+PlaysOn w first last r = (n : ℕ) × (c : Course) × (n ≤ most_turns) × Plays w n first c × Ends w n c last r

@@ -6,3 +6,4 @@ pub mod Again
 pub mod Record
 pub mod Report
 pub mod Performing
+pub mod Staying

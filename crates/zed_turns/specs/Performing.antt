@@ -1,5 +1,6 @@
 -- A playtest that is drawn, and then played to its end.
 use Rattle.std.specs.Prelude.{◌≡◌, ◌⊎◌, ℕ, Bool, true, false, List, [], Option, Result, Ok, Err, ⊤}
+use Rattle.zed_world.specs.Contents.{Contents}
 use Rattle.zed_play.specs.Playtest.{Playtest}
 use Rattle.zed_staging.specs.Staged.{stage_text}
 use Rattle.zed_turns.specs.declared.error.TurnError.{TurnError}
@@ -22,11 +23,11 @@ abbrev pub with_drawn : Option (List (List ℕ)) → Option (List Bool) → Stag
 with_drawn drawn terminal s = stage drawn terminal s.inputs s.source s.chance
 
 -- a playtest is drawn as it begins, and then played on to its end; or the terminal fails at once, or memory runs out before
-abbrev pub Performs : Point → Stage → Stage → Result Point TurnError → Type 0
-Performs first old new r =
+abbrev pub Performs : Option Contents → Point → Stage → Stage → Result Point TurnError → Type 0
+Performs w first old new r =
     ((drawn : Option (List (List ℕ))) × (terminal : Option (List Bool)) × (last : Point) × (told : Result ⊤ TurnError)
     × Draws false (stage_text first.rows first.play) old.drawn old.terminal drawn terminal
-    × PlaysOn (course first (with_drawn drawn terminal old)) (course last new) told × (r ≡ played_to told last))
+    × PlaysOn w (course first (with_drawn drawn terminal old)) (course last new) told × (r ≡ played_to told last))
     ⊎ ((r ≡ Err ScreenFault) × ((drawn : Option (List (List ℕ))) × (terminal : Option (List Bool))
     × Draws true (stage_text first.rows first.play) old.drawn old.terminal drawn terminal × (new ≡ with_drawn drawn terminal old)))
     ⊎ ((r ≡ Err Memory) × (new ≡ old))
@@ -34,5 +35,5 @@ Performs first old new r =
 -- where a playtest was played to its end, the keys and words that are kept come to it again
 abbrev pub PerformancesComeAgain : Type 0
 PerformancesComeAgain =
-    (rows : ℕ) (p : Playtest) (words : List ℕ) (old new : Stage) (last : Point) →
-    Performs (at_start rows p words) old new (Ok last) → Comes p last.keys last.words last.play last.left
+    (w : Option Contents) (rows : ℕ) (p : Playtest) (words : List ℕ) (old new : Stage) (last : Point) →
+    Performs w (at_start rows p words) old new (Ok last) → Comes w p last.keys last.words last.play last.left

@@ -2,6 +2,7 @@
 ghost use Rattle.zed_turns.specs.Again.{PlaysAgain};
 ghost use Rattle.zed_turns.specs.Performing.{PerformancesComeAgain};
 ghost use Rattle.zed_turns.specs.Record.{KeysAreReadBack, WordsAreReadBack};
+ghost use Rattle.zed_turns.specs.Staying.{SameUntilLeft};
 
 /// What was played comes again of the keys and words that were kept.
 pub fn plays_again()
@@ -18,4 +19,9 @@ pub fn performances_come_again()
 pub fn record_is_read_back()
     ensures keys { KeysAreReadBack }
     ensures words { WordsAreReadBack }
+{}
+
+/// A playtest that goes on over boards is that of one board until the player leaves.
+pub fn same_until_left()
+    ensures result { SameUntilLeft }
 {}

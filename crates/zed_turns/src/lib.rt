@@ -1,7 +1,8 @@
-//! A playtest in place over a terminal, a source of what is typed and one of chance: turn by turn, each
-//! drawn, and so that it can be played again.
+//! A playtest at a terminal: it takes keys and chance turn by turn, draws each turn, and keeps them, so that
+//! it can be played again.
 #![tactic(auto)]
 
+mod atlas;
 mod console;
 mod devices;
 mod error;
@@ -13,10 +14,11 @@ mod report;
 mod tape;
 mod turns;
 
+pub use atlas::Atlas;
 pub use console::Console;
 pub use devices::{Chance, Terminal};
 pub use error::TurnError;
-pub use laws::{performances_come_again, plays_again, record_is_read_back};
+pub use laws::{performances_come_again, plays_again, record_is_read_back, same_until_left};
 pub use performing::play_from;
 pub use queue::Queue;
 pub use record::{keys_in, put_letters, put_words, words_in};

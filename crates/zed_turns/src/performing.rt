@@ -6,6 +6,7 @@ ghost use Rattle.zed_turns.specs.Errors.{is_key_fault, is_screen_fault};
 ghost use Rattle.zed_turns.specs.Performing.{Performs, at_start};
 ghost use Rattle.zed_turns.specs.Stage.{stage};
 
+use crate::atlas::Atlas;
 use crate::devices::{Chance, Terminal};
 use crate::error::TurnError;
 use crate::tape::Tape;
@@ -19,8 +20,9 @@ use zed_staging::Inputs;
 ///
 /// # Errors
 /// ScreenFault where the terminal fails at once, and those of `play_on`.
-pub fn play_from<T: Terminal, I: Inputs, C: Chance>(
+pub fn play_from<A: Atlas, T: Terminal, I: Inputs, C: Chance>(
     alloc: Global,
+    atlas: &A,
     play: Play,
     words: Vec<u16>,
     rows: usize,
@@ -33,8 +35,8 @@ pub fn play_from<T: Terminal, I: Inputs, C: Chance>(
         let after = stage (T.drawn terminal.new) (T.draws_foretell terminal.new)
         (I.left inputs.new) (I.inputs_foretell inputs.new) (C.to_come chance.new) in
         MatchResult result
-        (λ tape. Performs (at_start rows play words.items) before after (Ok (point tape)))
-        (λ e. Performs (at_start rows play words.items) before after (Err e)) }
+        (λ tape. Performs (A.world atlas.now) (at_start rows play words.items) before after (Ok (point tape)))
+        (λ e. Performs (A.world atlas.now) (at_start rows play words.items) before after (Err e)) }
     ensures key_faults { Counts (is_key_fault result)
         (I.input_failures inputs.old) (I.input_failures inputs.new) }
     ensures screen_faults { Counts (is_screen_fault result)
@@ -42,6 +44,6 @@ pub fn play_from<T: Terminal, I: Inputs, C: Chance>(
 {
     let mut tape = Tape::new(play, words, rows);
     show(alloc, &tape, terminal)?;
-    play_on(alloc, &mut tape, terminal, inputs, chance)?;
+    play_on(alloc, atlas, &mut tape, terminal, inputs, chance)?;
     Ok(tape)
 }

@@ -2,12 +2,13 @@
 ghost use Rattle.std.specs.Prelude.{◌≡◌, ◌≢◌, ◌+◌, ◌⊎◌, ◌≤◌, ◌++◌, ◌∷◌, ℕ, [], Err, IfErr, List, None, Ok, OnOk, drop, false, length, true};
 ghost use Rattle.zed_play.specs.Step.{Steps};
 ghost use Rattle.zed_turns.specs.Devices.{Brings};
-ghost use Rattle.zed_turns.specs.Course.{Answers, IsSupplied, LacksInput, LacksSupply, LacksWords, PlaysKey, point};
+ghost use Rattle.zed_turns.specs.Course.{Answers, IsSupplied, LacksInput, LacksSupply, LacksWords, PlaysKey, on_by, point};
 
+use crate::atlas::Atlas;
 use crate::devices::Chance;
 use crate::error::TurnError;
-use std::alloc::AllocError;
-use zed_play::{Key, Play, PlayError};
+use std::alloc::{AllocError, Global};
+use zed_play::{Ending, Key, Play, PlayError, Way};
 use zed_staging::{DeviceFailed, Input};
 
 /// A step that lacks words is tried again with more of them, so many times.
@@ -130,12 +131,35 @@ impl Tape {
         Ok(())
     }
 
-    /// Plays a key, and keeps it.
-    fn play_key<C: Chance>(&mut self, chance: &mut C, key: Key) -> Result<(), TurnError>
+    /// Goes on where the player left by a way for a board that is there.
+    fn go_on<A: Atlas>(&mut self, alloc: Global, atlas: &A, way: Way) -> Result<(), AllocError>
+        ensures play { OnOk result (self.new.play
+            ≡ on_by (A.world atlas.now) way self.old.play.ending self.old.play) }
+        ensures keys { self.new.keys ≡ self.old.keys }
+        ensures words { self.new.words ≡ self.old.words }
+        ensures used { self.new.used ≡ self.old.used }
+        ensures rows { self.new.rows ≡ self.old.rows }
+    {
+        if let Some(Ending::Left(board)) = self.play.ending() {
+            if let Some(play) = atlas.enter(alloc, &self.play, board, way)? {
+                self.play = play;
+            }
+        }
+        Ok(())
+    }
+
+    /// Plays a key, and keeps it; where the player left, it goes on over the boards.
+    fn play_key<A: Atlas, C: Chance>(
+        &mut self,
+        alloc: Global,
+        atlas: &A,
+        chance: &mut C,
+        key: Key,
+    ) -> Result<(), TurnError>
         requires within { self.old.used ≤ length self.old.words.items }
         requires going { self.old.play.ending ≡ None }
-        ensures ok { OnOk result (PlaysKey key (point self.old) (C.to_come chance.old)
-            (point self.new) (C.to_come chance.new)) }
+        ensures ok { OnOk result (PlaysKey (A.world atlas.now) key
+            (point self.old) (C.to_come chance.old) (point self.new) (C.to_come chance.new)) }
         ensures err { IfErr result (λ e. (e ≡ TurnError.Memory) ⊎ ((e ≡ TurnError.NoWords)
             × LacksSupply key (point self.old) (C.to_come chance.old)
             (point self.new) (C.to_come chance.new))) }
@@ -143,21 +167,25 @@ impl Tape {
             → C.chance_failures chance.new ≡ C.chance_failures chance.old }
         ensures within { self.new.used ≤ length self.new.words.items }
     {
+        let way = self.play.way(key);
         self.supply(chance, key)?;
+        self.go_on(alloc, atlas, way)?;
         self.keep(key)?;
         Ok(())
     }
 
     /// Answers what is typed: plays a key, and takes a size over.
-    pub(crate) fn answer<C: Chance>(
+    pub(crate) fn answer<A: Atlas, C: Chance>(
         &mut self,
+        alloc: Global,
+        atlas: &A,
         chance: &mut C,
         input: Input,
     ) -> Result<(), TurnError>
         requires within { self.old.used ≤ length self.old.words.items }
         requires going { self.old.play.ending ≡ None }
-        ensures ok { OnOk result (Answers input (point self.old) (C.to_come chance.old)
-            (point self.new) (C.to_come chance.new)) }
+        ensures ok { OnOk result (Answers (A.world atlas.now) input
+            (point self.old) (C.to_come chance.old) (point self.new) (C.to_come chance.new)) }
         ensures err { IfErr result (λ e. (e ≡ TurnError.Memory) ⊎ ((e ≡ TurnError.NoWords)
             × LacksInput input (point self.old) (C.to_come chance.old)
             (point self.new) (C.to_come chance.new))) }
@@ -166,7 +194,7 @@ impl Tape {
         ensures within { self.new.used ≤ length self.new.words.items }
     {
         match input {
-            Input::Pressed(key) => self.play_key(chance, key),
+            Input::Pressed(key) => self.play_key(alloc, atlas, chance, key),
             Input::Resized(rows) => {
                 self.rows = usize::from(rows);
                 Ok(())

@@ -7,6 +7,7 @@ ghost use Rattle.zed_turns.specs.Course.{PlaysOn, Turns, course, point};
 ghost use Rattle.zed_turns.specs.Errors.{is_key_fault, is_screen_fault};
 ghost use Rattle.zed_turns.specs.Stage.{Draws, stage};
 
+use crate::atlas::Atlas;
 use crate::devices::{Chance, Terminal};
 use crate::error::TurnError;
 use crate::tape::Tape;
@@ -68,8 +69,9 @@ pub(crate) fn show<T: Terminal>(
 }
 
 /// Answers what is typed next, and draws what comes of it; whether there was anything.
-fn turn<T: Terminal, I: Inputs, C: Chance>(
+fn turn<A: Atlas, T: Terminal, I: Inputs, C: Chance>(
     alloc: Global,
+    atlas: &A,
     tape: &mut Tape,
     terminal: &mut T,
     inputs: &mut I,
@@ -77,7 +79,7 @@ fn turn<T: Terminal, I: Inputs, C: Chance>(
 ) -> Result<bool, TurnError>
     requires within { tape.old.used ≤ length tape.old.words.items }
     requires going { tape.old.play.ending ≡ None }
-    ensures turns { Turns result
+    ensures turns { Turns (A.world atlas.now) result
         (course (point tape.old) (stage (T.drawn terminal.old) (T.draws_foretell terminal.old)
         (I.left inputs.old) (I.inputs_foretell inputs.old) (C.to_come chance.old)))
         (course (point tape.new) (stage (T.drawn terminal.new) (T.draws_foretell terminal.new)
@@ -93,7 +95,7 @@ fn turn<T: Terminal, I: Inputs, C: Chance>(
     let Some(input) = next_input(inputs)? else {
         return Ok(false);
     };
-    tape.answer(chance, input)?;
+    tape.answer(alloc, atlas, chance, input)?;
     show(alloc, tape, terminal)?;
     Ok(true)
 }
@@ -105,15 +107,16 @@ fn turn<T: Terminal, I: Inputs, C: Chance>(
 /// KeyFault where the source of what is typed fails; NoWords where the source of chance fails, or brings
 /// 131,072 words that are too few for one step; ScreenFault where the terminal fails, with a turn made
 /// that isn't drawn; TooManyTurns behind 1,048,576 turns; and Memory.
-pub fn play_on<T: Terminal, I: Inputs, C: Chance>(
+pub fn play_on<A: Atlas, T: Terminal, I: Inputs, C: Chance>(
     alloc: Global,
+    atlas: &A,
     tape: &mut Tape,
     terminal: &mut T,
     inputs: &mut I,
     chance: &mut C,
 ) -> Result<(), TurnError>
     requires within { tape.old.used ≤ length tape.old.words.items }
-    ensures plays { PlaysOn
+    ensures plays { PlaysOn (A.world atlas.now)
         (course (point tape.old) (stage (T.drawn terminal.old) (T.draws_foretell terminal.old)
         (I.left inputs.old) (I.inputs_foretell inputs.old) (C.to_come chance.old)))
         (course (point tape.new) (stage (T.drawn terminal.new) (T.draws_foretell terminal.new)
@@ -130,7 +133,7 @@ pub fn play_on<T: Terminal, I: Inputs, C: Chance>(
         if tape.play.ending().is_some() {
             return Ok(());
         }
-        if !turn(alloc, tape, terminal, inputs, chance)? {
+        if !turn(alloc, atlas, tape, terminal, inputs, chance)? {
             return Ok(());
         }
     }

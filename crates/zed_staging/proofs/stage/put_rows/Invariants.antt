@@ -7,4 +7,4 @@ use Rattle.zed_staging.proofs.stage.put_rows.Given as goal
 abbrev pub invariant-loop-row : goal.invariant-loop-row
 invariant-loop-row l =
     (l.first ≤ l.row)
-    × (l.out.items ≡ l.fn.out.items ++ flat_map (λ row. coloured_row None (stage_row l.play row)) (range_with_len l.first (l.row - l.first)))
+    × (l.out.items ≡ l.fn.out.items ++ flat_map (λ row. coloured_row None (stage_row l.first l.play row)) (range_with_len l.first (l.row - l.first)))

@@ -9,7 +9,7 @@ loop-preserved g c =
     let played : c.in_ok-turn.field-0 ≡ true = c.if-not-branch.false in
     let going = sym c.ending.ensures.result ∙ none_is c.ending.result (sym c.is_some.ensures ∙ c.if-is_some.false) in
     record {
-      plays = one_more c.loop.counter c.in_ok-turn.field-0 _ _ _ old.plays going played c.in_ok-turn.ensures.turns;
+      plays = one_more (g.A.Atlas.world c.args.atlas.now) c.loop.counter c.in_ok-turn.field-0 _ _ _ old.plays going played c.in_ok-turn.ensures.turns;
       within = c.in_ok-turn.ensures.within;
       keys = c.in_ok-turn.ensures.key_faults ∙ old.keys;
       screen = c.in_ok-turn.ensures.screen_faults ∙ old.screen;

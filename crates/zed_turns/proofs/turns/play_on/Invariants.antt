@@ -6,7 +6,7 @@ use Rattle.zed_turns.proofs.turns.play_on.Given as goal
 -- so many turns were made and drawn, and no device failed
 abbrev pub invariant-loop : goal.invariant-loop
 invariant-loop g l = record {
-  plays : Plays l.counter
+  plays : Plays (g.A.Atlas.world l.fn.atlas) l.counter
       (course (point l.fn.tape) (stage (g.T.Terminal.drawn l.fn.terminal) (g.T.Terminal.draws_foretell l.fn.terminal)
       (g.I.Inputs.left l.fn.inputs) (g.I.Inputs.inputs_foretell l.fn.inputs) (g.C.Chance.to_come l.fn.chance)))
       (course (point l.tape) (stage (g.T.Terminal.drawn l.terminal) (g.T.Terminal.draws_foretell l.terminal)
