@@ -3,6 +3,8 @@ ghost use Rattle.std.specs.Prelude.{◌≡◌, None, false, is_err};
 ghost use Rattle.zed_host.specs.Counting.{Counts, Rose};
 ghost use Rattle.zed_system.specs.Counted.{called_in, failed_in, nothing_failed};
 
+use crate::causes::{named_twice, of_file};
+use crate::last::{Ending, Front, LastCall};
 use crate::place::{Place, Way};
 use crate::reading::{Stop, read_whole};
 use std::fs;
@@ -12,7 +14,8 @@ use zed_disk::NamedFile;
 use zed_host::{Host, ReadError, WriteError};
 
 /// Files by their paths; `stdin` and `stdout` are the streams. It doesn't say what they hold. It
-/// writes only the files that it was allowed to write.
+/// writes only the files that it was allowed to write. It remembers how its last calls ended, so
+/// that a program can say which file a refusal is of.
 #[derive(Drop)]
 pub struct SystemHost {
     rt: HostRuntime,
@@ -21,6 +24,10 @@ pub struct SystemHost {
     missing: u64,
     // the calls that failed otherwise
     faults: u64,
+    // the last one of all that failed, and the last one that didn't
+    failed: LastCall,
+    passed: LastCall,
+    complaint: Front,
 }
 
 impl Model for SystemHost {
@@ -41,7 +48,27 @@ impl SystemHost {
             places: Vec::new(rt.alloc()),
             missing: 0,
             faults: 0,
+            failed: LastCall::none(),
+            passed: LastCall::none(),
+            complaint: Front::of(b""),
         }
+    }
+
+    /// The last call that failed: that of a file that wasn't there, that couldn't be read or
+    /// couldn't be written, or of standard output.
+    pub fn last_failed(&self) -> &LastCall {
+        &self.failed
+    }
+
+    /// The last call for a file that didn't fail: the file was read or written, or memory was
+    /// refused while it was read.
+    pub fn last_passed(&self) -> &LastCall {
+        &self.passed
+    }
+
+    /// What was written to standard error last, or nothing: its first 4,096 bytes.
+    pub fn complaint(&self) -> &[u8] {
+        self.complaint.as_slice()
     }
 
     /// Lets the command write the file of a name. If an edit file is there then, it is kept beside
@@ -144,7 +171,7 @@ impl SystemHost {
         for place in &self.places {
             if place.is_of(name) {
                 if place.is_refused() {
-                    return Err(io::Error::from(ErrorKind::ResourceBusy));
+                    return Err(named_twice());
                 }
                 found = Ok(place);
             }
@@ -179,6 +206,27 @@ impl SystemHost {
         }
         self.place_of(name)?.write(&self.rt, name, bytes)
     }
+
+    // Remembers that the file of a name couldn't be read.
+    fn note_unread(&mut self, name: &str, error: io::Error)
+        ensures kept { self.new ≡ self.old }
+    {
+        let cause = of_file(&self.rt, name, error);
+        self.failed = LastCall::of(name, Ending::NotRead(cause));
+    }
+
+    // Remembers how the file of a name was written, if it was.
+    fn note_written(&mut self, name: &str, written: &io::Result<()>)
+        ensures kept { self.new ≡ self.old }
+    {
+        match written {
+            Ok(()) => self.passed = LastCall::of(name, Ending::Written),
+            Err(error) => {
+                let cause = of_file(&self.rt, name, *error);
+                self.failed = LastCall::of(name, Ending::NotWritten(cause));
+            }
+        }
+    }
 }
 
 // Counts a call that failed.
@@ -210,14 +258,23 @@ impl Host for SystemHost {
 
     fn read(&mut self, name: &str) -> Result<Vec<u8>, ReadError> {
         match self.read_named(name) {
-            Ok(bytes) => Ok(bytes),
-            Err(Stop::Memory) => Err(ReadError::Memory),
+            Ok(bytes) => {
+                self.passed = LastCall::of(name, Ending::Read);
+                Ok(bytes)
+            }
+            Err(Stop::Memory) => {
+                let error = io::Error::from(ErrorKind::OutOfMemory);
+                self.passed = LastCall::of(name, Ending::NotRead(error));
+                Err(ReadError::Memory)
+            }
             Err(Stop::Missing) => {
                 count(&mut self.missing);
+                self.failed = LastCall::of(name, Ending::NoFile);
                 Err(ReadError::NoFile)
             }
-            Err(Stop::Device) => {
+            Err(Stop::Device(error)) => {
                 count(&mut self.faults);
+                self.note_unread(name, error);
                 Err(ReadError::File)
             }
         }
@@ -225,15 +282,20 @@ impl Host for SystemHost {
 
     fn write(&mut self, name: &str, bytes: &[u8]) -> Result<(), WriteError> {
         let written = self.write_named(name, bytes);
+        self.note_written(name, &written);
         counted(&mut self.faults, written)
     }
 
     fn print(&mut self, bytes: &[u8]) -> Result<(), WriteError> {
         let written = self.rt.stdout().write_all(bytes);
+        if let Err(error) = written {
+            self.failed = LastCall::of("stdout", Ending::NotWritten(error));
+        }
         counted(&mut self.faults, written)
     }
 
     fn complain(&mut self, bytes: &[u8]) -> Result<(), WriteError> {
+        self.complaint = Front::of(bytes);
         let written = self.rt.stderr().write_all(bytes);
         counted(&mut self.faults, written)
     }

@@ -1,5 +1,6 @@
 //! The files that a command writes.
 
+use crate::causes::{copy_was_read, named_twice, of_standing};
 use crate::reading::{Stop, read_whole};
 use std::fs::File;
 use std::io::{self, ErrorKind, Seek};
@@ -111,7 +112,7 @@ impl Place {
     /// Reads the file, which is held from then on. A second time it is read as it is held.
     pub(crate) fn read(&mut self, rt: &HostRuntime, name: &str) -> Result<Vec<u8>, Stop> {
         match &mut self.hold {
-            Hold::Refused => return Err(Stop::Device),
+            Hold::Refused => return Err(Stop::Device(named_twice())),
             Hold::Of(file) => {
                 file.rewind()?;
                 return read_whole(rt.alloc(), file);
@@ -143,14 +144,14 @@ impl Place {
     pub(crate) fn write(&self, rt: &HostRuntime, name: &str, bytes: &[u8]) -> io::Result<()> {
         let found = self.file.found();
         match (&self.hold, &found) {
-            (Hold::Of(file), Ok(found)) => stands(rt, file, found)?,
-            (Hold::Refused, _) => return Err(io::Error::from(ErrorKind::ResourceBusy)),
+            (Hold::Of(file), Ok(found)) => stands(rt, file, found).map_err(of_standing)?,
+            (Hold::Refused, _) => return Err(named_twice()),
             _ => {}
         }
         match self.way {
             Way::Edits => write(rt, name, found, bytes),
             Way::Writes if self.is_kept_read && is_kept(rt, name, &EDITS)? => {
-                Err(io::Error::from(ErrorKind::ResourceBusy))
+                Err(copy_was_read())
             }
             Way::Writes => write_keeping(rt, name, found, &EDITS, bytes),
         }

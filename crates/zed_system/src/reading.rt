@@ -1,6 +1,7 @@
 //! Reading a file to its end.
 ghost use Rattle.std.specs.Prelude.{◌≡◌, ◌≤◌, ◌++◌, IfOk, OnOk, length};
 
+use crate::causes::{endless, too_long};
 use std::alloc::{AllocError, Global};
 use std::io::{self, ErrorKind, Read};
 
@@ -23,7 +24,7 @@ pub(crate) enum Stop {
     /// There is no such file.
     Missing,
     /// The file is too long, or a device failed.
-    Device,
+    Device(io::Error),
 }
 
 impl From<AllocError> for Stop {
@@ -36,7 +37,7 @@ impl From<io::Error> for Stop {
     fn from(error: io::Error) -> Stop {
         match error.kind() {
             ErrorKind::NotFound => Stop::Missing,
-            _ => Stop::Device,
+            _ => Stop::Device(error),
         }
     }
 }
@@ -48,7 +49,7 @@ fn take(bytes: &mut Vec<u8>, more: &[u8]) -> Result<(), Stop>
     ensures within { OnOk result (length bytes.new.items ≤ MOST) }
 {
     if more.len() > MOST - bytes.len() {
-        return Err(Stop::Device);
+        return Err(Stop::Device(too_long()));
     }
     bytes.extend_from_slice(more)?;
     Ok(())
@@ -65,8 +66,8 @@ pub(crate) fn read_whole<R: Read>(alloc: Global, reader: &mut R) -> Result<Vec<u
             Ok(0) => return Ok(bytes),
             Ok(count) => take(&mut bytes, &piece[..count])?,
             Err(error) if error.kind() == ErrorKind::Interrupted => {}
-            Err(_) => return Err(Stop::Device),
+            Err(error) => return Err(Stop::Device(error)),
         }
     }
-    Err(Stop::Device)
+    Err(Stop::Device(endless()))
 }

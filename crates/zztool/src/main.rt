@@ -2,8 +2,10 @@
 #![tactic(auto)]
 
 mod devices;
+mod naming;
 
 use crate::devices::{Display, Keyboard, SystemChance};
+use crate::naming::name_file;
 use std::alloc::{AllocError, Global};
 use std::env;
 use std::io::{self, ErrorKind, Write};
@@ -107,14 +109,19 @@ fn status_of(rt: &HostRuntime, error: &io::Error) -> u8 {
     status
 }
 
-// Carries out what the words ask for, over real files and streams, and a terminal.
+// Carries out what the words ask for, over real files and streams, and a terminal. Behind the line of a refusal comes another one, which
+// names a file.
 fn carry_out(rt: HostRuntime, words: &[String]) -> io::Result<u8> {
     let alloc = rt.alloc();
     let mut host = SystemHost::new(rt);
     prepare(&rt, words, &mut host)?;
     let typist = Typist::new(Keyboard::new(rt));
     let mut console = Console::new(alloc, Display::new(rt), typist, SystemChance::new(rt));
-    Ok(run(alloc, words, &mut host, &mut console))
+    let status = run(alloc, words, &mut host, &mut console);
+    if status == 1 {
+        name_file(&rt, &host);
+    }
+    Ok(status)
 }
 
 // The status of what the words ask for.
