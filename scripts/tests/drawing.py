@@ -11,6 +11,7 @@ import sys
 from concurrent.futures import ThreadPoolExecutor
 
 import zzt
+from naming import refusal_in
 from zzt import Board, Stat, World
 
 ZZTED, ZZTOOL, ROOM, COUNT = sys.argv[1], sys.argv[2], sys.argv[3], int(sys.argv[4])
@@ -28,7 +29,7 @@ def is_so(what, told, wanted):
 
 def run(program, *words):
     ran = subprocess.run([program, *map(str, words)], stdin=subprocess.DEVNULL, capture_output=True, text=True, cwd=ROOM)
-    return f"{ran.returncode} {ran.stdout}{ran.stderr}".strip()
+    return f"{ran.returncode} {ran.stdout}{refusal_in(ran.stderr, words)}".strip()
 
 
 def zzted(*words):
@@ -650,6 +651,10 @@ def refused():
     refuses("a program that is the player's", "BadShare", *taken, data=zzt.with_body(good, 0, lambda body: body[:-10] + b"\xff\xff" + body[-8:]))
     put("mine.zzt", good)
     refuses("replica 0, before all else", "BadEdit Stamp", "take", "--base", "none.zed", "none.zed", 0, "none.zzt")
+    refuses("replica 0, without a base", "BadEdit Stamp", "take", "none.zed", 0, "none.zzt")
+    refuses("replica 0, of files that are there", "BadEdit Stamp", "take", "mine.zed", 0, "mine.zzt")
+    refuses("replica 0, with a base that is there", "BadEdit Stamp", "take", "--base", "start.zed", "mine.zed", 0, "mine.zzt")
+    refuses("replica 0, of files that are damaged", "BadEdit Stamp", "take", "--base", "mine.zzt", "mine.zzt", 0, "mine.zed")
     refuses("no FILE", "File", "take", "none.zed", 1, "mine.zzt")
     refuses("no WORLD", "File", "take", "mine.zed", 1, "none.zzt")
     refuses("no base", "File", "take", "--base", "none.zed", "mine.zed", 1, "mine.zzt")

@@ -40,6 +40,26 @@ not_tried() {
     untried=$((untried + 1))
 }
 
+# Prints a complaint of zztool without its second line, if that names a file of the command's words, the base of one, or a stream. Any other
+# line stays, for the row to refuse; rows of their own compare second lines whole.
+refusal_in() {
+    local lines word
+    mapfile -t lines < "$1"
+    shift
+    if [ "${#lines[@]}" -eq 2 ]; then
+        for word in "$@" "${@/%/.base}" stdin stdout; do
+            case ${lines[1]} in
+                "zztool: the last file read was $word" | "zztool: the last file written was $word" | "zztool: $word: no such file" \
+                    | "zztool: $word can't be read: "* | "zztool: $word can't be written: "*)
+                    unset 'lines[1]'
+                    break
+                    ;;
+            esac
+        done
+    fi
+    [ "${#lines[@]}" -eq 0 ] || printf '%s\n' "${lines[@]}"
+}
+
 # The last line. Nothing tried at all is well only where it was said why.
 tell_counts() {
     is_counted=yes

@@ -13,6 +13,7 @@ import subprocess
 import sys
 
 import zzt
+from naming import refusal_in
 from zzt import Board, Stat, World
 
 ZZTED, ZZTOOL, ROOM, COUNT = sys.argv[1], sys.argv[2], sys.argv[3], int(sys.argv[4])
@@ -50,9 +51,9 @@ def zzted(*words):
 
 
 def zztool(*words):
-    """The status of `zztool program`, its output and its complaint, as bytes."""
+    """The status of `zztool program`, its output and the line of its refusal, as bytes."""
     ran = subprocess.run([ZZTOOL, "program", *map(str, words)], stdin=subprocess.DEVNULL, capture_output=True, cwd=ROOM)
-    return ran.returncode, ran.stdout, ran.stderr
+    return ran.returncode, ran.stdout, refusal_in(ran.stderr.decode(), words).encode()
 
 
 def copy(name, other):
