@@ -1,12 +1,9 @@
 //! Reading a file that will be replaced, so that no other command replaces it in between.
 
-use crate::named::{FoundFile, is_at};
+use crate::named::{FoundFile, LOOKS, is_at};
 use std::fs::{self, File, OpenOptions};
 use std::io::{self, ErrorKind};
 use std::os::fd::AsRawFd;
-
-/// If a file is replaced so many times while this waits for its lock, that is a failure.
-const LOOKS: u32 = 1_048_576;
 
 /// The greatest number of a standard stream.
 const STANDARD: i32 = 2;

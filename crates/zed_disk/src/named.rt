@@ -12,6 +12,10 @@ use std::time::{SystemTime, UNIX_EPOCH};
 /// Most symbolic links on the way to a file.
 const LINKS: u32 = 40;
 
+/// If a file is replaced so many times while a command looks at it, or waits for its lock, that is a
+/// failure.
+pub(crate) const LOOKS: u32 = 1_048_576;
+
 /// A file that a command writes, by the name that its words give.
 #[derive(Drop)]
 pub struct NamedFile {
@@ -191,18 +195,45 @@ impl NamedFile {
     }
 }
 
-/// Whether a name leads to the file at a path. No name leads to what isn't there.
-///
-/// # Errors
-/// A device failed.
-pub fn leads_to(rt: &HostRuntime, name: &str, path: &str) -> io::Result<bool> {
-    let Some(here) = unless_missing(fs::symlink_metadata(rt, path))? else {
-        return Ok(false);
-    };
+// Whether a name leads to a file that was found elsewhere.
+fn leads_there(rt: &HostRuntime, name: &str, here: &Metadata) -> io::Result<bool> {
     match unless_missing(fs::metadata(rt, name))? {
-        Some(there) => Ok(is_same(&here, &there)),
+        Some(there) => Ok(is_same(here, &there)),
         None => Ok(false),
     }
+}
+
+// Whether a path still has the file that was found there, and nothing has happened to it since. The system may give a new file the
+// number of one that is gone, hence the times.
+fn is_still(rt: &HostRuntime, path: &str, here: &Metadata) -> io::Result<bool> {
+    match unless_missing(fs::symlink_metadata(rt, path))? {
+        Some(now) => Ok(
+            is_same(here, &now)
+                && here.ctime() == now.ctime()
+                && here.ctime_nsec() == now.ctime_nsec(),
+        ),
+        None => Ok(false),
+    }
+}
+
+/// Whether a name leads to the file at a path. No name leads to what isn't there. Another command
+/// may replace the file between the two looks that this takes; then it looks again.
+///
+/// # Errors
+/// A device failed, or the file is replaced each time.
+pub fn leads_to(rt: &HostRuntime, name: &str, path: &str) -> io::Result<bool> {
+    for _ in 0..LOOKS {
+        let Some(here) = unless_missing(fs::symlink_metadata(rt, path))? else {
+            return Ok(false);
+        };
+        if leads_there(rt, name, &here)? {
+            return Ok(true);
+        }
+        if is_still(rt, path, &here)? {
+            return Ok(false);
+        }
+    }
+    Err(io::Error::from(ErrorKind::ResourceBusy))
 }
 
 // What a look at a file told, if the file is there.
