@@ -2,7 +2,9 @@
    $FAULT is `KIND NTH HOW`: of the calls of this kind the one of this number fails (HOW is `fail`), the program is ended before it (`end`), or
    half of its bytes are written and then the program is ended (`half`). KIND is growth, open, list, read, write, sync, rename, link, unlink, lock, look,
    mode, or any for each of these. Once that has come, $FAULT_MET has a line with the call's kind and file. Each call that changes what a folder
-   holds, and each write, adds a line to $FAULT_TRACE. Where $FAULT_LINKS is set, no file gets a second name, as on some file systems. */
+   holds, and each write, adds a line to $FAULT_TRACE. Where $FAULT_LINKS is set, no file gets a second name, as on some file systems. Where
+   $FAULT_OTHERS is `FILE FIRST SECOND`, other commands replace the file: by FILE.1 before the look of the first number, and by FILE.2 before that of
+   the second, each if nobody holds FILE then. */
 typedef unsigned long size;
 struct statx;
 
@@ -21,8 +23,13 @@ extern int kill(int, int);
 #define SIGKILL 9
 #define APPENDING 02101 /* O_WRONLY | O_CREAT | O_APPEND */
 
+#define READ_WRITE 2
+#define HOLD_AT_ONCE 6 /* LOCK_EX | LOCK_NB */
+
 int open(const char *, int, ...);
 int close(int);
+int flock(int, int);
+int rename(const char *, const char *);
 long write(int, const void *, size);
 
 enum { FAIL, END, HALF };
@@ -47,6 +54,12 @@ static const char *word(const char *from, char *to, size room) {
     return *from ? from + 1 : from;
 }
 
+static size number_of(const char *digits) {
+    size number = 0;
+    for (; *digits; digits++) number = number * 10 + (size) (*digits - '0');
+    return number;
+}
+
 static void read_fault(void) {
     const char *asked = getenv("FAULT");
     char number[24], name[8];
@@ -55,7 +68,7 @@ static void read_fault(void) {
     asked = word(asked, kind, sizeof kind);
     asked = word(asked, number, sizeof number);
     word(asked, name, sizeof name);
-    for (const char *digit = number; *digit; digit++) nth = nth * 10 + (size) (*digit - '0');
+    nth = number_of(number);
     how = is_same(name, "half") ? HALF : is_same(name, "end") ? END : FAIL;
 }
 
@@ -161,11 +174,37 @@ int unlink(const char *path) {
     return NEXT(unlink)(path);
 }
 
+/* Another command replaces a file, unless somebody holds it. */
+static void replace(const char *file, const char *by) {
+    int held = NEXT(open)(file, READ_WRITE);
+    if (held < 0) return;
+    if (!NEXT(flock)(held, HOLD_AT_ONCE)) NEXT(rename)(by, file);
+    NEXT(close)(held);
+}
+
+/* What others do before the next look. */
+static void others(void) {
+    static size looks;
+    char file[256], by[256], number[24];
+    const char *asked = getenv("FAULT_OTHERS");
+    looks++;
+    if (!asked) return;
+    asked = word(asked, file, sizeof file - 2);
+    size length = (size) (word(file, by, sizeof by) - file);
+    by[length] = '.', by[length + 2] = 0;
+    for (char digit = '1'; *asked; digit++) {
+        asked = word(asked, number, sizeof number);
+        by[length + 1] = digit;
+        if (number_of(number) == looks) replace(file, by);
+    }
+}
+
 int flock(int file, int wanted) { return is_met("lock", path_of(file)) ? (int) failed(EIO) : NEXT(flock)(file, wanted); }
 
 int fchmod(int file, unsigned mode) { return is_met("mode", path_of(file)) ? (int) failed(EIO) : NEXT(fchmod)(file, mode); }
 
 int statx(int folder, const char *path, int flags, unsigned wanted, struct statx *to) {
+    others();
     return is_met("look", path) ? (int) failed(EIO) : NEXT(statx)(folder, path, flags, wanted, to);
 }
 
