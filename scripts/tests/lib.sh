@@ -34,6 +34,15 @@ is() {
     fi
 }
 
+# Waits until a command succeeds, some minutes at most: a slow machine that has much to do fails no row for that.
+waits_until() {
+    local end=$((SECONDS + 300))
+    until "$@"; do
+        [ "$SECONDS" -lt "$end" ] || break
+        sleep 0.02
+    done
+}
+
 # Says what can't be tried here, and why.
 not_tried() {
     echo "$suite: not tried: $1"
