@@ -2,7 +2,7 @@
 use Rattle.std.proofs.Common.{◌≡◌, ◌∙◌, ◌≤◌, ◌<◌, ◌+◌, ℕ, zero, suc, Bool, true, false, cond, arith, length, take, List, [], ◌∷◌, ◌++◌, Some, None, Option, refl, ap, sym, subst, append_assoc, append-nil}
 use Rattle.std.specs.List.{AllByRecursion}
 use Rattle.std.proofs.lemmas.List.{length-append}
-use Rattle.std.specs.Prelude.{slice_index_or}
+use Rattle.std.specs.Prelude.{slice_index_or, slice_set}
 use mathlib.Core.Logic.{◌⊎◌, inl, inr}
 use Rattle.zed_types.specs.declared.stamp.Stamp.{Stamp}
 use Rattle.zed_types.specs.Stamp.{before, same_stamp}
@@ -277,6 +277,12 @@ found-at s (q ∷ rs) zero r f l is none some = ap (λ (o : Found). first_of o (
 found-at s (q ∷ rs) (suc i) r f l is none some =
     let both = first-both (edit_with s q) (found_in s (take i rs)) none in
     ap (λ (o : Found). first_of o (found_in s rs)) both.0 ∙ found-at s rs i r f (omega arith) is both.1 some
+
+-- runs stay as they are where one is put back
+pub put-back : (rs : Runs) (i : ℕ) (r : List Edit) → i < length rs → r ≡ slice_index_or rs i r → slice_set rs i r ≡ rs
+put-back [] i r l is = absurd (omega arith)
+put-back (q ∷ rs) zero r l is = ap (λ (p : List Edit). p ∷ rs) is
+put-back (q ∷ rs) (suc i) r l is = ap (λ (qs : Runs). q ∷ qs) (put-back rs i r (omega arith) is)
 
 pub none-on : (s : Stamp) (rs : Runs) (i : ℕ) (r : List Edit) → i < length rs → r ≡ slice_index_or rs i r → found_in s (take i rs) ≡ None → edit_with s r ≡ None → found_in s (take (suc i) rs) ≡ None
 none-on s [] i r l is none not = absurd (omega arith)

@@ -26,6 +26,15 @@ pub edit_with-none : (s : Stamp) (high : List Edit) → AllAbove s high → edit
 edit_with-none s [] a = refl
 edit_with-none s (f ∷ high) a = rw (before_differs_after s f.stamp a.0) (edit_with-none s high a.1)
 
+pub none-below : (s : Stamp) (low : List Edit) → AllBelow s low → edit_with s low ≡ None
+none-below s [] b = refl
+none-below s (f ∷ low) b = rw (before_differs f.stamp s b.0) (none-below s low b.1)
+
+-- a stamp behind all edits of a log isn't there
+pub none-after : (b : Bool) (s : Stamp) (log whole : List Edit) → log ≡ whole → OnTrue b (AllBelow s log) → OnTrue b (edit_with s whole ≡ None)
+none-after true s log whole is below = ap (edit_with s) (sym is) ∙ none-below s log below
+none-after false s log whole is below = tt
+
 pub edit_with-past : (s : Stamp) (low rest : List Edit) → AllBelow s low → edit_with s (low ++ rest) ≡ edit_with s rest
 edit_with-past s [] rest b = refl
 edit_with-past s (f ∷ low) rest b = rw (before_differs f.stamp s b.0) (edit_with-past s low rest b.1)

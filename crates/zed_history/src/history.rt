@@ -1,5 +1,6 @@
 //! The edits of a replica, to which others come in any order.
 ghost use Rattle.std.specs.Prelude.{◌≡◌, ◌≢◌, ◌≤◌, ◌<◌, ◌+◌, ◌++◌, ◌∷◌, [], true, false, None, Some, List, length, vec_len, vec_capacity, IfSome, IfNone, OnOk, OnErr, insert};
+ghost use Rattle.std.specs.Bool.{OnTrue, OnFalse};
 ghost use Rattle.zed_types.specs.declared.stamp.Stamp.{Stamp as TheStamp};
 ghost use Rattle.zed_op.specs.declared.op.Edit.{Edit as TheEdit};
 ghost use Rattle.zed_op.specs.Set.{IsRising, with_edit};
@@ -8,7 +9,7 @@ ghost use Rattle.zed_history.specs.Finding.{AllBelow, edit_with};
 ghost use Rattle.zed_history.specs.Runs.{AreRuns, SettleTo, count_in, found_in, joined};
 
 use crate::moving::move_in;
-use crate::place::{ends_with, is_latest, place_of, spot_of};
+use crate::place::{is_latest, seek_from, spot_of};
 use crate::run::{Run, find_in, seek_in, settle};
 use std::alloc::{AllocError, Global};
 use std::marker::Model;
@@ -34,11 +35,14 @@ pub struct History {
     run: Vec<Edit>,
     /// So many are late, or fewer. The log has room for them, so that closing takes no memory.
     late: usize,
+    /// A stamp that was sought in vain since an edit came last.
+    missing: Option<Stamp>,
 }
 
 impl Model for History {
-    ghost use Rattle.std.specs.Prelude.{◌≤◌, ◌+◌, ◌++◌, ◌∷◌, [], List, length, vec_capacity};
+    ghost use Rattle.std.specs.Prelude.{◌≡◌, ◌≤◌, ◌+◌, ◌++◌, ◌∷◌, [], List, None, IfSome, length, vec_capacity};
     ghost use Rattle.zed_op.specs.declared.op.Edit.{Edit as TheEdit};
+    ghost use Rattle.zed_history.specs.Finding.{edit_with};
     ghost use Rattle.zed_history.specs.Runs.{AreRuns, count_in, joined};
 
     ghost Value = { List TheEdit };
@@ -47,7 +51,9 @@ impl Model for History {
 
     ghost invariant = { λ l. AreRuns (l.log.items ∷ (l.settled.items ++ l.run.items ∷ []))
         × (length l.log.items + l.late ≤ vec_capacity l.log)
-        × (count_in (l.settled.items ++ l.run.items ∷ []) ≤ l.late) };
+        × (count_in (l.settled.items ++ l.run.items ∷ []) ≤ l.late)
+        × IfSome l.missing (λ s. edit_with s
+        (joined (l.log.items ∷ (l.settled.items ++ l.run.items ∷ []))) ≡ None) };
 }
 
 /// Makes room at the end of a log for so many late edits and one more.
@@ -168,6 +174,7 @@ impl History {
             settled: Vec::new(alloc),
             run: Vec::new(alloc),
             late: 0,
+            missing: None,
         }
     }
 
@@ -176,13 +183,48 @@ impl History {
         *self.log.allocator()
     }
 
-    /// Looks for the place of a stamp. The next search begins there.
+    /// Looks for a stamp. The next search begins at its place, or ends at once if it isn't there.
     pub fn seek(&mut self, stamp: Stamp)
         ensures { self.new ≡ self.old }
     {
-        self.at = place_of(&self.log, self.at, stamp);
-        if !ends_with(&self.log, self.at, stamp) {
-            seek_in(&mut self.settled, stamp);
+        if !self.is_missing(stamp) && !self.look(stamp) {
+            self.missing = Some(stamp);
+        }
+    }
+
+    /// Whether there is an edit with a stamp. The next search begins at its place.
+    fn look(&mut self, stamp: Stamp) -> bool
+        ensures none { OnFalse result (edit_with stamp self.old ≡ None) }
+        ensures kept { self.new ≡ self.old }
+    {
+        sets_rise();
+        rising_lists_are_sets();
+        if self.is_after_all(stamp) {
+            return false;
+        }
+        if seek_from(&self.log, &mut self.at, stamp) {
+            return true;
+        }
+        if seek_in(&mut self.settled, stamp) {
+            return true;
+        }
+        find_last(&self.run, stamp).is_some()
+    }
+
+    /// Whether a stamp comes after all edits, none of which is late.
+    fn is_after_all(&self, stamp: Stamp) -> bool
+        ensures { OnTrue result (edit_with stamp self.now ≡ None) }
+    {
+        self.late == 0 && is_latest(&self.log, stamp)
+    }
+
+    /// Whether a stamp was sought in vain since an edit came last.
+    fn is_missing(&self, stamp: Stamp) -> bool
+        ensures { OnTrue result (edit_with stamp self.now ≡ None) }
+    {
+        match self.missing {
+            Some(missing) => missing == stamp,
+            None => false,
         }
     }
 
@@ -191,6 +233,9 @@ impl History {
         ensures some { IfSome result (λ f. edit_with stamp self.now ≡ Some f.now) }
         ensures none { IfNone result (edit_with stamp self.now ≡ None) }
     {
+        if self.is_missing(stamp) {
+            return None;
+        }
         sets_rise();
         rising_lists_are_sets();
         if let Ok(there) = spot_of(&self.log, self.at, stamp) {
@@ -211,6 +256,7 @@ impl History {
         sets_rise();
         rising_lists_are_sets();
         let alloc = *self.log.allocator();
+        self.missing = None;
         let is_latest = is_latest(&self.log, edit.stamp);
         make_room(&mut self.log, self.late)?;
         if is_latest {
@@ -234,6 +280,7 @@ impl History {
             mut settled,
             run,
             late,
+            missing: _,
         } = self;
         if late == 0 {
             return log;

@@ -137,6 +137,15 @@ pub(crate) fn spot_from<'a>(
     }
 }
 
+/// Whether a log has an edit with a stamp. The search begins where the last one ended, and this place
+/// is kept for the next.
+pub(crate) fn seek_from(edits: &[Edit], at: &mut usize, stamp: Stamp) -> bool
+    requires { IsRising edits.now }
+    ensures { OnFalse result (edit_with stamp edits.now ≡ None) }
+{
+    spot_from(edits, at, stamp).is_ok()
+}
+
 /// The edit with a stamp in a log, or else the place where it belongs. The search begins at `hint`.
 pub fn spot_of(edits: &[Edit], hint: usize, stamp: Stamp) -> Result<&Edit, usize>
     requires { IsRising edits.now }

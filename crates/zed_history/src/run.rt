@@ -1,11 +1,12 @@
 //! Late edits that came in stamp order.
 ghost use Rattle.std.specs.Prelude.{◌≡◌, ◌≤◌, ◌<◌, ◌+◌, ◌++◌, ◌∷◌, [], None, Some, length, vec_capacity, IfSome, IfNone};
+ghost use Rattle.std.specs.Bool.{OnFalse};
 ghost use Rattle.zed_op.specs.Set.{IsRising};
 ghost use Rattle.zed_history.specs.Finding.{edit_with};
 ghost use Rattle.zed_history.specs.Runs.{AreRuns, SettleTo, count_in, found_in};
 
 use crate::moving::move_in;
-use crate::place::{place_of, spot_of};
+use crate::place::{seek_from, spot_of};
 use std::marker::Model;
 use zed_op::{Edit, rising_lists_are_sets, sets_rise};
 use zed_types::Stamp;
@@ -45,11 +46,12 @@ impl Run {
         edits
     }
 
-    /// Looks for the place of a stamp. The next search begins there.
-    fn seek(&mut self, stamp: Stamp)
-        ensures { self.new ≡ self.old }
+    /// Whether there is an edit with a stamp. The next search begins at its place.
+    fn seek(&mut self, stamp: Stamp) -> bool
+        ensures none { OnFalse result (edit_with stamp self.old ≡ None) }
+        ensures kept { self.new ≡ self.old }
     {
-        self.at = place_of(&self.edits, self.at, stamp);
+        seek_from(&self.edits, &mut self.at, stamp)
     }
 
     /// The edit with a stamp, if there is one.
@@ -64,13 +66,17 @@ impl Run {
     }
 }
 
-/// Looks for the place of a stamp in each of some runs.
-pub(crate) fn seek_in(runs: &mut [Run], stamp: Stamp)
-    ensures { runs.new ≡ runs.old }
+/// Whether there is an edit with a stamp in some runs, up to the first that has it.
+pub(crate) fn seek_in(runs: &mut [Run], stamp: Stamp) -> bool
+    ensures none { OnFalse result (found_in stamp runs.old ≡ None) }
+    ensures kept { runs.new ≡ runs.old }
 {
     for run in runs.iter_mut() {
-        run.seek(stamp);
+        if run.seek(stamp) {
+            return true;
+        }
     }
+    false
 }
 
 /// The edit with a stamp in some runs, if there is one.

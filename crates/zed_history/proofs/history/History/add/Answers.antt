@@ -25,6 +25,7 @@ invariant_of-self-then-is_latest c =
       subst (λ (es : List Edit). AreRuns (es ∷ late)) (sym items) (runs-first laws c.args.edit log late runs new below),
       omega (arith, kept, count, sum, c.in_ok-make_room.ensures.room, c.push_reserved.ensures.capacity),
       c.self.invariant.2,
+      tt,
     )
 
 pub returns-then-is_latest-clause-ok : goal.returns-then-is_latest-clause-ok
@@ -62,6 +63,7 @@ invariant_of-self-2 c =
       subst (λ (es : List Edit). AreRuns (es ∷ late')) (sym c.in_ok-make_room.ensures.kept) more,
       c.in_ok-make_room.ensures.room,
       omega (arith, c.in_ok-put_late.ensures.count, c.self.invariant.2),
+      tt,
     )
 
 pub returns-clause-ok : goal.returns-clause-ok
