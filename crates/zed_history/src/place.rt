@@ -28,22 +28,29 @@ pub(crate) fn is_latest(log: &[Edit], stamp: Stamp) -> bool
     }
 }
 
-/// From a place on, on by steps of 1, 2, 4 and so on while no edit after a stamp is met, and then by halves within the last step.
+/// So many steps are made from a place, at the most. What is not found by them is sought in the whole
+/// log: the edits that such a search looks at first are the same each time, and so at hand.
+const STEPS: usize = 4;
+
+/// From a place on, on by steps of 1, 2, 4 and so on while no edit after a stamp is met, and then by
+/// halves within the last step. Where none is met so soon, it answers the end.
 fn place_on(edits: &[Edit], from: usize, stamp: Stamp) -> usize {
     let (_, mut rest) = edits.split_at(from.min(edits.len()));
     let mut step = 1usize;
-    for _ in 0..usize::BITS {
+    for _ in 0..STEPS {
         match rest.get(step.saturating_sub(1)) {
             Some(edit) if is_up_to(edit, stamp) => {
                 (_, rest) = rest.split_at(step.min(rest.len()));
                 step = step.saturating_mul(2);
             }
-            _ => break,
+            _ => {
+                let (part, _) = rest.split_at(step.min(rest.len()));
+                let passed = edits.len().saturating_sub(rest.len());
+                return passed.saturating_add(part.partition_point(|edit| is_up_to(edit, stamp)));
+            }
         }
     }
-    let (part, _) = rest.split_at(step.min(rest.len()));
-    let passed = edits.len().saturating_sub(rest.len());
-    passed.saturating_add(part.partition_point(|edit| is_up_to(edit, stamp)))
+    edits.len()
 }
 
 /// Whether the edit at a place of a log comes after a stamp.
