@@ -92,7 +92,10 @@ pub(crate) fn find_in(runs: &[Run], stamp: Stamp) -> Option<&Edit>
     None
 }
 
-/// Takes the last of some runs, with room for so many edits more, unless it is twice as long.
+/// A run that is so many times as long as the one behind it is left as it is.
+const LONGER: usize = 4;
+
+/// Takes the last of some runs, with room for so many edits more, unless it is far longer.
 fn take_short(settled: &mut Vec<Run>, more: usize) -> Option<Vec<Edit>>
     ensures some { IfSome result (λ below. (settled.old.items ≡ settled.new.items ++ below.items ∷ [])
         × (length below.items + more ≤ vec_capacity below)) }
@@ -101,14 +104,14 @@ fn take_short(settled: &mut Vec<Run>, more: usize) -> Option<Vec<Edit>>
 {
     let last = settled.pop()?;
     let mut edits = last.into_edits();
-    if edits.len() / 2 >= more || edits.reserve(more).is_err() {
+    if edits.len() / LONGER >= more || edits.reserve(more).is_err() {
         settled.push_reserved(Run::of(edits));
         return None;
     }
     Some(edits)
 }
 
-/// Puts a run that ended behind others, joined with those that are not twice as long.
+/// Puts a run that ended behind others, joined with those that are not far longer.
 pub(crate) fn settle(settled: &mut Vec<Run>, ended: Vec<Edit>)
     requires runs { AreRuns (settled.old.items ++ ended.items ∷ []) }
     requires free { length settled.old.items < vec_capacity settled.old }
