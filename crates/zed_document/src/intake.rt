@@ -1,5 +1,6 @@
 //! A document that takes many edits as they come.
 ghost use Rattle.std.specs.Prelude.{◌≡◌, ◌≢◌, ◌⊎◌, if◌then◌else◌, is_ok, true, false, None, Err, IfOk, IfSome, IfNone, Some, OnErr, OnOk, IsOkAnd};
+ghost use Rattle.zed_delivery.specs.Taking.{IsEmpty};
 ghost use Rattle.zed_history.specs.Finding.{edit_with};
 ghost use Rattle.zed_document.specs.Delivery.{Answers, TellsNew};
 ghost use Rattle.zed_document.specs.Visits.{TellsVisits};
@@ -11,6 +12,7 @@ use crate::document::Document;
 use crate::error::DocumentError;
 use crate::held::HeldStamps;
 use crate::visits::{visits_before, visits_since};
+use std::alloc::Global;
 use std::marker::Model;
 use zed_delivery::{Body, calm_edits_hold_the_same};
 use zed_edit::Edit;
@@ -46,6 +48,16 @@ impl Model for Intake {
     } };
 
     ghost invariant = { λ i. IsKept i.log i.held i.is_stale i.body };
+}
+
+/// Gives up what the edits made. It is a call of its own, since the room of an empty body would else
+/// be cleared for each edit that is taken.
+#[cold]
+#[inline(never)]
+fn give_up_body(alloc: Global, body: &mut Body)
+    ensures { IsEmpty body.new }
+{
+    *body = Body::new(alloc);
 }
 
 impl Intake {
@@ -160,12 +172,12 @@ impl Intake {
         let taken = self.body.take(alloc, &edit, &mut woken)?;
         let stamp = edit.stamp;
         let Ok(()) = self.held.follow(stamp, taken.held) else {
-            self.body = Body::new(alloc);
+            give_up_body(alloc, &mut self.body);
             return Err(DocumentError::Memory);
         };
         let Ok(()) = self.log.add(edit) else {
             self.held.undo(stamp, taken.held);
-            self.body = Body::new(alloc);
+            give_up_body(alloc, &mut self.body);
             return Err(DocumentError::Memory);
         };
         self.held.wake(taken.woken, &woken, &self.body.inbox);

@@ -43,9 +43,9 @@ pub invariant_of-self-in_default-add : goal.invariant_of-self-in_default-add
 invariant_of-self-in_default-add c =
     let v : c.self.inside.log ≡ c.args.self.now.edits = ap (λ (r : Replica). r.edits) c.self.view_is in
     let new : edit_with c.args.edit.stamp c.self.inside.log ≡ None = ap (edit_with c.args.edit.stamp) v ∙ c.requires.new in
-    let kept = not_kept c.args.edit c.self.inside.log c.self.inside.held c.follow.new.self c.undo.new.self c.self.inside.is_stale c.self.inside.body c.new-in_default-add.result c.in_ok-taken.taken c.self.invariant new c.in-Ok.ensures.ok c.undo.ensures (c.new-in_default-add.ensures.live, c.new-in_default-add.ensures.texts, c.new-in_default-add.ensures.inbox) in
+    let kept = not_kept c.args.edit c.self.inside.log c.self.inside.held c.follow.new.self c.undo.new.self c.self.inside.is_stale c.self.inside.body c.give_up_body-in_default-add.new.body c.in_ok-taken.taken c.self.invariant new c.in-Ok.ensures.ok c.undo.ensures c.give_up_body-in_default-add.ensures in
     let same : c.add.new.self ≡ c.self.inside.log = search rules in
-    subst (λ es. IsKept es c.undo.new.self true c.new-in_default-add.result) (sym same) kept
+    subst (λ es. IsKept es c.undo.new.self true c.give_up_body-in_default-add.new.body) (sym same) kept
 
 pub returns-clause-tells : goal.returns-clause-tells
 returns-clause-tells c =
