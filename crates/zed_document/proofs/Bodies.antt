@@ -1,9 +1,8 @@
 -- The body of a document, as edits come to it.
-use Rattle.std.proofs.Common.{◌≡◌, ◌∙◌, ◌<◌, Bool, true, false, cond, List, [], ◌∷◌, Some, None, filter, refl, ap, sym, subst}
+use Rattle.std.proofs.Common.{◌≡◌, ◌∙◌, ◌<◌, Bool, true, false, cond, List, [], ◌∷◌, ◌++◌, Some, None, filter, refl, ap, sym, subst}
 use mathlib.Core.Logic.{inl, inr}
 use Rattle.std.specs.BTreeMap.{is_at}
 use Rattle.std.specs.BTreeSet.{insert_key}
-use Rattle.std.specs.List.{AllByRecursion}
 use Rattle.std.specs.Prelude.{if◌then◌else◌}
 use Rattle.std.specs.Set.{remove_key}
 use Rattle.zed_types.specs.declared.stamp.Stamp.{Stamp}
@@ -15,17 +14,18 @@ use Rattle.zed_op.specs.Set.{AllFit, IsRising, stamps_of, union, with_edit}
 use Rattle.zed_op.specs.SetLaws.{EditKeepsFit, EditKeepsRising, UnionKeepsFit, UnionKeepsRising}
 use Rattle.zed_op.specs.Sizes.{HasSizes, HaveSizes}
 use Rattle.zed_op.proofs.SetLaws.{each-with_edit}
-use Rattle.zed_laws.specs.Laws.{HeldAreRemembered}
+use Rattle.zed_laws.specs.Laws.{HeldAreRemembered, OneMoreIsOneStep}
 use Rattle.zed_delivery.specs.declared.body.Body.{Body}
 use Rattle.zed_delivery.specs.declared.take.Taken.{Taken}
 use Rattle.zed_delivery.specs.Shows.{BodyShows}
 use Rattle.zed_delivery.specs.Taking.{CalmEditsHoldTheSame, ComesTo, IsApart, IsEmpty, IsNewTo, ShowsOneMore, Tells, is_held, woken}
 use Rattle.zed_delivery.specs.TakingAll.{AllComeTo, AreNewTo, RisingAreApart, ShowsAll}
-use Rattle.zed_history.specs.Batch.{AreNew}
 use Rattle.zed_history.specs.Finding.{edit_with}
 use Rattle.zed_document.specs.declared.delivered.Delivered.{Delivered}
 use Rattle.zed_document.specs.Delivery.{TellsNew, state_of}
 use Rattle.zed_document.specs.Held.{held_stamps, is_among, waits_in}
+use Rattle.zed_document.specs.Stretches.{CanFollow}
+use Rattle.zed_document.proofs.Following.{follow-apart, follow-fit, follow-held, follow-joined, follow-rising}
 use Rattle.zed_document.proofs.Taking.{IsRenewed, held-more, new-among, undone, waking}
 use Rattle.zed_document.specs.Kept.{IsKept}
 
@@ -47,10 +47,6 @@ apart e (f ∷ fs) h = go (same_stamp f.stamp e.stamp) refl (λ k. apart e fs k)
     go : (t : Bool) → same_stamp f.stamp e.stamp ≡ t → (edit_with e.stamp fs ≡ None → IsApart e fs) → IsApart e (f ∷ fs)
     go true q more = absurd (let bad : Some f ≡ None = rw q at h in cc)
     go false q more = (other_way f.stamp e.stamp q, more (rw q at h))
-
-all_apart : (log more : List Edit) → AreNew log more → AllByRecursion (λ e. IsApart e log) more
-all_apart log [] n = tt
-all_apart log (e ∷ more) n = (apart e log n.0, all_apart log more n.1)
 
 pub comes : (e : Edit) (es : List Edit) (stamps : List Stamp) (stale : Bool) (b : Body) → IsKept es stamps stale b → stale ≡ false → edit_with e.stamp es ≡ None → ComesTo e es b
 comes e es stamps stale b k sound new = record { rising = k.rising; fit = k.fit; shows = k.shown sound; apart = apart e es new }
@@ -126,37 +122,35 @@ tells_new e es b t d k tells state woken =
     let told = tells es k in
     (state ∙ ap state_of told.0, woken ∙ told.1)
 
--- ---- many edits
+-- ---- edits that follow one another
 
-pub all_come : RisingAreApart → (more es : List Edit) (stamps : List Stamp) (stale : Bool) (b : Body) → IsKept es stamps stale b → stale ≡ false → IsRising more → AreNew es more → AllComeTo more es b
-all_come law more es stamps stale b k sound rising new = record {
+pub all_come : RisingAreApart → (more es : List Edit) (stamps : List Stamp) (stale : Bool) (b : Body) → IsKept es stamps stale b → stale ≡ false → CanFollow es more → AllComeTo more es b
+all_come law more es stamps stale b k sound follow = record {
   rising = k.rising;
   fit = k.fit;
   shows = k.shown sound;
-  apart = all_apart es more new;
-  among = law more rising;
+  apart = follow-apart es more follow;
+  among = law more (follow-rising es more follow);
 }
 
-pub are_new : RisingAreApart → (more es : List Edit) (stamps : List Stamp) (stale : Bool) (b : Body) → IsKept es stamps stale b → stale ≡ false → IsRising more → AreNew es more → AreNewTo more b
-are_new law more es stamps stale b k sound rising new = (es, all_come law more es stamps stale b k sound rising new)
+pub are_new : RisingAreApart → (more es : List Edit) (stamps : List Stamp) (stale : Bool) (b : Body) → IsKept es stamps stale b → stale ≡ false → CanFollow es more → AreNewTo more b
+are_new law more es stamps stale b k sound follow = (es, all_come law more es stamps stale b k sound follow)
 
 sizes-union : (es more : List Edit) → HaveSizes es → HaveSizes more → HaveSizes (union es more)
 sizes-union es [] a b = a
 sizes-union es (e ∷ more) a b = sizes-union (with_edit e es) more (each-with_edit HasSizes e es b.0 a) b.1
 
--- a document that took many edits is kept
-pub many_more : HeldAreRemembered → RisingAreApart → UnionKeepsRising → UnionKeepsFit
-    → (more es : List Edit) (was : List Stamp) (stale : Bool) (b c : Body) (stamps : List Stamp)
-    → IsKept es was stale b → stale ≡ false → IsRising more → AllFit more → HaveSizes more → AreNew es more
-    → ShowsAll more b c → stamps ≡ stamps_of c.inbox
-    → IsKept (union es more) stamps false c
-many_more remembered law rises fit more es was stale b c stamps k sound rising fits sizes new shows listed =
-    let all = shows es (all_come law more es was stale b k sound rising new) in
-    record {
-      fit = fit es more k.fit fits;
+-- a document that took edits which followed one another is kept
+pub many_more : RisingAreApart → OneMoreIsOneStep → UnionKeepsRising → UnionKeepsFit
+    → (more es : List Edit) (stamps : List Stamp) (stale : Bool) (b c : Body)
+    → IsKept es stamps stale b → stale ≡ false → CanFollow es more → HaveSizes more → ShowsAll more b c
+    → IsKept (es ++ more) stamps false c
+many_more law one rises fit more es stamps stale b c k sound follow sizes shows =
+    subst (λ all. IsKept all stamps false c) (follow-joined es more follow) (record {
+      fit = fit es more k.fit (follow-fit es more follow);
       sizes = sizes-union es more k.sizes sizes;
       rising = rises es more k.rising;
-      held = listed ∙ ap stamps_of all.waiting ∙ remembered (union es more);
-      shown = λ _. all;
+      held = k.held ∙ sym (ap held_stamps (follow-joined es more follow) ∙ follow-held one es more follow);
+      shown = λ _. shows es (all_come law more es stamps stale b k sound follow);
       emptied = λ bad. absurd (cc);
-    }
+    })

@@ -1,15 +1,15 @@
 pub mod Authored
-pub mod Batches
 pub mod BoardWalks
 pub mod Bodies
 pub mod Checked
 pub mod Counted
+pub mod Copies
 pub mod CountsAside
 pub mod Deleted
 pub mod DeletedParts
 pub mod FirstClash
 pub mod Following
-pub mod Joining
+pub mod Fronts
 pub mod Looks
 pub mod Merging
 pub mod Parts

@@ -4,7 +4,6 @@ use mathlib.Core.Logic.{inl, inr}
 use Rattle.std.proofs.lemmas.List.Sums.{count_by-le-length, length-filter}
 use Rattle.std.specs.BTreeMap.{is_at}
 use Rattle.std.specs.BTreeSet.{insert_key}
-use Rattle.std.specs.List.{AllByRecursion}
 use Rattle.std.specs.Ordering.{is_eq, match_ordering}
 use Rattle.std.specs.Prelude.{◌⊎◌, if◌then◌else◌}
 use Rattle.std.specs.Set.{remove_key}
@@ -12,11 +11,11 @@ use Rattle.std.specs.declared.cmp.Ordering.{Ordering}
 use Rattle.std.specs.declared.cmp.Ordering.TheVariants.{Less, Equal, Greater}
 use Rattle.zed_types.specs.declared.stamp.Stamp.{Stamp}
 use Rattle.zed_types.specs.Stamp.{before, same_stamp, stamp_cmp}
-use Rattle.zed_types.proofs.StampOrder.{before_asym, before_differs_after, same_stamp-true, same_stamp-itself}
+use Rattle.zed_types.proofs.StampOrder.{same_stamp-true, same_stamp-itself}
 use Rattle.zed_types.proofs.Orderings.{by_tests}
 use Rattle.zed_op.specs.declared.op.Edit.{Edit}
 use Rattle.zed_op.specs.Fit.{Fits}
-use Rattle.zed_op.specs.Set.{AllFit, IsRising, StampsRise, stamps_of, with_edit}
+use Rattle.zed_op.specs.Set.{AllFit, IsRising, stamps_of, with_edit}
 use Rattle.zed_op.proofs.Sets.{Member-all, with_edit-rising}
 use Rattle.zed_edit.specs.Document.{empty_document}
 use Rattle.zed_edit.specs.Replay.{can, held, replay}
@@ -70,27 +69,6 @@ all-pass q (t ∷ ts) h = go (q t) h (all-pass q ts)
     go true h more = ap (λ us. t ∷ us) (more (omega (arith, h)))
     go false h more = absurd (omega (arith, h, few))
 
--- the next of rising stamps goes behind those before it
-pub insert-next : (s : Stamp) (ts rest more all : List Stamp) → more ≡ s ∷ rest → ts ++ more ≡ all → StampsRise all → insert_key stamp_cmp ts s ++ rest ≡ all
-insert-next s ts rest more all split is rises = go ts (subst StampsRise (sym whole) rises) ∙ whole
-  where
-    whole : ts ++ s ∷ rest ≡ all
-    whole = ap (λ us. ts ++ us) (sym split) ∙ is
-
-    at : (us : List Stamp) (t : Stamp) → AllByRecursion (λ u. before t u ≡ true) (us ++ s ∷ rest) → before t s ≡ true
-    at [] t a = a.0
-    at (u ∷ us) t a = at us t a.1
-
-    not-after : (t : Stamp) → before t s ≡ true → (before s t ≡ false) × (same_stamp s t ≡ false)
-    not-after t h = (before_asym t s h, before_differs_after t s h)
-
-    go : (us : List Stamp) → StampsRise (us ++ s ∷ rest) → insert_key stamp_cmp us s ++ rest ≡ us ++ s ∷ rest
-    go [] r = refl
-    go (u ∷ us) r =
-        let later = not-after u (at us u r.0) in
-        let put : insert_key stamp_cmp (u ∷ us) s ≡ u ∷ insert_key stamp_cmp us s = by_tests s u _ _ _ ∙ rw (later.0, later.1) refl in
-        ap (λ xs. xs ++ rest) put ∙ ap (λ xs. u ∷ xs) (go us r.1)
-
 -- ---- the stamps of edits
 
 stamps-with : (e : Edit) (es : List Edit) → IsApart e es → insert_key stamp_cmp (stamps_of es) e.stamp ≡ stamps_of (with_edit e es)
@@ -102,14 +80,6 @@ stamps-with e (f ∷ es) n = by_tests e.stamp f.stamp _ _ _ ∙ go (before e.sta
     go true c q more = refl
     go false true q more = absurd (cc)
     go false false q more = ap (λ ts. f.stamp ∷ ts) more
-
-pub stamps-rise : (es : List Edit) → IsRising es → StampsRise (stamps_of es)
-stamps-rise [] r = tt
-stamps-rise (e ∷ es) r = (all es r.0, stamps-rise es r.1)
-  where
-    all : (fs : List Edit) → AllByRecursion (λ (f : Edit). before e.stamp f.stamp ≡ true) fs → AllByRecursion (λ t. before e.stamp t ≡ true) (stamps_of fs)
-    all [] a = tt
-    all (f ∷ fs) a = (a.0, all fs a.1)
 
 stamps-pass : (q : Stamp → Bool) (es : List Edit) → filter q (stamps_of es) ≡ stamps_of (filter (λ (e : Edit). q e.stamp) es)
 stamps-pass q [] = refl

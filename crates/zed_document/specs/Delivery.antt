@@ -1,5 +1,5 @@
 -- What a delivery answers.
-use Rattle.std.specs.Prelude.{◌≡◌, ◌≢◌, ◌⊎◌, ℕ, Bool, true, false, List, [], ◌∷◌, ◌++◌, Option, Some, None, Result, Ok, Err, Contains, IsOkAnd, MatchBool}
+use Rattle.std.specs.Prelude.{◌≡◌, ◌≢◌, ◌⊎◌, ℕ, Bool, true, false, List, [], ◌∷◌, ◌++◌, Option, Some, None, Result, Ok, Err, Contains, IfSome, IsOkAnd, IsSomeAnd, MatchBool, slice_get, take}
 use Rattle.zed_types.specs.declared.stamp.Stamp.{Stamp}
 use Rattle.zed_op.specs.declared.cause.Cause.{Cause}
 use Rattle.zed_op.specs.declared.op.Edit.{Edit}
@@ -60,6 +60,19 @@ DeliversEach d (e ∷ es) r left =
 -- what they answer, of no edit too: Stale on a stale document, which stays as it is
 abbrev pub AnswersEach : Replica → List Edit → Result (Unit {0}) DocumentError → List Edit → Type 0
 AnswersEach d es r left = MatchBool d.is_stale ((r ≡ Err Stale) × (left ≡ d.edits)) (DeliversEach d es r left)
+
+-- want of memory ended deliveries: those of a front were accepted, and the edit behind it is new to what they left
+abbrev pub DeliversFront : Replica → List Edit → List Edit → Type 0
+DeliversFront d es left = (n : ℕ) × DeliversEach d (take n es) (Ok tt) left × IsSomeAnd (slice_get es n) (λ e. edit_with e.stamp left ≡ None)
+
+-- a set has no other edit of the stamp of this one
+abbrev pub IsFree : List Edit → Edit → Type 0
+IsFree es e = IfSome (edit_with e.stamp es) (λ f. f ≡ e)
+
+-- of edits that come one after the other one is new, before any that clashes
+abbrev pub HasNew : List Edit → List Edit → Type 0
+HasNew es [] = ⊥
+HasNew es (e ∷ rest) = (edit_with e.stamp es ≡ None) ⊎ (IsFree es e × HasNew (with_edit e es) rest)
 
 -- Ok, or the clash
 abbrev pub unless_clash : Option Stamp → Result (Unit {0}) DocumentError

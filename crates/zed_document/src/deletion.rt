@@ -5,7 +5,7 @@
 ghost use Rattle.std.specs.Prelude.{◌≡◌, ◌≢◌, ◌≤◌, ◌<◌, ◌⊎◌, ◌++◌, ◌∷◌, ◌-◌, ◌+◌, ◌==◌, ◌&&◌, [], false, true, is_ok, length, option_map, slice_get, Some, Err, IfOk, IfErr, OnOk, OnErr, IsOkAnd, MatchBool};
 ghost use Rattle.zed_edit.specs.Document.{has, text as text_shown, elements as elements_of};
 ghost use Rattle.zed_op.specs.declared.thing.Thing.TheVariants.{Text as the_text};
-ghost use Rattle.zed_op.specs.Set.{AllFit, IsRising, union};
+ghost use Rattle.zed_op.specs.Set.{AllFit, IsRising};
 ghost use Rattle.zed_edit.specs.Replay.{replay};
 ghost use Rattle.zed_history.specs.Clock.{is_spent};
 ghost use Rattle.zed_types.specs.Text.{alive};
@@ -16,11 +16,13 @@ ghost use Rattle.zed_document.specs.Reading.{has_text};
 
 use crate::document::Document;
 use crate::error::DocumentError;
+use crate::many::copies_of;
 use std::alloc::{AllocError, Global};
+use zed_delivery::rising_edits_are_apart;
 use zed_edit::{Edit, Op};
 use zed_history::{is_spent as are_spent, next_time};
 use zed_laws::{made_things_stay, replay_goes_edit_by_edit, texts_keep_names};
-use zed_op::fit_is_of_parts;
+use zed_op::{edits_have_sizes, fit_is_of_parts, sets_rise, sets_stay_fit};
 use zed_types::{ByteRange, ElemId, Stamp, TextId};
 use zed_view::View;
 
@@ -167,14 +169,6 @@ fn deletions_follow(edits: &[Edit], replica: u16, text: TextId, from: usize, to:
     made_things_stay();
 }
 
-/// Edits that can be done one after the other are later than all before them, so that they are joined to these at their end.
-fn followers_are_joined(edits: &[Edit], more: &[Edit])
-    requires { CanFollow edits.now more.now }
-    ensures fit { AllFit more.now }
-    ensures rising { IsRising more.now }
-    ensures joined { union edits.now more.now ≡ edits.now ++ more.now }
-{}
-
 impl Document {
     /// The deletions of a part of a text. Memory is the last of the refusals.
     fn deletions(
@@ -224,7 +218,8 @@ impl Document {
         Ok(edits_of(self.alloc(), time, replica, text, &ranges)?)
     }
 
-    /// Makes edits that can be done one after the other, all or, for want of memory, none.
+    /// Makes edits that can be done one after the other, all or, for want of memory, none. None of
+    /// them is held, and those that were held before stay so.
     fn make_all(&mut self, edits: &[Edit]) -> Result<(), DocumentError>
         requires sound { self.old.is_stale ≡ false }
         requires follow { CanFollow self.old.edits edits.now }
@@ -236,8 +231,20 @@ impl Document {
         ensures sound { OnOk result (self.new.is_stale ≡ false) }
         ensures visits { OnOk result (NoCountFalls self.old.counts self.new.counts) }
     {
-        followers_are_joined(self.edits(), edits);
-        self.take_in(edits)
+        let alloc = *self.edits.allocator();
+        let mut copies = copies_of(alloc, edits)?;
+        self.edits.reserve(copies.len())?;
+        sets_rise();
+        sets_stay_fit();
+        rising_edits_are_apart();
+        replay_goes_edit_by_edit();
+        edits_have_sizes(&copies);
+        // until all is done; what fails midway leaves it so
+        self.is_stale = true;
+        self.body.take_all(alloc, &copies)?;
+        self.edits.append(&mut copies).unwrap();
+        self.is_stale = false;
+        Ok(())
     }
 
     /// Deletes the alive bytes of a text from one position up to another, without the latter: one

@@ -1,23 +1,20 @@
 //! A document: the edits that a replica accepted, and what they make.
-ghost use Rattle.std.specs.Prelude.{◌≡◌, ◌≢◌, ◌≤◌, ◌⊎◌, ◌<◌, [], ◌∷◌, if◌then◌else◌, length, insert, is_ok, true, false, None, Ok, Err, OnOk, OnErr, IfOk, IfErr, IsOkAnd, MatchOption, ◌↔◌};
-ghost use Rattle.zed_history.specs.Batch.{AreNew};
-ghost use Rattle.zed_op.specs.Set.{IsRising, stamps_of, union};
+ghost use Rattle.std.specs.Prelude.{◌≡◌, ◌≢◌, ◌≤◌, ◌⊎◌, ◌<◌, [], if◌then◌else◌, length, insert, is_ok, true, false, None, Ok, Err, OnOk, OnErr, IfOk, IfErr, IsOkAnd, ◌↔◌};
+ghost use Rattle.zed_op.specs.Set.{IsRising};
 
 use crate::delivered::{Delivered, State};
-use crate::error::{DocumentError, unless_clash};
-use crate::held::{HeldStamps, waiting};
+use crate::error::DocumentError;
+use crate::held::HeldStamps;
 use crate::visits::{visits_at, visits_before, visits_since};
-use std::alloc::{AllocError, Global};
-use std::collections::BTreeSet;
+use std::alloc::Global;
 use std::marker::Model;
 use zed_delivery::{
     Body, calm_edits_hold_the_same, empty_bodies_show_none, rising_edits_are_apart,
 };
 use zed_edit::{Edit, check};
-use zed_history::{Batch, copies_new_to, gather, join, least_clash, spot_of};
-use zed_inbox::Inbox;
+use zed_history::spot_of;
 use zed_laws::held_edits_are_remembered;
-use zed_op::{edit_has_sizes, edits_have_sizes, rising_lists_are_sets, sets_rise, sets_stay_fit};
+use zed_op::{edit_has_sizes, rising_lists_are_sets, sets_rise, sets_stay_fit};
 use zed_types::{Stamp, TextId};
 use zed_view::{View, parts_show_the_replay};
 
@@ -53,39 +50,15 @@ impl Model for Document {
     ghost invariant = { λ d. IsKept d.edits.items d.held d.is_stale d.body };
 }
 
-/// Joins edits with new stamps to a log, and answers the stamps of those that wait. Memory leaves
-/// the log as it was.
-fn enter(
-    alloc: Global,
-    inbox: &Inbox,
-    log: &mut Vec<Edit>,
-    edits: Vec<Edit>,
-) -> Result<BTreeSet<Stamp>, AllocError>
-    requires log_rising { IsRising log.old.items }
-    requires rising { IsRising edits.items }
-    requires new { AreNew log.old.items edits.items }
-    ensures waiting { IfOk result (λ stamps. stamps.keys ≡ stamps_of inbox.now) }
-    ensures ok { OnOk result (log.new.items ≡ union log.old.items edits.items) }
-    ensures kept { OnErr result (log.new.items ≡ log.old.items) }
-{
-    let stamps = waiting(alloc, inbox)?;
-    join(log, edits)?;
-    Ok(stamps)
-}
-
 impl Document {
-    ghost use Rattle.zed_history.specs.Batch.{HasNew, JoinOn};
-    ghost use Rattle.zed_history.specs.Clash.{new_to};
     ghost use Rattle.zed_history.specs.Finding.{edit_with};
     ghost use Rattle.zed_document.specs.Held.{held_stamps, is_among as is_one_of};
     ghost use Rattle.zed_delivery.specs.Shows.{BodyShows};
-    ghost use Rattle.zed_document.specs.Delivery.{Answers, AnswersAt, AnswersEach, MayTakeMemoryFor, TellsNew};
+    ghost use Rattle.zed_document.specs.Delivery.{Answers, AnswersAt, MayTakeMemoryFor, TellsNew};
     ghost use Rattle.zed_edit.specs.Replay.{replay};
     ghost use Rattle.zed_op.specs.Fit.{Fits};
     ghost use Rattle.zed_op.specs.Set.{AllFit, with_edit};
     ghost use Rattle.zed_op.specs.Sizes.{HaveSizes};
-    ghost use Rattle.zed_document.specs.Merge.{AnswersMerge, below};
-    ghost use Rattle.zed_types.specs.declared.stamp.Stamp.{Stamp as TheStamp};
     ghost use Rattle.zed_document.specs.Counts.{NoCountFalls, count_of};
     ghost use Rattle.zed_document.specs.Visits.{TellsVisits};
 
@@ -301,134 +274,13 @@ impl Document {
         Ok(())
     }
 
-    /// Takes in all edits of another document, held ones too. Refusals, in order: Stale if this
-    /// document is; OtherWorld if their worlds have different numbers; Clash with the least stamp
-    /// for which they have different edits; Memory. Nothing changes on the first three. After
-    /// Memory the document has its own edits and those of the other below some stamp, and may be
-    /// stale; if it isn't stale, it is as before. It takes no memory if it has all edits of the
-    /// other.
-    pub fn merge(&mut self, other: &Document) -> Result<(), DocumentError>
-        ensures result { AnswersMerge self.old other.now result }
-        ensures edits { OnOk result (self.new.edits ≡ union self.old.edits other.now.edits) }
-        ensures kept { OnErr result ((result ≢ Err DocumentError.Memory) → self.new ≡ self.old) }
-        ensures refused { result ≡ Err DocumentError.Memory
-            → self.new.is_stale ≡ false → self.new ≡ self.old }
-        ensures err { result ≡ Err DocumentError.Memory
-            → (s : TheStamp) × (self.new.edits ≡ union self.old.edits (below s other.now.edits)) }
+    /// Gives up what the edits make. A repair makes it anew.
+    pub(crate) fn give_up(&mut self)
+        ensures edits { self.new.edits ≡ self.old.edits }
         ensures world { self.new.world ≡ self.old.world }
-        ensures sound { OnOk result (self.new.is_stale ≡ false) }
-        ensures visits { OnOk result (NoCountFalls self.old.counts self.new.counts) }
-        ensures memory_only_when { result ≡ Err DocumentError.Memory
-            → new_to self.old.edits other.now.edits ≢ [] }
+        ensures stale { self.new.is_stale ≡ true }
     {
-        if self.is_stale {
-            return Err(DocumentError::Stale);
-        }
-        if self.world != other.world {
-            return Err(DocumentError::OtherWorld);
-        }
-        match least_clash(&self.edits, &other.edits) {
-            Some(stamp) => Err(DocumentError::Clash(stamp)),
-            None => self.take_in(&other.edits),
-        }
-    }
-
-    /// Takes in copies of the edits of another log that have stamps of their own.
-    pub(crate) fn take_in(&mut self, other: &[Edit]) -> Result<(), DocumentError>
-        requires sound { self.old.is_stale ≡ false }
-        requires fit { AllFit other.now }
-        requires rising { IsRising other.now }
-        ensures edits { OnOk result (self.new.edits ≡ union self.old.edits other.now) }
-        ensures err { IfErr result (λ e. e ≡ DocumentError.Memory) }
-        ensures some { OnErr result (new_to self.old.edits other.now ≢ []) }
-        ensures kept { OnErr result (self.new.edits ≡ self.old.edits) }
-        ensures refused { OnErr result (self.new.is_stale ≡ false → self.new ≡ self.old) }
-        ensures world { self.new.world ≡ self.old.world }
-        ensures sound { OnOk result (self.new.is_stale ≡ false) }
-        ensures visits { OnOk result (NoCountFalls self.old.counts self.new.counts) }
-    {
-        let edits = copies_new_to(&self.edits, *self.edits.allocator(), other)?;
-        self.take_all(edits)
-    }
-
-    /// Takes those of many edits that are new, up to the first clash, and answers its stamp.
-    fn take_batch(&mut self, edits: Vec<Edit>) -> Result<Option<Stamp>, DocumentError>
-        requires sound { self.old.is_stale ≡ false }
-        requires fit { AllFit edits.items }
-        ensures joins { IfOk result (λ clash.
-            JoinOn self.old.edits edits.items clash self.new.edits) }
-        ensures err { IfErr result (λ e. e ≡ DocumentError.Memory) }
-        ensures new { OnErr result (HasNew self.old.edits edits.items) }
-        ensures kept { OnErr result (self.new.edits ≡ self.old.edits) }
-        ensures refused { OnErr result (self.new.is_stale ≡ false → self.new ≡ self.old) }
-        ensures world { self.new.world ≡ self.old.world }
-        ensures sound { OnOk result (self.new.is_stale ≡ false) }
-        ensures visits { OnOk result (NoCountFalls self.old.counts self.new.counts) }
-    {
-        let alloc = *self.edits.allocator();
-        let Batch { edits, clash } = gather(alloc, &self.edits, edits)?;
-        self.take_all(edits)?;
-        Ok(clash)
-    }
-
-    /// Takes edits in stamp order, all of which are new.
-    fn take_all(&mut self, edits: Vec<Edit>) -> Result<(), DocumentError>
-        requires sound { self.old.is_stale ≡ false }
-        requires fit { AllFit edits.items }
-        requires rising { IsRising edits.items }
-        requires new { AreNew self.old.edits edits.items }
-        ensures edits { OnOk result (self.new.edits ≡ union self.old.edits edits.items) }
-        ensures err { IfErr result (λ e. e ≡ DocumentError.Memory) }
-        ensures some { OnErr result (edits.items ≢ []) }
-        ensures kept { OnErr result (self.new.edits ≡ self.old.edits) }
-        ensures refused { OnErr result (self.new.is_stale ≡ false → self.new ≡ self.old) }
-        ensures world { self.new.world ≡ self.old.world }
-        ensures sound { OnOk result (self.new.is_stale ≡ false) }
-        ensures visits { OnOk result (NoCountFalls self.old.counts self.new.counts) }
-    {
-        if edits.is_empty() {
-            return Ok(());
-        }
-        let alloc = *self.edits.allocator();
-        sets_rise();
-        sets_stay_fit();
-        held_edits_are_remembered();
-        rising_edits_are_apart();
-        edits_have_sizes(&edits);
-        // until all is done; what fails midway leaves it so
+        self.body = Body::new(self.alloc());
         self.is_stale = true;
-        self.body.take_all(alloc, &edits)?;
-        let Ok(stamps) = enter(alloc, &self.body.inbox, &mut self.edits, edits) else {
-            self.body = Body::new(alloc);
-            return Err(DocumentError::Memory);
-        };
-        self.held.replace(stamps);
-        self.is_stale = false;
-        Ok(())
-    }
-
-    /// Delivers edits that fit, one after the other as they come, up to the first refusal: Stale,
-    /// even for no edits, or Clash. Edits before it stay. After Memory the edits are as before, and
-    /// the document may be stale. Edits in any order take the work of edits in stamp order.
-    pub fn deliver_all(&mut self, edits: Vec<Edit>) -> Result<(), DocumentError>
-        requires { AllFit edits.items }
-        ensures result { (result ≡ Err DocumentError.Memory)
-            ⊎ AnswersEach self.old edits.items result self.new.edits }
-        ensures kept { result ≡ Err DocumentError.Memory → self.new.edits ≡ self.old.edits }
-        ensures refused { result ≡ Err DocumentError.Memory
-            → self.new.is_stale ≡ false → self.new ≡ self.old }
-        ensures world { self.new.world ≡ self.old.world }
-        ensures stale { (result ≢ Err DocumentError.Memory)
-            → self.new.is_stale ≡ self.old.is_stale }
-        ensures visits { (result ≢ Err DocumentError.Memory)
-            → NoCountFalls self.old.counts self.new.counts }
-        ensures memory_only_when { result ≡ Err DocumentError.Memory
-            → (self.old.is_stale ≡ false) × HasNew self.old.edits edits.items }
-    {
-        if self.is_stale {
-            return Err(DocumentError::Stale);
-        }
-        let clash = self.take_batch(edits)?;
-        unless_clash(clash)
     }
 }

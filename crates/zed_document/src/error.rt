@@ -1,6 +1,5 @@
 //! Why a document refuses a call.
-ghost use Rattle.std.specs.Prelude.{◌≡◌, ◌≢◌, Err};
-ghost use Rattle.zed_document.specs.Delivery.{unless_clash};
+ghost use Rattle.std.specs.Prelude.{◌≡◌};
 ghost use Rattle.zed_document.specs.Errors.{refusal_of};
 ghost use Rattle.zed_document.specs.declared.error.DocumentError.TheVariants.{Memory};
 
@@ -54,16 +53,5 @@ impl<T: Drop> From<AllocFailed<T>> for DocumentError {
 
     fn from(_error: AllocFailed<T>) -> DocumentError {
         DocumentError::Memory
-    }
-}
-
-/// Ok, or the clash.
-pub(crate) fn unless_clash(clash: Option<Stamp>) -> Result<(), DocumentError>
-    ensures result { result ≡ unless_clash clash }
-    ensures never_memory { result ≢ Err DocumentError.Memory }
-{
-    match clash {
-        Some(stamp) => Err(DocumentError::Clash(stamp)),
-        None => Ok(()),
     }
 }

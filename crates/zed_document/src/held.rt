@@ -1,5 +1,5 @@
 //! The stamps of the edits that are held.
-ghost use Rattle.std.specs.Prelude.{◌≡◌, ◌<◌, [], if◌then◌else◌, length, filter, IfErr, IfOk, OnOk, OnErr};
+ghost use Rattle.std.specs.Prelude.{◌≡◌, ◌<◌, [], if◌then◌else◌, length, filter, OnOk, OnErr};
 ghost use Rattle.std.specs.BTreeMap.{is_at};
 ghost use Rattle.std.specs.BTreeSet.{insert_key};
 ghost use Rattle.std.specs.Set.{remove_key};
@@ -56,20 +56,6 @@ fn drop_all(stamps: &mut BTreeSet<Stamp>, inbox: &Inbox)
     stamps.retain(|stamp| inbox.is_held(*stamp));
 }
 
-/// The stamps of the edits that wait.
-pub(crate) fn waiting(alloc: Global, inbox: &Inbox) -> Result<BTreeSet<Stamp>, AllocError>
-    ensures { IfOk result (λ stamps. stamps.keys ≡ stamps_of inbox.now) }
-{
-    let mut stamps = BTreeSet::new(alloc);
-    if inbox.held() == 0 {
-        return Ok(stamps);
-    }
-    for stamp in inbox.stamps()? {
-        stamps.insert(stamp)?;
-    }
-    Ok(stamps)
-}
-
 impl HeldStamps {
     /// Without any stamp. It takes no memory.
     pub(crate) fn new(alloc: Global) -> HeldStamps
@@ -114,13 +100,6 @@ impl HeldStamps {
         if is_held {
             self.stamps.remove(&stamp);
         }
-    }
-
-    /// Other stamps take their place.
-    pub(crate) fn replace(&mut self, stamps: BTreeSet<Stamp>)
-        ensures { self.new ≡ stamps.keys }
-    {
-        self.stamps = stamps;
     }
 
     /// Those that were woken are held no longer. Some of them were found.

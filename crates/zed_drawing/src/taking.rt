@@ -18,12 +18,12 @@ use crate::error::DrawingError;
 use crate::reading::{open_file, world_of};
 use crate::telling::{beside_of, taken_told};
 use std::alloc::{AllocError, Global};
-use zed_document::Document;
+use zed_document::{Document, copies_of};
 use zed_edit::{Cause, Edit};
 use zed_editfile::write_file;
 use zed_files::Refusal;
 use zed_host::Host;
-use zed_take::{copies_of, deliver};
+use zed_take::deliver;
 use zed_world::World;
 
 // What is read: FILE, a base of its own, and WORLD.

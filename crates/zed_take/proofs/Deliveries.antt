@@ -8,12 +8,11 @@ use Rattle.zed_op.specs.declared.op.Edit.{Edit}
 use Rattle.zed_op.specs.Fit.{Fits, fault}
 use Rattle.zed_op.specs.Set.{AllFit, union, with_edit}
 use Rattle.zed_op.proofs.SetLaws.{each-with_edit}
-use Rattle.zed_history.specs.Batch.{IsFree, JoinOn}
 use Rattle.zed_history.specs.Finding.{AllBelow, edit_with}
 use Rattle.zed_history.proofs.Times.{later-all}
 use Rattle.zed_document.specs.Replica.{Replica}
 use Rattle.zed_document.specs.declared.delivered.Delivered.{Delivered}
-use Rattle.zed_document.specs.Delivery.{Answers, AnswersAt, AnswersEach, AnswersFit, DeliversEach, after_edit}
+use Rattle.zed_document.specs.Delivery.{Answers, AnswersAt, AnswersEach, AnswersFit, DeliversEach, IsFree, after_edit}
 use Rattle.zed_document.specs.declared.error.DocumentError.{DocumentError}
 use Rattle.zed_document.specs.declared.error.DocumentError.TheVariants as document
 use Rattle.zed_take.specs.Taken.{AreFrom, Joins, later, next_stamp}
@@ -56,26 +55,23 @@ free_accepted (Some f) es e why is free a =
 
 -- deliveries that were all accepted: none clashes
 joins_each : (d : Replica) (es left : List Edit) → d.is_stale ≡ false → AllFit es → DeliversEach d es (Ok tt) left → Joins d.edits es × (left ≡ union d.edits es)
-joins_each d [] left sound fit each = ((refl, refl), each.1)
+joins_each d [] left sound fit each = (tt, each.1)
 joins_each d (e ∷ es) left sound fit each =
     elim each [
       | inl one ↦ (let free = accepted_free (edit_with e.stamp d.edits) d.edits e one.0 refl (at_fit d e (Ok one.0) sound fit.0 one.1) in
           let more = joins_each (after_edit e d) es left sound fit.1 one.2 in
-          (inl (free, more.0), more.1))
+          ((free, more.0), more.1))
       | inr clash ↦ absurd (let no : done ≡ refused clash.0 = clash.2 in cc)
     ]
 
 -- where none clashes all are accepted
-each_joins : (d : Replica) (es left whole : List Edit) (r : Result (Unit {0}) DocumentError) → d.is_stale ≡ false → AllFit es → JoinOn d.edits es None whole → DeliversEach d es r left
+each_joins : (d : Replica) (es left : List Edit) (r : Result (Unit {0}) DocumentError) → d.is_stale ≡ false → AllFit es → Joins d.edits es → DeliversEach d es r left
     → (r ≡ Ok tt) × (left ≡ union d.edits es)
-each_joins d [] left whole r sound fit join each = each
-each_joins d (e ∷ es) left whole r sound fit join each =
-    elim join [
-      | inl free ↦ elim each [
-        | inl one ↦ each_joins (after_edit e d) es left whole r sound fit.1 free.1 one.2
-        | inr clash ↦ absurd (free_accepted (edit_with e.stamp d.edits) d.edits e clash.0 refl free.0 (at_fit d e (Err clash.0) sound fit.0 clash.1))
-      ]
-      | inr other ↦ absurd (let no : None ≡ Some e.stamp = other.1 in cc)
+each_joins d [] left r sound fit joins each = each
+each_joins d (e ∷ es) left r sound fit joins each =
+    elim each [
+      | inl one ↦ each_joins (after_edit e d) es left r sound fit.1 joins.1 one.2
+      | inr clash ↦ absurd (free_accepted (edit_with e.stamp d.edits) d.edits e clash.0 refl joins.0 (at_fit d e (Err clash.0) sound fit.0 clash.1))
     ]
 
 abbrev AnswersAll : Replica → List Edit → Result (Unit {0}) DocumentError → List Edit → Type 0
@@ -97,7 +93,7 @@ pub comes_out : (d : Replica) (es left : List Edit) (r : Result (Unit {0}) Docum
 comes_out d es left r sound fit joins answer =
     elim answer [
       | inl lacks ↦ inl lacks
-      | inr each ↦ inr (each_joins d es left (union d.edits es) r sound fit joins (when_sound d es left r sound each)).0
+      | inr each ↦ inr (each_joins d es left r sound fit joins (when_sound d es left r sound each)).0
     ]
 
 -- ---- edits behind all others
@@ -119,8 +115,8 @@ below_with s log e is below =
     each-with_edit (λ f. before f.stamp (later s) ≡ true) e log last (below_later s log below)
 
 pub behind_join : (s : Stamp) (log es : List Edit) → AllBelow s log → AreFrom s es → Joins log es
-behind_join s log [] below from = (refl, refl)
-behind_join s log (e ∷ es) below from = inl (free_behind s log e from.0 below, behind_join (later s) (with_edit e log) es (below_with s log e from.0 below) from.1)
+behind_join s log [] below from = tt
+behind_join s log (e ∷ es) below from = (free_behind s log e from.0 below, behind_join (later s) (with_edit e log) es (below_with s log e from.0 below) from.1)
 
 -- edits with the next stamps of a document clash with none of it
 pub next_join : (log es : List Edit) (replica : ℕ) → AreFrom (next_stamp log replica) es → Joins log es

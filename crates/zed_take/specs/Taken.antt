@@ -1,12 +1,12 @@
 -- What is taken of a world: edits that lead to it from what a base shows.
-use Rattle.std.specs.Prelude.{◌≡◌, ℕ, ◌+◌, List, [], ◌∷◌, None, Ok}
+use Rattle.std.specs.Prelude.{◌≡◌, ℕ, ◌+◌, List, [], ◌∷◌, Ok}
 use Rattle.zed_types.specs.declared.stamp.Stamp.{Stamp}
 use Rattle.zed_world.specs.Contents.{Contents}
 use Rattle.zed_op.specs.declared.op.Edit.{Edit}
-use Rattle.zed_op.specs.Set.{AllFit, union}
+use Rattle.zed_op.specs.Set.{AllFit, union, with_edit}
 use Rattle.zed_edit.specs.Replay.{replay}
-use Rattle.zed_history.specs.Batch.{JoinOn}
 use Rattle.zed_history.specs.Clock.{next_time}
+use Rattle.zed_document.specs.Delivery.{IsFree}
 use Rattle.zed_export.specs.Limits.{exported}
 
 -- the stamp of the same replica, one time later
@@ -24,7 +24,8 @@ Shows es w = exported 32767 (replay es) ≡ Ok w
 
 -- edits join others one after the other, and none of them clashes
 abbrev pub Joins : List Edit → List Edit → Type 0
-Joins log es = JoinOn log es None (union log es)
+Joins log [] = Unit {0}
+Joins log (e ∷ es) = IsFree log e × Joins (with_edit e log) es
 
 -- edits that fit, made one after the other from a stamp on, that join a base and lead from what it shows to a world
 pub record LeadsTo (base : List Edit) (w : Contents) (first : Stamp) (edits : List Edit) : Type 0 where

@@ -8,10 +8,9 @@ ghost use Rattle.zed_export.specs.Limits.{saved};
 ghost use Rattle.zed_export.specs.World.{world_of};
 ghost use Rattle.zed_take.specs.Taken.{AreFrom, Joins};
 
-use crate::delivering::copies_of;
 use crate::plan_error::PlanError;
 use std::alloc::Global;
-use zed_document::{Document, DocumentError};
+use zed_document::{Document, DocumentError, copies_of};
 use zed_export::{ExportError, save};
 use zed_op::{Edit, EditError, check, rising_lists_are_sets};
 use zed_types::{READ_BODY_LIMIT, Stamp};

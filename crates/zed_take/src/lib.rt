@@ -26,7 +26,7 @@ mod table;
 mod taking;
 mod texts;
 
-pub use delivering::{copies_of, deliver};
+pub use delivering::deliver;
 pub use error::TakeError;
 pub use laws::{
     nothing_is_taken_unchanged, taking_again_takes_nothing, unwritten_boards_stay,
