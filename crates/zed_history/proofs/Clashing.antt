@@ -1,7 +1,6 @@
 -- Whether two logs clash.
 use Rattle.std.proofs.Common.{◌≡◌, ℕ, zero, suc, ◌<◌, Bool, true, false, List, [], ◌∷◌, ◌++◌, Option, Some, None, take, drop, length, get_or, refl, ap, sym, subst, ◌∙◌, arith, inl, inr}
 use Rattle.std.specs.List.{AllByRecursion, Contains}
-use Rattle.std.specs.Option.{is_some}
 use Rattle.std.specs.Prelude.{◌≢◌, slice_get, slice_index_or, IfSome, IsSomeAnd}
 use Rattle.zed_types.specs.declared.stamp.Stamp.{Stamp}
 use Rattle.zed_types.specs.Stamp.{before, same_stamp}
@@ -152,15 +151,3 @@ pub none-begun-by : (s : Stamp) (es : List Edit) (f : Edit) → IsRising es → 
 none-begun-by s es f r a g n =
     let h : IfSome (slice_get es 0) (λ x. same_stamp s x.stamp ≡ false) = rw g (same_stamp-sym s f.stamp ∙ n) in
     none-begun s es r a h
-
--- a log from a stamp on has an edit of it where it begins with one
-pub begins : (s : Stamp) (es : List Edit) (f : Edit) → IsRising es → AllFrom s es → slice_get es 0 ≡ Some f → same_stamp f.stamp s ≡ is_some (edit_with s es)
-begins s [] f r a at = absurd (cc)
-begins s (x ∷ es) f r a at = go (same_stamp f.stamp s) refl
-  where
-    is : x ≡ f
-    is = let q : Some x ≡ Some f = at in cc
-
-    go : (b : Bool) → same_stamp f.stamp s ≡ b → b ≡ is_some (edit_with s (x ∷ es))
-    go true q = let t : same_stamp x.stamp s ≡ true = ap (λ (y : Edit). same_stamp y.stamp s) is ∙ q in rw t refl
-    go false q = let none = none-begun-by s (x ∷ es) f r a at q in rw none refl

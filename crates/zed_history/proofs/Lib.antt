@@ -1,6 +1,4 @@
 pub mod Clashing
-pub mod Gathering
-pub mod Lacking
 pub mod Lookups
 pub mod Opened
 pub mod Runs

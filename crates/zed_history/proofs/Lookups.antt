@@ -5,9 +5,8 @@ use Rattle.zed_types.specs.declared.stamp.Stamp.{Stamp}
 use Rattle.zed_types.specs.Stamp.{before, same_stamp}
 use Rattle.zed_op.specs.declared.op.Edit.{Edit}
 use Rattle.zed_op.specs.Set.{IsRising, with_edit, union}
-use Rattle.zed_op.specs.SetLaws.{EditKeepsRising, UnionKeepsRising, RisingIsItsEdits}
-use Rattle.zed_history.specs.Batch.{first_of}
-use Rattle.zed_history.specs.Finding.{AllAbove, edit_with}
+use Rattle.zed_op.specs.SetLaws.{EditKeepsRising, RisingIsItsEdits}
+use Rattle.zed_history.specs.Finding.{AllAbove, edit_with, first_of}
 use Rattle.zed_history.proofs.Clashing.{edit_with-there, edit_with-stands}
 use Rattle.zed_history.proofs.Spots.{above-later, edit_with-none}
 use Rattle.zed_types.proofs.StampOrder.{same_stamp-true}
@@ -63,17 +62,3 @@ there_too es fs r same e m = (edit_with-stands e.stamp fs e (sym (same e.stamp) 
 -- rising logs in which the same is found are equal
 pub rising-found : RisingIsItsEdits → (es fs : List Edit) → IsRising es → IsRising fs → ((s : Stamp) → edit_with s es ≡ edit_with s fs) → es ≡ fs
 rising-found known es fs r q same = known es fs r q (λ e. (there_too es fs r same e, there_too fs es q (λ s. sym (same s)) e))
-
--- one more edit joins what joins a log
-pub union-with_edit : EditKeepsRising → UnionKeepsRising → RisingIsItsEdits → (own ms : List Edit) (e : Edit) → IsRising own → IsRising ms
-    → union own (with_edit e ms) ≡ with_edit e (union own ms)
-union-with_edit rises joins known own ms e r q =
-    rising-found known (union own (with_edit e ms)) (with_edit e (union own ms)) (joins own (with_edit e ms) r) (rises e (union own ms) (joins own ms r)) same
-  where
-    same : (s : Stamp) → edit_with s (union own (with_edit e ms)) ≡ edit_with s (with_edit e (union own ms))
-    same s =
-        found-union rises s own (with_edit e ms) r
-        ∙ ap (first_of (edit_with s own)) (found-with_edit s e ms q)
-        ∙ sym (first-assoc (edit_with s own) (edit_with s ms) (edit_with s (e ∷ [])))
-        ∙ ap (λ o. first_of o (edit_with s (e ∷ []))) (sym (found-union rises s own ms r))
-        ∙ sym (found-with_edit s e (union own ms) (joins own ms r))

@@ -12,8 +12,7 @@ use Rattle.zed_op.specs.declared.op.Edit.{Edit}
 use Rattle.zed_op.specs.Set.{IsRising, union, with_edit}
 use Rattle.zed_op.specs.SetLaws.{EditKeepsRising, RisingIsItsEdits, UnionKeepsRising}
 use Rattle.zed_op.proofs.SetLaws.{each-with_edit}
-use Rattle.zed_history.specs.Batch.{AreNew, first_of}
-use Rattle.zed_history.specs.Finding.{AllAbove, AllBelow, edit_with}
+use Rattle.zed_history.specs.Finding.{AllAbove, AllBelow, AreNew, edit_with, first_of}
 use Rattle.zed_history.proofs.Lookups.{found-with_edit}
 use Rattle.zed_history.proofs.Spots.{above-later, with_edit-between}
 use Rattle.zed_history.proofs.Walks.{below-take}

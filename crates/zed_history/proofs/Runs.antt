@@ -10,8 +10,7 @@ use Rattle.zed_types.proofs.StampOrder.{same_stamp-itself, same_stamp-true}
 use Rattle.zed_op.specs.declared.op.Edit.{Edit}
 use Rattle.zed_op.specs.Set.{IsRising, union, with_edit}
 use Rattle.zed_op.proofs.SetLaws.{each-with_edit}
-use Rattle.zed_history.specs.Batch.{AreNew, first_of}
-use Rattle.zed_history.specs.Finding.{AllBelow, edit_with}
+use Rattle.zed_history.specs.Finding.{AllBelow, AreNew, edit_with, first_of}
 use Rattle.zed_history.specs.Runs.{AreRuns, count_in, found_in, joined}
 use Rattle.zed_history.proofs.Lookups.{first-assoc, first-none, found-union, found-with_edit, rising-found}
 use Rattle.zed_history.proofs.Opened.{SetsHold, still-new}

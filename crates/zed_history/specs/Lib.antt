@@ -1,4 +1,3 @@
-pub mod Batch
 pub mod Clash
 pub mod Clock
 pub mod Finding

@@ -4,8 +4,7 @@ use Rattle.std.specs.List.{AllByRecursion}
 use Rattle.zed_types.specs.declared.stamp.Stamp.{Stamp}
 use Rattle.zed_op.specs.declared.op.Edit.{Edit}
 use Rattle.zed_op.specs.Set.{IsRising, union}
-use Rattle.zed_history.specs.Batch.{AreNew, first_of}
-use Rattle.zed_history.specs.Finding.{edit_with}
+use Rattle.zed_history.specs.Finding.{AreNew, edit_with, first_of}
 
 -- the edits of runs together; where more than one has a stamp, the first has its own
 abbrev pub joined : List (List Edit) → List Edit

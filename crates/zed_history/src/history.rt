@@ -4,8 +4,7 @@ ghost use Rattle.std.specs.Bool.{OnTrue, OnFalse};
 ghost use Rattle.zed_types.specs.declared.stamp.Stamp.{Stamp as TheStamp};
 ghost use Rattle.zed_op.specs.declared.op.Edit.{Edit as TheEdit};
 ghost use Rattle.zed_op.specs.Set.{IsRising, with_edit};
-ghost use Rattle.zed_history.specs.Batch.{first_of};
-ghost use Rattle.zed_history.specs.Finding.{AllBelow, edit_with};
+ghost use Rattle.zed_history.specs.Finding.{AllBelow, edit_with, first_of};
 ghost use Rattle.zed_history.specs.Runs.{AreRuns, SettleTo, count_in, found_in, joined};
 
 use crate::moving::move_in;

@@ -2,7 +2,6 @@
 //! until the history is closed. The search for a place begins where the last one was found.
 #![tactic(auto)]
 
-mod batch;
 mod clock;
 mod history;
 mod moving;
@@ -10,9 +9,7 @@ mod place;
 mod run;
 mod two_logs;
 
-pub use batch::{Batch, gather};
 pub use clock::{is_spent, next_stamp, next_time};
 pub use history::History;
-pub use moving::join;
 pub use place::spot_of;
-pub use two_logs::{copies_new_to, least_clash};
+pub use two_logs::least_clash;

@@ -1,12 +1,10 @@
 //! Edits moved to their places in a log. This takes no memory if there is room for them.
-ghost use Rattle.std.specs.Prelude.{◌≡◌, ◌≢◌, ◌≤◌, ◌<◌, ◌+◌, ◌++◌, [], None, length, take, drop, slice_set, vec_capacity, OnOk, OnErr};
+ghost use Rattle.std.specs.Prelude.{◌≡◌, ◌≤◌, ◌<◌, ◌+◌, ◌++◌, None, length, take, drop, slice_set, vec_capacity};
 ghost use Rattle.zed_op.specs.Set.{IsRising, union};
-ghost use Rattle.zed_history.specs.Batch.{AreNew};
-ghost use Rattle.zed_history.specs.Finding.{AllAbove, AllBelow, edit_with};
+ghost use Rattle.zed_history.specs.Finding.{AllAbove, AllBelow, AreNew, edit_with};
 
 use crate::place::is_below;
-use std::alloc::AllocError;
-use zed_op::{Edit, Op, rising_lists_are_sets};
+use zed_op::{Edit, Op};
 use zed_types::Stamp;
 
 /// Puts so many edits that say nothing behind a log: they keep room for others.
@@ -73,27 +71,4 @@ pub(crate) fn move_in(log: &mut Vec<Edit>, mut edits: Vec<Edit>)
         place = move_up(log, place, left + 1, edit.stamp);
         put_over(log, place + left, edit);
     }
-}
-
-/// Joins edits with new stamps to a log. None is copied. Memory leaves the log as it was, and comes
-/// only if both have edits.
-pub fn join(log: &mut Vec<Edit>, edits: Vec<Edit>) -> Result<(), AllocError>
-    requires log_rising { IsRising log.old.items }
-    requires rising { IsRising edits.items }
-    requires new { AreNew log.old.items edits.items }
-    ensures ok { OnOk result (log.new.items ≡ union log.old.items edits.items) }
-    ensures kept { OnErr result (log.new.items ≡ log.old.items) }
-    ensures memory_only_when { OnErr result ((log.old.items ≢ []) × (edits.items ≢ [])) }
-{
-    rising_lists_are_sets();
-    if edits.is_empty() {
-        return Ok(());
-    }
-    if log.is_empty() {
-        *log = edits;
-        return Ok(());
-    }
-    log.reserve(edits.len())?;
-    move_in(log, edits);
-    Ok(())
 }

@@ -1,17 +1,14 @@
-//! Two logs, each walked once: whether they clash, and what one has that the other doesn't.
+//! Two logs, each walked once: whether they clash.
 
-ghost use Rattle.std.specs.Prelude.{◌≡◌, ◌≢◌, ◌<◌, ◌≤◌, ◌-◌, ◌++◌, ◌∷◌, [], if◌then◌else◌, true, false, None, length, take, drop, slice_get, IfSome, IfNone, IfOk, IfErr, IsSomeAnd, OnErr, OnOk};
+ghost use Rattle.std.specs.Prelude.{◌≡◌, ◌≢◌, ◌≤◌, false, length, take, drop, IfSome, IfNone, IsSomeAnd};
 ghost use Rattle.std.specs.Bool.{OnTrue, OnFalse};
-ghost use Rattle.std.specs.Option.{is_some};
 ghost use Rattle.zed_types.specs.declared.stamp.Stamp.{Stamp as TheStamp};
-ghost use Rattle.zed_types.specs.Stamp.{before, same_stamp};
-ghost use Rattle.zed_op.specs.Set.{AllFit, IsRising, union, with_edit};
-ghost use Rattle.zed_history.specs.Batch.{AreNew};
+ghost use Rattle.zed_types.specs.Stamp.{before};
+ghost use Rattle.zed_op.specs.Set.{IsRising};
 ghost use Rattle.zed_history.specs.Finding.{AllBelow, AllFrom, edit_with};
-ghost use Rattle.zed_history.specs.Clash.{Agree, IsLeastClash, new_to};
+ghost use Rattle.zed_history.specs.Clash.{Agree, IsLeastClash};
 
-use std::alloc::{AllocError, Global};
-use zed_op::{Edit, rising_lists_are_sets, sets_rise};
+use zed_op::Edit;
 use zed_types::Stamp;
 
 /// How many edits at the front of a log come before a stamp.
@@ -26,16 +23,6 @@ fn count_before(edits: &[Edit], stamp: Stamp) -> usize
         count += 1;
     }
     count
-}
-
-fn push_copy(joined: &mut Vec<Edit>, edit: &Edit) -> Result<(), AllocError>
-    ensures ok { OnOk result (joined.new.items ≡ joined.old.items ++ edit.now ∷ []) }
-{
-    let Ok(copy) = edit.copy() else {
-        return Err(AllocError);
-    };
-    joined.push(copy)?;
-    Ok(())
 }
 
 /// The edits of a log from a stamp on.
@@ -77,62 +64,4 @@ pub fn least_clash(own: &[Edit], other: &[Edit]) -> Option<Stamp>
         }
     }
     None
-}
-
-/// Whether a log from a stamp on begins with it.
-fn begins_with(log: &[Edit], stamp: Stamp) -> bool
-    requires rising { IsRising log.now }
-    requires above { AllFrom stamp log.now }
-    ensures { result ≡ is_some (edit_with stamp log.now) }
-{
-    match log.first() {
-        Some(first) => first.stamp == stamp,
-        None => false,
-    }
-}
-
-/// Adds a copy of an edit that isn't there.
-fn push_new(edits: &mut Vec<Edit>, is_there: bool, edit: &Edit) -> Result<(), AllocError>
-    ensures ok { OnOk result (edits.new.items
-        ≡ (if is_there then edits.old.items else edits.old.items ++ edit.now ∷ [])) }
-    ensures new { OnErr result (is_there ≡ false) }
-{
-    if is_there {
-        return Ok(());
-    }
-    push_copy(edits, edit)
-}
-
-/// The same as below, by a walk over both.
-fn copy_new(own: &[Edit], alloc: Global, other: &[Edit]) -> Result<Vec<Edit>, AllocError>
-    requires own { IsRising own.now }
-    requires other { IsRising other.now }
-    ensures ok { IfOk result (λ edits. edits.items ≡ new_to own.now other.now) }
-    ensures some { OnErr result (new_to own.now other.now ≢ []) }
-{
-    let mut edits = Vec::new(alloc);
-    let mut rest = own;
-    for edit in other {
-        rest = from_stamp(rest, edit.stamp);
-        push_new(&mut edits, begins_with(rest, edit.stamp), edit)?;
-    }
-    Ok(edits)
-}
-
-/// Copies of the edits of another log whose stamps this log doesn't have, in stamp order. Memory
-/// comes only if there is one.
-pub fn copies_new_to(own: &[Edit], alloc: Global, other: &[Edit]) -> Result<Vec<Edit>, AllocError>
-    requires own { IsRising own.now }
-    requires other { IsRising other.now }
-    ensures ok { IfOk result (λ edits. edits.items ≡ new_to own.now other.now) }
-    ensures rising { IfOk result (λ edits. IsRising edits.items) }
-    ensures fit { IfOk result (λ edits. AllFit other.now → AllFit edits.items) }
-    ensures apart { IfOk result (λ edits. AreNew own.now edits.items) }
-    ensures joins { IfOk result (λ edits. union own.now edits.items ≡ union own.now other.now) }
-    ensures memory_only_when { OnErr result (new_to own.now other.now ≢ []) }
-{
-    let edits = copy_new(own, alloc, other)?;
-    sets_rise();
-    rising_lists_are_sets();
-    Ok(edits)
 }

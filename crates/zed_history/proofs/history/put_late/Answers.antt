@@ -1,8 +1,7 @@
 use Rattle.std.proofs.Common.{◌≡◌, ◌∙◌, ◌++◌, ◌∷◌, [], None, ap, sym, subst, rules, List, Option, arith}
 use Rattle.zed_op.specs.declared.op.Edit.{Edit}
 use Rattle.zed_op.specs.Set.{IsRising, with_edit}
-use Rattle.zed_history.specs.Batch.{first_of}
-use Rattle.zed_history.specs.Finding.{AllBelow, edit_with}
+use Rattle.zed_history.specs.Finding.{AllBelow, edit_with, first_of}
 use Rattle.zed_history.specs.Runs.{AreRuns, count_in, found_in}
 use Rattle.zed_history.proofs.Opened.{SetsHold}
 use Rattle.zed_history.proofs.Runs.{count-in-last, count-last, count-push, found-empty, found-in-last, found-push, last-rises, runs-empty, runs-more, runs-push}

@@ -1,8 +1,7 @@
 use Rattle.std.proofs.Common.{◌≡◌, ◌∙◌, ◌++◌, ◌∷◌, [], None, ap, sym, subst, rules, List, arith, length}
 use Rattle.zed_op.specs.declared.op.Edit.{Edit}
 use Rattle.zed_op.specs.Set.{with_edit}
-use Rattle.zed_history.specs.Batch.{first_of}
-use Rattle.zed_history.specs.Finding.{AllBelow, edit_with}
+use Rattle.zed_history.specs.Finding.{AllBelow, edit_with, first_of}
 use Rattle.zed_history.specs.Runs.{AreRuns, found_in, joined}
 use Rattle.zed_history.proofs.Lookups.{first-assoc}
 use Rattle.zed_history.proofs.Opened.{SetsHold}

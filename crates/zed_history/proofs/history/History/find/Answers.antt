@@ -1,8 +1,7 @@
 use Rattle.std.proofs.Common.{◌≡◌, ◌∙◌, ◌++◌, ◌∷◌, [], None, Some, Option, ap, rules}
 use Rattle.zed_op.specs.declared.op.Edit.{Edit}
 use Rattle.zed_op.specs.Set.{IsRising}
-use Rattle.zed_history.specs.Batch.{first_of}
-use Rattle.zed_history.specs.Finding.{edit_with}
+use Rattle.zed_history.specs.Finding.{edit_with, first_of}
 use Rattle.zed_history.specs.Runs.{found_in}
 use Rattle.zed_history.proofs.Opened.{SetsHold}
 use Rattle.zed_history.proofs.Runs.{found-append, found-last, found-whole, last-rises}
