@@ -1,6 +1,6 @@
 -- The playtest that begins on a board of the world of a set of edits.
 use Rattle.std.specs.Prelude.{ℕ, List, Option, Some, None, slice_get, Result, Ok, Err}
-use Rattle.zed_types.specs.declared.limits.TheConstants.{READ_BODY_LIMIT}
+use Rattle.zed_types.specs.Limits.{largest_body}
 use Rattle.zed_world.specs.declared.board.BoardData.{BoardData}
 use Rattle.zed_world.specs.declared.header.Header.{Header}
 use Rattle.zed_world.specs.Contents.{Contents}
@@ -26,9 +26,9 @@ abbrev pub in_world : ℕ → Result Contents ExportError → Result Playtest Re
 in_world n (Ok world) = on_board world.header (slice_get world.boards n)
 in_world n (Err e) = Err (export_refusal e)
 
--- the same of the world of a set of edits, of which a body may have 32,767 bytes
+-- the same of the world of a set of edits, with bodies as long as a world file can spell
 abbrev pub opened : ℕ → List Edit → Result Playtest Refusal
-opened n es = in_world n (exported READ_BODY_LIMIT (replay es))
+opened n es = in_world n (exported largest_body (replay es))
 
 -- the same of a set of edits, or what was refused before
 abbrev pub opened_in : ℕ → Result (List Edit) Refusal → Result Playtest Refusal
@@ -49,4 +49,4 @@ over_world going (Err e) = None
 
 -- the same of the world of a set of edits
 abbrev pub over_edits : Going → List Edit → Option Contents
-over_edits going es = over_world going (exported READ_BODY_LIMIT (replay es))
+over_edits going es = over_world going (exported largest_body (replay es))
