@@ -96,24 +96,40 @@ impl Terminal for Display {
 #[derive(Drop)]
 pub struct Keyboard {
     rt: HostRuntime,
+    came: u64,
+    failures: u64,
 }
 
 impl Keyboard {
     /// No byte was taken yet.
     pub fn new(rt: HostRuntime) -> Keyboard {
-        Keyboard { rt }
+        Keyboard {
+            rt,
+            came: 0,
+            failures: 0,
+        }
     }
 }
 
 impl Bytes for Keyboard {
     ghost bytes_left = { λ _. None };
 
+    ghost bytes_came = { λ k. k.came };
+
+    ghost byte_failures = { λ k. k.failures };
+
     fn byte(&mut self) -> Result<Option<u8>, DeviceFailed> {
         let mut byte = [0];
         match read_some(&mut self.rt.stdin(), &mut byte) {
             Ok(0) => Ok(None),
-            Ok(_) => Ok(Some(byte[0])),
-            Err(_) => Err(DeviceFailed),
+            Ok(_) => {
+                self.came = self.came.saturating_add(1);
+                Ok(Some(byte[0]))
+            }
+            Err(_) => {
+                self.failures = self.failures.saturating_add(1);
+                Err(DeviceFailed)
+            }
         }
     }
 }

@@ -12,5 +12,5 @@ returns-in-Over-clause-ok g c =
     let is = c.in-Over.is in
     let over : c.loop.self.reading ≡ Over = cc in
     let before = inputs_left c.args.self.now.reading (g.B.Bytes.bytes_left c.args.self.now.bytes) in
-    let same : inputs_left Over left ≡ before = ap (λ r. inputs_left r left) (sym over) ∙ c.loop.invariant.0 in
+    let same : inputs_left Over left ≡ before = ap (λ r. inputs_left r left) (sym over) ∙ c.loop.invariant.left in
     subst (λ r. Takes None before (inputs_left r left)) (sym over) (over_takes left before same)
