@@ -13,6 +13,7 @@ use Rattle.zed_files.proofs.Failures.{none_later}
 use Rattle.zed_play.specs.declared.key.Key.{Key}
 use Rattle.zed_staging.specs.declared.input.Input.{Input}
 use Rattle.zed_turns.specs.Course.{Point}
+use Rattle.zed_turns.specs.Devices.{Chances}
 use Rattle.zed_turns.specs.Record.{spelled_all}
 use Rattle.zed_turns.specs.Stage.{Stage, stage}
 use Rattle.zed_turns.specs.Report.{report_of}
@@ -97,13 +98,13 @@ told_ends (Err e) old middle now t q l text mid new up more kept done half file 
     (h.0, inr (inr (rose_later old middle now up count, file, (p, played, subst (λ s. HalfPrinted s there h.0) kept.2 h.1))), h.2)
 
 -- what was drawn stays as it is where the terminal is left
-pub left_stage : (drawn drawn_then : Option (List (List ℕ))) (foretold foretold_then : Option (List Bool)) (left : Option (List Input)) (chance : Option (List ℕ)) → drawn_then ≡ drawn → foretold_then ≡ foretold
+pub left_stage : (drawn drawn_then : Option (List (List ℕ))) (foretold foretold_then : Option (List Bool)) (left : Option (List Input)) (chance : Chances) → drawn_then ≡ drawn → foretold_then ≡ foretold
     → stage drawn foretold left None chance ≡ stage drawn_then foretold_then left None chance
 left_stage drawn drawn_then foretold foretold_then left chance same still =
     ap (λ d. stage d foretold left None chance) (sym same) ∙ ap (λ f. stage drawn_then f left None chance) (sym still)
 
 -- so all that is said of where the devices were led
-pub left_led : (P : Led → Type 0) (before : Stage) (rest : List Key) (drawn drawn_then : Option (List (List ℕ))) (foretold foretold_then : Option (List Bool)) (left : Option (List Input)) (chance : Option (List ℕ))
+pub left_led : (P : Led → Type 0) (before : Stage) (rest : List Key) (drawn drawn_then : Option (List (List ℕ))) (foretold foretold_then : Option (List Bool)) (left : Option (List Input)) (chance : Chances)
     → drawn_then ≡ drawn → foretold_then ≡ foretold → P (record { before = before; rest = rest; behind = stage drawn foretold left None chance })
     → P (record { before = before; rest = rest; behind = stage drawn_then foretold_then left None chance })
 left_led P before rest drawn drawn_then foretold foretold_then left chance same still is =

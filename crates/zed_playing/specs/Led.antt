@@ -3,22 +3,27 @@ use Rattle.std.specs.Prelude.{ℕ, Bool, List, Option, None, drop}
 use Rattle.zed_play.specs.declared.key.Key.{Key}
 use Rattle.zed_staging.specs.declared.input.Input.{Input}
 use Rattle.zed_turns.specs.declared.console.Console.{Console}
+use Rattle.zed_turns.specs.Devices.{chances}
 use Rattle.zed_turns.specs.Stage.{Stage, stage}
 
--- what devices tell: what was drawn on a terminal, which draws to come fail, what is left of what is typed, and which words of chance are to come
+-- what devices tell: what was drawn on a terminal, which draws to come fail, what is left of what is typed, which words of chance are to come, and
+-- how many calls of their source failed
 pub record Devices (T I C : Type 0) : Type 0 where
   pub drawn : T → Option (List (List ℕ))
   pub draws_foretell : T → Option (List Bool)
   pub left : I → Option (List Input)
   pub to_come : C → Option (List ℕ)
+  pub chance_failures : C → ℕ
 
 -- devices that tell so
-abbrev pub devices : {T I C : Type 0} → (T → Option (List (List ℕ))) → (T → Option (List Bool)) → (I → Option (List Input)) → (C → Option (List ℕ)) → Devices T I C
-devices drawn draws_foretell left to_come = record { drawn = drawn; draws_foretell = draws_foretell; left = left; to_come = to_come }
+abbrev pub devices : {T I C : Type 0} → (T → Option (List (List ℕ))) → (T → Option (List Bool)) → (I → Option (List Input)) → (C → Option (List ℕ)) → (C → ℕ) → Devices T I C
+devices drawn draws_foretell left to_come chance_failures =
+    record { drawn = drawn; draws_foretell = draws_foretell; left = left; to_come = to_come; chance_failures = chance_failures }
 
 -- what they tell, without the keys that come before what is typed
 abbrev pub stage_of : {T I C : Type 0} → Devices T I C → Console T I C → Stage
-stage_of d c = stage (d.drawn c.terminal) (d.draws_foretell c.terminal) (d.left c.inputs.source) None (d.to_come c.chance)
+stage_of d c =
+    stage (d.drawn c.terminal) (d.draws_foretell c.terminal) (d.left c.inputs.source) None (chances (d.to_come c.chance) (d.chance_failures c.chance))
 
 -- those keys, as far as they weren't taken
 abbrev pub rest_of : {T I C : Type 0} → Console T I C → List Key

@@ -8,6 +8,7 @@ ghost use Rattle.zed_files.specs.Refusals.{is_key_fault, is_screen_fault};
 ghost use Rattle.zed_files.specs.Texts.{texts_of};
 ghost use Rattle.zed_playing.specs.Boards.{IsPerformed, PerformsAny, PlaysFrom};
 ghost use Rattle.zed_turns.specs.Course.{point};
+ghost use Rattle.zed_turns.specs.Devices.{chances};
 ghost use Rattle.zed_playing.specs.Opening.{opened, over_edits};
 ghost use Rattle.zed_turns.specs.Stage.{stage};
 
@@ -33,9 +34,11 @@ fn play_whole<A: Atlas, T: Terminal, I: Inputs, C: Chance>(
     chance: &mut C,
 ) -> Result<Tape, Refusal>
     ensures performs { let before = stage (T.drawn terminal.old) (T.draws_foretell terminal.old)
-        (I.left inputs.old) (I.inputs_foretell inputs.old) (C.to_come chance.old) in
+        (I.left inputs.old) (I.inputs_foretell inputs.old)
+        (chances (C.to_come chance.old) (C.chance_failures chance.old)) in
         let after = stage (T.drawn terminal.new) (T.draws_foretell terminal.new)
-        (I.left inputs.new) (I.inputs_foretell inputs.new) (C.to_come chance.new) in
+        (I.left inputs.new) (I.inputs_foretell inputs.new)
+        (chances (C.to_come chance.new) (C.chance_failures chance.new)) in
         MatchResult result
         (λ tape. PlaysFrom (A.world atlas.now) rows play words.items before after (Ok (point tape)))
         (λ e. PlaysFrom (A.world atlas.now) rows play words.items before after (Err e)) }
@@ -65,9 +68,11 @@ pub(crate) fn play_board<T: Terminal, I: Inputs, C: Chance>(
 ) -> Result<Tape, Refusal>
     requires sound { document.now.is_stale ≡ false }
     ensures performs { let before = stage (T.drawn terminal.old) (T.draws_foretell terminal.old)
-        (I.left inputs.old) (I.inputs_foretell inputs.old) (C.to_come chance.old) in
+        (I.left inputs.old) (I.inputs_foretell inputs.old)
+        (chances (C.to_come chance.old) (C.chance_failures chance.old)) in
         let after = stage (T.drawn terminal.new) (T.draws_foretell terminal.new)
-        (I.left inputs.new) (I.inputs_foretell inputs.new) (C.to_come chance.new) in
+        (I.left inputs.new) (I.inputs_foretell inputs.new)
+        (chances (C.to_come chance.new) (C.chance_failures chance.new)) in
         MatchResult result
         (λ tape. PerformsAny (over_edits going document.now.edits) rows
         (opened board document.now.edits) words.items before after (Ok (point tape)))
@@ -109,9 +114,11 @@ pub fn perform<H: Host, T: Terminal, I: Inputs, C: Chance>(
     ensures performed { (t : HostContents) → H.contents host.old ≡ Some t
         → let failed = Rose (H.faults host.old) (H.faults host.new) in
         let before = stage (T.drawn terminal.old) (T.draws_foretell terminal.old)
-        (I.left inputs.old) (I.inputs_foretell inputs.old) (C.to_come chance.old) in
+        (I.left inputs.old) (I.inputs_foretell inputs.old)
+        (chances (C.to_come chance.old) (C.chance_failures chance.old)) in
         let after = stage (T.drawn terminal.new) (T.draws_foretell terminal.new)
-        (I.left inputs.new) (I.inputs_foretell inputs.new) (C.to_come chance.new) in
+        (I.left inputs.new) (I.inputs_foretell inputs.new)
+        (chances (C.to_come chance.new) (C.chance_failures chance.new)) in
         MatchResult result
         (λ tape. IsPerformed failed t going board rows words.items (texts_of files.now) before after
         (Ok (point tape)))

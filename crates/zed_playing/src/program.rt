@@ -35,7 +35,8 @@ fn play_and_keep<H: Host, T: Terminal, I: Inputs, C: Chance>(
     ensures ends { (t : HostContents) → H.contents host.old ≡ Some t
         → let failed = Rose (H.faults host.old) (H.faults host.new) in
         let asked = request (text_in words.entry) (text_in keys.entry) going rows board (texts_of files.now) in
-        let moved = led (devices T.drawn T.draws_foretell I.left C.to_come) console.old console.new in
+        let moved = led (devices T.drawn T.draws_foretell I.left C.to_come C.chance_failures)
+        console.old console.new in
         MatchResult result
         (λ text. EndsKept failed t asked moved (Ok text.items) (H.contents host.new))
         (λ e. EndsKept failed t asked moved (Err e) (H.contents host.new)) }
@@ -94,7 +95,8 @@ pub fn play<H: Host, T: Terminal, I: Inputs, C: Chance>(
     ensures ends { (t : HostContents) → H.contents host.old ≡ Some t
         → EndsPlay (Rose (H.faults host.old) (H.faults host.new)) t
         (request (text_in words.entry) (text_in keys.entry) going rows board (texts_of files.now))
-        (led (devices T.drawn T.draws_foretell I.left C.to_come) console.old console.new)
+        (led (devices T.drawn T.draws_foretell I.left C.to_come C.chance_failures)
+        console.old console.new)
         result (H.contents host.new) }
     ensures asked { AsksPlay H.called (text_in words.entry) (text_in keys.entry) (texts_of files.now)
         (keeping (text_in words.entry) (text_in keys.entry) ++ Printing ∷ []) (refusal_in result)

@@ -66,7 +66,8 @@ fn act<'a, H: Host, T: Terminal, I: Inputs, C: Chance>(
 ) -> Result<u8, ToolError<'a>>
     ensures ends { (t : HostContents) → H.contents host.old ≡ Some t
         → EndsCommand H.called (Rose (H.faults host.old) (H.faults host.new))
-        (led (devices T.drawn T.draws_foretell I.left C.to_come) console.old console.new)
+        (led (devices T.drawn T.draws_foretell I.left C.to_come C.chance_failures)
+        console.old console.new)
         (meaning_of command.now) host.old host.new t (answer_of result) (H.contents host.new) }
     ensures asked { AsksCommand H.called (meaning_of command.now) (answer_of result)
         host.old host.new }
@@ -188,7 +189,8 @@ fn run_words<H: Host, T: Terminal, I: Inputs, C: Chance>(
     console: &mut Console<T, I, C>,
 ) -> u8
     ensures runs { Runs (hosts H.contents H.called H.failed H.faults)
-        (led (devices T.drawn T.draws_foretell I.left C.to_come) console.old console.new)
+        (led (devices T.drawn T.draws_foretell I.left C.to_come C.chance_failures)
+        console.old console.new)
         (map string_bytes words.now) result host.old host.new }
     ensures idle { plays (command_of (map string_bytes words.now)) ≡ false
         → console.new ≡ console.old }
@@ -231,7 +233,8 @@ pub fn run<H: Host, T: Terminal, I: Inputs, C: Chance>(
     // What is left in a host that tells what it holds, what was asked of it, call by call, and that no failure was forgotten; and where the
     // devices of a playtest were led.
     ensures runs { Runs (hosts H.contents H.called H.failed H.faults)
-        (led (devices T.drawn T.draws_foretell I.left C.to_come) console.old console.new)
+        (led (devices T.drawn T.draws_foretell I.left C.to_come C.chance_failures)
+        console.old console.new)
         (map string_bytes words.now) result host.old host.new }
 
     // The devices are called only where words ask to play, and the terminal is left then.
@@ -249,7 +252,8 @@ pub fn run<H: Host, T: Terminal, I: Inputs, C: Chance>(
     ensures ends_calmly { (t : HostContents) (command : Asked)
         → command_of (map string_bytes words.now) ≡ Some command
         → H.contents host.old ≡ Some t → NothingFailed (H.faults host.old) (H.faults host.new)
-        → EndsCalmly t (led (devices T.drawn T.draws_foretell I.left C.to_come) console.old console.new)
+        → EndsCalmly t (led (devices T.drawn T.draws_foretell I.left C.to_come C.chance_failures)
+        console.old console.new)
         command result (H.contents host.new) }
 
     // However the words ask to take: where FILE and its base spell lists of edits of one world that agree, what counts is the set of the one

@@ -10,6 +10,7 @@ use Rattle.zed_staging.specs.declared.input.Input.{Input}
 use Rattle.zed_staging.specs.declared.input.Input.TheVariants.{Pressed, Resized}
 use Rattle.zed_turns.specs.Again.{Comes, PlaysAgain}
 use Rattle.zed_turns.specs.Course.{Answers, Course, Plays, Point, led_on}
+use Rattle.zed_turns.specs.Devices.{Chances}
 
 -- a step isn't changed by words behind those that it had, and leaves them too
 steps_more : (used : ℕ) (key : Key) (p q : Playtest) (words more : List ℕ) → Steps (Ok used) key p words q
@@ -47,7 +48,7 @@ Kept w a b =
     × Comes w a.play keys (a.left ++ came) b.play b.left
 
 -- what is answered in front of others
-kept_on : (w : Option Contents) (input : Input) (a next b : Point) (chance chance_then : Option (List ℕ)) → Answers w input a chance next chance_then → Kept w next b → Kept w a b
+kept_on : (w : Option Contents) (input : Input) (a next b : Point) (chance chance_then : Chances) → Answers w input a chance next chance_then → Kept w next b → Kept w a b
 kept_on w (Pressed key) a next b chance chance_then (mid, supplied, play, left, words, kept, same) (keys, more, put, all, comes) =
     let came = supplied.0 in
     let makes = supplied.3 in

@@ -11,6 +11,7 @@ use Rattle.zed_staging.specs.declared.input.Input.{Input}
 use Rattle.zed_staging.specs.declared.input.Input.TheVariants.{Pressed, Resized}
 use Rattle.zed_turns.specs.declared.error.TurnError.{TurnError}
 use Rattle.zed_turns.specs.Course.{Advances, Answers, Course, Ends, Plays, PlaysOn, Point, course, on_by}
+use Rattle.zed_turns.specs.Devices.{Chances}
 use Rattle.zed_turns.specs.Performing.{played_to}
 use Rattle.zed_turns.specs.Stage.{Stage}
 use Rattle.zed_turns.specs.Staying.{IsStill, SameUntilLeft}
@@ -29,7 +30,7 @@ on_still w way (Some (Left board)) p still = absurd (still board refl)
 on_still w way (Some Died) p still = refl
 on_still w way (Some Failed) p still = refl
 
-answers_still : (w : Option Contents) (input : Input) (a b : Point) (chance chance_then : Option (List ℕ)) → IsStill b.play
+answers_still : (w : Option Contents) (input : Input) (a b : Point) (chance chance_then : Chances) → IsStill b.play
     → Answers None input a chance b chance_then → Answers w input a chance b chance_then
 answers_still w (Pressed key) a b chance chance_then still (mid, supplied, play, left, words, keys, rows) =
     let same : b.play ≡ mid.play = play ∙ on_none (way_of key a.play) mid.play.ending mid.play in

@@ -1,13 +1,17 @@
 -- Words of chance that come one after the other.
-use Rattle.std.proofs.Common.{◌≡◌, ◌∙◌, ◌+◌, ◌++◌, ◌≤◌, ℕ, zero, suc, List, [], ◌∷◌, Option, Some, None, Ok, ap, append-nil, append_assoc, arith, drop, length, refl, subst, sym}
-use Rattle.std.specs.Prelude.{option_map}
+use Rattle.std.proofs.Common.{◌≡◌, ◌∙◌, ◌+◌, ◌++◌, ◌≤◌, ℕ, zero, suc, List, [], ◌∷◌, Option, Some, None, Ok, Err, ap, append-nil, append_assoc, arith, drop, length, refl, subst, sym}
+use Rattle.std.specs.Prelude.{⊤, option_map}
 use Rattle.std.proofs.lemmas.List.{drop-append-le}
+use Rattle.zed_host.specs.Counting.{Counts, Rose}
 use Rattle.zed_play.specs.declared.key.Key.{Key}
 use Rattle.zed_play.specs.Playtest.{Playtest}
 use Rattle.zed_play.specs.Step.{Steps}
+use Rattle.zed_turns.specs.declared.error.TurnError.{TurnError}
+use Rattle.zed_turns.specs.declared.error.TurnError.TheVariants.{NoWords}
 use Rattle.zed_turns.specs.declared.tape.Tape.{Tape}
-use Rattle.zed_turns.specs.Course.{IsBehind, LacksWords, Makes, point}
+use Rattle.zed_turns.specs.Course.{LacksWords, Makes, point}
 use Rattle.zed_turns.specs.Devices.{Brings}
+use Rattle.zed_turns.specs.Errors.{is_chance_fault}
 
 -- words came, and then others
 pub brings_more : (came last : List ℕ) (x y z : Option (List ℕ)) → Brings came x y → Brings last y z → Brings (came ++ last) x z
@@ -19,6 +23,14 @@ brings_more came last x y (Some rest) p q =
 pub brings_none : (x : Option (List ℕ)) → x ≡ option_map (λ rest. rest) x
 brings_none None = refl
 brings_none (Some rest) = refl
+
+-- more words were put behind all
+pub one_more : (first came last mid all : List ℕ) → mid ≡ first ++ came → all ≡ mid ++ last → all ≡ first ++ (came ++ last)
+one_more first came last mid all before behind = behind ∙ ap (λ ws. ws ++ last) before ∙ append_assoc first came last
+
+-- a call that failed is counted, where none had failed before
+pub rose_at : (e : TurnError) (old mid new : ℕ) → mid ≡ old → e ≡ NoWords → Counts (is_chance_fault {X = ⊤} (Err e)) mid new → Rose old new
+rose_at e old mid new same is counts = subst (λ n. Rose n new) same (subst (λ x. Counts (is_chance_fault {X = ⊤} (Err x)) mid new) is counts)
 
 -- those that are left, and those that came, where words were put behind all
 pub left_more : (used : ℕ) (words came : List ℕ) → used ≤ length words → drop used (words ++ came) ≡ drop used words ++ came
@@ -48,10 +60,10 @@ makes_here key a l b came n within words play used step count same =
     ap (drop b.used) all ∙ drop_more l.used n b.used l.words.items count ∙ ap (drop n) left in
     (n, made, behind, all ∙ words)
 
--- the words that came to a tape were too few
+-- the words that came to a tape are too few
 pub lacks_here : (key : Key) (a l : Tape) (came : List ℕ) → a.used ≤ length a.words.items → l.words.items ≡ a.words.items ++ came → l.play ≡ a.play → l.used ≡ a.used
-    → LacksWords key l.play (drop l.used l.words.items) → IsBehind key (point a) came
+    → LacksWords key l.play (drop l.used l.words.items) → LacksWords key a.play (drop a.used a.words.items ++ came)
 lacks_here key a l came within words play used lacks =
     let left : drop l.used l.words.items ≡ drop a.used a.words.items ++ came =
     ap (λ k. drop k l.words.items) used ∙ ap (drop a.used) words ∙ left_more a.used a.words.items came within in
-    (came, [], sym (append-nil came), subst (λ ws. LacksWords key a.play ws) left (subst (λ p. LacksWords key p (drop l.used l.words.items)) play lacks))
+    subst (λ ws. LacksWords key a.play ws) left (subst (λ p. LacksWords key p (drop l.used l.words.items)) play lacks)

@@ -1,5 +1,5 @@
 -- How a playtest goes on, turn by turn.
-use Rattle.std.specs.Prelude.{◌≡◌, ◌⊎◌, ◌≤◌, ◌<◌, ℕ, zero, suc, Bool, true, false, List, [], ◌∷◌, ◌++◌, drop, Option, Some, None, is_some, Result, Ok, Err, ⊤}
+use Rattle.std.specs.Prelude.{◌≡◌, ◌⊎◌, ◌≤◌, ◌<◌, ℕ, zero, suc, Bool, true, false, List, [], ◌∷◌, ◌++◌, drop, length, Option, Some, None, is_some, Result, Ok, Err, ⊤}
 use Rattle.zed_world.specs.Contents.{Contents}
 use Rattle.zed_play.specs.declared.ending.Ending.{Ending}
 use Rattle.zed_play.specs.declared.ending.Ending.TheVariants.{Left}
@@ -15,7 +15,7 @@ use Rattle.zed_staging.specs.Staged.{stage_text}
 use Rattle.zed_turns.specs.declared.error.TurnError.{TurnError}
 use Rattle.zed_turns.specs.declared.error.TurnError.TheVariants.{KeyFault, Memory, NoWords, ScreenFault, TooManyTurns}
 use Rattle.zed_turns.specs.declared.tape.Tape.{Tape}
-use Rattle.zed_turns.specs.Devices.{Brings}
+use Rattle.zed_turns.specs.Devices.{Chances, GivesOut, Supplies}
 use Rattle.zed_turns.specs.Stage.{Draws, DrawsNothing, LacksKey, Stage, TakesInput}
 
 -- where a playtest has come to: by which keys, with which words of chance that came, and which of them are left; and how many rows its terminal has
@@ -42,9 +42,9 @@ course at stage = record { at = at; stage = stage }
 abbrev pub LacksWords : Key → Playtest → List ℕ → Type 0
 LacksWords key p words = Steps (Err step.NoWords) key p words p
 
--- words came for the step by a key: those that were left, and those that came before the last of them, were too few
+-- words came for the step by a key: those that were left, and all that came but the last 32, were too few
 abbrev pub IsBehind : Key → Point → List ℕ → Type 0
-IsBehind key a came = (before : List ℕ) × (last : List ℕ) × (came ≡ before ++ last) × LacksWords key a.play (a.left ++ before)
+IsBehind key a came = (before : List ℕ) × (last : List ℕ) × (came ≡ before ++ last) × (length last ≡ 32) × LacksWords key a.play (a.left ++ before)
 
 -- they are needed, if any came
 abbrev pub IsNeeded : Key → Point → List ℕ → Type 0
@@ -79,29 +79,30 @@ Makes key came a b =
     (used : ℕ) × Steps (Ok used) key a.play (a.left ++ came) b.play × (b.left ≡ drop used (a.left ++ came)) × (b.words ≡ a.words ++ came)
 
 -- the same, with the words from a source of chance that are needed
-abbrev pub IsSupplied : Key → Point → Option (List ℕ) → Point → Option (List ℕ) → Type 0
+abbrev pub IsSupplied : Key → Point → Chances → Point → Chances → Type 0
 IsSupplied key a chance b chance_then =
-    (came : List ℕ) × Brings came chance chance_then × IsNeeded key a came × Makes key came a b
+    (came : List ℕ) × Supplies came chance chance_then × IsNeeded key a came × Makes key came a b
 
--- the source never has enough for the step by a key, or fails: nothing is played
-abbrev pub LacksSupply : Key → Point → Option (List ℕ) → Point → Option (List ℕ) → Type 0
+-- the source fails, or has brought as many words as may come for one step: those that are left and those that came are too few for the step by a
+-- key, and nothing is played
+abbrev pub LacksSupply : Key → Point → Chances → Point → Chances → Type 0
 LacksSupply key a chance b chance_then =
-    (came : List ℕ) × Brings came chance chance_then × IsBehind key a came × (b.play ≡ a.play) × (b.keys ≡ a.keys)
+    (came : List ℕ) × GivesOut came chance chance_then × LacksWords key a.play (a.left ++ came) × (b.play ≡ a.play) × (b.keys ≡ a.keys)
 
 -- a key is played, and kept; where the player left for a board, the playtest goes on there, if there is a world to go on in
-abbrev pub PlaysKey : Option Contents → Key → Point → Option (List ℕ) → Point → Option (List ℕ) → Type 0
+abbrev pub PlaysKey : Option Contents → Key → Point → Chances → Point → Chances → Type 0
 PlaysKey w key a chance b chance_then =
     (mid : Point)
     × IsSupplied key a chance mid chance_then × (b.play ≡ led_on w key a.play mid.play) × (b.left ≡ mid.left) × (b.words ≡ mid.words)
     × (b.keys ≡ a.keys ++ key ∷ []) × (b.rows ≡ a.rows)
 
 -- what is done is answered: a key is played, and a size is taken over
-abbrev pub Answers : Option Contents → Input → Point → Option (List ℕ) → Point → Option (List ℕ) → Type 0
+abbrev pub Answers : Option Contents → Input → Point → Chances → Point → Chances → Type 0
 Answers w (Pressed key) a chance b chance_then = PlaysKey w key a chance b chance_then
 Answers w (Resized rows) a chance b chance_then = (b ≡ record a { rows = rows }) × (chance_then ≡ chance)
 
 -- it isn't for want of chance: a key
-abbrev pub LacksInput : Input → Point → Option (List ℕ) → Point → Option (List ℕ) → Type 0
+abbrev pub LacksInput : Input → Point → Chances → Point → Chances → Type 0
 LacksInput (Pressed key) a chance b chance_then = LacksSupply key a chance b chance_then
 LacksInput (Resized rows) a chance b chance_then = ⊥
 
@@ -127,7 +128,7 @@ Turns w (Err KeyFault) c d =
     LacksKey c.stage d.stage × (d.stage.chance ≡ c.stage.chance) × DrawsNothing c.stage d.stage × (d.at ≡ c.at)
 Turns w (Err NoWords) c d = LacksChance c d
 Turns w (Err ScreenFault) c d = Advances w true c d
-Turns w (Err Memory) c d = DrawsNothing c.stage d.stage
+Turns w (Err Memory) c d = DrawsNothing c.stage d.stage × (d.stage.chance.failures ≡ c.stage.chance.failures)
 Turns w (Err TooManyTurns) c d = ⊥
 
 -- how many turns there are at most

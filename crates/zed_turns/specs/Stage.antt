@@ -4,19 +4,19 @@ use Rattle.zed_play.specs.declared.key.Key.{Key}
 use Rattle.zed_staging.specs.declared.input.Input.{Input}
 use Rattle.zed_staging.specs.declared.input.Input.TheVariants.{Pressed}
 use Rattle.zed_staging.specs.Devices.{Foretold, Takes}
-use Rattle.zed_turns.specs.Devices.{drawing}
+use Rattle.zed_turns.specs.Devices.{Chances, drawing}
 
 -- the texts that were drawn on a terminal, and which draws to come fail; what is left of what is typed, and which calls of its source to come fail;
--- and the words of chance that are to come: each of these if it is told
+-- each of these if it is told; and what the source of chance tells
 pub record Stage : Type 0 where
   pub drawn : Option (List (List ℕ))
   pub terminal : Option (List Bool)
   pub inputs : Option (List Input)
   pub source : Option (List Bool)
-  pub chance : Option (List ℕ)
+  pub chance : Chances
 
 -- a stage of which this is told
-abbrev pub stage : Option (List (List ℕ)) → Option (List Bool) → Option (List Input) → Option (List Bool) → Option (List ℕ) → Stage
+abbrev pub stage : Option (List (List ℕ)) → Option (List Bool) → Option (List Input) → Option (List Bool) → Chances → Stage
 stage drawn terminal inputs source chance = record { drawn = drawn; terminal = terminal; inputs = inputs; source = source; chance = chance }
 
 -- keys that come before what a source has

@@ -2,6 +2,7 @@
 ghost use Rattle.std.specs.Prelude.{◌≡◌, Err, MatchResult, Ok};
 ghost use Rattle.zed_host.specs.Counting.{Counts};
 ghost use Rattle.zed_turns.specs.Course.{point};
+ghost use Rattle.zed_turns.specs.Devices.{chances};
 ghost use Rattle.zed_turns.specs.Errors.{is_key_fault, is_screen_fault};
 ghost use Rattle.zed_turns.specs.Performing.{Performs, at_start};
 ghost use Rattle.zed_turns.specs.Stage.{stage};
@@ -31,9 +32,11 @@ pub fn play_from<A: Atlas, T: Terminal, I: Inputs, C: Chance>(
     chance: &mut C,
 ) -> Result<Tape, TurnError>
     ensures performs { let before = stage (T.drawn terminal.old) (T.draws_foretell terminal.old)
-        (I.left inputs.old) (I.inputs_foretell inputs.old) (C.to_come chance.old) in
+        (I.left inputs.old) (I.inputs_foretell inputs.old)
+        (chances (C.to_come chance.old) (C.chance_failures chance.old)) in
         let after = stage (T.drawn terminal.new) (T.draws_foretell terminal.new)
-        (I.left inputs.new) (I.inputs_foretell inputs.new) (C.to_come chance.new) in
+        (I.left inputs.new) (I.inputs_foretell inputs.new)
+        (chances (C.to_come chance.new) (C.chance_failures chance.new)) in
         MatchResult result
         (λ tape. Performs (A.world atlas.now) (at_start rows play words.items) before after (Ok (point tape)))
         (λ e. Performs (A.world atlas.now) (at_start rows play words.items) before after (Err e)) }

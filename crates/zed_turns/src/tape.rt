@@ -1,7 +1,9 @@
 //! A playtest with what it came of.
 ghost use Rattle.std.specs.Prelude.{◌≡◌, ◌≢◌, ◌+◌, ◌⊎◌, ◌≤◌, ◌++◌, ◌∷◌, ℕ, [], Err, IfErr, List, None, Ok, OnOk, drop, false, length, true};
 ghost use Rattle.zed_play.specs.Step.{Steps};
-ghost use Rattle.zed_turns.specs.Devices.{Brings};
+ghost use Rattle.zed_host.specs.Counting.{Counts};
+ghost use Rattle.zed_turns.specs.Devices.{Brings, chances};
+ghost use Rattle.zed_turns.specs.Errors.{is_chance_fault};
 ghost use Rattle.zed_turns.specs.Course.{Answers, IsSupplied, LacksInput, LacksSupply, LacksWords, PlaysKey, on_by, point};
 
 use crate::atlas::Atlas;
@@ -11,8 +13,8 @@ use std::alloc::{AllocError, Global};
 use zed_play::{Ending, Key, Play, PlayError, Way};
 use zed_staging::{DeviceFailed, Input};
 
-/// A step that lacks words is tried again with more of them, so many times.
-const TRIES: u32 = 4096;
+/// A step that lacks words is tried again with 32 more of them, so many times.
+const REFILLS: u32 = 4096;
 
 /// A playtest with the keys that were played and the words of chance that came, of which some
 /// aren't used yet.
@@ -74,15 +76,15 @@ impl Tape {
         }
     }
 
-    /// Appends the next words of a source of chance.
+    /// Appends the next 32 words of a source of chance. It answers NoWords exactly where that fails.
     fn refill<C: Chance>(&mut self, chance: &mut C) -> Result<(), TurnError>
-        ensures ok { OnOk result ((last : List ℕ)
+        ensures ok { OnOk result ((last : List ℕ) × (length last ≡ 32)
             × (self.new.words.items ≡ self.old.words.items ++ last)
             × Brings last (C.to_come chance.old) (C.to_come chance.new)) }
         ensures err { IfErr result (λ e. (e ≡ TurnError.Memory) ⊎ ((e ≡ TurnError.NoWords)
             × (C.to_come chance.new ≡ C.to_come chance.old))) }
-        ensures calm { (result ≢ Err TurnError.NoWords)
-            → C.chance_failures chance.new ≡ C.chance_failures chance.old }
+        ensures failures { Counts (is_chance_fault result)
+            (C.chance_failures chance.old) (C.chance_failures chance.new) }
         ensures grown { length self.old.words.items ≤ length self.new.words.items }
         ensures play { self.new.play ≡ self.old.play }
         ensures keys { self.new.keys ≡ self.old.keys }
@@ -95,26 +97,31 @@ impl Tape {
         }
     }
 
-    /// Makes the step of a key, with as many words of chance as it needs.
+    /// Makes the step of a key, with as many words of chance as it needs, or 131,072 of them.
     fn supply<C: Chance>(&mut self, chance: &mut C, key: Key) -> Result<(), TurnError>
         requires within { self.old.used ≤ length self.old.words.items }
         requires going { self.old.play.ending ≡ None }
-        ensures ok { OnOk result (IsSupplied key (point self.old) (C.to_come chance.old)
-            (point self.new) (C.to_come chance.new)) }
+        ensures ok { OnOk result (IsSupplied key
+            (point self.old) (chances (C.to_come chance.old) (C.chance_failures chance.old))
+            (point self.new) (chances (C.to_come chance.new) (C.chance_failures chance.new))) }
         ensures err { IfErr result (λ e. (e ≡ TurnError.Memory) ⊎ ((e ≡ TurnError.NoWords)
-            × LacksSupply key (point self.old) (C.to_come chance.old)
-            (point self.new) (C.to_come chance.new))) }
+            × LacksSupply key
+            (point self.old) (chances (C.to_come chance.old) (C.chance_failures chance.old))
+            (point self.new) (chances (C.to_come chance.new) (C.chance_failures chance.new)))) }
         ensures calm { (result ≢ Err TurnError.NoWords)
             → C.chance_failures chance.new ≡ C.chance_failures chance.old }
         ensures keys { self.new.keys ≡ self.old.keys }
         ensures rows { self.new.rows ≡ self.old.rows }
         ensures within { self.new.used ≤ length self.new.words.items }
     {
-        for _ in 0..TRIES {
+        if self.attempt(key)? {
+            return Ok(());
+        }
+        for _ in 0..REFILLS {
+            self.refill(chance)?;
             if self.attempt(key)? {
                 return Ok(());
             }
-            self.refill(chance)?;
         }
         Err(TurnError::NoWords)
     }
@@ -159,10 +166,12 @@ impl Tape {
         requires within { self.old.used ≤ length self.old.words.items }
         requires going { self.old.play.ending ≡ None }
         ensures ok { OnOk result (PlaysKey (A.world atlas.now) key
-            (point self.old) (C.to_come chance.old) (point self.new) (C.to_come chance.new)) }
+            (point self.old) (chances (C.to_come chance.old) (C.chance_failures chance.old))
+            (point self.new) (chances (C.to_come chance.new) (C.chance_failures chance.new))) }
         ensures err { IfErr result (λ e. (e ≡ TurnError.Memory) ⊎ ((e ≡ TurnError.NoWords)
-            × LacksSupply key (point self.old) (C.to_come chance.old)
-            (point self.new) (C.to_come chance.new))) }
+            × LacksSupply key
+            (point self.old) (chances (C.to_come chance.old) (C.chance_failures chance.old))
+            (point self.new) (chances (C.to_come chance.new) (C.chance_failures chance.new)))) }
         ensures calm { (result ≢ Err TurnError.NoWords)
             → C.chance_failures chance.new ≡ C.chance_failures chance.old }
         ensures within { self.new.used ≤ length self.new.words.items }
@@ -185,10 +194,12 @@ impl Tape {
         requires within { self.old.used ≤ length self.old.words.items }
         requires going { self.old.play.ending ≡ None }
         ensures ok { OnOk result (Answers (A.world atlas.now) input
-            (point self.old) (C.to_come chance.old) (point self.new) (C.to_come chance.new)) }
+            (point self.old) (chances (C.to_come chance.old) (C.chance_failures chance.old))
+            (point self.new) (chances (C.to_come chance.new) (C.chance_failures chance.new))) }
         ensures err { IfErr result (λ e. (e ≡ TurnError.Memory) ⊎ ((e ≡ TurnError.NoWords)
-            × LacksInput input (point self.old) (C.to_come chance.old)
-            (point self.new) (C.to_come chance.new))) }
+            × LacksInput input
+            (point self.old) (chances (C.to_come chance.old) (C.chance_failures chance.old))
+            (point self.new) (chances (C.to_come chance.new) (C.chance_failures chance.new)))) }
         ensures calm { (result ≢ Err TurnError.NoWords)
             → C.chance_failures chance.new ≡ C.chance_failures chance.old }
         ensures within { self.new.used ≤ length self.new.words.items }

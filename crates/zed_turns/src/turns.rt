@@ -4,6 +4,7 @@ ghost use Rattle.zed_host.specs.Counting.{Counts};
 ghost use Rattle.zed_staging.specs.Devices.{Foretold, Takes};
 ghost use Rattle.zed_staging.specs.Staged.{stage_text};
 ghost use Rattle.zed_turns.specs.Course.{PlaysOn, Turns, course, point};
+ghost use Rattle.zed_turns.specs.Devices.{chances};
 ghost use Rattle.zed_turns.specs.Errors.{is_key_fault, is_screen_fault};
 ghost use Rattle.zed_turns.specs.Stage.{Draws, stage};
 
@@ -81,9 +82,11 @@ fn turn<A: Atlas, T: Terminal, I: Inputs, C: Chance>(
     requires going { tape.old.play.ending ≡ None }
     ensures turns { Turns (A.world atlas.now) result
         (course (point tape.old) (stage (T.drawn terminal.old) (T.draws_foretell terminal.old)
-        (I.left inputs.old) (I.inputs_foretell inputs.old) (C.to_come chance.old)))
+        (I.left inputs.old) (I.inputs_foretell inputs.old)
+        (chances (C.to_come chance.old) (C.chance_failures chance.old))))
         (course (point tape.new) (stage (T.drawn terminal.new) (T.draws_foretell terminal.new)
-        (I.left inputs.new) (I.inputs_foretell inputs.new) (C.to_come chance.new))) }
+        (I.left inputs.new) (I.inputs_foretell inputs.new)
+        (chances (C.to_come chance.new) (C.chance_failures chance.new)))) }
     ensures key_faults { Counts (is_key_fault result)
         (I.input_failures inputs.old) (I.input_failures inputs.new) }
     ensures screen_faults { Counts (is_screen_fault result)
@@ -118,9 +121,11 @@ pub fn play_on<A: Atlas, T: Terminal, I: Inputs, C: Chance>(
     requires within { tape.old.used ≤ length tape.old.words.items }
     ensures plays { PlaysOn (A.world atlas.now)
         (course (point tape.old) (stage (T.drawn terminal.old) (T.draws_foretell terminal.old)
-        (I.left inputs.old) (I.inputs_foretell inputs.old) (C.to_come chance.old)))
+        (I.left inputs.old) (I.inputs_foretell inputs.old)
+        (chances (C.to_come chance.old) (C.chance_failures chance.old))))
         (course (point tape.new) (stage (T.drawn terminal.new) (T.draws_foretell terminal.new)
-        (I.left inputs.new) (I.inputs_foretell inputs.new) (C.to_come chance.new))) result }
+        (I.left inputs.new) (I.inputs_foretell inputs.new)
+        (chances (C.to_come chance.new) (C.chance_failures chance.new)))) result }
     ensures key_faults { Counts (is_key_fault result)
         (I.input_failures inputs.old) (I.input_failures inputs.new) }
     ensures screen_faults { Counts (is_screen_fault result)

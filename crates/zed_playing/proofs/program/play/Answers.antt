@@ -6,6 +6,7 @@ use Rattle.zed_host.proofs.Counts.{counted_up}
 use Rattle.zed_files.specs.Asked.{refusal_in}
 use Rattle.zed_files.specs.Texts.{text_in, texts_of}
 use Rattle.zed_files.proofs.Failures.{handed_on, write_tells}
+use Rattle.zed_turns.specs.Devices.{chances}
 use Rattle.zed_turns.specs.Stage.{stage}
 use Rattle.zed_playing.specs.Ending.{EndsKept, request}
 use Rattle.zed_playing.specs.Led.{Led}
@@ -21,11 +22,11 @@ returns-in_err-text-clause-ends g c = λ t at.
     let asked = request (text_in c.args.words) (text_in c.args.keys) c.args.going c.args.rows c.args.board (texts_of c.args.files.now) in
     let now = c.play_and_keep-told.new.console in
     let before = stage (g.T.Terminal.drawn c.args.console.now.terminal) (g.T.Terminal.draws_foretell c.args.console.now.terminal) (g.I.Inputs.left c.args.console.now.inputs.source) None
-    (g.C.Chance.to_come c.args.console.now.chance) in
+    (chances (g.C.Chance.to_come c.args.console.now.chance) (g.C.Chance.chance_failures c.args.console.now.chance)) in
     rw (p.1, same) (refused_ends failed t asked _ c.in_err-text.field-0.0 _
     (left_led (λ l. EndsKept failed t asked l (Err c.in_err-text.field-0.0) (g.H.Host.contents c.play_and_keep-told.new.host)) before (drop now.inputs.taken now.inputs.kept.items)
     (g.T.Terminal.drawn now.terminal) (g.T.Terminal.drawn c.leave.new.self) (g.T.Terminal.draws_foretell now.terminal) (g.T.Terminal.draws_foretell c.leave.new.self)
-    (g.I.Inputs.left now.inputs.source) (g.C.Chance.to_come now.chance) c.leave.ensures.drawn c.leave.ensures.foretold (c.in_err-text.ensures.ends t at)))
+    (g.I.Inputs.left now.inputs.source) (chances (g.C.Chance.to_come now.chance) (g.C.Chance.chance_failures now.chance)) c.leave.ensures.drawn c.leave.ensures.foretold (c.in_err-text.ensures.ends t at)))
 
 pub returns-clause-ends : goal.returns-clause-ends
 returns-clause-ends g c = λ t at.
@@ -34,17 +35,17 @@ returns-clause-ends g c = λ t at.
     let now = c.play_and_keep-told.new.console in
     let held = g.H.Host.contents c.play_and_keep-told.new.host in
     let before = stage (g.T.Terminal.drawn c.args.console.now.terminal) (g.T.Terminal.draws_foretell c.args.console.now.terminal) (g.I.Inputs.left c.args.console.now.inputs.source) None
-    (g.C.Chance.to_come c.args.console.now.chance) in
+    (chances (g.C.Chance.to_come c.args.console.now.chance) (g.C.Chance.chance_failures c.args.console.now.chance)) in
     let moved : Led = record {
       before = before;
       rest = drop now.inputs.taken now.inputs.kept.items;
-      behind = stage (g.T.Terminal.drawn now.terminal) (g.T.Terminal.draws_foretell now.terminal) (g.I.Inputs.left now.inputs.source) None (g.C.Chance.to_come now.chance);
+      behind = stage (g.T.Terminal.drawn now.terminal) (g.T.Terminal.draws_foretell now.terminal) (g.I.Inputs.left now.inputs.source) None (chances (g.C.Chance.to_come now.chance) (g.C.Chance.chance_failures now.chance));
     } in
     told_ends c.print_out.result (g.H.Host.faults c.args.host.now) (g.H.Host.faults c.play_and_keep-told.new.host) (g.H.Host.faults c.print_out.new.host) t asked _ c.as_slice.result.now held _
     c.in_ok-text.ensures.failures.0.0 (counted_up _ _ _ c.print_out.ensures.faults)
     (left_led (λ l. EndsKept failed t asked l (Ok c.as_slice.result.now) held) before (drop now.inputs.taken now.inputs.kept.items)
     (g.T.Terminal.drawn now.terminal) (g.T.Terminal.drawn c.leave.new.self) (g.T.Terminal.draws_foretell now.terminal) (g.T.Terminal.draws_foretell c.leave.new.self)
-    (g.I.Inputs.left now.inputs.source) (g.C.Chance.to_come now.chance) c.leave.ensures.drawn c.leave.ensures.foretold
+    (g.I.Inputs.left now.inputs.source) (chances (g.C.Chance.to_come now.chance) (g.C.Chance.chance_failures now.chance)) c.leave.ensures.drawn c.leave.ensures.foretold
     (subst (λ text. EndsKept failed t asked moved (Ok text) held) (sym c.as_slice.ensures.value) (c.in_ok-text.ensures.ends t at)))
     (λ u is. c.print_out.ensures.ok u is) (λ u is. c.print_out.ensures.half u is) c.print_out.ensures.err c.print_out.ensures.faults
 

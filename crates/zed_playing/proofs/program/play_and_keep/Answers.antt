@@ -8,6 +8,7 @@ use Rattle.zed_files.proofs.Asked.{refused_after, refused_at, then_last}
 use Rattle.zed_files.proofs.Failures.{handed_later, handed_on, memory_is_other, memory_on, none_later}
 use Rattle.zed_files.proofs.OffStage.{keys_uncounted, memory_off, off_on, screen_uncounted, unread_off}
 use Rattle.zed_turns.specs.Course.{point}
+use Rattle.zed_turns.specs.Devices.{chances}
 use Rattle.zed_turns.specs.Stage.{stage}
 use Rattle.zed_playing.specs.Asking.{keeping}
 use Rattle.zed_playing.specs.Kept.{HalfRecorded, with_record}
@@ -31,7 +32,7 @@ returns-in_err-tape-clause-ends g c = λ t at.
     let read = c.in_ok-kept.ensures.read t at in
     let keys = ap (λ v. v.items) c.fill.ensures.kept ∙ read.1 in
     let left = filled c.fill.new.self.taken c.fill.new.self.kept.items _ _ _ c.fill.ensures.taken keys (ap g.I.Inputs.left c.fill.ensures.source) in
-    let begins = ap (λ k. stage (g.T.Terminal.drawn c.args.console.now.terminal) (g.T.Terminal.draws_foretell c.args.console.now.terminal) k None (g.C.Chance.to_come c.args.console.now.chance)) left in
+    let begins = ap (λ k. stage (g.T.Terminal.drawn c.args.console.now.terminal) (g.T.Terminal.draws_foretell c.args.console.now.terminal) k None (chances (g.C.Chance.to_come c.args.console.now.chance) (g.C.Chance.chance_failures c.args.console.now.chance))) left in
     rw (p.1, same) (unplayed_ends _ t _ _ c.in_err-tape.field-0.0 _ (c.in_err-tape.ensures.kept ∙ here)
     (elim (c.in_err-tape.ensures.performed t here) [
       | inl memory ↦ inl memory
@@ -54,7 +55,7 @@ returns-in_err-keep_all-clause-ends g c = λ t at.
     let read = c.in_ok-kept.ensures.read t at in
     let keys = ap (λ v. v.items) c.fill.ensures.kept ∙ read.1 in
     let left = filled c.fill.new.self.taken c.fill.new.self.kept.items _ _ _ c.fill.ensures.taken keys (ap g.I.Inputs.left c.fill.ensures.source) in
-    let begins = ap (λ k. stage (g.T.Terminal.drawn c.args.console.now.terminal) (g.T.Terminal.draws_foretell c.args.console.now.terminal) k None (g.C.Chance.to_come c.args.console.now.chance)) left in
+    let begins = ap (λ k. stage (g.T.Terminal.drawn c.args.console.now.terminal) (g.T.Terminal.draws_foretell c.args.console.now.terminal) k None (chances (g.C.Chance.to_come c.args.console.now.chance) (g.C.Chance.chance_failures c.args.console.now.chance))) left in
     let first = c.in_ok-kept.ensures.failures.0.0 in
     let second = c.in_ok-tape.ensures.failures.0.0 in
     let third = c.in_err-keep_all.ensures.failures.0.0 in
@@ -79,7 +80,7 @@ returns-clause-ends g c = λ t at.
     let read = c.in_ok-kept.ensures.read t at in
     let keys = ap (λ v. v.items) c.fill.ensures.kept ∙ read.1 in
     let left = filled c.fill.new.self.taken c.fill.new.self.kept.items _ _ _ c.fill.ensures.taken keys (ap g.I.Inputs.left c.fill.ensures.source) in
-    let begins = ap (λ k. stage (g.T.Terminal.drawn c.args.console.now.terminal) (g.T.Terminal.draws_foretell c.args.console.now.terminal) k None (g.C.Chance.to_come c.args.console.now.chance)) left in (
+    let begins = ap (λ k. stage (g.T.Terminal.drawn c.args.console.now.terminal) (g.T.Terminal.draws_foretell c.args.console.now.terminal) k None (chances (g.C.Chance.to_come c.args.console.now.chance) (g.C.Chance.chance_failures c.args.console.now.chance))) left in (
       point c.in_ok-tape.tape,
       performed_so _ _ t c.args.going c.args.board c.args.rows _ _ (texts_of c.args.files.now) _ _ _ (Ok (point c.in_ok-tape.tape))
           (rose_within (g.H.Host.faults c.args.host.now) (g.H.Host.faults c.read_kept.new.host) (g.H.Host.faults c.perform.new.host) (g.H.Host.faults c.keep_all.new.host)
