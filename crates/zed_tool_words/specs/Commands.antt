@@ -1,5 +1,5 @@
 -- What the words of the command line ask for.
-use Rattle.std.specs.Prelude.{◌≡◌, ◌&&◌, ℕ, Bool, true, false, List, [], ◌∷◌, Option, Some, None, codes, length, map, nat_le, nat_lt, if◌then◌else◌, option_and_then, option_map}
+use Rattle.std.specs.Prelude.{◌≡◌, ◌<◌, ◌&&◌, ℕ, Bool, true, false, List, [], ◌∷◌, Option, Some, None, codes, length, map, nat_le, nat_lt, if◌then◌else◌, option_and_then, option_map, string_bytes}
 use Rattle.std.specs.Char.{is_ascii_digit}
 use Rattle.std.specs.List.{list_all}
 use Rattle.std.specs.Str.{bytes_eq}
@@ -248,3 +248,9 @@ AsksNothing words Memory = Unit {0}
 AsksNothing words (Refused text) = (command_of words ≡ None) × (¬ (AsksHelp words)) × (¬ (AsksVersion words))
 AsksNothing words (Help text) = (command_of words ≡ None) × MayAskHelp words
 AsksNothing words Version = (command_of words ≡ None) × MayAskVersion words
+
+-- the text that words are answered with isn't empty, be they refused or asking for help
+abbrev pub IsAloud : ParseError → Type 0
+IsAloud (Refused text) = 0 < length (string_bytes text)
+IsAloud (Help text) = 0 < length (string_bytes text)
+IsAloud _ = Unit {0}

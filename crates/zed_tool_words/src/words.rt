@@ -1,10 +1,10 @@
 //! What the words of the command line ask for.
-ghost use Rattle.std.specs.Prelude.{◌≡◌, IfOk, MatchResult, Some, map, option_and_then, option_map, string_bytes};
+ghost use Rattle.std.specs.Prelude.{◌≡◌, ◌<◌, IfErr, IfOk, MatchResult, Some, length, map, option_and_then, option_map, string_bytes};
 ghost use Rattle.clap.specs.Walk.{all_of, first_of, one_of};
 ghost use Rattle.clap.specs.Words.{FailsBy, fault_of, found_of, rows_of, subcommand_of, subcommand_rows_of};
 ghost use Rattle.zed_tool_words.specs.declared.words.ParseError.TheVariants.{Memory};
 ghost use Rattle.zed_tool_words.specs.Grammar.{tool_app};
-ghost use Rattle.zed_tool_words.specs.Commands.{AsksNothing, command_of, forcing_of, form_of, going_of, has_flag as has_that_flag, length_of, lint_of, list_of, log_of, meaning_of, open_of, option_number, play_of, program_of, set_of, show_of, strictness_of, subcommand_asks, take_of};
+ghost use Rattle.zed_tool_words.specs.Commands.{AsksNothing, IsAloud, command_of, forcing_of, form_of, going_of, has_flag as has_that_flag, length_of, lint_of, list_of, log_of, meaning_of, open_of, option_number, play_of, program_of, set_of, show_of, strictness_of, subcommand_asks, take_of};
 
 use crate::asked::{Command, Forcing, Form, Going, Length, Strictness};
 use crate::grammar::tool_command;
@@ -26,13 +26,20 @@ const TWO_FORMS: &str =
 const NO_PROGRAM: &str =
     "error: 'program' takes the numbers of a board and of a stat, up to 65535, and a file behind them; with '--set' FILE REPLICA B S TEXT\n\nFor more information, try '--help'.\n";
 
+// What the user is told where clap has no text for words that it refuses.
+const NO_COMMAND: &str =
+    "error: these words are no command\n\nFor more information, try '--help'.\n";
+
+// What is printed where clap has no text for help.
+const USAGE: &str = "Usage: zztool <COMMAND>\n";
+
 /// Why the words are no command.
 #[derive(Debug, Drop)]
 pub enum ParseError {
     Memory,
-    /// The words are refused, with the text for the user.
+    /// The words are refused, with the text for the user, which is never empty.
     Refused(String),
-    /// Help is asked for, which is this text.
+    /// Help is asked for, which is this text. It is never empty.
     Help(String),
     /// The version is asked for.
     Version,
@@ -345,7 +352,9 @@ fn matches_in<'a>(alloc: Global, words: &'a [String]) -> Result<ArgMatches<'a>, 
 }
 
 // The text for words that `clap` takes and that ask for nothing.
-fn no_command(alloc: Global, matches: &ArgMatches<'_>) -> Result<String, AllocError> {
+fn no_command(alloc: Global, matches: &ArgMatches<'_>) -> Result<String, AllocError>
+    ensures { IfOk result (λ text. 0 < length (string_bytes text)) }
+{
     match matches.subcommand_name() {
         Some("list") => String::from_str(alloc, NO_FILES),
         Some("show") => String::from_str(alloc, TWO_FORMS),
@@ -354,15 +363,32 @@ fn no_command(alloc: Global, matches: &ArgMatches<'_>) -> Result<String, AllocEr
     }
 }
 
+// The text of an answer of `clap`, or another where that is empty.
+fn text_or(alloc: Global, error: &Error, other: &str) -> Result<String, AllocError>
+    requires { 0 < length other.now }
+    ensures { IfOk result (λ text. 0 < length (string_bytes text)) }
+{
+    let text = error.to_string(alloc)?;
+    if text.is_empty() {
+        String::from_str(alloc, other)
+    } else {
+        Ok(text)
+    }
+}
+
 /// Reads the words after the program's name.
 ///
 /// # Errors
 /// `Help`, with clap's text, if the words ask for help; `Version` if they ask for the version;
-/// `Refused`, with a text that says why, if they are no command.
+/// `Refused`, with a text that says why, if they are no command. `Memory` may come in place of any
+/// of these, since a text takes memory.
 pub fn parse<'a>(alloc: Global, words: &'a [String]) -> Result<Command<'a>, ParseError>
-    ensures { MatchResult result
+    ensures asks { MatchResult result
         (λ a. command_of (map string_bytes words.entry.now) ≡ Some (meaning_of a))
         (λ e. AsksNothing (map string_bytes words.entry.now) e) }
+
+    // Where words are refused, or ask for help, the text isn't empty.
+    ensures aloud { IfErr result IsAloud }
 {
     match matches_in(alloc, words) {
         Ok(matches) => match command_named(alloc, &matches)? {
@@ -372,12 +398,12 @@ pub fn parse<'a>(alloc: Global, words: &'a [String]) -> Result<Command<'a>, Pars
         Err(error) => match error.kind() {
             ErrorKind::OutOfMemory => Err(ParseError::Memory),
             ErrorKind::DisplayHelp => {
-                let text = error.to_string(alloc)?;
+                let text = text_or(alloc, &error, USAGE)?;
                 Err(ParseError::Help(text))
             }
             ErrorKind::DisplayVersion => Err(ParseError::Version),
             _ => {
-                let text = error.to_string(alloc)?;
+                let text = text_or(alloc, &error, NO_COMMAND)?;
                 Err(ParseError::Refused(text))
             }
         },
