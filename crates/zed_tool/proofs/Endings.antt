@@ -2,7 +2,7 @@
 use Rattle.zed_drawing.specs.declared.error.DrawingError.{DrawingError}
 use Rattle.zed_files.specs.declared.refusal.Refusal.{Refusal}
 use Rattle.zed_host.specs.declared.host.WriteError.{WriteError}
-use Rattle.std.proofs.Common.{◌≡◌, ◌≤◌, ◌∙◌, ℕ, Bool, true, false, cond, nat_lt, List, [], ◌∷◌, arith, Option, Some, None, Result, Ok, Err, OnErr, OnOk, ap, is_err, refl, subst, inl, inr}
+use Rattle.std.proofs.Common.{◌≡◌, ◌≤◌, ◌∙◌, ℕ, Bool, true, false, cond, nat_lt, List, [], ◌∷◌, arith, Option, Some, None, Result, Ok, Err, OnErr, OnOk, ap, is_err, refl, subst, sym, inl, inr}
 use Rattle.std.specs.Prelude.{⊤, ◌⊎◌, IfSome, IsSome, option_and_then}
 use Rattle.clap.specs.Faults.{fault_of}
 use Rattle.clap.specs.Kinds.{IsAmong, Kinds}
@@ -45,7 +45,7 @@ use Rattle.zed_tool.specs.Answers.{Answer, Failure, Refused, drawing_failure, dr
 use Rattle.zed_tool.specs.Calm.{ComesTo, ComesToSetting, Ending, EndsCalmly, Leaves, left_by, lint_left, play_left, told_left}
 use Rattle.zed_tool.specs.Commands.{AsksCommand, AsksSet, EndsCommand, EndsSet, filter_of, forcing_of, form_of, going_of, length_of, listing_of, rows_of}
 use Rattle.zed_tool.specs.Lines.{line_of}
-use Rattle.zed_tool.specs.Outcome.{Complained, Hosts, IsComplained, IsLineOf, Prints as PrintsText, Runs, RunsAs}
+use Rattle.zed_tool.specs.Outcome.{Complained, Hosts, IsComplained, IsLineOf, Prints as PrintsText, Runs, RunsAs, TellsAloud}
 use Rattle.zed_tool.proofs.Steps.{open_so, set_program_so, set_so, show_so, take_so, tell_so}
 
 -- a text was written to the standard error, or the host failed at it
@@ -395,4 +395,30 @@ run_versioned h moved words status old new version runs = elim runs [
     ]
   ]
   | inr lacks ↦ inr lacks
+]
+
+-- a status other than 0 and 1
+not_refused : (status : ℕ) → (status ≡ 0) ⊎ (status ≡ 1) → status ≡ 2 → ⊥
+not_refused status accepted two = elim accepted [
+  | inl zero ↦ (let bad : 0 ≡ 2 = sym zero ∙ two in absurd (omega (arith, bad)))
+  | inr one ↦ (let bad : 1 ≡ 2 = sym one ∙ two in absurd (omega (arith, bad)))
+]
+
+as_refused : {H : Type 0} (h : Hosts H) (moved : Led) (words : List Text) (command : Option Command) (status : ℕ) (old new : H) → status ≡ 2
+    → RunsAs h moved words command status old new → TellsAloud h old new
+as_refused h moved words (Some command) status old new two ran =
+    absurd (not_refused status (as_accepted h moved words (Some command) status old new refl ran) two)
+as_refused h moved words None status old new two ran = elim ran [
+  | inl refused ↦ refused.3
+  | inr other ↦ elim other [
+    | inl helped ↦ (let printed = helped.1 in absurd (not_refused status (printed_status h printed.0 status old new printed.1) two))
+    | inr versioned ↦ absurd (not_refused status (printed_status h _ status old new versioned.1) two)
+  ]
+]
+
+-- status 2 comes with a text
+pub run_refused : {H : Type 0} (h : Hosts H) (moved : Led) (words : List Text) (status : ℕ) (old new : H) → status ≡ 2 → Runs h moved words status old new → TellsAloud h old new
+run_refused h moved words status old new two runs = elim runs [
+  | inl ran ↦ as_refused h moved words (command_of words) status old new two ran
+  | inr lacks ↦ absurd (not_refused status (inr lacks.0) two)
 ]

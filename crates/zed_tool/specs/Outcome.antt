@@ -1,5 +1,5 @@
 -- What `run` does.
-use Rattle.std.specs.Prelude.{◌≡◌, ◌≤◌, ◌⊎◌, ℕ, Bool, true, false, List, Option, Some, None, Ok, Err, IfErr}
+use Rattle.std.specs.Prelude.{◌≡◌, ◌≤◌, ◌<◌, ◌⊎◌, ℕ, Bool, true, false, List, length, Option, Some, None, Ok, Err, IfErr}
 use Rattle.clap.specs.Walk.{Text}
 use Rattle.zed_host.specs.Calls.{Call, Complaining, Printing, call}
 use Rattle.zed_host.specs.Counting.{Rose}
@@ -81,11 +81,19 @@ Prints h text status old new =
     ((status ≡ 0) × Printed h text old new)
     ⊎ ((status ≡ 1) × ((mid : _) × FailedToPrint h text old mid × TellsOf h file_failed mid new))
 
+-- the user is told a text, which isn't empty
+abbrev pub TellsAloud : {H : Type 0} → Hosts H → H → H → Type 0
+TellsAloud h old new = (text : List ℕ) × Complained h text old new × (0 < length text)
+
+-- a text that isn't empty is printed with status 0; where that failed the status is 1
+abbrev pub PrintsAloud : {H : Type 0} → Hosts H → ℕ → H → H → Type 0
+PrintsAloud h status old new = (text : List ℕ) × Prints h text status old new × (0 < length text)
+
 -- words that are no command are refused with status 2 and a text; or they ask for help, which is printed, or for the version
 abbrev pub RunsOther : {H : Type 0} → Hosts H → List Text → ℕ → H → H → Type 0
 RunsOther h words status old new =
-    ((status ≡ 2) × ¬ (AsksHelp words) × ¬ (AsksVersion words) × ((text : List ℕ) × Complained h text old new))
-    ⊎ (MayAskHelp words × ((text : List ℕ) × Prints h text status old new))
+    ((status ≡ 2) × ¬ (AsksHelp words) × ¬ (AsksVersion words) × TellsAloud h old new)
+    ⊎ (MayAskHelp words × PrintsAloud h status old new)
     ⊎ (MayAskVersion words × Prints h version_text status old new)
 
 -- what words come to that ask for a command, or for none

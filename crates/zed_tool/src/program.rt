@@ -13,7 +13,7 @@ ghost use Rattle.zed_tool.specs.Calm.{EndsCalmly};
 ghost use Rattle.zed_tool.specs.Commands.{AsksCommand, EndsCommand, is_playtest, plays};
 ghost use Rattle.zed_tool.specs.Lines.{line_of as line_for};
 ghost use Rattle.zed_tool.specs.Taking.{AsksToTake, TakesSet};
-ghost use Rattle.zed_tool.specs.Outcome.{Complained, Prints, Runs, TellsFailures, TellsOf, hosts};
+ghost use Rattle.zed_tool.specs.Outcome.{Complained, Prints, Runs, TellsAloud, TellsFailures, TellsOf, hosts};
 
 use crate::answers::{drawn, linted, set_told, told};
 use crate::asked::{forcing_of, form_of, going_of, length_of, listing_of, rows_of};
@@ -219,8 +219,8 @@ fn run_words<H: Host, T: Terminal, I: Inputs, C: Chance>(
 }
 
 /// Runs the command that the words after the program's name ask for. The exit status is 0; 1 if
-/// `lint --strict` finds something; 1 after a refusal, whose line is on standard error; or 2 if the
-/// words are no command. Help and the version are printed with status 0.
+/// `lint --strict` finds something; 1 after a refusal, whose line is on standard error; or 2, with a
+/// text there, if the words are no command. Help and the version are printed with status 0.
 ///
 /// Unless the host fails at a write or at printing (`File`), a refusal writes no file. If a write
 /// failed, the files before it are whole, and that file is as the failure left it.
@@ -269,6 +269,8 @@ pub fn run<H: Host, T: Terminal, I: Inputs, C: Chance>(
     ensures accepted { IsSome (command_of (map string_bytes words.now))
         → (result ≡ 0) ⊎ (result ≡ 1) }
     ensures helped { AsksHelp (map string_bytes words.now) → (result ≡ 0) ⊎ (result ≡ 1) }
+    ensures refused { result ≡ 2
+        → TellsAloud (hosts H.contents H.called H.failed H.faults) host.old host.new }
 
     // The version is printed, or memory ran out.
     ensures versioned { let all = hosts H.contents H.called H.failed H.faults in

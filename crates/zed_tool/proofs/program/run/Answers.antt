@@ -1,6 +1,6 @@
 use Rattle.std.proofs.Common.{map, string_bytes}
 use Rattle.zed_tool.specs.Outcome.{hosts}
-use Rattle.zed_tool.proofs.Endings.{run_accepted, run_calmly, run_helped, run_versioned}
+use Rattle.zed_tool.proofs.Endings.{run_accepted, run_calmly, run_helped, run_refused, run_versioned}
 use Rattle.zed_tool_words.specs.Commands.{Take}
 use Rattle.zed_tool.proofs.Made.{run_calm}
 use Rattle.zed_tool.proofs.Taken.{run_takes, written_is_read}
@@ -30,6 +30,11 @@ pub returns-clause-accepted : goal.returns-clause-accepted
 returns-clause-accepted g c = λ some.
     let h = hosts g.H.Host.contents g.H.Host.called g.H.Host.failed g.H.Host.faults in
     run_accepted h _ (map string_bytes c.args.words.now) c.run_words.result _ _ some c.run_words.ensures.runs
+
+pub returns-clause-refused : goal.returns-clause-refused
+returns-clause-refused g c = λ two.
+    let h = hosts g.H.Host.contents g.H.Host.called g.H.Host.failed g.H.Host.faults in
+    run_refused h _ (map string_bytes c.args.words.now) c.run_words.result _ _ two c.run_words.ensures.runs
 
 pub returns-clause-takes_sets : goal.returns-clause-takes_sets
 returns-clause-takes_sets g c = λ t name file replica number own based shown asks at calm.
